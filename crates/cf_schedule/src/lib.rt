@@ -1,0 +1,2 @@
+//! Schedules of events, run on one thread: the core world and its trace.
+#![tactic(auto)]
