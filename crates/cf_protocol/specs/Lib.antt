@@ -1,0 +1,5 @@
+pub mod Datum
+pub mod Position
+pub mod Request
+pub mod Outgoing
+pub mod Note
