@@ -1,4 +1,5 @@
 pub mod Datum
+pub mod Epoch
 pub mod Position
 pub mod Request
 pub mod Outgoing
