@@ -19,8 +19,8 @@ pub data Note : Type 0 where
   Pub : (channel : List ℕ) → (at : Position) → Note
   -- the unsubscribe push of a client that must ask again
   End : (channel : List ℕ) → Note
-  -- the reply to a refused command
-  Fails : (id : ℕ) → (code : ℕ) → Note
+  -- the reply to a refused command, which was for this channel
+  Fails : (channel : List ℕ) → (id : ℕ) → (code : ℕ) → Note
   -- the reply to a publish, and to an unsubscribe
   Put : (id : ℕ) → Note
   Left : (id : ℕ) → Note
@@ -53,7 +53,7 @@ outgoing_of lists (Reply c id was r) =
     Some (Answer id (Subscribed (record { epoch = r.epoch; offset = r.top }) (placed_from (lists c r.epoch) r.low (r.top - r.low)) r.recovered was))
 outgoing_of lists (Pub c p) = option_map (λ d. Push c (Publication d)) (placed_at (lists c p.epoch) p.offset)
 outgoing_of lists (End c) = Some (Push c (Unsubscribe insufficient))
-outgoing_of lists (Fails id code) = Some (Answer id (Failed code))
+outgoing_of lists (Fails c id code) = Some (Answer id (Failed code))
 outgoing_of lists (Put id) = Some (Answer id Published)
 outgoing_of lists (Left id) = Some (Answer id Unsubscribed)
 outgoing_of lists (Listed c id p low count) = Some (Answer id (Past p (placed_from (lists c p.epoch) low count)))

@@ -1,0 +1,2 @@
+pub mod StreamState
+pub mod StreamAnswer
