@@ -4,3 +4,7 @@ pub mod Position
 pub mod Request
 pub mod Outgoing
 pub mod Note
+pub mod Fields
+pub mod Command
+pub mod Reply
+pub mod Frame
