@@ -1,5 +1,6 @@
 pub mod Datum
 pub mod Epoch
+pub mod Settings
 pub mod Position
 pub mod Request
 pub mod Outgoing
