@@ -1,2 +1,3 @@
 pub mod Epochs
 pub mod Tables
+pub mod Lengths

@@ -9,3 +9,5 @@ pub mod Fields
 pub mod Command
 pub mod Reply
 pub mod Frame
+pub mod Written
+pub mod TextLength

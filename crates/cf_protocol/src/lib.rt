@@ -3,6 +3,7 @@
 
 mod epoch;
 mod fault;
+pub mod laws;
 mod namespaces;
 mod position;
 mod publication;

@@ -1,0 +1,21 @@
+//! Laws of the texts that are read and written. Each function's contract states one; its body does nothing.
+ghost use Rattle.std.specs.Prelude.{◌≡◌, ◌+◌, ◌<◌, ℕ, List, None, length, decimal, codes};
+ghost use Rattle.cf_json.specs.Quoting.{quoted};
+ghost use Rattle.cf_protocol.specs.Datum.{Placed, Datum};
+ghost use Rattle.cf_protocol.specs.Request.{Command};
+ghost use Rattle.cf_protocol.specs.Outgoing.{Outgoing, Push, Publication};
+ghost use Rattle.cf_protocol.specs.Written.{command_text, outgoing_text};
+ghost use Rattle.cf_protocol.specs.TextLength.{command_length, outgoing_length};
+
+/// How many bytes a written text has.
+pub fn text_lengths()
+    ensures commands { (c : Command) → length (command_text c) ≡ command_length c }
+    ensures outgoing { (o : Outgoing) → length (outgoing_text o) ≡ outgoing_length o }
+{}
+
+/// How many bytes the push of a publication has that no client published.
+pub fn push_length()
+    ensures { (channel body : List ℕ) (offset : ℕ) → 0 < length channel → 0 < offset
+        → length (outgoing_text (Push channel (Publication (record { offset = offset; datum = record { body = body; info = None } }))))
+        ≡ 47 + length (quoted channel) + length (decimal offset) + length body }
+{}
