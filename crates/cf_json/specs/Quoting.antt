@@ -1,5 +1,5 @@
 -- The one text of a string (RFC 8259, section 7): what has to be escaped is, as short as may be, and nothing else.
-use Rattle.std.specs.Prelude.{ℕ, ◌+◌, ◌/◌, ◌%◌, List, [], ◌∷◌, ◌++◌, ◌==◌, nat_lt, if◌then◌else◌, Option, Some, None, flat_map, map, sum}
+use Rattle.std.specs.Prelude.{ℕ, ◌+◌, ◌/◌, ◌%◌, List, [], ◌∷◌, ◌++◌, ◌==◌, nat_lt, if◌then◌else◌, Option, Some, None, flat_map, sum_by}
 
 -- the letter that stands behind a backslash for this byte: itself for a quotation mark or a backslash, `b`, `f`, `n`, `r` or `t`
 unfoldable pub short_letter : ℕ → Option ℕ
@@ -35,4 +35,4 @@ unfoldable pub escape_length : ℕ → ℕ
 escape_length x = length_by x (short_letter x)
 
 abbrev pub quoted_length : List ℕ → ℕ
-quoted_length s = 2 + sum (map escape_length s)
+quoted_length s = sum_by escape_length s + 2
