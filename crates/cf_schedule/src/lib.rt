@@ -1,2 +1,11 @@
 //! Schedules of events, run on one thread: the core world and its trace.
 #![tactic(auto)]
+
+mod body;
+mod event;
+mod name;
+mod number;
+
+pub use body::{Body, MAX_BODY_DEPTH};
+pub use event::{Event, EventFault};
+pub use name::{ChannelName, ClientName};

@@ -1,0 +1,138 @@
+//! The words of a schedule's lines.
+ghost use Rattle.std.specs.Prelude.{◌≡◌, IfOk, IfErr, IsErrOf, ◌↔◌};
+ghost use Rattle.std.specs.Char.{is_ascii_graphic};
+ghost use Rattle.std.specs.List.{list_all};
+ghost use Rattle.cf_schedule.specs.Word.{is_name_byte, is_client_name, is_channel_name, IsClientName, IsChannelName};
+
+use crate::event::EventFault;
+use std::alloc::Global;
+use std::fmt;
+use std::marker::Model;
+
+/// A client's name: 1 to 32 ASCII letters, digits, `-` or `_`.
+#[derive(Debug, Drop)]
+pub struct ClientName {
+    text: String,
+}
+
+impl Model for ClientName {
+    ghost use Rattle.std.specs.Prelude.{ℕ, List, string_bytes};
+    ghost use Rattle.cf_schedule.specs.Word.{IsClientName};
+
+    ghost Value = { List ℕ };
+
+    ghost view = { λ n. string_bytes n.text };
+
+    ghost invariant = { λ n. IsClientName (string_bytes n.text) };
+}
+
+/// A channel's name: 1 to 255 visible ASCII characters.
+#[derive(Debug, Drop)]
+pub struct ChannelName {
+    text: String,
+}
+
+impl Model for ChannelName {
+    ghost use Rattle.std.specs.Prelude.{ℕ, List, string_bytes};
+    ghost use Rattle.cf_schedule.specs.Word.{IsChannelName};
+
+    ghost Value = { List ℕ };
+
+    ghost view = { λ n. string_bytes n.text };
+
+    ghost invariant = { λ n. IsChannelName (string_bytes n.text) };
+}
+
+fn has_name_bytes(text: &str) -> bool
+    ensures { result ≡ list_all is_name_byte text.now }
+{
+    text.bytes().all(|byte| byte.is_ascii_alphanumeric() || byte == b'-' || byte == b'_')
+}
+
+fn is_client_name(text: &str) -> bool
+    ensures { result ≡ is_client_name text.now }
+{
+    if text.is_empty() || text.len() > 32 {
+        return false;
+    }
+    has_name_bytes(text)
+}
+
+fn has_visible_bytes(text: &str) -> bool
+    ensures { result ≡ list_all is_ascii_graphic text.now }
+{
+    text.bytes().all(|byte| byte.is_ascii_graphic())
+}
+
+fn is_channel_name(text: &str) -> bool
+    ensures { result ≡ is_channel_name text.now }
+{
+    if text.is_empty() || text.len() > 255 {
+        return false;
+    }
+    has_visible_bytes(text)
+}
+
+impl ClientName {
+    /// The name that a text is. Unreadable where the text is none.
+    pub fn read(alloc: Global, text: &str) -> Result<ClientName, EventFault>
+        ensures ok { IfOk result (λ name. name ≡ text.now) }
+        ensures unreadable { IsErrOf result EventFault.Unreadable ↔ ¬ IsClientName text.now }
+    {
+        if !is_client_name(text) {
+            return Err(EventFault::Unreadable);
+        }
+        Ok(ClientName {
+            text: String::from_str(alloc, text)?,
+        })
+    }
+
+    /// The name's characters.
+    pub fn as_str(&self) -> &str
+        ensures { result.now ≡ self.now }
+    {
+        self.text.as_str()
+    }
+}
+
+impl ChannelName {
+    /// The name that a text is. Unreadable where the text is none.
+    pub fn read(alloc: Global, text: &str) -> Result<ChannelName, EventFault>
+        ensures ok { IfOk result (λ name. name ≡ text.now) }
+        ensures unreadable { IsErrOf result EventFault.Unreadable ↔ ¬ IsChannelName text.now }
+    {
+        if !is_channel_name(text) {
+            return Err(EventFault::Unreadable);
+        }
+        Ok(ChannelName {
+            text: String::from_str(alloc, text)?,
+        })
+    }
+
+    /// The name's characters.
+    pub fn as_str(&self) -> &str
+        ensures { result.now ≡ self.now }
+    {
+        self.text.as_str()
+    }
+}
+
+impl fmt::Display for ClientName {
+    ghost use Rattle.std.specs.Prelude.{Some};
+
+    ghost output = { λ n. Some n };
+
+    fn fmt<W: fmt::Write>(&self, f: &mut fmt::Formatter<W>) -> fmt::Result {
+        f.write_str(self.as_str())
+    }
+}
+
+impl fmt::Display for ChannelName {
+    ghost use Rattle.std.specs.Prelude.{Some};
+
+    ghost output = { λ n. Some n };
+
+    fn fmt<W: fmt::Write>(&self, f: &mut fmt::Formatter<W>) -> fmt::Result {
+        f.write_str(self.as_str())
+    }
+}
