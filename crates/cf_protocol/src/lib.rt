@@ -1,21 +1,29 @@
 //! Commands, replies, pushes and settings of Centrifugo's client protocol in its JSON form.
 #![tactic(auto)]
 
+mod codes;
+mod command;
 mod epoch;
 mod fault;
 pub mod laws;
 mod namespaces;
+mod outgoing;
 mod position;
 mod publication;
 mod settings;
 mod table;
 mod tokens;
 mod words;
+mod write;
 
+pub use codes::{CloseCode, ErrorCode, INSUFFICIENT};
+pub use command::{Command, Data, Request};
 pub use epoch::Epoch;
 pub use fault::ReadFault;
 pub use namespaces::{Namespaces, read_namespaces};
+pub use outgoing::{Outcome, Outgoing, Pushed};
 pub use position::Position;
 pub use publication::{Info, Publication};
 pub use settings::Settings;
 pub use tokens::{Tokens, read_tokens};
+pub use write::{write_command, write_reply};
