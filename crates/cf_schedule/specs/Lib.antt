@@ -1,1 +1,5 @@
+pub mod Event
+pub mod ScheduleLine
+pub mod Trace
+pub mod TraceLine
 pub mod Word
