@@ -1,2 +1,6 @@
 pub mod StreamState
 pub mod StreamAnswer
+pub mod Ring
+pub mod Stream
+pub mod FreshEpochs
+pub mod Streams

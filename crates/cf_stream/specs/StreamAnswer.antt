@@ -1,8 +1,8 @@
 -- What a stream answers to a read and to a history, in offsets.
 -- (Centrifugo, history and recovery; that at most 300 are recovered or listed is this project's own profile.)
-use Rattle.std.specs.Prelude.{ℕ, ℤ, pos, negsuc, ◌-◌, min, max, nat_le, ◌&&◌, Bool, true, false, if◌then◌else◌, Option, Some, None, List}
+use Rattle.std.specs.Prelude.{ℕ, ℤ, pos, negsuc, ◌-◌, min, max, nat_le, ◌&&◌, Bool, true, false, if◌then◌else◌, Option, Some, None}
 use Rattle.std.specs.Str.{bytes_eq}
-use Rattle.cf_protocol.specs.Position.{Position}
+use Rattle.cf_protocol.specs.declared.position.Position.{Position}
 use Rattle.cf_protocol.specs.Note.{Reading}
 use Rattle.cf_stream.specs.StreamState.{StreamState}
 

@@ -1,7 +1,7 @@
 -- A channel's stream in numbers. What was published stands in the channel's publication list.
 -- (Centrifugo, history and recovery: stream position, history size.)
 use Rattle.std.specs.Prelude.{ℕ, ◌+◌, min, List}
-use Rattle.cf_protocol.specs.Position.{Position}
+use Rattle.cf_protocol.specs.declared.position.Position.{Position}
 
 -- the stream's epoch, how many publications it ever accepted, and how many of the last of these it still holds
 pub record StreamState : Type 0 where

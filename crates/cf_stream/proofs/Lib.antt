@@ -1,0 +1,4 @@
+pub mod Placing
+pub mod Channels
+pub mod Ticks
+pub mod Walks

@@ -1,0 +1,29 @@
+use Rattle.std.proofs.Common.{w32}
+use Rattle.std.proofs.lemmas.Int.{to_z-of_z}
+use Rattle.std.proofs.lemmas.Result.{IfOk-weaker, on_err_weaker}
+use Rattle.cf_stream.specs.declared.answer.History.{History}
+use Rattle.cf_stream.proofs.Channels.{get-by_channel, kept_by, kept_same}
+use Rattle.cf_stream.proofs.streams.Streams.history.Goals as goal
+
+pub returns-clause-ok : goal.returns-clause-ok
+returns-clause-ok g c =
+    rw (← c.self.view_is, get-by_channel, ← c.size_for-size.ensures.size)
+    (IfOk-weaker c.history_in.result _ _ (λ (r : History) h. kept_by c.self.inside.namespaces c.self.inside.map c.history_in.new.map c.args.channel.now _ h) c.history_in.ensures.ok)
+
+pub returns-clause-err : goal.returns-clause-err
+returns-clause-err g c =
+    rw (← c.self.view_is)
+    (on_err_weaker c.history_in.result (λ h. kept_same c.self.inside.namespaces c.self.inside.map c.history_in.new.map h) c.history_in.ensures.err)
+
+pub returns-clause-answer : goal.returns-clause-answer
+returns-clause-answer g c =
+    rw (← c.self.view_is, get-by_channel, ← c.size_for-size.ensures.size) (rw (to_z-of_z w32 c.args.limit c.ranges.limit) at c.history_in.ensures.answer)
+
+pub returns-clause-drawn : goal.returns-clause-drawn
+returns-clause-drawn g c = rw (← c.self.view_is, get-by_channel) c.history_in.ensures.drawn
+
+pub returns-clause-wrong_epoch : goal.returns-clause-wrong_epoch
+returns-clause-wrong_epoch g c = rw (← c.self.view_is, get-by_channel) c.history_in.ensures.wrong_epoch
+
+pub returns-clause-no_epoch : goal.returns-clause-no_epoch
+returns-clause-no_epoch g c = rw (← c.self.view_is, get-by_channel) c.history_in.ensures.no_epoch

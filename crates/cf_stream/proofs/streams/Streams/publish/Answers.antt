@@ -1,0 +1,26 @@
+use Rattle.std.proofs.lemmas.Result.{IfOk-weaker, on_err_weaker}
+use Rattle.cf_protocol.specs.declared.position.Position.{Position}
+use Rattle.cf_stream.proofs.Channels.{get-by_channel, kept_by, kept_same}
+use Rattle.cf_stream.proofs.streams.Streams.publish.Goals as goal
+
+pub returns-clause-ok : goal.returns-clause-ok
+returns-clause-ok g c =
+    rw (← c.self.view_is, get-by_channel, ← c.size_for-size.ensures.size)
+    (IfOk-weaker c.publish_in.result _ _ (λ (r : Position) h. kept_by c.self.inside.namespaces c.self.inside.map c.publish_in.new.map c.args.channel.now _ h) c.publish_in.ensures.ok)
+
+pub returns-clause-err : goal.returns-clause-err
+returns-clause-err g c =
+    rw (← c.self.view_is)
+    (on_err_weaker c.publish_in.result (λ h. kept_same c.self.inside.namespaces c.self.inside.map c.publish_in.new.map h) c.publish_in.ensures.err)
+
+pub returns-clause-position : goal.returns-clause-position
+returns-clause-position g c = rw (← c.self.view_is, get-by_channel, ← c.size_for-size.ensures.size) c.publish_in.ensures.position
+
+pub returns-clause-drawn : goal.returns-clause-drawn
+returns-clause-drawn g c = rw (← c.self.view_is, get-by_channel) c.publish_in.ensures.drawn
+
+pub returns-clause-last : goal.returns-clause-last
+returns-clause-last g c = rw (← c.self.view_is, get-by_channel) c.publish_in.ensures.last
+
+pub returns-clause-no_epoch : goal.returns-clause-no_epoch
+returns-clause-no_epoch g c = rw (← c.self.view_is, get-by_channel) c.publish_in.ensures.no_epoch

@@ -1,0 +1,23 @@
+use Rattle.std.proofs.lemmas.Result.{IfOk-weaker, on_err_weaker}
+use Rattle.cf_stream.specs.declared.answer.Recovery.{Recovery}
+use Rattle.cf_stream.proofs.Channels.{get-by_channel, kept_by, kept_same}
+use Rattle.cf_stream.proofs.streams.Streams.read.Goals as goal
+
+pub returns-clause-ok : goal.returns-clause-ok
+returns-clause-ok g c =
+    rw (← c.self.view_is, get-by_channel, ← c.size_for-size.ensures.size)
+    (IfOk-weaker c.read_in.result _ _ (λ (r : Recovery) h. kept_by c.self.inside.namespaces c.self.inside.map c.read_in.new.map c.args.channel.now _ h) c.read_in.ensures.ok)
+
+pub returns-clause-err : goal.returns-clause-err
+returns-clause-err g c =
+    rw (← c.self.view_is)
+    (on_err_weaker c.read_in.result (λ h. kept_same c.self.inside.namespaces c.self.inside.map c.read_in.new.map h) c.read_in.ensures.err)
+
+pub returns-clause-answer : goal.returns-clause-answer
+returns-clause-answer g c = rw (← c.self.view_is, get-by_channel, ← c.size_for-size.ensures.size) c.read_in.ensures.answer
+
+pub returns-clause-drawn : goal.returns-clause-drawn
+returns-clause-drawn g c = rw (← c.self.view_is, get-by_channel) c.read_in.ensures.drawn
+
+pub returns-clause-no_epoch : goal.returns-clause-no_epoch
+returns-clause-no_epoch g c = rw (← c.self.view_is, get-by_channel) c.read_in.ensures.no_epoch

@@ -1,0 +1,21 @@
+//! What streams answer.
+use cf_protocol::{Position, Publication};
+
+/// What a client that comes back has missed.
+#[derive(Drop)]
+pub struct Recovery {
+    /// Where the stream stands.
+    pub position: Position,
+    /// Whether everything after the client's position was held, and was at most 300.
+    pub recovered: bool,
+    /// Where recovered, everything after the client's position, in order. Else nothing.
+    pub publications: Vec<Publication>,
+}
+
+/// Publications that a stream holds, in order.
+#[derive(Drop)]
+pub struct History {
+    /// Where the stream stands.
+    pub position: Position,
+    pub publications: Vec<Publication>,
+}

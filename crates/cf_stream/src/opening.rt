@@ -1,0 +1,126 @@
+//! How a channel's stream opens. All room is made before its epoch is drawn, so that a refused call draws none.
+ghost use Rattle.std.specs.Prelude.{◌≡◌, ◌≢◌, ◌≤◌, IfOk, IfErr, OnErr, IfSome, IfNone, Option, Some, None, Err, List, ℕ};
+ghost use Rattle.std.specs.Option.{option_map};
+ghost use Rattle.std.specs.BTreeMap.{get_by_text};
+ghost use Rattle.std.specs.String.{string_bytes};
+ghost use Rattle.cf_stream.specs.Stream.{started, pushed, used_at, in_epoch};
+ghost use Rattle.cf_stream.specs.Streams.{SetsAt};
+ghost use Rattle.cf_stream.specs.FreshEpochs.{DrawsNone, DrawsEpoch};
+
+use crate::refusal::StreamRefusal;
+use crate::stream::{LARGEST_SIZE, Stream};
+use cf_protocol::{Epoch, Info, Position};
+use std::alloc::Global;
+use std::collections::BTreeMap;
+
+/// Where new streams get their epochs from.
+pub trait Epochs {
+    ghost use Rattle.std.specs.Prelude.{Option, List, ℕ};
+
+    /// A draw may give this answer at the first state, and leave the second.
+    ghost draws: { Self → Option (List ℕ) → Self → Type 0 };
+
+    /// The next epoch, if there is one. An empty epoch counts as none.
+    fn draw(&mut self) -> Option<Epoch>
+        ensures { draws self.old result self.new };
+}
+
+/// The epoch of a new stream, if there is one.
+fn drawn<E: Epochs>(epochs: &mut E) -> Option<Epoch>
+    ensures some { IfSome result (λ e. DrawsEpoch E.draws e epochs.old epochs.new) }
+    ensures none { IfNone result (DrawsNone E.draws epochs.old epochs.new) }
+{
+    let epoch = epochs.draw()?;
+    if epoch.is_empty() { None } else { Some(epoch) }
+}
+
+/// Opens a stream that is used at a moment.
+pub(crate) fn open_idle<E: Epochs>(
+    map: &mut BTreeMap<String, Stream>,
+    epochs: &mut E,
+    alloc: Global,
+    size: usize,
+    channel: &str,
+    now: u64,
+) -> Result<Position, StreamRefusal>
+    requires absent { get_by_text map.old channel.now ≡ None }
+    requires sized { (1 ≤ size) × (size ≤ LARGEST_SIZE) }
+    ensures ok { IfOk result (λ p. SetsAt map.old map.new channel.now (Some (used_at (started p.epoch size 0) now))) }
+    ensures position { IfOk result (λ p. p.offset ≡ 0) }
+    ensures drawn { IfOk result (λ p. DrawsEpoch E.draws p.epoch epochs.old epochs.new) }
+    ensures no_epoch { result ≡ Err StreamRefusal.NoEpoch → DrawsNone E.draws epochs.old epochs.new }
+    ensures memory { IfErr result (λ e. e ≢ StreamRefusal.NoEpoch → (e ≡ StreamRefusal.Memory) × (epochs.new ≡ epochs.old)) }
+    ensures err { OnErr result ((q : List ℕ) → get_by_text map.new q ≡ get_by_text map.old q) }
+{
+    let mut stream = Stream::unnamed(alloc, size)?;
+    stream.touch(now);
+    let epoch = open(map, epochs, alloc, channel, stream)?;
+    Ok(Position { epoch, offset: 0 })
+}
+
+/// Opens a stream and publishes to it.
+pub(crate) fn publish_new<E: Epochs>(
+    map: &mut BTreeMap<String, Stream>,
+    epochs: &mut E,
+    alloc: Global,
+    size: usize,
+    channel: &str,
+    body: String,
+    info: Option<Info>,
+    now: u64,
+) -> Result<Position, StreamRefusal>
+    requires absent { get_by_text map.old channel.now ≡ None }
+    requires sized { (1 ≤ size) × (size ≤ LARGEST_SIZE) }
+    ensures ok { IfOk result (λ p. SetsAt map.old map.new channel.now (Some (pushed (started p.epoch size 0) (record { body = string_bytes body; info = info }) now))) }
+    ensures position { IfOk result (λ p. p.offset ≡ 1) }
+    ensures drawn { IfOk result (λ p. DrawsEpoch E.draws p.epoch epochs.old epochs.new) }
+    ensures no_epoch { result ≡ Err StreamRefusal.NoEpoch → DrawsNone E.draws epochs.old epochs.new }
+    ensures memory { IfErr result (λ e. e ≢ StreamRefusal.NoEpoch → (e ≡ StreamRefusal.Memory) × (epochs.new ≡ epochs.old)) }
+    ensures err { OnErr result ((q : List ℕ) → get_by_text map.new q ≡ get_by_text map.old q) }
+{
+    let mut stream = Stream::unnamed(alloc, size)?;
+    let position = stream.publish(body, info, now)?;
+    let epoch = open(map, epochs, alloc, channel, stream)?;
+    Ok(Position {
+        epoch,
+        offset: position.offset,
+    })
+}
+
+/// Puts a stream at a channel that has none. All room is made before its epoch is drawn.
+fn open<E: Epochs>(
+    map: &mut BTreeMap<String, Stream>,
+    epochs: &mut E,
+    alloc: Global,
+    channel: &str,
+    stream: Stream,
+) -> Result<Epoch, StreamRefusal>
+    requires { get_by_text map.old channel.now ≡ None }
+    ensures drawn { IfOk result (λ e. DrawsEpoch E.draws e epochs.old epochs.new) }
+    ensures ok { IfOk result (λ e. SetsAt map.old map.new channel.now (Some (in_epoch e stream))) }
+    ensures no_epoch { result ≡ Err StreamRefusal.NoEpoch → DrawsNone E.draws epochs.old epochs.new }
+    ensures memory { IfErr result (λ e. e ≢ StreamRefusal.NoEpoch → (e ≡ StreamRefusal.Memory) × (epochs.new ≡ epochs.old)) }
+    ensures err { OnErr result ((q : List ℕ) → get_by_text map.new q ≡ get_by_text map.old q) }
+{
+    let key = String::from_str(alloc, channel)?;
+    map.insert(key, stream)?;
+    match drawn(epochs) {
+        Some(epoch) => {
+            name(map, channel, epoch);
+            Ok(epoch)
+        }
+        None => {
+            map.remove(channel);
+            Err(StreamRefusal::NoEpoch)
+        }
+    }
+}
+
+/// Gives a channel's stream its epoch.
+fn name(map: &mut BTreeMap<String, Stream>, channel: &str, epoch: Epoch)
+    ensures { SetsAt map.old map.new channel.now (option_map (in_epoch epoch) (get_by_text map.old channel.now)) }
+{
+    if let Some(stream) = map.get_mut(channel) {
+        stream.set_epoch(epoch);
+    }
+}

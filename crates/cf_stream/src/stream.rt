@@ -1,0 +1,338 @@
+//! One stream.
+ghost use Rattle.std.specs.Prelude.{◌≡◌, ◌≢◌, ◌+◌, ◌-◌, ◌≤◌, ◌↔◌, [], ◌∷◌, ◌++◌, ◌==◌, length, take, IfOk, IfErr, OnOk, OnErr, IsTrue, IsErrOf, IsOkUnless, SomeIff, IsSomeAnd, IfSome, IsNone, option_copied, if◌then◌else◌, not};
+ghost use Rattle.cf_stream.specs.Stream.{started, pushed, used_at, trimmed, resized, ticked, position_of, missed_from, RecoversFrom, run_from, IsWithin, start_of, limited, after, in_epoch, IsRecovery, IsHistory, newest_of, stays};
+ghost use Rattle.cf_stream.specs.Streams.{due_of};
+ghost use Rattle.std.specs.String.{string_bytes};
+
+use crate::answer::{History, Recovery};
+use crate::due::Due;
+use crate::refusal::StreamRefusal;
+use crate::ring::{copies, put};
+use cf_protocol::{Epoch, Info, Position, Publication};
+use circular_buffer::HeapCircularBuffer;
+use std::alloc::{AllocError, Global};
+use std::marker::Model;
+
+/// The last offset of a stream.
+pub const LAST_OFFSET: u64 = 9007199254740991;
+
+/// The most publications that a stream may hold.
+pub const LARGEST_SIZE: usize = 1000;
+
+/// How long an unused stream stands, in seconds.
+pub const UNUSED_SECONDS: u64 = 2592000;
+
+/// The most publications of an answer.
+const MOST_ANSWERED: usize = 300;
+
+/// Whether a stream still stands after a tick.
+#[derive(Clone, Copy, PartialEq, Eq, Debug)]
+pub enum Fate {
+    Alive,
+    Forgotten,
+}
+
+/// The last publications of one epoch of a channel, at most `size`, and how many were published in it.
+#[derive(Drop)]
+pub struct Stream {
+    epoch: Epoch,
+    size: usize,
+    top: u64,
+    published: u64,
+    used: u64,
+    ring: HeapCircularBuffer<Publication>,
+    alloc: Global,
+}
+
+impl Model for Stream {
+    ghost use Rattle.std.specs.Prelude.{map};
+    ghost use Rattle.cf_stream.specs.Stream.{Shown};
+    ghost use Rattle.cf_stream.specs.Ring.{IsRing};
+
+    ghost Value = { Shown };
+
+    ghost view = { λ s. record { epoch = s.epoch; size = s.size; top = s.top; held = map (λ p. p.datum) s.ring.items; published = s.published; used = s.used } };
+
+    ghost invariant = { λ s. IsRing s.size s.top s.ring.items };
+}
+
+impl Stream {
+    /// An empty stream that holds up to `size` publications.
+    pub fn start(alloc: Global, epoch: Epoch, size: usize) -> Result<Stream, AllocError>
+        requires nonempty { epoch ≢ [] }
+        requires sized { (1 ≤ size) × (size ≤ LARGEST_SIZE) }
+        ensures { IfOk result (λ s. s ≡ started epoch size 0) }
+    {
+        after_top(alloc, epoch, size, 0)
+    }
+
+    /// A stream whose first `top` publications are gone, so that it holds nothing.
+    pub fn start_at(
+        alloc: Global,
+        epoch: Epoch,
+        size: usize,
+        top: u64,
+    ) -> Result<Stream, AllocError>
+        requires nonempty { epoch ≢ [] }
+        requires sized { (1 ≤ size) × (size ≤ LARGEST_SIZE) }
+        requires top_fits { top ≤ LAST_OFFSET }
+        ensures { IfOk result (λ s. s ≡ started epoch size top) }
+    {
+        after_top(alloc, epoch, size, top)
+    }
+
+    /// A stream that is still to be given its epoch.
+    pub(crate) fn unnamed(alloc: Global, size: usize) -> Result<Stream, AllocError>
+        requires { (1 ≤ size) × (size ≤ LARGEST_SIZE) }
+        ensures { IfOk result (λ s. s ≡ started [] size 0) }
+    {
+        after_top(alloc, Epoch::none(), size, 0)
+    }
+
+    /// The stream's epoch and the offset of the last publication in it, 0 where there was none.
+    pub fn position(&self) -> Position
+        ensures { result ≡ position_of self.now }
+    {
+        Position {
+            epoch: self.epoch,
+            offset: self.top,
+        }
+    }
+
+    /// How many publications are held.
+    pub fn held(&self) -> usize
+        ensures held { result ≡ length self.now.held }
+        ensures within { IsWithin self.now }
+    {
+        self.ring.len()
+    }
+
+    pub(crate) fn set_epoch(&mut self, epoch: Epoch)
+        ensures { self.new ≡ in_epoch epoch self.old }
+    {
+        self.epoch = epoch;
+    }
+
+    /// A use at a moment.
+    pub(crate) fn touch(&mut self, now: u64)
+        ensures { self.new ≡ used_at self.old now }
+    {
+        self.used = now;
+    }
+
+    /// Appends a publication at a moment in seconds, and answers its position. The oldest one held goes where there are `size`.
+    pub fn publish(
+        &mut self,
+        body: String,
+        info: Option<Info>,
+        now: u64,
+    ) -> Result<Position, StreamRefusal>
+        ensures ok { OnOk result (self.new ≡ pushed self.old (record { body = string_bytes body; info = info }) now) }
+        ensures position { IfOk result (λ p. p ≡ position_of self.new) }
+        ensures last { IsErrOf result StreamRefusal.AtLastOffset ↔ (self.old.top ≡ LAST_OFFSET) }
+        ensures refusals { IfErr result (λ e. e ≢ StreamRefusal.AtLastOffset → e ≡ StreamRefusal.Memory) }
+        ensures err { OnErr result (self.new ≡ self.old) }
+        ensures within { IsWithin self.new }
+    {
+        if self.top == LAST_OFFSET {
+            return Err(StreamRefusal::AtLastOffset);
+        }
+        let offset = self.top + 1;
+        let publication = Publication { offset, body, info };
+        put(&mut self.ring, self.size, publication)?;
+        self.top = offset;
+        self.published = now;
+        self.used = now;
+        Ok(Position {
+            epoch: self.epoch,
+            offset,
+        })
+    }
+
+    /// The publications after a position, where all of them are held and there are at most 300.
+    pub fn recover(&mut self, since: Option<Position>, now: u64) -> Result<Recovery, StreamRefusal>
+        ensures ok { OnOk result (self.new ≡ used_at self.old now) }
+        ensures answer { IfOk result (λ r. IsRecovery self.old since r.position r.recovered r.publications.items) }
+        ensures refusals { IsOkUnless result StreamRefusal.Memory }
+        ensures err { OnErr result (self.new ≡ self.old) }
+    {
+        let position = self.position();
+        let missed = self.missed_since(since);
+        let publications = self.newest(missed.unwrap_or(0), MOST_ANSWERED)?;
+        self.used = now;
+        Ok(Recovery {
+            position,
+            recovered: missed.is_some(),
+            publications,
+        })
+    }
+
+    /// How many publications came after a position that can be recovered from.
+    fn missed_since(&self, since: Option<Position>) -> Option<usize>
+        ensures { SomeIff result (RecoversFrom self.now since) (missed_from self.now since) }
+    {
+        let since = since?;
+        if !same_epoch(since.epoch, self.epoch) || since.offset > self.top {
+            return None;
+        }
+        let missed = self.top - since.offset;
+        if missed <= self.ring.len().min(MOST_ANSWERED) as u64 {
+            Some(missed as usize)
+        } else {
+            None
+        }
+    }
+
+    /// How many of the publications held came after a position, None where it is of another epoch.
+    fn newer_than(&self, since: Option<Position>) -> Option<usize>
+        ensures other { IsNone result ↔ IsSomeAnd since (λ p. p.epoch ≢ self.now.epoch) }
+        ensures within { IfSome result (λ n. n ≤ length self.now.held) }
+        ensures newer { IfSome result (λ n. after self.now (self.now.top - n) ≡ after self.now (start_of self.now since)) }
+    {
+        let held = self.ring.len();
+        match since {
+            None => Some(held),
+            Some(since) => {
+                if same_epoch(since.epoch, self.epoch) {
+                    Some(self.top.saturating_sub(since.offset).min(held as u64) as usize)
+                } else {
+                    None
+                }
+            }
+        }
+    }
+
+    /// Copies of the first `limit` of the newest `count` publications.
+    fn newest(&self, count: usize, limit: usize) -> Result<Vec<Publication>, AllocError>
+        requires { count ≤ length self.now.held }
+        ensures { IfOk result (λ v. v.items ≡ take limit (after self.now (self.now.top - count))) }
+    {
+        copies(
+            self.alloc,
+            &self.ring,
+            self.ring.len() - count,
+            count.min(limit),
+        )
+    }
+
+    /// The first publications held after `since`, or of all that are held. A limit that is negative, or above 300, counts as 300.
+    pub fn history(
+        &mut self,
+        since: Option<Position>,
+        limit: i32,
+        now: u64,
+    ) -> Result<History, StreamRefusal>
+        ensures ok { OnOk result (self.new ≡ used_at self.old now) }
+        ensures answer { IfOk result (λ h. IsHistory self.old since limit h.position h.publications.items) }
+        ensures wrong_epoch { IsErrOf result StreamRefusal.WrongEpoch ↔ IsSomeAnd since (λ p. p.epoch ≢ self.old.epoch) }
+        ensures refusals { IfErr result (λ e. e ≢ StreamRefusal.WrongEpoch → e ≡ StreamRefusal.Memory) }
+        ensures err { OnErr result (self.new ≡ self.old) }
+    {
+        let position = self.position();
+        let Some(count) = self.newer_than(since) else {
+            return Err(StreamRefusal::WrongEpoch);
+        };
+        let publications = self.newest(count, limit_of(limit))?;
+        self.used = now;
+        Ok(History {
+            position,
+            publications,
+        })
+    }
+
+    /// Keeps at most the newest `count` publications. It takes no memory.
+    pub fn trim(&mut self, count: usize)
+        ensures { self.new ≡ trimmed count self.old }
+    {
+        self.ring.truncate_front(count);
+    }
+
+    /// Sets the size, and keeps the newest that it allows. It takes no memory, since the ring grows only in `publish`.
+    pub fn resize(&mut self, size: usize)
+        requires { (1 ≤ size) × (size ≤ LARGEST_SIZE) }
+        ensures { self.new ≡ resized size self.old }
+    {
+        self.ring.truncate_front(size);
+        self.size = size;
+    }
+
+    /// Empties the history where `seconds` have passed since the last publication, and says whether the stream is to be forgotten,
+    /// since it wasn't used for 2,592,000 seconds. A moment earlier than the last one does nothing. It takes no memory.
+    pub fn tick(&mut self, now: u64, seconds: u64) -> Fate
+        ensures fate { (result ≡ Fate.Forgotten) ↔ (self.old.used + UNUSED_SECONDS ≤ now) }
+        ensures ticked { self.new ≡ ticked now seconds self.old }
+    {
+        if self.published <= now && now - self.published >= seconds {
+            self.ring.clear();
+        }
+        if self.used <= now && now - self.used >= UNUSED_SECONDS {
+            Fate::Forgotten
+        } else {
+            Fate::Alive
+        }
+    }
+
+    /// A tick, as a test of whether the stream stays.
+    pub(crate) fn outlasts(&mut self, now: u64, seconds: u64) -> bool
+        ensures stays { result ≡ stays now self.old }
+        ensures ticked { self.new ≡ ticked now seconds self.old }
+    {
+        self.tick(now, seconds) == Fate::Alive
+    }
+
+    /// What a tick would do.
+    pub(crate) fn due(&self, now: u64, seconds: u64) -> Option<Due>
+        ensures { result ≡ due_of now seconds self.now }
+    {
+        if self.used <= now && now - self.used >= UNUSED_SECONDS {
+            return Some(Due::Forget);
+        }
+        if self.published <= now && now - self.published >= seconds && !self.ring.is_empty() {
+            return Some(Due::Empty);
+        }
+        None
+    }
+
+    /// The newest publication that is held.
+    pub fn last(&self) -> Option<&Publication>
+        ensures { option_copied result ≡ newest_of self.now }
+    {
+        self.ring.back()
+    }
+}
+
+/// A stream in this epoch, or in none yet, that holds nothing.
+fn after_top(alloc: Global, epoch: Epoch, size: usize, top: u64) -> Result<Stream, AllocError>
+    requires sized { (1 ≤ size) × (size ≤ LARGEST_SIZE) }
+    requires top_fits { top ≤ LAST_OFFSET }
+    ensures { IfOk result (λ s. s ≡ started epoch size top) }
+{
+    let ring = HeapCircularBuffer::with_capacity(alloc, 0)?;
+    Ok(Stream {
+        epoch,
+        size,
+        top,
+        published: 0,
+        used: 0,
+        ring,
+        alloc,
+    })
+}
+
+/// Whether these are one epoch.
+pub(crate) fn same_epoch(first: Epoch, second: Epoch) -> bool
+    ensures { IsTrue result ↔ (first ≡ second) }
+{
+    first.as_str() == second.as_str()
+}
+
+/// How many publications a limit allows.
+fn limit_of(limit: i32) -> usize
+    ensures { result ≡ limited limit }
+{
+    if limit < 0 || limit > MOST_ANSWERED as i32 {
+        MOST_ANSWERED
+    } else {
+        limit as usize
+    }
+}

@@ -1,0 +1,345 @@
+//! The streams of all channels.
+ghost use Rattle.std.specs.Prelude.{◌≡◌, ◌≢◌, ◌≤◌, ◌↔◌, IfOk, IfErr, OnErr, IsErrOf, IsSomeAnd, IsTrue, option_copied, Some, None, List, ℕ, unwrap_or, map, filter, option_and_then, IsSome};
+ghost use Rattle.std.specs.Option.{option_map};
+ghost use Rattle.std.specs.BTreeMap.{get_by_text, IsOrdered};
+ghost use Rattle.std.specs.FinMap as fin;
+ghost use Rattle.std.specs.String.{string_bytes, string_cmp};
+ghost use Rattle.cf_protocol.specs.Settings.{settings_of};
+ghost use Rattle.cf_stream.specs.Stream.{pushed, used_at, trimmed, position_of, IsRecovery, IsHistory, stays, ticked, newest_of};
+ghost use Rattle.cf_stream.specs.Streams.{stream_of, put_at, stood_or, stood_or_opened, IsOfAnother, SetsAt, after_tick, due_channels, IsSetUp, size_at, seconds_at};
+ghost use Rattle.cf_stream.specs.FreshEpochs.{DrawsNone, Draws};
+
+use crate::answer::{History, Recovery};
+use crate::due::DueWalk;
+use crate::opening::{Epochs, open_idle, publish_new};
+use crate::refusal::StreamRefusal;
+use crate::stream::{LARGEST_SIZE, LAST_OFFSET, Stream, same_epoch};
+use cf_protocol::{Epoch, Info, Namespaces, Position, Publication};
+use std::alloc::{AllocError, Global};
+use std::collections::BTreeMap;
+use std::marker::Model;
+
+/// The streams of the channels that have one. A channel's namespace sets how many publications it holds, and for how long.
+#[derive(Drop)]
+pub struct Streams {
+    namespaces: Namespaces,
+    map: BTreeMap<String, Stream>,
+    alloc: Global,
+}
+
+impl Model for Streams {
+    ghost use Rattle.cf_stream.specs.Streams.{Kept, coded_kept, by_channel};
+
+    ghost Value = { Kept };
+
+    ghost coded = { coded_kept };
+
+    ghost view = { λ s. record { namespaces = s.namespaces; streams = by_channel s.map } };
+}
+
+impl Streams {
+    /// No streams, over these namespaces.
+    pub fn new(alloc: Global, namespaces: &Namespaces) -> Result<Streams, AllocError>
+        ensures { IfOk result (λ s. s ≡ record { namespaces = namespaces.now; streams = fin.empty }) }
+    {
+        Ok(Streams {
+            namespaces: namespaces.copied()?,
+            map: BTreeMap::new(alloc),
+            alloc,
+        })
+    }
+
+    /// Whether a channel's namespace is set up. Without it the channel has no stream.
+    pub fn is_set_up(&self, channel: &str) -> bool
+        ensures { IsTrue result ↔ IsSetUp self.now channel.now }
+    {
+        self.namespaces.find(channel).is_some()
+    }
+
+    /// Publishes to a channel at a moment in seconds, and answers the position. The channel's stream opens where there is none.
+    pub fn publish<E: Epochs>(
+        &mut self,
+        epochs: &mut E,
+        channel: &str,
+        body: String,
+        info: Option<Info>,
+        now: u64,
+    ) -> Result<Position, StreamRefusal>
+        requires { IsSetUp self.old channel.now }
+        ensures ok { IfOk result (λ p. self.new ≡ put_at self.old channel.now (Some (pushed (stood_or_opened self.old channel.now p.epoch) (record { body = string_bytes body; info = info }) now))) }
+        ensures position { IfOk result (λ p. p ≡ position_of (pushed (stood_or_opened self.old channel.now p.epoch) (record { body = string_bytes body; info = info }) now)) }
+        ensures drawn { IfOk result (λ p. Draws E.draws (stream_of self.old channel.now) p.epoch epochs.old epochs.new) }
+        ensures last { IsErrOf result StreamRefusal.AtLastOffset ↔ IsSomeAnd (stream_of self.old channel.now) (λ s. s.top ≡ LAST_OFFSET) }
+        ensures no_epoch { IsErrOf result StreamRefusal.NoEpoch → (stream_of self.old channel.now ≡ None) × DrawsNone E.draws epochs.old epochs.new }
+        ensures refusals { IfErr result (λ e. e ≢ StreamRefusal.WrongEpoch × (e ≢ StreamRefusal.NoEpoch → epochs.new ≡ epochs.old)) }
+        ensures err { OnErr result (self.new ≡ self.old) }
+        ensures namespaces { self.new.namespaces ≡ self.old.namespaces }
+    {
+        let size = size_for(&self.namespaces, channel);
+        publish_in(
+            &mut self.map,
+            epochs,
+            self.alloc,
+            size,
+            channel,
+            body,
+            info,
+            now,
+        )
+    }
+
+    /// The publications of a channel after a position, where all are held. Its stream opens where there is none.
+    pub fn read<E: Epochs>(
+        &mut self,
+        epochs: &mut E,
+        channel: &str,
+        since: Option<Position>,
+        now: u64,
+    ) -> Result<Recovery, StreamRefusal>
+        requires { IsSetUp self.old channel.now }
+        ensures ok { IfOk result (λ r. self.new ≡ put_at self.old channel.now (Some (used_at (stood_or_opened self.old channel.now r.position.epoch) now))) }
+        ensures answer { IfOk result (λ r. IsRecovery (stood_or_opened self.old channel.now r.position.epoch) since r.position r.recovered r.publications.items) }
+        ensures drawn { IfOk result (λ r. Draws E.draws (stream_of self.old channel.now) r.position.epoch epochs.old epochs.new) }
+        ensures no_epoch { IsErrOf result StreamRefusal.NoEpoch → (stream_of self.old channel.now ≡ None) × DrawsNone E.draws epochs.old epochs.new }
+        ensures refusals { IfErr result (λ e. e ≢ StreamRefusal.NoEpoch → (e ≡ StreamRefusal.Memory) × (epochs.new ≡ epochs.old)) }
+        ensures err { OnErr result (self.new ≡ self.old) }
+        ensures namespaces { self.new.namespaces ≡ self.old.namespaces }
+    {
+        let size = size_for(&self.namespaces, channel);
+        read_in(&mut self.map, epochs, self.alloc, size, channel, since, now)
+    }
+
+    /// The first publications of a channel that are held after a position. Without a position its stream opens where there is none.
+    pub fn history<E: Epochs>(
+        &mut self,
+        epochs: &mut E,
+        channel: &str,
+        since: Option<Position>,
+        limit: i32,
+        now: u64,
+    ) -> Result<History, StreamRefusal>
+        requires { IsSetUp self.old channel.now }
+        ensures ok { IfOk result (λ h. self.new ≡ put_at self.old channel.now (Some (used_at (stood_or_opened self.old channel.now h.position.epoch) now))) }
+        ensures answer { IfOk result (λ h. IsHistory (stood_or_opened self.old channel.now h.position.epoch) since limit h.position h.publications.items) }
+        ensures drawn { IfOk result (λ h. Draws E.draws (stream_of self.old channel.now) h.position.epoch epochs.old epochs.new) }
+        ensures wrong_epoch { IsErrOf result StreamRefusal.WrongEpoch ↔ IsOfAnother (stream_of self.old channel.now) since }
+        ensures no_epoch { IsErrOf result StreamRefusal.NoEpoch → (stream_of self.old channel.now ≡ None) × DrawsNone E.draws epochs.old epochs.new }
+        ensures refusals { IfErr result (λ e. e ≢ StreamRefusal.AtLastOffset × (e ≢ StreamRefusal.NoEpoch → epochs.new ≡ epochs.old)) }
+        ensures err { OnErr result (self.new ≡ self.old) }
+        ensures namespaces { self.new.namespaces ≡ self.old.namespaces }
+    {
+        let size = size_for(&self.namespaces, channel);
+        history_in(
+            &mut self.map,
+            epochs,
+            self.alloc,
+            size,
+            channel,
+            since,
+            limit,
+            now,
+        )
+    }
+
+    /// Keeps at most the newest publications of a channel. It takes no memory.
+    pub fn trim(&mut self, channel: &str, count: usize)
+        ensures { self.new ≡ put_at self.old channel.now (option_map (trimmed count) (stream_of self.old channel.now)) }
+    {
+        trim_at(&mut self.map, channel, count);
+    }
+
+    /// Ends a channel's stream. It takes no memory.
+    pub fn forget(&mut self, channel: &str)
+        ensures { self.new ≡ put_at self.old channel.now None }
+    {
+        self.map.remove(channel);
+    }
+
+    /// Ends all streams. It takes no memory.
+    pub fn forget_all(&mut self)
+        ensures { self.new ≡ record self.old { streams = fin.empty } }
+    {
+        self.map.clear();
+    }
+
+    /// Empties the histories whose time is over, and ends the streams that were not used for long. It takes no memory.
+    pub fn tick(&mut self, now: u64)
+        ensures namespaces { self.new.namespaces ≡ self.old.namespaces }
+        ensures streams { (q : List ℕ) → stream_of self.new q ≡ after_tick now (seconds_at self.old.namespaces q) (stream_of self.old q) }
+    {
+        tick_in(&mut self.map, &self.namespaces, now);
+    }
+
+    /// The channels to which `tick` would do something, in the order of their bytes. It takes no memory.
+    pub fn due(&self, now: u64) -> DueWalk<'_>
+        ensures { result ≡ due_channels now self.now.namespaces (fin.entries self.now.streams) }
+    {
+        DueWalk {
+            rest: self.map.iter(),
+            namespaces: &self.namespaces,
+            now,
+        }
+    }
+
+    /// The position of a channel's stream, if it has one. It takes no memory and opens nothing.
+    pub fn position(&self, channel: &str) -> Option<Position>
+        ensures { result ≡ option_map position_of (stream_of self.now channel.now) }
+    {
+        match self.map.get(channel) {
+            None => None,
+            Some(stream) => Some(stream.position()),
+        }
+    }
+
+    /// The newest publication that a channel holds. It takes no memory and opens nothing.
+    pub fn last(&self, channel: &str) -> Option<&Publication>
+        ensures { option_copied result ≡ option_and_then newest_of (stream_of self.now channel.now) }
+    {
+        match self.map.get(channel) {
+            None => None,
+            Some(stream) => stream.last(),
+        }
+    }
+}
+
+/// How many publications a channel may hold.
+fn size_for(namespaces: &Namespaces, channel: &str) -> usize
+    requires { IsSome (settings_of namespaces.now channel.now) }
+    ensures size { result ≡ size_at namespaces.now channel.now }
+    ensures within { (1 ≤ result) × (result ≤ LARGEST_SIZE) }
+{
+    match namespaces.find(channel) {
+        None => unreachable!(),
+        Some(settings) => settings.size,
+    }
+}
+
+/// How many seconds a channel holds its publications, 0 where its namespace isn't set up.
+pub(crate) fn seconds_for(namespaces: &Namespaces, channel: &str) -> u64
+    ensures { result ≡ seconds_at namespaces.now channel.now }
+{
+    match namespaces.find(channel) {
+        None => 0,
+        Some(settings) => settings.seconds,
+    }
+}
+
+/// Publishes to the channel's stream, or to a new one.
+#[tactic(auto, using(std::proofs::lemmas::Map::Text::text_keys))]
+fn publish_in<E: Epochs>(
+    map: &mut BTreeMap<String, Stream>,
+    epochs: &mut E,
+    alloc: Global,
+    size: usize,
+    channel: &str,
+    body: String,
+    info: Option<Info>,
+    now: u64,
+) -> Result<Position, StreamRefusal>
+    requires { (1 ≤ size) × (size ≤ LARGEST_SIZE) }
+    ensures ok { IfOk result (λ p. SetsAt map.old map.new channel.now (Some (pushed (stood_or (get_by_text map.old channel.now) p.epoch size) (record { body = string_bytes body; info = info }) now))) }
+    ensures position { IfOk result (λ p. p ≡ position_of (pushed (stood_or (get_by_text map.old channel.now) p.epoch size) (record { body = string_bytes body; info = info }) now)) }
+    ensures drawn { IfOk result (λ p. Draws E.draws (get_by_text map.old channel.now) p.epoch epochs.old epochs.new) }
+    ensures last { IsErrOf result StreamRefusal.AtLastOffset ↔ IsSomeAnd (get_by_text map.old channel.now) (λ s. s.top ≡ LAST_OFFSET) }
+    ensures no_epoch { IsErrOf result StreamRefusal.NoEpoch → (get_by_text map.old channel.now ≡ None) × DrawsNone E.draws epochs.old epochs.new }
+    ensures refusals { IfErr result (λ e. e ≢ StreamRefusal.WrongEpoch × (e ≢ StreamRefusal.NoEpoch → epochs.new ≡ epochs.old)) }
+    ensures err { OnErr result ((q : List ℕ) → get_by_text map.new q ≡ get_by_text map.old q) }
+{
+    match map.get_mut(channel) {
+        Some(stream) => stream.publish(body, info, now),
+        None => publish_new(map, epochs, alloc, size, channel, body, info, now),
+    }
+}
+
+/// Reads the channel's stream, or a new one.
+#[tactic(auto, using(std::proofs::lemmas::Map::Text::text_keys))]
+fn read_in<E: Epochs>(
+    map: &mut BTreeMap<String, Stream>,
+    epochs: &mut E,
+    alloc: Global,
+    size: usize,
+    channel: &str,
+    since: Option<Position>,
+    now: u64,
+) -> Result<Recovery, StreamRefusal>
+    requires { (1 ≤ size) × (size ≤ LARGEST_SIZE) }
+    ensures ok { IfOk result (λ r. SetsAt map.old map.new channel.now (Some (used_at (stood_or (get_by_text map.old channel.now) r.position.epoch size) now))) }
+    ensures answer { IfOk result (λ r. IsRecovery (stood_or (get_by_text map.old channel.now) r.position.epoch size) since r.position r.recovered r.publications.items) }
+    ensures drawn { IfOk result (λ r. Draws E.draws (get_by_text map.old channel.now) r.position.epoch epochs.old epochs.new) }
+    ensures no_epoch { IsErrOf result StreamRefusal.NoEpoch → (get_by_text map.old channel.now ≡ None) × DrawsNone E.draws epochs.old epochs.new }
+    ensures refusals { IfErr result (λ e. e ≢ StreamRefusal.NoEpoch → (e ≡ StreamRefusal.Memory) × (epochs.new ≡ epochs.old)) }
+    ensures err { OnErr result ((q : List ℕ) → get_by_text map.new q ≡ get_by_text map.old q) }
+{
+    match map.get_mut(channel) {
+        Some(stream) => stream.recover(since, now),
+        None => {
+            let position = open_idle(map, epochs, alloc, size, channel, now)?;
+            Ok(Recovery {
+                position,
+                recovered: is_start(since, position.epoch),
+                publications: Vec::new(alloc),
+            })
+        }
+    }
+}
+
+/// Whether a position is the start of this epoch.
+fn is_start(since: Option<Position>, epoch: Epoch) -> bool
+    ensures { IsTrue result ↔ IsSomeAnd since (λ p. (p.epoch ≡ epoch) × (p.offset ≡ 0)) }
+{
+    match since {
+        None => false,
+        Some(since) => since.offset == 0 && same_epoch(since.epoch, epoch),
+    }
+}
+
+/// The history of the channel's stream, or of a new one.
+#[tactic(auto, using(std::proofs::lemmas::Map::Text::text_keys))]
+fn history_in<E: Epochs>(
+    map: &mut BTreeMap<String, Stream>,
+    epochs: &mut E,
+    alloc: Global,
+    size: usize,
+    channel: &str,
+    since: Option<Position>,
+    limit: i32,
+    now: u64,
+) -> Result<History, StreamRefusal>
+    requires { (1 ≤ size) × (size ≤ LARGEST_SIZE) }
+    ensures ok { IfOk result (λ h. SetsAt map.old map.new channel.now (Some (used_at (stood_or (get_by_text map.old channel.now) h.position.epoch size) now))) }
+    ensures answer { IfOk result (λ h. IsHistory (stood_or (get_by_text map.old channel.now) h.position.epoch size) since limit h.position h.publications.items) }
+    ensures drawn { IfOk result (λ h. Draws E.draws (get_by_text map.old channel.now) h.position.epoch epochs.old epochs.new) }
+    ensures wrong_epoch { IsErrOf result StreamRefusal.WrongEpoch ↔ IsOfAnother (get_by_text map.old channel.now) since }
+    ensures no_epoch { IsErrOf result StreamRefusal.NoEpoch → (get_by_text map.old channel.now ≡ None) × DrawsNone E.draws epochs.old epochs.new }
+    ensures refusals { IfErr result (λ e. e ≢ StreamRefusal.AtLastOffset × (e ≢ StreamRefusal.NoEpoch → epochs.new ≡ epochs.old)) }
+    ensures err { OnErr result ((q : List ℕ) → get_by_text map.new q ≡ get_by_text map.old q) }
+{
+    match map.get_mut(channel) {
+        Some(stream) => stream.history(since, limit, now),
+        None => {
+            if since.is_some() {
+                return Err(StreamRefusal::WrongEpoch);
+            }
+            let position = open_idle(map, epochs, alloc, size, channel, now)?;
+            Ok(History {
+                position,
+                publications: Vec::new(alloc),
+            })
+        }
+    }
+}
+
+fn trim_at(map: &mut BTreeMap<String, Stream>, channel: &str, count: usize)
+    ensures { SetsAt map.old map.new channel.now (option_map (trimmed count) (get_by_text map.old channel.now)) }
+{
+    if let Some(stream) = map.get_mut(channel) {
+        stream.trim(count);
+    }
+}
+
+fn tick_in(streams: &mut BTreeMap<String, Stream>, namespaces: &Namespaces, now: u64)
+    ensures ordered { IsOrdered string_cmp streams.old }
+    ensures entries { streams.new.entries ≡ map (λ e. (e.0, ticked now (seconds_at namespaces.now (string_bytes e.0)) e.1)) (filter (λ e. stays now e.1) streams.old.entries) }
+{
+    streams.retain(|channel, stream| { stream.outlasts(now, seconds_for(namespaces, channel)) });
+}
