@@ -2,6 +2,7 @@ pub mod Datum
 pub mod Epoch
 pub mod Settings
 pub mod Position
+pub mod Names
 pub mod Request
 pub mod Outgoing
 pub mod Note

@@ -3,6 +3,7 @@
 
 mod body;
 mod event;
+pub mod laws;
 mod name;
 mod number;
 

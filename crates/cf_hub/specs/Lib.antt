@@ -1,0 +1,2 @@
+pub mod PositionCheck
+pub mod Connection
