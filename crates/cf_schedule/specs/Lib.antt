@@ -3,3 +3,17 @@ pub mod ScheduleLine
 pub mod Trace
 pub mod TraceLine
 pub mod Word
+pub mod Config
+pub mod Event
+pub mod Errand
+pub mod PublicationList
+pub mod Weights
+pub mod Link
+pub mod World
+pub mod Refusals
+pub mod IntervalMachine
+pub mod LooseRun
+pub mod Trace
+pub mod Marks
+pub mod StreamSafety
+pub mod Leading

@@ -3,9 +3,11 @@
 use Rattle.std.specs.Prelude.{ℕ, suc, ◌==◌, nat_lt, ◌&&◌, ◌||◌, not, Bool, true, false, if◌then◌else◌, Option, Some, None, List, [], ◌∷◌, ◌++◌}
 use Rattle.cf_protocol.specs.Position.{Position}
 use Rattle.cf_protocol.specs.Note.{Reading, Note, Reply, Pub, End, Fails, Put as Accepted, Left, Listed, PingDue, Close}
-use Rattle.cf_protocol.specs.Request.{Command, Request, Subscribe, Unsubscribe, Publish, History, Data, Body}
-use Rattle.cf_hub.specs.Connection.{Sub, Off, Asked, Ready, On, Wording, Line, opens, closes_now, push, put_sub, begins, reads, comes, ends, finishes, checks, leaves}
+use Rattle.cf_hub.specs.Connection.{Sub, Off, Asked, Ready, On, Wording, Line, opens, closes_now, push, put_sub, end_at, begins}
+use Rattle.cf_hub.specs.Connection as line
+use Rattle.cf_client.specs.ClientState.{Client, new_client, asks, calls_for, reconnects, hears as takes_note}
 use Rattle.cf_client.specs.ClientState as client
+use Rattle.cf_schedule.specs.Errand.{Errand, Subscribe, Unsubscribe, Publish, History, Sent}
 
 pub record Link : Type 0 where
   -- the node that it is connected to, and its client id there
@@ -15,7 +17,128 @@ pub record Link : Type 0 where
   pub line : Line Note
   -- the notes that left the node and did not reach the client yet
   pub way : List Note
-  -- the commands that left the client and were not heard yet; those with ids below this were
-  pub up : List Errand
+  -- the commands that left the client and were not heard yet; those of ids below this were
+  pub up : List Sent
   pub heard : ℕ
-  pub client : client.Client
+  pub client : Client
+
+-- a client that never connected
+abbrev pub no_link : Link
+no_link = record { node = None; name = []; line = opens; way = []; up = []; heard = client.first_id; client = new_client }
+
+-- something happens at its session
+abbrev pub with_line : Line Note → Link → Link
+with_line v l = record l { line = v }
+
+-- ---- the client's side
+
+-- what the client makes of an errand that it sends
+abbrev pub client_sends : Errand → Client → Client
+client_sends (Subscribe c from) x = asks c from x
+client_sends (Unsubscribe c) x = client.leaves c x
+client_sends (Publish c body) x = calls_for x
+client_sends (History c limit) x = calls_for x
+
+abbrev pub sends : Errand → Link → Link
+sends e l = record l { client = client_sends e l.client; up = l.up ++ record { id = l.client.fresh; errand = e } ∷ [] }
+
+-- the connection ends, and what was on its way is lost
+abbrev pub breaks : Link → Link
+breaks l = record { node = None; name = []; line = opens; way = []; up = []; heard = client.first_id; client = reconnects l.client }
+
+-- a note reaches the client; a close ends the connection
+abbrev pub gets : Note → Link → Link
+gets (Close code) l = breaks l
+gets n l = record l { client = takes_note n l.client }
+
+-- the front of what waits at the node leaves it
+abbrev pub hold_first : List Note → Link → Link
+hold_first [] l = l
+hold_first (n ∷ ns) l = record l { line = record (l.line) { notes = ns }; way = l.way ++ n ∷ [] }
+
+abbrev pub holds : Link → Link
+holds l = hold_first l.line.notes l
+
+-- the first note that is on its way reaches the client
+abbrev pub receive_first : List Note → Link → Link
+receive_first [] l = l
+receive_first (n ∷ ns) l = gets n (record l { way = ns })
+
+abbrev pub receives : Link → Link
+receives l = receive_first l.way l
+
+-- ---- the node's side
+
+-- A command is heard, in the order in which they were sent. A subscribe waits while the one before it for its channel is
+-- unfinished; it begins a subscription unless the node refuses it, or the session is closed.
+abbrev pub hears_subscribe : Bool → List ℕ → ℕ → Option Position → List Sent → Sub → Link → Link
+hears_subscribe refused c id from rest Off l =
+    record l { up = rest; heard = suc id; line = if l.line.closed || refused then l.line else begins c id from l.line }
+hears_subscribe refused c id from rest (Asked i since arrived) l = l
+hears_subscribe refused c id from rest (Ready i was r arrived) l = l
+hears_subscribe refused c id from rest (On q mark) l = record l { up = rest; heard = suc id }
+
+abbrev pub hears_errand : Bool → ℕ → Errand → List Sent → Link → Link
+hears_errand refused id (Subscribe c from) rest l = hears_subscribe refused c id from rest (l.line.subs c) l
+hears_errand refused id (Unsubscribe c) rest l = record l { up = rest; heard = suc id; line = line.leaves c l.line }
+hears_errand refused id (Publish c body) rest l = record l { up = rest; heard = suc id }
+hears_errand refused id (History c limit) rest l = record l { up = rest; heard = suc id }
+
+abbrev pub hears_first : Bool → List Sent → Link → Link
+hears_first refused [] l = l
+hears_first refused (k ∷ rest) l = hears_errand refused k.id k.errand rest l
+
+abbrev pub hears : Bool → Link → Link
+hears refused l = hears_first refused l.up l
+
+-- whether the subscription waits for its reply under this id
+abbrev pub is_waiting : ℕ → Sub → Bool
+is_waiting k Off = false
+is_waiting k (Asked i since arrived) = i == k
+is_waiting k (Ready i was r arrived) = i == k
+is_waiting k (On q mark) = false
+
+-- an error answers a command that was heard, and that is no ask still under way
+abbrev pub errs : Wording Note → List ℕ → ℕ → ℕ → Link → Link
+errs w c id code l =
+    if nat_lt id l.heard && not (is_waiting id (l.line.subs c)) then with_line (push w (Fails c id code) l.line) l else l
+
+-- the notes that answer other commands than a subscribe, and the ping
+abbrev pub is_plain : Note → Bool
+is_plain (Reply c id was r) = false
+is_plain (Pub c q) = false
+is_plain (End c) = false
+is_plain (Fails c id code) = false
+is_plain (Accepted id) = true
+is_plain (Left id) = true
+is_plain (Listed c id at low count) = true
+is_plain PingDue = true
+is_plain (Close code) = false
+
+abbrev pub says : Wording Note → Note → Link → Link
+says w n l = if is_plain n then with_line (push w n l.line) l else l
+
+-- ---- what goes wrong beside refusals
+
+-- an unfinished subscription is given up
+abbrev pub fail_at : List ℕ → Sub → Link → Link
+fail_at c Off l = l
+fail_at c (Asked id since arrived) l = with_line (put_sub c Off l.line) l
+fail_at c (Ready id was r arrived) l = with_line (put_sub c Off l.line) l
+fail_at c (On q mark) l = l
+
+abbrev pub fails : List ℕ → Link → Link
+fails c l = fail_at c (l.line.subs c) l
+
+-- it finishes as if more had arrived than are kept
+abbrev pub over_at : Wording Note → List ℕ → Sub → Line Note → Line Note
+over_at w c (Ready id was r arrived) l =
+    line.ends w c (push w (w.reply c id was r) (put_sub c (On (client.read_to r) None) l))
+over_at w c s l = l
+
+abbrev pub finishes_over : Wording Note → List ℕ → Line Note → Line Note
+finishes_over w c l = over_at w c (l.subs c) l
+
+-- the session is closed with this code
+abbrev pub closes_with : ℕ → Link → Link
+closes_with code l = with_line (closes_now (Close code) l.line) l

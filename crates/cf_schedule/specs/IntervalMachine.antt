@@ -1,0 +1,236 @@
+-- The interval machine: what each line of a schedule makes of the world. It has positions, numbers and sets on the way, and no
+-- data; what was published stands in the publication lists.
+use Rattle.std.specs.Prelude.{ℕ, ℤ, suc, ◌+◌, ◌==◌, nat_le, nat_lt, ◌&&◌, ◌||◌, not, Bool, true, false, if◌then◌else◌, is_some, Option, Some, None, List, [], ◌∷◌, ◌++◌, decimal}
+use Rattle.cf_protocol.specs.Names.{with, and_also}
+use Rattle.cf_protocol.specs.Settings.{Settings, settings_of}
+use Rattle.cf_protocol.specs.Position.{Position}
+use Rattle.cf_protocol.specs.Datum.{Who, Datum}
+use Rattle.cf_protocol.specs.Note.{Lists, Note, Put as PutDone, Left, Listed}
+use Rattle.cf_stream.specs.StreamState.{StreamState}
+use Rattle.cf_stream.specs.StreamAnswer.{Listing, read_of, listed_above}
+use Rattle.cf_hub.specs.Connection.{Sub, Off, Asked, Ready, On, Wording, Line, reads, comes, finishes, checks}
+use Rattle.cf_client.specs.ClientState.{Mode, last_of, is_idle}
+use Rattle.cf_schedule.specs.Config.{Config}
+use Rattle.cf_schedule.specs.Event.{Event, Epoch, Connect, Ask, AskFrom, Read, Finish, Publish, PublishBy, Deliver, Take, Break, Leave, Trim, Forget, BrokerRestart, Restart, Check, ListHistory}
+use Rattle.cf_schedule.specs.Errand.{Errand, Sent, Subscribe, Unsubscribe, Publish as PublishErrand, History, channel_of}
+use Rattle.cf_schedule.specs.PublicationList.{Place, Broker, publication, epoch_comes, opened, can_open, at_last_offset, publish, trim, forget, forget_all, stands_at}
+use Rattle.cf_schedule.specs.Weights.{wording}
+use Rattle.cf_schedule.specs.Link.{Link, with_line, sends, hears, breaks, holds, receives, errs, says, closes_with}
+use Rattle.cf_schedule.specs.World.{World, with_at, link_with, broker_with, on_node, sessions_of, is_connected, is_ready}
+use Rattle.cf_schedule.specs.Refusals.{Judgement, Unheard, TooLong, Refused, Accepted, judged, most_sessions, last_counter, last_id, bad_message}
+
+-- ---- a command is sent, heard and answered
+
+abbrev pub sent : List ℕ → Errand → World → World
+sent x e w = link_with x (sends e (w.links x)) w
+
+-- how much the streams of a channel hold; nothing is published where the namespace is not set up
+abbrev pub size_by : Option Settings → ℕ
+size_by None = 0
+size_by (Some s) = s.size
+
+abbrev pub size_of : Config → List ℕ → ℕ
+size_of cfg c = size_by (settings_of cfg.namespaces c)
+
+-- what a client publishes names it; all clients connect as the empty user
+abbrev pub datum_by : Link → List ℕ → Datum
+datum_by l body = record { body = body; info = Some (record { user = []; client = l.name }) }
+
+-- what an accepted command makes of the broker: a publish adds its datum, and a history opens the stream as a read does
+abbrev pub carried_out : Config → Link → Errand → Broker → Broker
+carried_out cfg l (Subscribe c from) b = b
+carried_out cfg l (Unsubscribe c) b = b
+carried_out cfg l (PublishErrand c body) b = publish (size_of cfg c) c (datum_by l body) b
+carried_out cfg l (History c limit) b = opened c b
+
+abbrev pub broker_by : Config → Link → Errand → Judgement → Broker → Broker
+broker_by cfg l e Unheard b = b
+broker_by cfg l e TooLong b = b
+broker_by cfg l e (Refused code) b = b
+broker_by cfg l e Accepted b = carried_out cfg l e b
+
+-- a message that is too long closes the session
+abbrev pub closes_by : Judgement → Link → Link
+closes_by TooLong l = closes_with bad_message l
+closes_by j l = l
+
+abbrev pub is_refused : Judgement → Bool
+is_refused Accepted = false
+is_refused j = true
+
+abbrev pub heard_as : Config → List ℕ → Errand → Judgement → World → World
+heard_as cfg x e j w =
+    record w {
+      broker = broker_by cfg (w.links x) e j w.broker;
+      links = with w.links x (closes_by j (hears (is_refused j) (w.links x)));
+    }
+
+abbrev pub hear_first : Config → List ℕ → (Judgement → Judgement) → List Sent → World → World
+hear_first cfg x change [] w = w
+hear_first cfg x change (k ∷ rest) w = heard_as cfg x k.errand (change (judged cfg w (w.links x) k)) w
+
+-- the node of x hears the first of the commands that are on their way
+abbrev pub heard : Config → List ℕ → (Judgement → Judgement) → World → World
+heard cfg x change w = hear_first cfg x change (w.links x).up w
+
+abbrev pub as_judged : Judgement → Judgement
+as_judged j = j
+
+abbrev pub listing : Wording Note → List ℕ → ℕ → ℤ → Option StreamState → Link → Link
+listing w c id limit None l = l
+listing w c id limit (Some s) l =
+    let found = listed_above 0 limit s in says w (Listed c id found.at found.low found.count) l
+
+abbrev pub answer_to : Wording Note → Broker → ℕ → Errand → Link → Link
+answer_to w b id (Subscribe c from) l = l
+answer_to w b id (Unsubscribe c) l = says w (Left id) l
+answer_to w b id (PublishErrand c body) l = says w (PutDone id) l
+answer_to w b id (History c limit) l = listing w c id limit (b.streams c) l
+
+abbrev pub answer_by : Wording Note → Broker → Sent → Judgement → Link → Link
+answer_by w b k Unheard l = l
+answer_by w b k TooLong l = l
+answer_by w b k (Refused code) l = errs w (channel_of k.errand) k.id code l
+answer_by w b k Accepted l = answer_to w b k.id k.errand l
+
+abbrev pub answered : List ℕ → Sent → Judgement → World → World
+answered x k j w = link_with x (answer_by (wording w.broker.lists) w.broker k j (w.links x)) w
+
+-- the command that x sends next
+abbrev pub command_by : List ℕ → Errand → World → Sent
+command_by x e w = record { id = (w.links x).client.fresh; errand = e }
+
+abbrev pub judgement : Config → List ℕ → Errand → World → Judgement
+judgement cfg x e w = judged cfg w (w.links x) (command_by x e w)
+
+abbrev pub exchange : Config → List ℕ → Errand → World → World
+exchange cfg x e w = answered x (command_by x e w) (judgement cfg x e w) (heard cfg x as_judged (sent x e w))
+
+-- ---- the other events
+
+abbrev pub client_id : ℕ → ℕ → ℕ → List ℕ
+client_id n boot counter = decimal n ++ (45 ∷ (decimal boot ++ (45 ∷ decimal counter)))
+
+abbrev pub connects : List ℕ → ℕ → World → World
+connects x n w =
+    record w {
+      counters = with_at w.counters n (w.counters n + 1);
+      clients = and_also x w.clients;
+      links = with w.links x (record (w.links x) { node = Some n; name = client_id n (w.boots n) (w.counters n + 1) });
+    }
+
+abbrev pub read_found : List ℕ → List ℕ → Option Position → Option StreamState → World → World
+read_found x c since None w = w
+read_found x c since (Some s) w = link_with x (with_line (reads c (read_of since s) (w.links x).line) (w.links x)) w
+
+-- the stream is read for a subscription that was asked for; it is opened where there is none
+abbrev pub read_at : List ℕ → List ℕ → Sub → World → World
+read_at x c (Asked id since arrived) w =
+    read_found x c since ((opened c w.broker).streams c) (broker_with (opened c w.broker) w)
+read_at x c s w = w
+
+abbrev pub delivered : ℕ → Option Place → World → World
+delivered n None w = w
+delivered n (Some p) w =
+    record w {
+      links = λ x.
+          if on_node n (w.links x).node
+          then with_line (comes (wording w.broker.lists) p.channel p.at (w.links x).line) (w.links x)
+          else w.links x;
+    }
+
+abbrev pub restarts : ℕ → World → World
+restarts n w =
+    record w {
+      boots = with_at w.boots n (w.boots n + 1);
+      counters = with_at w.counters n 0;
+      links = λ x. if on_node n (w.links x).node then breaks (w.links x) else w.links x;
+    }
+
+-- what happens at a session
+abbrev pub at_line : List ℕ → (Line Note → Line Note) → World → World
+at_line x f w = link_with x (with_line (f (w.links x).line) (w.links x)) w
+
+-- ---- the effect of each event, where it has one
+
+abbrev pub effect : Config → World → Event → World
+effect cfg w (Epoch e) = broker_with (epoch_comes e w.broker) w
+effect cfg w (Connect x n) = connects x n w
+effect cfg w (Ask x c) = exchange cfg x (Subscribe c None) w
+effect cfg w (AskFrom x c) = exchange cfg x (Subscribe c (last_of ((w.links x).client.modes c))) w
+effect cfg w (Read x c) = read_at x c ((w.links x).line.subs c) w
+effect cfg w (Finish x c) = at_line x (finishes (wording w.broker.lists) c) w
+effect cfg w (Publish c body) = broker_with (publish (size_of cfg c) c (record { body = body; info = None }) w.broker) w
+effect cfg w (PublishBy x c body) = exchange cfg x (PublishErrand c body) w
+effect cfg w (Deliver n i) = delivered n (publication i w.broker) w
+effect cfg w (Take x) = link_with x (receives (holds (w.links x))) w
+effect cfg w (Break x) = link_with x (breaks (w.links x)) w
+effect cfg w (Leave x c) = exchange cfg x (Unsubscribe c) w
+effect cfg w (Trim c k) = broker_with (trim c k w.broker) w
+effect cfg w (Forget c) = broker_with (forget c w.broker) w
+effect cfg w BrokerRestart = broker_with (forget_all w.broker) w
+effect cfg w (Restart n) = restarts n w
+effect cfg w (Check x c) = at_line x (checks (wording w.broker.lists) c (stands_at (w.broker.streams c))) w
+effect cfg w (ListHistory x c limit) = exchange cfg x (History c limit) w
+
+-- ---- the condition of each event: where it does not hold, the event changes nothing
+
+abbrev pub id_left : Link → Bool
+id_left l = nat_le l.client.fresh last_id
+
+abbrev pub is_asked : Sub → Bool
+is_asked (Asked id since arrived) = true
+is_asked s = false
+
+abbrev pub is_read : Sub → Bool
+is_read (Ready id was r arrived) = true
+is_read s = false
+
+abbrev pub is_on : Sub → Bool
+is_on (On p mark) = true
+is_on s = false
+
+abbrev pub has_any : List Note → Bool
+has_any [] = false
+has_any (n ∷ ns) = true
+
+-- an accepted command that would open a stream while no epoch waits
+abbrev pub lacks_epoch : Judgement → Errand → Broker → Bool
+lacks_epoch Accepted (PublishErrand c body) b = not (can_open c b)
+lacks_epoch Accepted (History c limit) b = not (can_open c b)
+lacks_epoch j e b = false
+
+abbrev pub can_command : Config → List ℕ → Errand → World → Bool
+can_command cfg x e w =
+    is_ready (w.links x) && (id_left (w.links x) && not (lacks_epoch (judgement cfg x e w) e w.broker))
+
+abbrev pub idle_at : List ℕ → List ℕ → World → Bool
+idle_at x c w = is_idle ((w.links x).client.modes c)
+
+abbrev pub allows : Config → World → Event → Bool
+allows cfg w (Epoch e) = true
+allows cfg w (Connect x n) =
+    not (is_connected x w) && (nat_lt n cfg.nodes && (nat_lt (sessions_of n w.links w.clients) most_sessions && nat_lt (w.counters n) last_counter))
+allows cfg w (Ask x c) = idle_at x c w && can_command cfg x (Subscribe c None) w
+allows cfg w (AskFrom x c) = idle_at x c w && can_command cfg x (Subscribe c (last_of ((w.links x).client.modes c))) w
+allows cfg w (Read x c) = is_asked ((w.links x).line.subs c) && can_open c w.broker
+allows cfg w (Finish x c) = is_read ((w.links x).line.subs c)
+allows cfg w (Publish c body) = is_some (settings_of cfg.namespaces c) && (can_open c w.broker && not (at_last_offset c w.broker))
+allows cfg w (PublishBy x c body) = can_command cfg x (PublishErrand c body) w
+allows cfg w (Deliver n i) = is_some (publication i w.broker)
+allows cfg w (Take x) = is_connected x w && has_any (w.links x).line.notes
+allows cfg w (Break x) = is_connected x w
+allows cfg w (Leave x c) = not (idle_at x c w) && can_command cfg x (Unsubscribe c) w
+allows cfg w (Trim c k) = is_some (w.broker.streams c)
+allows cfg w (Forget c) = is_some (w.broker.streams c)
+allows cfg w BrokerRestart = true
+allows cfg w (Restart n) = nat_lt n cfg.nodes
+allows cfg w (Check x c) = is_on ((w.links x).line.subs c)
+allows cfg w (ListHistory x c limit) = can_command cfg x (History c limit) w
+
+abbrev pub happens : Config → World → Event → World
+happens cfg w e = if allows cfg w e then effect cfg w e else w
+
+abbrev pub run : Config → World → List Event → World
+run cfg w [] = w
+run cfg w (e ∷ es) = run cfg (happens cfg w e) es

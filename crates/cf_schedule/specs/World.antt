@@ -1,0 +1,58 @@
+-- The broker, the nodes and all clients.
+use Rattle.std.specs.Prelude.{ℕ, suc, ◌+◌, ◌==◌, ◌&&◌, ◌||◌, not, Bool, true, false, if◌then◌else◌, is_some, Option, Some, None, List, [], ◌∷◌}
+use Rattle.cf_protocol.specs.Names.{with}
+use Rattle.cf_protocol.specs.Position.{Position}
+use Rattle.cf_hub.specs.Connection.{rows, any_unfinished}
+use Rattle.cf_schedule.specs.PublicationList.{Broker, new_broker}
+use Rattle.cf_schedule.specs.Link.{Link, no_link}
+
+pub record World : Type 0 where
+  pub broker : Broker
+  -- by node: its boot number, and how many sessions it had in this boot
+  pub boots : ℕ → ℕ
+  pub counters : ℕ → ℕ
+  -- the clients that ever connected, each once; and by client
+  pub clients : List (List ℕ)
+  pub links : List ℕ → Link
+
+-- a number's value changed
+abbrev pub with_at : (ℕ → ℕ) → ℕ → ℕ → ℕ → ℕ
+with_at f k v j = if j == k then v else f j
+
+abbrev pub first_boot : ℕ → ℕ
+first_boot n = 1
+
+abbrev pub no_session : ℕ → ℕ
+no_session n = 0
+
+abbrev pub nobody : List ℕ → Link
+nobody x = no_link
+
+abbrev pub start : World
+start = record { broker = new_broker; boots = first_boot; counters = no_session; clients = []; links = nobody }
+
+abbrev pub link_with : List ℕ → Link → World → World
+link_with x l w = record w { links = with w.links x l }
+
+abbrev pub broker_with : Broker → World → World
+broker_with b w = record w { broker = b }
+
+abbrev pub on_node : ℕ → Option ℕ → Bool
+on_node n None = false
+on_node n (Some m) = m == n
+
+-- how many sessions a node has, and how many subscriptions of all its sessions
+abbrev pub sessions_of : ℕ → (List ℕ → Link) → List (List ℕ) → ℕ
+sessions_of n links [] = 0
+sessions_of n links (x ∷ xs) = if on_node n (links x).node then suc (sessions_of n links xs) else sessions_of n links xs
+
+abbrev pub rows_of : ℕ → (List ℕ → Link) → List (List ℕ) → ℕ
+rows_of n links [] = 0
+rows_of n links (x ∷ xs) = if on_node n (links x).node then rows (links x).line + rows_of n links xs else rows_of n links xs
+
+abbrev pub is_connected : List ℕ → World → Bool
+is_connected x w = is_some (w.links x).node
+
+-- A client is ready where it is connected and its session has no unfinished subscription: commands are carried out in order.
+abbrev pub is_ready : Link → Bool
+is_ready l = is_some l.node && not (any_unfinished l.line.subs l.line.channels)
