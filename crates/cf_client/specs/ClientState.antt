@@ -4,7 +4,7 @@ use Rattle.std.specs.Prelude.{ℕ, suc, ◌==◌, ◌&&◌, ◌||◌, Bool, true
 use Rattle.std.specs.Str.{bytes_eq}
 use Rattle.cf_protocol.specs.Names.{with}
 use Rattle.cf_protocol.specs.Position.{Position}
-use Rattle.cf_protocol.specs.Note.{Reading, Note, Reply, Pub, End, Fails, Put as Accepted, Left, Listed, PingDue, Close}
+use Rattle.cf_protocol.specs.Note.{Reading, Note, Reply, Pub, End, Fails, Put as Accepted, Listed, Close}
 
 -- one channel of a client
 pub data Mode : Type 0 where

@@ -1,6 +1,6 @@
 -- One session on its node: its subscriptions, and what waits for its client. Generic in what a note is, so that the same
 -- words speak of notes and of the texts that are written for them. (Centrifugo's client protocol; limits are this profile's.)
-use Rattle.std.specs.Prelude.{ℕ, zero, suc, ◌+◌, nat_le, ◌&&◌, ◌||◌, Bool, true, false, if◌then◌else◌, is_some, Option, Some, None, List, [], ◌∷◌, ◌++◌, sum_by}
+use Rattle.std.specs.Prelude.{ℕ, zero, suc, ◌+◌, nat_le, ◌||◌, Bool, true, false, if◌then◌else◌, is_some, Option, Some, None, List, [], ◌∷◌, ◌++◌, sum_by}
 use Rattle.cf_protocol.specs.Names.{with, and_also}
 use Rattle.cf_protocol.specs.Position.{Position}
 use Rattle.cf_protocol.specs.Note.{Reading}

@@ -1,5 +1,5 @@
 -- What a client sends after it has connected. (Centrifugo's client protocol: subscribe, unsubscribe, publish, history.)
-use Rattle.std.specs.Prelude.{ℕ, ℤ, Bool, false, Option, None, List}
+use Rattle.std.specs.Prelude.{ℕ, ℤ, false, Option, None, List}
 use Rattle.cf_protocol.specs.Position.{Position}
 use Rattle.cf_protocol.specs.Request.{Command, Request, Subscribe as SubscribeRequest, Unsubscribe as UnsubscribeRequest, Publish as PublishRequest, History as HistoryRequest, Body}
 

@@ -1,15 +1,16 @@
 -- The interval machine: what each line of a schedule makes of the world. It has positions, numbers and sets on the way, and no
 -- data; what was published stands in the publication lists.
-use Rattle.std.specs.Prelude.{ℕ, ℤ, suc, ◌+◌, ◌==◌, nat_le, nat_lt, ◌&&◌, ◌||◌, not, Bool, true, false, if◌then◌else◌, is_some, Option, Some, None, List, [], ◌∷◌, ◌++◌, decimal}
+use Rattle.std.specs.Prelude.{ℕ, ℤ, ◌+◌, nat_le, nat_lt, ◌&&◌, not, Bool, true, false, if◌then◌else◌, is_some, Option, Some, None, List, [], ◌∷◌, ◌++◌, decimal}
 use Rattle.cf_protocol.specs.Names.{with, and_also}
-use Rattle.cf_protocol.specs.Settings.{Settings, settings_of}
+use Rattle.cf_protocol.specs.declared.settings.Settings.{Settings}
+use Rattle.cf_protocol.specs.Settings.{settings_of}
 use Rattle.cf_protocol.specs.Position.{Position}
-use Rattle.cf_protocol.specs.Datum.{Who, Datum}
-use Rattle.cf_protocol.specs.Note.{Lists, Note, Put as PutDone, Left, Listed}
+use Rattle.cf_protocol.specs.Datum.{Datum}
+use Rattle.cf_protocol.specs.Note.{Note, Put as PutDone, Left, Listed}
 use Rattle.cf_stream.specs.StreamState.{StreamState}
-use Rattle.cf_stream.specs.StreamAnswer.{Listing, read_of, listed_above}
-use Rattle.cf_hub.specs.Connection.{Sub, Off, Asked, Ready, On, Wording, Line, reads, comes, finishes, checks}
-use Rattle.cf_client.specs.ClientState.{Mode, last_of, is_idle}
+use Rattle.cf_stream.specs.StreamAnswer.{read_of, listed_above}
+use Rattle.cf_hub.specs.Connection.{Sub, Asked, Ready, On, Wording, Line, reads, comes, finishes, checks}
+use Rattle.cf_client.specs.ClientState.{last_of, is_idle}
 use Rattle.cf_schedule.specs.Config.{Config}
 use Rattle.cf_schedule.specs.Event.{Event, Epoch, Connect, Ask, AskFrom, Read, Finish, Publish, PublishBy, Deliver, Take, Break, Leave, Trim, Forget, BrokerRestart, Restart, Check, ListHistory}
 use Rattle.cf_schedule.specs.Errand.{Errand, Sent, Subscribe, Unsubscribe, Publish as PublishErrand, History, channel_of}

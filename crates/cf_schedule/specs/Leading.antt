@@ -1,10 +1,10 @@
 -- What waits for a live client leads from its position to its node's, publication by publication.
-use Rattle.std.specs.Prelude.{◌≡◌, ℕ, ◌≤◌, Bool, true, false, Option, Some, None, List, [], ◌∷◌, ◌++◌, length}
+use Rattle.std.specs.Prelude.{◌≡◌, ℕ, ◌≤◌, Bool, true, false, Option, Some, None, List, [], ◌∷◌, ◌++◌}
 use Rattle.std.specs.Str.{bytes_eq}
 use Rattle.cf_protocol.specs.Position.{Position}
-use Rattle.cf_protocol.specs.Note.{Lists, Note, Reply, Pub, End, Fails, Put as Accepted, Left, Listed, PingDue, Close}
+use Rattle.cf_protocol.specs.Note.{Note, Reply, Pub, End, Fails, Put as Accepted, Left, Listed, PingDue, Close}
 use Rattle.cf_recovery.specs.Verdict.{next}
-use Rattle.cf_hub.specs.Connection.{Sub, Off, Asked, Ready, On}
+use Rattle.cf_hub.specs.Connection.{Sub, On}
 use Rattle.cf_client.specs.ClientState.{Mode, Idle, Asking, Live}
 use Rattle.cf_schedule.specs.Link.{Link}
 

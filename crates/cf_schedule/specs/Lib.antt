@@ -4,7 +4,6 @@ pub mod Trace
 pub mod TraceLine
 pub mod Word
 pub mod Config
-pub mod Event
 pub mod Errand
 pub mod PublicationList
 pub mod Weights
@@ -13,7 +12,7 @@ pub mod World
 pub mod Refusals
 pub mod IntervalMachine
 pub mod LooseRun
-pub mod Trace
+pub mod Told
 pub mod Marks
 pub mod StreamSafety
 pub mod Leading

@@ -1,8 +1,8 @@
 -- One client and its connection: the client, its session on the node, and what travels between them.
 -- Nothing else lies between a client and its node. A connection gives, in order, a prefix of what was sent on it.
-use Rattle.std.specs.Prelude.{ℕ, suc, ◌==◌, nat_lt, ◌&&◌, ◌||◌, not, Bool, true, false, if◌then◌else◌, Option, Some, None, List, [], ◌∷◌, ◌++◌}
+use Rattle.std.specs.Prelude.{ℕ, suc, ◌==◌, nat_lt, ◌&&◌, ◌||◌, not, Bool, true, false, if◌then◌else◌, Option, None, List, [], ◌∷◌, ◌++◌}
 use Rattle.cf_protocol.specs.Position.{Position}
-use Rattle.cf_protocol.specs.Note.{Reading, Note, Reply, Pub, End, Fails, Put as Accepted, Left, Listed, PingDue, Close}
+use Rattle.cf_protocol.specs.Note.{Note, Reply, Pub, End, Fails, Put as Accepted, Left, Listed, PingDue, Close}
 use Rattle.cf_hub.specs.Connection.{Sub, Off, Asked, Ready, On, Wording, Line, opens, closes_now, push, put_sub, end_at, begins}
 use Rattle.cf_hub.specs.Connection as line
 use Rattle.cf_client.specs.ClientState.{Client, new_client, asks, calls_for, reconnects, hears as takes_note}

@@ -1,18 +1,18 @@
 -- A loose run: what running nodes with threads do. A line of a schedule may happen, or one of these: commands and notes
 -- travel, answers come late or never, an error comes in place of an answer, a finish goes as if more had arrived than are
 -- kept, a ping enters or a session is closed at any time, a position check is made against anything.
-use Rattle.std.specs.Prelude.{ℕ, ℤ, ◌&&◌, not, Bool, true, false, if◌then◌else◌, Option, Some, None, List, [], ◌∷◌, map}
+use Rattle.std.specs.Prelude.{ℕ, ℤ, ◌&&◌, not, Bool, true, false, if◌then◌else◌, Option, None, List, [], ◌∷◌, map}
 use Rattle.cf_protocol.specs.Position.{Position}
 use Rattle.cf_protocol.specs.Note.{Note}
 use Rattle.cf_client.specs.ClientState.{last_of}
 use Rattle.cf_hub.specs.Connection.{checks}
 use Rattle.cf_schedule.specs.Config.{Config}
 use Rattle.cf_schedule.specs.Event.{Event}
-use Rattle.cf_schedule.specs.Errand.{Errand, Subscribe, Unsubscribe, Publish, History}
+use Rattle.cf_schedule.specs.Errand.{Subscribe, Unsubscribe, Publish, History}
 use Rattle.cf_schedule.specs.Weights.{wording}
-use Rattle.cf_schedule.specs.Link.{Link, holds, receives, errs, says, fails, finishes_over, closes_with}
+use Rattle.cf_schedule.specs.Link.{holds, receives, errs, says, fails, finishes_over, closes_with}
 use Rattle.cf_schedule.specs.World.{World, link_with, is_connected, is_ready}
-use Rattle.cf_schedule.specs.Refusals.{Judgement, Unheard, TooLong, Refused, Accepted}
+use Rattle.cf_schedule.specs.Refusals.{Judgement, Refused, Accepted}
 use Rattle.cf_schedule.specs.IntervalMachine.{sent, heard, at_line, id_left, idle_at, allows, effect}
 
 pub data Happening : Type 0 where

@@ -1,17 +1,15 @@
 -- What befalls one client at one channel, read off the events and a trace.
-use Rattle.std.specs.Prelude.{ℕ, zero, suc, ◌==◌, nat_lt, Bool, true, false, if◌then◌else◌, Option, Some, None, List, [], ◌∷◌, ◌++◌}
+use Rattle.std.specs.Prelude.{ℕ, suc, ◌==◌, Bool, true, false, if◌then◌else◌, Option, Some, None, List, [], ◌∷◌, ◌++◌}
 use Rattle.std.specs.Str.{bytes_eq}
 use Rattle.cf_protocol.specs.Position.{Position}
 use Rattle.cf_stream.specs.StreamState.{StreamState}
-use Rattle.cf_recovery.specs.Verdict.{next}
-use Rattle.cf_hub.specs.Connection.{Sub, Off, Asked, Ready, On}
+use Rattle.cf_hub.specs.Connection.{Sub, Asked}
 use Rattle.cf_schedule.specs.Config.{Config}
 use Rattle.cf_schedule.specs.Event.{Event, Ask, AskFrom, Read, Break, Leave, Restart}
 use Rattle.cf_schedule.specs.PublicationList.{opened}
-use Rattle.cf_schedule.specs.Link.{Link}
 use Rattle.cf_schedule.specs.World.{World, on_node}
 use Rattle.cf_schedule.specs.LooseRun.{Happening, Line, SendAsk, SendAskFrom, SendLeave, loosely_allows, befalls}
-use Rattle.cf_schedule.specs.Trace.{Item, Subscribed as ToldSubscribed, Published as ToldPublished, Resubscribing, Refused, Listed, Closed, Entry, loosely_writes}
+use Rattle.cf_schedule.specs.Trace.{Item, Subscribed as ToldSubscribed, Published as ToldPublished, Resubscribing, Refused, Listed, Closed, Entry}
 
 pub data Mark : Type 0 where
   -- it asks: from its last position, or from none

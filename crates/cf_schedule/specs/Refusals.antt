@@ -1,8 +1,9 @@
 -- What a node makes of a command that it hears: the order of checks, and each refusal with its code.
 -- (Centrifugo's client protocol: error codes; the order and the limits are this project's own profile.)
-use Rattle.std.specs.Prelude.{ℕ, ◌==◌, nat_le, nat_lt, ◌||◌, not, Bool, true, false, if◌then◌else◌, Option, Some, None, List, length}
-use Rattle.cf_protocol.specs.Settings.{Settings, settings_of}
-use Rattle.cf_hub.specs.Connection.{Line, is_off, rows}
+use Rattle.std.specs.Prelude.{ℕ, ◌==◌, nat_le, nat_lt, ◌||◌, not, Bool, false, if◌then◌else◌, Option, Some, None, List, length}
+use Rattle.cf_protocol.specs.declared.settings.Settings.{Settings}
+use Rattle.cf_protocol.specs.Settings.{settings_of}
+use Rattle.cf_hub.specs.Connection.{is_off, rows}
 use Rattle.cf_schedule.specs.Config.{Config}
 use Rattle.cf_schedule.specs.Errand.{Errand, Subscribe, Unsubscribe, Publish, History, Sent, command_of, channel_of}
 use Rattle.cf_schedule.specs.PublicationList.{at_last_offset}

@@ -1,7 +1,7 @@
 -- Stream safety: what may be said of a trace beside the events that it is of.
 -- Each sentence stands in plain words and, as the working form, as an automaton that goes through what befalls one client
 -- at one channel.
-use Rattle.std.specs.Prelude.{◌≡◌, ℕ, zero, suc, ◌-◌, ◌≤◌, ◌<◌, min, ◌↔◌, IsTrue, Bool, true, false, if◌then◌else◌, Option, Some, None, List, [], ◌∷◌, ◌++◌, length}
+use Rattle.std.specs.Prelude.{◌≡◌, ℕ, zero, suc, ◌-◌, ◌≤◌, ◌<◌, min, ◌↔◌, ◌⊎◌, IsTrue, Bool, true, false, if◌then◌else◌, Option, Some, None, List, [], ◌∷◌, ◌++◌, length}
 use Rattle.cf_protocol.specs.Position.{Position}
 use Rattle.cf_protocol.specs.Note.{Lists}
 use Rattle.cf_stream.specs.StreamState.{StreamState, opens_in, position_of}
@@ -11,7 +11,7 @@ use Rattle.cf_schedule.specs.Config.{Config}
 use Rattle.cf_schedule.specs.PublicationList.{body_at}
 use Rattle.cf_schedule.specs.World.{start}
 use Rattle.cf_schedule.specs.LooseRun.{Happening, loose_run}
-use Rattle.cf_schedule.specs.Trace.{Item, Subscribed as ToldSubscribed, Published as ToldPublished, Resubscribing, Refused, Listed, Closed, Entry}
+use Rattle.cf_schedule.specs.Trace.{Item, Published as ToldPublished, Entry}
 use Rattle.cf_schedule.specs.Marks.{Mark, Asks, Reads, Subscribed, Published, Stops, account}
 
 -- ---- one datum

@@ -1,14 +1,15 @@
--- What applications are told, line by line: the trace of a run.
-use Rattle.std.specs.Prelude.{ℕ, zero, suc, ◌-◌, ◌==◌, ◌||◌, Bool, true, false, if◌then◌else◌, Option, Some, None, List, [], ◌∷◌, ◌++◌}
+-- What an application is told when a note reaches its client, and so the trace of a run. A body is the datum that stands at
+-- the publication's place at that moment.
+use Rattle.std.specs.Prelude.{ℕ, zero, suc, ◌-◌, ◌==◌, ◌||◌, Bool, false, if◌then◌else◌, List, [], ◌∷◌, ◌++◌}
 use Rattle.cf_protocol.specs.Position.{Position}
 use Rattle.cf_protocol.specs.Note.{Lists, Reading, Note, Reply, Pub, End, Fails, Put as Accepted, Left, Listed as Listing, PingDue, Close, insufficient}
 use Rattle.cf_recovery.specs.Verdict.{next}
 use Rattle.cf_client.specs.ClientState.{Client, Mode, Idle, Asking, Live, read_to, is_out}
-use Rattle.cf_schedule.specs.Trace.{Item, Subscribed, Published, Resubscribing, Refused, Listed, Closed, Entry}
 use Rattle.cf_schedule.specs.Config.{Config}
+use Rattle.cf_schedule.specs.Trace.{Item, Subscribed, Published, Resubscribing, Refused, Listed, Closed, Entry}
 use Rattle.cf_schedule.specs.Event.{Event, Take}
 use Rattle.cf_schedule.specs.PublicationList.{body_at}
-use Rattle.cf_schedule.specs.Link.{Link, holds}
+use Rattle.cf_schedule.specs.Link.{holds}
 use Rattle.cf_schedule.specs.World.{World}
 use Rattle.cf_schedule.specs.IntervalMachine.{allows, happens}
 use Rattle.cf_schedule.specs.LooseRun.{Happening, Line, Receive, loosely_allows, befalls}

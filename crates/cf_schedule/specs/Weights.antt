@@ -1,5 +1,5 @@
 -- How much a note weighs: the length of its one written text. A close has none.
-use Rattle.std.specs.Prelude.{ℕ, List, length}
+use Rattle.std.specs.Prelude.{ℕ, length}
 use Rattle.cf_protocol.specs.Note.{Lists, Note, Reply, Pub, End, Close}
 use Rattle.cf_protocol.specs.Written.{note_text, command_text}
 use Rattle.cf_protocol.specs.Request.{Command}

@@ -1,7 +1,6 @@
 -- The broker, the nodes and all clients.
-use Rattle.std.specs.Prelude.{ℕ, suc, ◌+◌, ◌==◌, ◌&&◌, ◌||◌, not, Bool, true, false, if◌then◌else◌, is_some, Option, Some, None, List, [], ◌∷◌}
+use Rattle.std.specs.Prelude.{ℕ, suc, ◌+◌, ◌==◌, ◌&&◌, not, Bool, false, if◌then◌else◌, is_some, Option, Some, None, List, [], ◌∷◌}
 use Rattle.cf_protocol.specs.Names.{with}
-use Rattle.cf_protocol.specs.Position.{Position}
 use Rattle.cf_hub.specs.Connection.{rows, any_unfinished}
 use Rattle.cf_schedule.specs.PublicationList.{Broker, new_broker}
 use Rattle.cf_schedule.specs.Link.{Link, no_link}

@@ -1,15 +1,15 @@
 //! What holds of every run of the interval machine.
-ghost use Rattle.std.specs.Prelude.{◌≡◌, Option, Some, None, ℤ, ℕ, List, []};
+ghost use Rattle.std.specs.Prelude.{◌≡◌, List};
 ghost use Rattle.cf_schedule.specs.Config.{Config};
-ghost use Rattle.cf_schedule.specs.World.{start};
-ghost use Rattle.cf_schedule.specs.StreamSafety.{Safe, IsSafe, nothing_seen};
-ghost use Rattle.cf_schedule.specs.LooseRun.{loose_run};
+ghost use Rattle.cf_schedule.specs.Event.{Event};
 ghost use Rattle.cf_schedule.specs.IntervalMachine.{run};
-ghost use Rattle.cf_schedule.specs.Leading.{coming, LeadsOn, IsListed};
-ghost use Rattle.cf_schedule.specs.Trace.{trace, loose_trace};
+ghost use Rattle.cf_schedule.specs.LooseRun.{lines, loose_run};
+ghost use Rattle.cf_schedule.specs.Told.{loose_trace, trace};
+ghost use Rattle.cf_schedule.specs.World.{start};
 
-pub fn trial()
-    ensures runs { (cfg : Config) → run cfg start [] ≡ start }
-    ensures safe { (cfg : Config) → IsSafe nothing_seen [] }
-    ensures traces { (cfg : Config) → trace cfg 1 start [] ≡ [] }
+/// A schedule is a loose run of its lines: it leads to the same world and has the same trace.
+#[tactic(auto, using(crate::proofs::Schedules::run_of_lines, crate::proofs::Schedules::trace_of_lines))]
+pub fn schedules_are_loose_runs()
+    ensures world { (config : Config) (events : List Event) → loose_run config start (lines events) ≡ run config start events }
+    ensures trace { (config : Config) (events : List Event) → loose_trace config 1 start (lines events) ≡ trace config 1 start events }
 {}
