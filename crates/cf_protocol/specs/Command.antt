@@ -4,7 +4,7 @@ use Prim.Native.String.{String as Name}
 use Rattle.cf_json.specs.Grammar.{Tree, depth}
 use Rattle.cf_json.specs.Compact.{compact_text}
 use Rattle.cf_protocol.specs.Request.{Data, Absent, TooDeep, Body, Request, Pong, Connect, Subscribe, Unsubscribe, Publish, Presence, PresenceStats, History, Ping, Send, Other, Command}
-use Rattle.cf_protocol.specs.Fields.{◌>>=◌, Fields, as_object, member, text, flag, whole, signed, position, object_or_none, each_of, the_only, max_u32}
+use Rattle.cf_protocol.specs.Fields.{◌>>=◌, Fields, member, text, flag, whole, limit, position, object_as, object_or_none, each_of, the_only, max_u32}
 
 -- ---- requests by their members
 
@@ -38,15 +38,12 @@ presence_stats r = text r "channel" >>= λ channel. Some (PresenceStats channel)
 
 abbrev pub history : Fields → Option Request
 history r =
-    text r "channel" >>= λ channel. signed r "limit" >>= λ limit. object_or_none position r "since" >>= λ since. flag r "reverse" >>= λ reverse. Some (History channel limit since reverse)
+    text r "channel" >>= λ channel. limit r "limit" >>= λ most. object_or_none position r "since" >>= λ since. flag r "reverse" >>= λ reverse. Some (History channel most since reverse)
 
 abbrev pub without_members : Request → Fields → Option Request
 without_members request r = Some request
 
 -- ---- commands
-
-abbrev pub object_as : {A : Type 0} → (Fields → Option A) → Tree → Option A
-object_as f t = as_object t >>= f
 
 -- the keys of which a command has exactly one, and what their values are read as
 abbrev pub requests : List (Name × (Tree → Option Request))
@@ -63,11 +60,13 @@ needs_id request = true
 abbrev pub request_of : Fields → Option Request
 request_of r = the_only (each_of requests r)
 
+abbrev pub named_command : Fields → Option Command
+named_command r = whole max_u32 r "id" >>= λ id. request_of r >>= λ request. if needs_id request && (id == 0) then None else Some (record { id = id; request = request })
+
 -- An object without members is the pong.
 abbrev pub command_from : Fields → Option Command
 command_from [] = Some (record { id = 0; request = Pong })
-command_from (f ∷ fs) =
-    whole max_u32 (f ∷ fs) "id" >>= λ id. request_of (f ∷ fs) >>= λ request. if needs_id request && (id == 0) then None else Some (record { id = id; request = request })
+command_from (f ∷ fs) = named_command (f ∷ fs)
 
 abbrev pub command_of : Tree → Option Command
 command_of = object_as command_from

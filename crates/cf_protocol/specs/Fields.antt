@@ -1,7 +1,7 @@
 -- Reading the members of an object by their keys.
 -- (RFC 8259, section 4. What an absent member counts as, and the ranges, are this project's own profile.)
-use Rattle.std.specs.Prelude.{ℕ, nat_le, ◌==◌, ℤ, pos, negsuc, neg_ℤ, int_le, List, [], ◌∷◌, ◌++◌, not, filter, Bool, false, ◌&&◌, if◌then◌else◌, Option, Some, None, option_map, option_to_list, option_and_then, codes, decimal}
-use Rattle.std.specs.Str.{bytes_eq}
+use Rattle.std.specs.Prelude.{ℕ, nat_le, ◌==◌, ℤ, pos, negsuc, neg_ℤ, int_le, List, [], ◌∷◌, ◌++◌, not, filter, Bool, false, ◌&&◌, if◌then◌else◌, Option, Some, None, option_map, option_to_list, option_and_then, codes}
+use Rattle.std.specs.Str.{bytes_eq, all_ascii_digits}
 use Rattle.std.specs.Str.Parse.{digits_value}
 use Prim.Native.String.{String as Name}
 use Rattle.cf_json.specs.Grammar.{Tree, null, boolean, number, text as string, array, object, Parts, no_parts, part}
@@ -32,9 +32,9 @@ abbrev pub as_flag : Tree → Option Bool
 as_flag (boolean b) = Some b
 as_flag t = None
 
--- a number that is spelled without sign, fraction, exponent or leading zeros
+-- A number that is spelled by digits alone: without sign, fraction or exponent. (RFC 8259, section 6, has no leading zeros.)
 abbrev pub whole_of : List ℕ → Option ℕ
-whole_of s = if bytes_eq s (decimal (digits_value 10 s)) then Some (digits_value 10 s) else None
+whole_of s = if all_ascii_digits s then Some (digits_value 10 s) else None
 
 -- the same, with a minus sign before it or none
 abbrev pub signed_of : List ℕ → Option ℤ
@@ -50,9 +50,12 @@ as_whole low high (number s) = whole_of s >>= within low high
 as_whole low high t = None
 
 -- a whole number of 32 bits with a sign
-abbrev pub as_signed : Tree → Option ℤ
-as_signed (number s) = signed_of s >>= λ z. if int_le (negsuc 2147483647) z && int_le z (pos 2147483647) then Some z else None
-as_signed t = None
+abbrev pub is_limit : ℤ → Bool
+is_limit z = int_le (negsuc 2147483647) z && int_le z (pos 2147483647)
+
+abbrev pub as_limit : Tree → Option ℤ
+as_limit (number s) = signed_of s >>= λ z. if is_limit z then Some z else None
+as_limit t = None
 
 abbrev pub max_u32 : ℕ
 max_u32 = 4294967295
@@ -85,6 +88,10 @@ as_object t = None
 abbrev pub items_of : Parts → List Tree
 items_of no_parts = []
 items_of (part k t ps) = t ∷ items_of ps
+
+-- an object, read by f
+abbrev pub object_as : {A : Type 0} → (Fields → Option A) → Tree → Option A
+object_as f t = as_object t >>= f
 
 abbrev pub as_items : Tree → Option (List Tree)
 as_items (array ps) = Some (items_of ps)
@@ -120,16 +127,16 @@ flag r k = read_or false as_flag (present r k)
 abbrev pub whole : ℕ → Fields → Name → Option ℕ
 whole high r k = read_or 0 (as_whole 0 high) (present r k)
 
-abbrev pub signed : Fields → Name → Option ℤ
-signed r k = read_or (pos 0) as_signed (present r k)
+abbrev pub limit : Fields → Name → Option ℤ
+limit r k = read_or (pos 0) as_limit (present r k)
 
 -- a list of objects, each read by f
 abbrev pub objects : {A : Type 0} → (Fields → Option A) → Fields → Name → Option (List A)
-objects f r k = read_or [] (λ t. as_items t >>= read_all (λ u. as_object u >>= f)) (present r k)
+objects f r k = read_or [] (λ t. as_items t >>= read_all (object_as f)) (present r k)
 
 -- an object read by f, or none
 abbrev pub object_or_none : {A : Type 0} → (Fields → Option A) → Fields → Name → Option (Option A)
-object_or_none f r k = read_or None (λ t. as_object t >>= λ o. option_map Some (f o)) (present r k)
+object_or_none f r k = read_or None (λ t. option_map Some (object_as f t)) (present r k)
 
 -- what is no epoch is read as the empty one
 abbrev pub position : Fields → Option Position

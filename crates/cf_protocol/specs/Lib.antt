@@ -12,3 +12,4 @@ pub mod Reply
 pub mod Frame
 pub mod Written
 pub mod TextLength
+pub mod Regular

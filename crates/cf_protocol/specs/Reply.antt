@@ -6,8 +6,7 @@ use Rattle.cf_json.specs.Grammar.{Tree}
 use Rattle.cf_json.specs.Compact.{compact_text}
 use Rattle.cf_protocol.specs.Datum.{Who, Placed}
 use Rattle.cf_protocol.specs.Outgoing.{Outcome, Connected, Subscribed, Unsubscribed, Published, Present, Counted, Past, Pinged, Failed, Pushed, Publication, Unsubscribe, Outgoing, Ping, Answer, Push}
-use Rattle.cf_protocol.specs.Fields.{◌>>=◌, Fields, read_all, read_or, as_object, as_whole, member, present, text, flag, whole, position, objects, object_or_none, each_of, the_only, max_u32, max_u64}
-use Rattle.cf_protocol.specs.Command.{object_as}
+use Rattle.cf_protocol.specs.Fields.{◌>>=◌, Fields, read_all, read_or, as_object, object_as, as_whole, member, present, text, flag, whole, position, objects, object_or_none, each_of, the_only, max_u32, max_u64}
 
 -- ---- results by their members
 
@@ -76,7 +75,7 @@ abbrev pub push_or : Option (List Outgoing) → Option Tree → Option (List Out
 push_or answer None = answer
 push_or answer (Some t) = object_as push_from t
 
--- An object without members is the ping. None: unreadable; and a push that is passed over gives nothing.
+-- An object without members is the ping. None: unreadable. A push that is passed over gives nothing.
 abbrev pub reply_from : Fields → Option (List Outgoing)
 reply_from [] = Some (Ping ∷ [])
 reply_from (f ∷ fs) = push_or (answer_from (f ∷ fs)) (present (f ∷ fs) "push")

@@ -17,95 +17,101 @@ use Rattle.cf_protocol.specs.Note.{Note, Lists, outgoing_of, insufficient}
 
 -- ---- members
 
--- the members of an object, each with its key as it is spelled
-abbrev pub Members : Type 0
-Members = List (List ℕ × Tree)
+-- a key, and its value where the member stands
+abbrev pub Member : Type 0
+Member = Name × Option Tree
 
-abbrev pub parts_of : Members → Parts
+abbrev pub part_or_none : Name → Option Tree → Parts → Parts
+part_or_none k None ps = ps
+part_or_none k (Some t) ps = part (codes k) t ps
+
+abbrev pub parts_of : List Member → Parts
 parts_of [] = no_parts
-parts_of (m ∷ ms) = part m.0 m.1 (parts_of ms)
+parts_of (m ∷ ms) = part_or_none m.0 m.1 (parts_of ms)
 
-abbrev pub object_of : Members → Tree
+abbrev pub object_of : List Member → Tree
 object_of ms = object (parts_of ms)
 
-abbrev pub array_of : List Tree → Tree
-array_of [] = array no_parts
-array_of (t ∷ ts) = array (parts_of (map (λ u. ([], u)) (t ∷ ts)))
+abbrev pub items_of : List Tree → Parts
+items_of [] = no_parts
+items_of (t ∷ ts) = part [] t (items_of ts)
 
--- a member that always stands
-abbrev pub kept : Name → Tree → Members
-kept k t = (codes k, t) ∷ []
+-- what is left out where it is 0, false, an empty text, an empty list or an empty object
+abbrev pub whole : ℕ → Option Tree
+whole n = if n == 0 then None else Some (number (decimal n))
 
--- members that are left out where they are 0, false, an empty text, an empty list or an empty object
-abbrev pub whole : Name → ℕ → Members
-whole k n = if n == 0 then [] else kept k (number (decimal n))
+abbrev pub signed : ℤ → Option Tree
+signed (pos n) = whole n
+signed (negsuc n) = Some (number (signed_decimal (negsuc n)))
 
-abbrev pub signed : Name → ℤ → Members
-signed k (pos n) = whole k n
-signed k (negsuc n) = kept k (number (signed_decimal (negsuc n)))
+abbrev pub flag : Bool → Option Tree
+flag b = if b then Some (boolean true) else None
 
-abbrev pub flag : Name → Bool → Members
-flag k b = if b then kept k (boolean true) else []
+abbrev pub text : List ℕ → Option Tree
+text [] = None
+text (x ∷ xs) = Some (string (escaped (x ∷ xs)))
 
-abbrev pub text : Name → List ℕ → Members
-text k [] = []
-text k (x ∷ xs) = kept k (string (escaped (x ∷ xs)))
+abbrev pub list : List Tree → Option Tree
+list [] = None
+list (t ∷ ts) = Some (array (items_of (t ∷ ts)))
 
-abbrev pub list : Name → List Tree → Members
-list k [] = []
-list k (t ∷ ts) = kept k (array_of (t ∷ ts))
+abbrev pub unless_empty : Parts → Option Tree
+unless_empty no_parts = None
+unless_empty (part k t ps) = Some (object (part k t ps))
 
-abbrev pub inner : Name → Members → Members
-inner k [] = []
-inner k (m ∷ ms) = kept k (object_of (m ∷ ms))
+abbrev pub inner : List Member → Option Tree
+inner ms = unless_empty (parts_of ms)
 
 -- ---- what several texts have
 
-abbrev pub position : Position → Members
-position p = text "epoch" p.epoch ++ whole "offset" p.offset
+abbrev pub position : Position → List Member
+position p = ("epoch", text p.epoch) ∷ ("offset", whole p.offset) ∷ []
 
-abbrev pub info : Who → Members
-info w = text "client" w.client ++ text "user" w.user
+abbrev pub info : Who → List Member
+info w = ("client", text w.client) ∷ ("user", text w.user) ∷ []
 
-abbrev pub info_of : Option Who → Members
-info_of None = []
-info_of (Some w) = inner "info" (info w)
+abbrev pub info_or_none : Option Who → Option Tree
+info_or_none None = None
+info_or_none (Some w) = inner (info w)
 
 abbrev pub publication : (List ℕ → Tree) → Placed → Tree
-publication body p = object_of (kept "data" (body p.datum.body) ++ info_of p.datum.info ++ whole "offset" p.offset)
+publication body p = object_of (("data", Some (body p.datum.body)) ∷ ("info", info_or_none p.datum.info) ∷ ("offset", whole p.offset) ∷ [])
 
-abbrev pub publications : (List ℕ → Tree) → List Placed → Members
-publications body ps = list "publications" (map (publication body) ps)
+abbrev pub publications : (List ℕ → Tree) → List Placed → Option Tree
+publications body ps = list (map (publication body) ps)
 
 -- ---- commands
 
-abbrev pub since : Option Position → Members
-since None = []
-since (Some p) = position p ++ flag "recover" true
+abbrev pub from : Option Position → List Member
+from None = []
+from (Some p) = position p ++ ("recover", flag true) ∷ []
 
-abbrev pub since_object : Option Position → Members
-since_object None = []
-since_object (Some p) = inner "since" (position p)
+abbrev pub since : Option Position → Option Tree
+since None = None
+since (Some p) = inner (position p)
 
-abbrev pub «data» : (List ℕ → Tree) → Data → Members
-«data» body Absent = []
-«data» body TooDeep = []
-«data» body (Body b) = kept "data" (body b)
+abbrev pub body_of : (List ℕ → Tree) → Data → Option Tree
+body_of body Absent = None
+body_of body TooDeep = None
+body_of body (Body b) = Some (body b)
+
+abbrev pub channel_alone : List ℕ → Tree
+channel_alone channel = object_of (("channel", text channel) ∷ [])
 
 -- the request object stands also where it is empty
-abbrev pub command : (List ℕ → Tree) → ℕ → Request → Members
+abbrev pub command : (List ℕ → Tree) → ℕ → Request → List Member
 command body id request.Pong = []
-command body id (request.Connect token) = kept "connect" (object_of (text "token" token)) ++ whole "id" id
-command body id (request.Subscribe channel from) = whole "id" id ++ kept "subscribe" (object_of (text "channel" channel ++ since from))
-command body id (request.Unsubscribe channel) = whole "id" id ++ kept "unsubscribe" (object_of (text "channel" channel))
-command body id (request.Publish channel b) = whole "id" id ++ kept "publish" (object_of (text "channel" channel ++ «data» body b))
-command body id (request.Presence channel) = whole "id" id ++ kept "presence" (object_of (text "channel" channel))
-command body id (request.PresenceStats channel) = whole "id" id ++ kept "presence_stats" (object_of (text "channel" channel))
-command body id (request.History channel limit from reverse) =
-    kept "history" (object_of (text "channel" channel ++ signed "limit" limit ++ flag "reverse" reverse ++ since_object from)) ++ whole "id" id
-command body id request.Ping = whole "id" id ++ kept "ping" (object_of [])
-command body id request.Send = whole "id" id ++ kept "send" (object_of [])
-command body id request.Other = whole "id" id ++ kept "rpc" (object_of [])
+command body id (request.Connect token) = ("connect", Some (object_of (("token", text token) ∷ []))) ∷ ("id", whole id) ∷ []
+command body id (request.Subscribe channel p) = ("id", whole id) ∷ ("subscribe", Some (object_of (("channel", text channel) ∷ from p))) ∷ []
+command body id (request.Unsubscribe channel) = ("id", whole id) ∷ ("unsubscribe", Some (channel_alone channel)) ∷ []
+command body id (request.Publish channel d) = ("id", whole id) ∷ ("publish", Some (object_of (("channel", text channel) ∷ ("data", body_of body d) ∷ []))) ∷ []
+command body id (request.Presence channel) = ("id", whole id) ∷ ("presence", Some (channel_alone channel)) ∷ []
+command body id (request.PresenceStats channel) = ("id", whole id) ∷ ("presence_stats", Some (channel_alone channel)) ∷ []
+command body id (request.History channel limit p reverse) =
+    ("history", Some (object_of (("channel", text channel) ∷ ("limit", signed limit) ∷ ("reverse", flag reverse) ∷ ("since", since p) ∷ []))) ∷ ("id", whole id) ∷ []
+command body id request.Ping = ("id", whole id) ∷ ("ping", Some (object_of [])) ∷ []
+command body id request.Send = ("id", whole id) ∷ ("send", Some (object_of [])) ∷ []
+command body id request.Other = ("id", whole id) ∷ ("rpc", Some (object_of [])) ∷ []
 
 -- ---- replies and pushes
 
@@ -120,35 +126,54 @@ message_of code =
 abbrev pub reason_of : ℕ → List ℕ
 reason_of code = if code == insufficient then codes "insufficient state" else []
 
-abbrev pub subscribed : (List ℕ → Tree) → Position → List Placed → Bool → Bool → Members
-subscribed body p ps recovered was =
-    position p ++ flag "positioned" true ++ publications body ps ++ flag "recoverable" true ++ flag "recovered" recovered ++ flag "was_recovering" was
-
 -- the info of each client under its id, also where it is empty
-abbrev pub presence : Users → Members
-presence users = map (λ e. (escaped e.0, object_of (info (record { user = e.1; client = e.0 })))) (entries users)
+abbrev pub clients_of : List (List ℕ × List ℕ) → Parts
+clients_of [] = no_parts
+clients_of (u ∷ us) = part (escaped u.0) (object_of (info (record { client = u.0; user = u.1 }))) (clients_of us)
+
+abbrev pub presence : Users → List Member
+presence users = ("presence", unless_empty (clients_of (entries users))) ∷ []
+
+abbrev pub connected : List ℕ → List Member
+connected client = ("client", text client) ∷ ("ping", whole 25) ∷ ("pong", flag true) ∷ ("version", text (codes "1.0.0")) ∷ []
+
+abbrev pub subscribed : (List ℕ → Tree) → Position → List Placed → Bool → Bool → List Member
+subscribed body p ps recovered was =
+    ("epoch", text p.epoch) ∷ ("offset", whole p.offset) ∷ ("positioned", flag true) ∷ ("publications", publications body ps)
+    ∷ ("recoverable", flag true) ∷ ("recovered", flag recovered) ∷ ("was_recovering", flag was) ∷ []
+
+abbrev pub counted : ℕ → ℕ → List Member
+counted clients users = ("num_clients", whole clients) ∷ ("num_users", whole users) ∷ []
+
+abbrev pub past : (List ℕ → Tree) → Position → List Placed → List Member
+past body p ps = position p ++ ("publications", publications body ps) ∷ []
+
+abbrev pub error : ℕ → List Member
+error code = ("code", whole code) ∷ ("message", text (message_of code)) ∷ ("temporary", flag (code == 100)) ∷ []
 
 -- the result object stands also where it is empty
-abbrev pub reply : (List ℕ → Tree) → ℕ → Outcome → Members
-reply body id (Connected client) =
-    kept "connect" (object_of (text "client" client ++ whole "ping" 25 ++ flag "pong" true ++ text "version" (codes "1.0.0"))) ++ whole "id" id
-reply body id (Subscribed p ps recovered was) = whole "id" id ++ kept "subscribe" (object_of (subscribed body p ps recovered was))
-reply body id Unsubscribed = whole "id" id ++ kept "unsubscribe" (object_of [])
-reply body id Published = whole "id" id ++ kept "publish" (object_of [])
-reply body id (Present users) = whole "id" id ++ kept "presence" (object_of (inner "presence" (presence users)))
-reply body id (Counted clients users) = whole "id" id ++ kept "presence_stats" (object_of (whole "num_clients" clients ++ whole "num_users" users))
-reply body id (Past p ps) = kept "history" (object_of (position p ++ publications body ps)) ++ whole "id" id
-reply body id Pinged = whole "id" id ++ kept "ping" (object_of [])
-reply body id (Failed code) = inner "error" (whole "code" code ++ text "message" (message_of code) ++ flag "temporary" (code == 100)) ++ whole "id" id
+abbrev pub reply : (List ℕ → Tree) → ℕ → Outcome → List Member
+reply body id (Connected client) = ("connect", Some (object_of (connected client))) ∷ ("id", whole id) ∷ []
+reply body id (Subscribed p ps recovered was) = ("id", whole id) ∷ ("subscribe", Some (object_of (subscribed body p ps recovered was))) ∷ []
+reply body id Unsubscribed = ("id", whole id) ∷ ("unsubscribe", Some (object_of [])) ∷ []
+reply body id Published = ("id", whole id) ∷ ("publish", Some (object_of [])) ∷ []
+reply body id (Present users) = ("id", whole id) ∷ ("presence", Some (object_of (presence users))) ∷ []
+reply body id (Counted clients users) = ("id", whole id) ∷ ("presence_stats", Some (object_of (counted clients users))) ∷ []
+reply body id (Past p ps) = ("history", Some (object_of (past body p ps))) ∷ ("id", whole id) ∷ []
+reply body id Pinged = ("id", whole id) ∷ ("ping", Some (object_of [])) ∷ []
+reply body id (Failed code) = ("error", inner (error code)) ∷ ("id", whole id) ∷ []
 
-abbrev pub pushed : (List ℕ → Tree) → Pushed → Members
-pushed body (Publication p) = kept "pub" (publication body p)
-pushed body (Unsubscribe code) = inner "unsubscribe" (whole "code" code ++ text "reason" (reason_of code))
+abbrev pub unsubscribed : ℕ → List Member
+unsubscribed code = ("code", whole code) ∷ ("reason", text (reason_of code)) ∷ []
 
-abbrev pub outgoing : (List ℕ → Tree) → Outgoing → Members
+abbrev pub pushed : (List ℕ → Tree) → Pushed → Member
+pushed body (Publication p) = ("pub", Some (publication body p))
+pushed body (Unsubscribe code) = ("unsubscribe", inner (unsubscribed code))
+
+abbrev pub outgoing : (List ℕ → Tree) → Outgoing → List Member
 outgoing body Ping = []
 outgoing body (Answer id result) = reply body id result
-outgoing body (Push channel push) = inner "push" (text "channel" channel ++ pushed body push)
+outgoing body (Push channel push) = ("push", inner (("channel", text channel) ∷ pushed body push ∷ [])) ∷ []
 
 -- ---- texts
 
