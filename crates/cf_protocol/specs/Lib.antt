@@ -13,3 +13,5 @@ pub mod Frame
 pub mod Written
 pub mod TextLength
 pub mod Regular
+pub mod Unreadable
+pub mod Shown

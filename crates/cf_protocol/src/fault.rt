@@ -1,3 +1,4 @@
+use cf_json::Fault;
 use std::alloc::{AllocError, AllocFailed};
 use thiserror::Error;
 
@@ -30,5 +31,19 @@ impl<T: Drop> From<AllocFailed<T>> for ReadFault {
 
     fn from(_refused: AllocFailed<T>) -> ReadFault {
         ReadFault::Memory
+    }
+}
+
+impl From<Fault> for ReadFault {
+    ghost use Rattle.std.specs.Prelude.{◌≡◌};
+    ghost use Rattle.cf_protocol.specs.Unreadable.{fault_of};
+
+    ghost from_gives = { λ fault e. e ≡ fault_of fault };
+
+    fn from(fault: Fault) -> ReadFault {
+        match fault {
+            Fault::NotJson(_) | Fault::TooDeep(_) => ReadFault::Bad,
+            Fault::Memory => ReadFault::Memory,
+        }
     }
 }

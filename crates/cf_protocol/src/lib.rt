@@ -27,3 +27,4 @@ pub use publication::{Info, Publication};
 pub use settings::Settings;
 pub use tokens::{Tokens, read_tokens};
 pub use write::{write_command, write_reply};
+
