@@ -15,3 +15,4 @@ pub mod TextLength
 pub mod Regular
 pub mod Unreadable
 pub mod Shown
+pub mod LogEntry
