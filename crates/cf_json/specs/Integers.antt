@@ -1,13 +1,24 @@
--- Whole numbers, by their spelling and range.
-use Rattle.std.specs.Prelude.{◌^◌, ◌<◌, ℕ, List}
-use Rattle.std.specs.Str.Parse.{IsNumeral, digits_value, signed_digits_value, without_leading_sign}
-use mir.Syntax.{w64}
-use mir.Val.{SFits as FitsSigned}
+-- Whole numbers, by their spelling.
+use Rattle.std.specs.Prelude.{◌^◌, ◌==◌, ℕ, ℤ, pos, negsuc, neg_ℤ, nat_lt, List, [], ◌∷◌, Bool, if◌then◌else◌, Option, Some, None, option_map, decimal}
+use Rattle.std.specs.Str.{bytes_eq}
+use Rattle.std.specs.Str.Parse.{digits_value}
 
--- spelled by decimal digits alone, and below 2 to the 64th
-abbrev pub IsWholeNumber : List ℕ → Type 0
-IsWholeNumber n = IsNumeral 10 n × (digits_value 10 n < 2 ^ 64)
+-- a number that is spelled without sign, fraction, exponent or leading zeros
+abbrev pub whole_of : List ℕ → Option ℕ
+whole_of s = if bytes_eq s (decimal (digits_value 10 s)) then Some (digits_value 10 s) else None
 
--- spelled by decimal digits alone, before which a minus may stand, and in the range of 64 bits with a sign
-abbrev pub IsSignedNumber : List ℕ → Type 0
-IsSignedNumber n = IsNumeral 10 (without_leading_sign n) × FitsSigned w64 (signed_digits_value 10 n)
+-- the same, with a minus sign before it or none
+abbrev pub signed_of : List ℕ → Option ℤ
+signed_of [] = None
+signed_of (x ∷ s) = if x == 45 then option_map (λ n. neg_ℤ (pos n)) (whole_of s) else option_map pos (whole_of (x ∷ s))
+
+-- what fits 64 bits
+abbrev pub as_u64 : ℕ → Option ℕ
+as_u64 n = if nat_lt n (2 ^ 64) then Some n else None
+
+abbrev pub fits_i64 : ℤ → Bool
+fits_i64 (pos n) = nat_lt n (2 ^ 63)
+fits_i64 (negsuc n) = nat_lt n (2 ^ 63)
+
+abbrev pub as_i64 : ℤ → Option ℤ
+as_i64 z = if fits_i64 z then Some z else None
