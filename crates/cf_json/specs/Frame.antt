@@ -1,6 +1,9 @@
 -- A frame: one value or more, with white space or none around each of them.
-use Rattle.std.specs.Prelude.{◌≡◌, ◌≢◌, ⊤, ℕ, List, [], ◌∷◌, length}
-use Rattle.cf_json.specs.Grammar.{Tree, null, boolean, number, text, array, object, Place, Space, Value, Ends}
+use Rattle.std.specs.Prelude.{◌≡◌, ◌≢◌, ◌<◌, ◌≤◌, ⊤, ℕ, max, List, [], ◌∷◌, length}
+use Rattle.cf_json.specs.Grammar.{Tree, null, boolean, number, text, array, object, Place, Space, Value, Ends, depth}
+use Rattle.cf_json.specs.Spans.{max_depth}
+use Rattle.cf_json.specs.declared.fault.Fault.{Fault}
+use Rattle.cf_json.specs.declared.fault.Fault.TheVariants.{NotJson, TooDeep, Memory}
 
 -- another number does not begin here by its minus
 abbrev pub NoMinus : List ℕ → Type 0
@@ -24,3 +27,14 @@ Values (t ∷ ts) places s = (s1 s2 : List ℕ) × (others : List Place) × Spac
 -- the text is a frame of these values
 abbrev pub IsFrame : List ℕ → List Tree → Type 0
 IsFrame s ts = (ts ≢ []) × (places : List Place) × Values ts places s
+
+-- the depth of the deepest value
+abbrev pub frame_depth : List Tree → ℕ
+frame_depth [] = 0
+frame_depth (t ∷ ts) = max (depth t) (frame_depth ts)
+
+-- what each fault says of a text that is read as a frame
+abbrev pub RefusesFrame : List ℕ → Fault → Type 0
+RefusesFrame s (NotJson p) = (p ≤ length s) × ((ts : List Tree) → IsFrame s ts → ⊥)
+RefusesFrame s (TooDeep p) = (p ≤ length s) × ((ts : List Tree) → IsFrame s ts → max_depth < frame_depth ts)
+RefusesFrame s Memory = ⊤

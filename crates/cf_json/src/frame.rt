@@ -2,8 +2,8 @@
 ghost use Rattle.std.specs.Prelude.{◌≡◌, ◌≢◌, ◌<◌, ◌≤◌, IfOk, IfErr, List, [], map, length};
 ghost use Rattle.std.specs.List.{AllZip};
 ghost use Rattle.cf_json.specs.Grammar.{Tree, Place};
-ghost use Rattle.cf_json.specs.Spans.{IsAt, PlaceWithin, span_at, max_depth};
-ghost use Rattle.cf_json.specs.Frame.{Values};
+ghost use Rattle.cf_json.specs.Spans.{IsAt, span_at, max_depth};
+ghost use Rattle.cf_json.specs.Frame.{Values, IsFrame, RefusesFrame};
 ghost use Rattle.cf_json.specs.Reading.{numeric, apart_end};
 ghost use Rattle.cf_json.specs.Rest.{rest_of};
 
@@ -41,11 +41,15 @@ fn apart_end(text: &[u8]) -> Result<&[u8], Stop>
     Ok(after)
 }
 
-/// The values of a frame, in order.
+/// The values of a frame, in order: one or more, with white space or none around each, but for two numbers side by side.
+///
+/// `NotJson` says that the text is no frame, and `TooDeep` that a frame that it is has a value that nests deeper than
+/// [`MAX_DEPTH`](crate::MAX_DEPTH).
 pub fn split_frame(alloc: Global, text: &str) -> Result<Vec<Span>, Fault>
     ensures found { IfOk result (λ v. (ts : List Tree) × (places : List Place) × (ts ≢ []) × Values ts places text.now
         × (v.items ≡ map (span_at text.now) places) × AllZip (λ s t. IsAt text.now t s) v.items ts) }
-    ensures faults { IfErr result (λ e. PlaceWithin text.now e) }
+    ensures only { IfOk result (λ v. (ts : List Tree) → IsFrame text.now ts → AllZip (λ s t. IsAt text.now t s) v.items ts) }
+    ensures faults { IfErr result (RefusesFrame text.now) }
 {
     let bytes = text.as_bytes();
     let mut found = Vec::new(alloc);
