@@ -1,2 +1,7 @@
 pub mod Schedules
 pub mod Sentences
+pub mod Words
+pub mod Numbers
+pub mod Lines
+pub mod Data
+pub mod Refusals

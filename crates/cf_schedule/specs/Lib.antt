@@ -16,3 +16,5 @@ pub mod Told
 pub mod Marks
 pub mod StreamSafety
 pub mod Leading
+pub mod Seen
+pub mod LineRead

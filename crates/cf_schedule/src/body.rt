@@ -1,12 +1,10 @@
 //! What is published.
+ghost use Rattle.std.specs.Prelude.{◌≡◌, IfOk, IfErr};
+ghost use Rattle.cf_schedule.specs.ScheduleLine.{IsData};
+ghost use Rattle.cf_schedule.specs.LineRead.{Refused, IsNoData};
 
 use crate::event::EventFault;
-use cf_json::{Span, compact, scan};
-
-fn depth(_text: &str, _span: Span) -> usize {
-    0
-}
-
+use cf_json::{compact, depth, scan};
 use std::alloc::Global;
 use std::marker::Model;
 
@@ -30,7 +28,10 @@ impl Model for Body {
 impl Body {
     /// The compact text of the one JSON value that a text holds, with white space around it. Unreadable where there is
     /// none of depth at most 60.
-    pub fn read(alloc: Global, text: &str) -> Result<Body, EventFault> {
+    pub fn read(alloc: Global, text: &str) -> Result<Body, EventFault>
+        ensures ok { IfOk result (IsData text.now) }
+        ensures err { IfErr result (λ e. Refused e (IsNoData text.now)) }
+    {
         let Ok(span) = scan(text) else {
             return Err(EventFault::Unreadable);
         };
@@ -44,7 +45,9 @@ impl Body {
     }
 
     /// The compact text.
-    pub fn as_str(&self) -> &str {
+    pub fn as_str(&self) -> &str
+        ensures { result.now ≡ self.now }
+    {
         self.text.as_str()
     }
 }

@@ -1,5 +1,12 @@
 //! One line of a schedule, as a value.
 
+ghost use Rattle.std.specs.Prelude.{◌≡◌, ◌≢◌, ℕ, ◌<◌, List, [], ◌∷◌, ◌++◌, codes, IfOk, IfErr, MatchOption};
+ghost use Rattle.std.specs.Fmt.{decimal};
+ghost use Rattle.cf_schedule.specs.Word.{IsClientName, IsChannelName};
+ghost use Rattle.cf_schedule.specs.ScheduleLine.{Says, IsPassedOver, spaced};
+ghost use Rattle.cf_schedule.specs.Seen.{seen};
+ghost use Rattle.cf_schedule.specs.LineRead.{IsUnspaced, CutsAtSpace, Refused, IsNone, Answers};
+
 use crate::body::Body;
 use crate::name::{ChannelName, ClientName};
 use crate::number::whole_number;
@@ -75,80 +82,147 @@ impl From<AllocError> for EventFault {
 impl Event {
     /// The event of a line, for a schedule over `nodes` nodes. None for a line that is passed over: an empty one, and one
     /// that begins with `#`. A line that is neither is Unreadable.
-    pub fn read(alloc: Global, line: &str, nodes: u8) -> Result<Option<Event>, EventFault> {
+    pub fn read(alloc: Global, line: &str, nodes: u8) -> Result<Option<Event>, EventFault>
+        // What is read is what the line says, and nothing only of a line that is passed over.
+        ensures found { IfOk result (λ o. MatchOption o (IsPassedOver line.now) (λ e. Says nodes line.now (seen e))) }
+        // A line that is passed over is.
+        ensures passed_over { IsPassedOver line.now → result ≡ Ok None }
+        // A line that is unreadable says no event that is read today.
+        ensures unreadable { IfErr result (λ e. Refused e (IsNone (Says nodes line.now))) }
+    {
         if line.is_empty() || line.starts_with('#') {
             return Ok(None);
         }
-        let (word, rest) = two_parts(line)?;
-        let event = match word {
-            "epoch" => Event::Epoch {
-                epoch: epoch(rest)?,
-            },
-            "connect" => connect(alloc, rest, nodes)?,
-            "ask" | "read" | "finish" => subscription_event(alloc, word, rest)?,
-            "publish" => publish(alloc, rest)?,
-            "deliver" => deliver(rest, nodes)?,
-            "take" => Event::Take {
-                client: ClientName::read(alloc, rest)?,
-            },
-            _ => return Err(EventFault::Unreadable),
-        };
-        Ok(Some(event))
+        match event_of(alloc, line, nodes) {
+            Ok(event) => Ok(Some(event)),
+            Err(fault) => Err(fault),
+        }
     }
 }
 
-// What stands before the first space, and behind it.
-fn two_parts(text: &str) -> Result<(&str, &str), EventFault> {
-    text.split_once(' ').ok_or(EventFault::Unreadable)
-}
-
-fn epoch(text: &str) -> Result<Epoch, EventFault> {
-    let epoch = Epoch::from_text(text);
-    if epoch.is_empty() {
+fn event_of(alloc: Global, line: &str, nodes: u8) -> Result<Event, EventFault>
+    ensures { Answers (Says nodes line.now) result }
+{
+    let Some((word, rest)) = cut(line) else {
         return Err(EventFault::Unreadable);
-    }
-    Ok(epoch)
-}
-
-// A node's number, below the number of nodes.
-fn node(text: &str, nodes: u8) -> Result<u8, EventFault> {
-    match whole_number(text) {
-        Some(number) if number < u64::from(nodes) => Ok(number as u8),
+    };
+    match word {
+        "epoch" => epoch(rest),
+        "connect" => connect(alloc, rest, nodes),
+        "ask" => ask(alloc, rest),
+        "read" => read(alloc, rest),
+        "finish" => finish(alloc, rest),
+        "publish" => publish(alloc, rest),
+        "deliver" => deliver(rest, nodes),
+        "take" => take(alloc, rest),
         _ => Err(EventFault::Unreadable),
     }
 }
 
-fn connect(alloc: Global, text: &str, nodes: u8) -> Result<Event, EventFault> {
-    let (client, number) = two_parts(text)?;
-    let node = node(number, nodes)?;
+// What stands before the first space, and behind it.
+fn cut(text: &str) -> Option<(&str, &str)>
+    ensures { MatchOption result (IsUnspaced text.now) (λ p. CutsAtSpace text.now p.0.now p.1.now) }
+{
+    text.split_once(' ')
+}
+
+// A node's number, below the number of nodes.
+fn node(text: &str, nodes: u8) -> Option<u8>
+    ensures { MatchOption result ((n : ℕ) → n < nodes → text.now ≢ decimal n) (λ n. (n < nodes) × (text.now ≡ decimal n)) }
+{
+    let number = whole_number(text)?;
+    if number < u64::from(nodes) {
+        Some(number as u8)
+    } else {
+        None
+    }
+}
+
+fn client_and_channel(alloc: Global, text: &str) -> Result<(ClientName, ChannelName), EventFault>
+    ensures ok { IfOk result (λ p. IsClientName p.0 × IsChannelName p.1 × (text.now ≡ spaced (p.0 ∷ p.1 ∷ []))) }
+    ensures err { IfErr result (λ e. Refused e ((x c : List ℕ) → IsClientName x → IsChannelName c → text.now ≢ spaced (x ∷ c ∷ []))) }
+{
+    let Some((client, channel)) = cut(text) else {
+        return Err(EventFault::Unreadable);
+    };
+    let client = ClientName::read(alloc, client)?;
+    let channel = ChannelName::read(alloc, channel)?;
+    Ok((client, channel))
+}
+
+fn epoch(text: &str) -> Result<Event, EventFault>
+    ensures { (nodes : ℕ) → Answers (Says nodes (codes "epoch" ++ 32 ∷ text.now)) result }
+{
+    let epoch = Epoch::from_text(text);
+    if epoch.is_empty() {
+        return Err(EventFault::Unreadable);
+    }
+    Ok(Event::Epoch { epoch })
+}
+
+fn connect(alloc: Global, text: &str, nodes: u8) -> Result<Event, EventFault>
+    ensures { Answers (Says nodes (codes "connect" ++ 32 ∷ text.now)) result }
+{
+    let Some((client, number)) = cut(text) else {
+        return Err(EventFault::Unreadable);
+    };
+    let Some(node) = node(number, nodes) else {
+        return Err(EventFault::Unreadable);
+    };
     let client = ClientName::read(alloc, client)?;
     Ok(Event::Connect { client, node })
 }
 
-// `word` is one of the three that name a client and a channel.
-fn subscription_event(alloc: Global, word: &str, text: &str) -> Result<Event, EventFault> {
-    let (client, channel) = two_parts(text)?;
-    let client = ClientName::read(alloc, client)?;
-    let channel = ChannelName::read(alloc, channel)?;
-    Ok(match word {
-        "ask" => Event::Ask { client, channel },
-        "read" => Event::Read { client, channel },
-        _ => Event::Finish { client, channel },
-    })
+fn ask(alloc: Global, text: &str) -> Result<Event, EventFault>
+    ensures { (nodes : ℕ) → Answers (Says nodes (codes "ask" ++ 32 ∷ text.now)) result }
+{
+    let (client, channel) = client_and_channel(alloc, text)?;
+    Ok(Event::Ask { client, channel })
 }
 
-fn publish(alloc: Global, text: &str) -> Result<Event, EventFault> {
-    let (channel, data) = two_parts(text)?;
+fn read(alloc: Global, text: &str) -> Result<Event, EventFault>
+    ensures { (nodes : ℕ) → Answers (Says nodes (codes "read" ++ 32 ∷ text.now)) result }
+{
+    let (client, channel) = client_and_channel(alloc, text)?;
+    Ok(Event::Read { client, channel })
+}
+
+fn finish(alloc: Global, text: &str) -> Result<Event, EventFault>
+    ensures { (nodes : ℕ) → Answers (Says nodes (codes "finish" ++ 32 ∷ text.now)) result }
+{
+    let (client, channel) = client_and_channel(alloc, text)?;
+    Ok(Event::Finish { client, channel })
+}
+
+fn publish(alloc: Global, text: &str) -> Result<Event, EventFault>
+    ensures { (nodes : ℕ) → Answers (Says nodes (codes "publish" ++ 32 ∷ text.now)) result }
+{
+    let Some((channel, data)) = cut(text) else {
+        return Err(EventFault::Unreadable);
+    };
     let channel = ChannelName::read(alloc, channel)?;
     let body = Body::read(alloc, data)?;
     Ok(Event::Publish { channel, body })
 }
 
-fn deliver(text: &str, nodes: u8) -> Result<Event, EventFault> {
-    let (number, publication) = two_parts(text)?;
-    let node = node(number, nodes)?;
+fn deliver(text: &str, nodes: u8) -> Result<Event, EventFault>
+    ensures { Answers (Says nodes (codes "deliver" ++ 32 ∷ text.now)) result }
+{
+    let Some((number, publication)) = cut(text) else {
+        return Err(EventFault::Unreadable);
+    };
+    let Some(node) = node(number, nodes) else {
+        return Err(EventFault::Unreadable);
+    };
     let Some(publication) = whole_number(publication) else {
         return Err(EventFault::Unreadable);
     };
     Ok(Event::Deliver { node, publication })
+}
+
+fn take(alloc: Global, text: &str) -> Result<Event, EventFault>
+    ensures { (nodes : ℕ) → Answers (Says nodes (codes "take" ++ 32 ∷ text.now)) result }
+{
+    let client = ClientName::read(alloc, text)?;
+    Ok(Event::Take { client })
 }

@@ -1,0 +1,44 @@
+-- What the readers of a line's parts answer. (This project's own format.)
+use Rattle.std.specs.Prelude.{◌≡◌, ◌≢◌, ℕ, ◌≤◌, List, [], ◌∷◌, ◌++◌, IsTrue, Result, Ok, Err, Option, Some, None}
+use Rattle.std.specs.Fmt.{decimal}
+use Rattle.cf_schedule.specs.Event.{Event}
+use Rattle.cf_schedule.specs.ScheduleLine.{is_built, IsData, last_number}
+use Rattle.cf_schedule.specs.Seen.{seen}
+use Rattle.cf_schedule.specs.declared.event.Event as declared
+use Rattle.cf_schedule.specs.declared.event.EventFault.{EventFault}
+use Rattle.cf_schedule.specs.declared.event.EventFault.TheVariants.{Unreadable, Memory}
+
+-- ---- words
+
+abbrev pub IsUnspaced : List ℕ → Type 0
+IsUnspaced [] = Unit {0}
+IsUnspaced (b ∷ bs) = (b ≢ 32) × IsUnspaced bs
+
+-- s is cut at its first space
+pub record CutsAtSpace (s before after : List ℕ) : Type 0 where
+  pub whole : s ≡ before ++ 32 ∷ after
+  pub word : IsUnspaced before
+
+-- s writes no number
+abbrev pub IsNoNumber : List ℕ → Type 0
+IsNoNumber s = (n : ℕ) → n ≤ last_number → s ≢ decimal n
+
+-- ---- what is refused
+
+-- where something is refused as unreadable, this holds of it
+abbrev pub Refused : EventFault → Type 0 → Type 0
+Refused Unreadable P = P
+Refused Memory P = Unit {0}
+
+-- s holds no datum
+abbrev pub IsNoData : List ℕ → Type 0
+IsNoData s = (body : List ℕ) → IsData s body → ⊥
+
+-- no event that is read today is as Q says
+abbrev pub IsNone : (Event → Type 0) → Type 0
+IsNone Q = (e : Event) → IsTrue (is_built e) → Q e → ⊥
+
+-- the event that was read is as Q says, or there is none
+abbrev pub Answers : (Event → Type 0) → Result declared.Event EventFault → Type 0
+Answers Q (Ok e) = Q (seen e)
+Answers Q (Err e) = Refused e (IsNone Q)

@@ -1,0 +1,14 @@
+-- The program's events, as the definitions have them.
+use Rattle.cf_schedule.specs.Event.{Event, Epoch, Connect, Ask, Read, Finish, Publish, Deliver, Take}
+use Rattle.cf_schedule.specs.declared.event.Event as declared
+use Rattle.cf_schedule.specs.declared.event.Event.TheVariants as variant
+
+abbrev pub seen : declared.Event → Event
+seen (variant.Epoch e) = Epoch e
+seen (variant.Connect x n) = Connect x n
+seen (variant.Ask x c) = Ask x c
+seen (variant.Read x c) = Read x c
+seen (variant.Finish x c) = Finish x c
+seen (variant.Publish c body) = Publish c body
+seen (variant.Deliver n i) = Deliver n i
+seen (variant.Take x) = Take x
