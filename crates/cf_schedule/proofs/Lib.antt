@@ -5,3 +5,4 @@ pub mod Numbers
 pub mod Lines
 pub mod Data
 pub mod Refusals
+pub mod Events

@@ -1,15 +1,15 @@
--- A line, cut behind its first word.
-use Rattle.std.proofs.Common.{◌≡◌, ◌≢◌, ℕ, ◌<◌, ◌≤◌, Bool, true, false, not, eqb, IsTrue, List, [], ◌∷◌, ◌++◌, codes, refl, sym, ap, ◌∙◌, subst, arith}
+-- A line, cut behind its first word: of the kinds of line one alone has that word.
+use Rattle.std.proofs.Common.{◌≡◌, ◌≢◌, ℕ, ◌<◌, ◌≤◌, ℤ, true, false, IsTrue, List, [], ◌∷◌, ◌++◌, codes, refl, sym, ap, ◌∙◌}
 use Rattle.std.specs.Str.{bytes_eq}
 use Rattle.std.specs.Fmt.{decimal}
 use Rattle.std.proofs.lemmas.Bool.{false≢true}
 use Rattle.cf_schedule.specs.Word.{IsClientName, IsChannelName}
 use Rattle.cf_schedule.specs.Event.{Event, Epoch, Connect, Ask, AskFrom, Read, Finish, Publish, PublishBy, Deliver, Take, Break, Leave, Trim, Forget, BrokerRestart, Restart, Check, ListHistory}
-use Rattle.cf_schedule.specs.ScheduleLine.{Says, IsPassedOver, spaced, IsEpochWord, IsLimit, IsData, is_built, last_number, most_left}
-use Rattle.cf_schedule.specs.LineRead.{IsUnspaced, CutsAtSpace, IsNone}
+use Rattle.cf_schedule.specs.ScheduleLine.{Says, spaced, IsEpochWord, IsLimit, IsData, is_built, last_number, most_left}
+use Rattle.cf_schedule.specs.LineRead.{IsUnspaced, IsNone}
 use Rattle.cf_schedule.proofs.Words.{one_cut, never_cut, unspaced_word}
 
-abbrev word_of : Event → List ℕ
+abbrev pub word_of : Event → List ℕ
 word_of (Epoch e) = codes "epoch"
 word_of (Connect x n) = codes "connect"
 word_of (Ask x c) = codes "ask"
@@ -50,7 +50,7 @@ Rest nodes r (Check x c) = IsClientName x × IsChannelName c × (r ≡ spaced (x
 Rest nodes r (ListHistory x c limit) = IsClientName x × IsChannelName c × (s : List ℕ) × IsLimit s limit × (r ≡ spaced (x ∷ c ∷ s ∷ []))
 Rest nodes r BrokerRestart = ⊥
 
-splits : (nodes : ℕ) (w r : List ℕ) (e : Event) → IsUnspaced w → Says nodes (w ++ 32 ∷ r) e → (w ≡ word_of e) × Rest nodes r e
+pub splits : (nodes : ℕ) (w r : List ℕ) (e : Event) → IsUnspaced w → Says nodes (w ++ 32 ∷ r) e → (w ≡ word_of e) × Rest nodes r e
 splits nodes w r (Epoch e) u h = let p = one_cut w (codes "epoch") r e u (unspaced_word (codes "epoch") refl) h.1 in (p.0, (h.0, p.1))
 splits nodes w r (Connect x n) u h = let p = one_cut w (codes "connect") r (spaced (x ∷ decimal n ∷ [])) u (unspaced_word (codes "connect") refl) h.2 in (p.0, (h.0, h.1, p.1))
 splits nodes w r (Ask x c) u h = let p = one_cut w (codes "ask") r (spaced (x ∷ c ∷ [])) u (unspaced_word (codes "ask") refl) h.2 in (p.0, (h.0, h.1, p.1))
@@ -73,61 +73,125 @@ splits nodes w r BrokerRestart u h = absurd (never_cut (codes "brokerrestart") w
 other : (w v : List ℕ) → w ≡ v → bytes_eq w w ≡ true → bytes_eq w v ≡ false → ⊥
 other w v e self differs = false≢true (sym differs ∙ ap (bytes_eq w) (sym e) ∙ self)
 
-only_epoch : (nodes : ℕ) (r : List ℕ) → ((e : List ℕ) → Rest nodes r (Epoch e) → ⊥) → (e : Event) → codes "epoch" ≡ word_of e → Rest nodes r e → ⊥
-only_epoch nodes r lacks (Epoch e) v h = lacks e h
-only_epoch nodes r lacks e v h = other (codes "epoch") (word_of e) v refl refl
+-- ---- the event whose line has this word
+
+pub is_epoch : (nodes : ℕ) (r : List ℕ) (f : Event) → codes "epoch" ≡ word_of f → Rest nodes r f → (e : List ℕ) × (f ≡ Epoch e) × Rest nodes r (Epoch e)
+is_epoch nodes r (Epoch e) v h = (e, refl, h)
+is_epoch nodes r f v h = absurd (other (codes "epoch") (word_of f) v refl refl)
+
+pub is_connect : (nodes : ℕ) (r : List ℕ) (f : Event) → codes "connect" ≡ word_of f → Rest nodes r f → (x : List ℕ) × (n : ℕ) × (f ≡ Connect x n) × Rest nodes r (Connect x n)
+is_connect nodes r (Connect x n) v h = (x, n, refl, h)
+is_connect nodes r f v h = absurd (other (codes "connect") (word_of f) v refl refl)
+
+pub is_ask : (nodes : ℕ) (r : List ℕ) (f : Event) → codes "ask" ≡ word_of f → Rest nodes r f → (x : List ℕ) × (c : List ℕ) × (f ≡ Ask x c) × Rest nodes r (Ask x c)
+is_ask nodes r (Ask x c) v h = (x, c, refl, h)
+is_ask nodes r f v h = absurd (other (codes "ask") (word_of f) v refl refl)
+
+pub is_askfrom : (nodes : ℕ) (r : List ℕ) (f : Event) → codes "askfrom" ≡ word_of f → Rest nodes r f → (x : List ℕ) × (c : List ℕ) × (f ≡ AskFrom x c) × Rest nodes r (AskFrom x c)
+is_askfrom nodes r (AskFrom x c) v h = (x, c, refl, h)
+is_askfrom nodes r f v h = absurd (other (codes "askfrom") (word_of f) v refl refl)
+
+pub is_read : (nodes : ℕ) (r : List ℕ) (f : Event) → codes "read" ≡ word_of f → Rest nodes r f → (x : List ℕ) × (c : List ℕ) × (f ≡ Read x c) × Rest nodes r (Read x c)
+is_read nodes r (Read x c) v h = (x, c, refl, h)
+is_read nodes r f v h = absurd (other (codes "read") (word_of f) v refl refl)
+
+pub is_finish : (nodes : ℕ) (r : List ℕ) (f : Event) → codes "finish" ≡ word_of f → Rest nodes r f → (x : List ℕ) × (c : List ℕ) × (f ≡ Finish x c) × Rest nodes r (Finish x c)
+is_finish nodes r (Finish x c) v h = (x, c, refl, h)
+is_finish nodes r f v h = absurd (other (codes "finish") (word_of f) v refl refl)
+
+pub is_publish : (nodes : ℕ) (r : List ℕ) (f : Event) → codes "publish" ≡ word_of f → Rest nodes r f → (c : List ℕ) × (body : List ℕ) × (f ≡ Publish c body) × Rest nodes r (Publish c body)
+is_publish nodes r (Publish c body) v h = (c, body, refl, h)
+is_publish nodes r f v h = absurd (other (codes "publish") (word_of f) v refl refl)
+
+pub is_put : (nodes : ℕ) (r : List ℕ) (f : Event) → codes "put" ≡ word_of f → Rest nodes r f → (x : List ℕ) × (c : List ℕ) × (body : List ℕ) × (f ≡ PublishBy x c body) × Rest nodes r (PublishBy x c body)
+is_put nodes r (PublishBy x c body) v h = (x, c, body, refl, h)
+is_put nodes r f v h = absurd (other (codes "put") (word_of f) v refl refl)
+
+pub is_deliver : (nodes : ℕ) (r : List ℕ) (f : Event) → codes "deliver" ≡ word_of f → Rest nodes r f → (n : ℕ) × (i : ℕ) × (f ≡ Deliver n i) × Rest nodes r (Deliver n i)
+is_deliver nodes r (Deliver n i) v h = (n, i, refl, h)
+is_deliver nodes r f v h = absurd (other (codes "deliver") (word_of f) v refl refl)
+
+pub is_take : (nodes : ℕ) (r : List ℕ) (f : Event) → codes "take" ≡ word_of f → Rest nodes r f → (x : List ℕ) × (f ≡ Take x) × Rest nodes r (Take x)
+is_take nodes r (Take x) v h = (x, refl, h)
+is_take nodes r f v h = absurd (other (codes "take") (word_of f) v refl refl)
+
+pub is_break : (nodes : ℕ) (r : List ℕ) (f : Event) → codes "break" ≡ word_of f → Rest nodes r f → (x : List ℕ) × (f ≡ Break x) × Rest nodes r (Break x)
+is_break nodes r (Break x) v h = (x, refl, h)
+is_break nodes r f v h = absurd (other (codes "break") (word_of f) v refl refl)
+
+pub is_leave : (nodes : ℕ) (r : List ℕ) (f : Event) → codes "leave" ≡ word_of f → Rest nodes r f → (x : List ℕ) × (c : List ℕ) × (f ≡ Leave x c) × Rest nodes r (Leave x c)
+is_leave nodes r (Leave x c) v h = (x, c, refl, h)
+is_leave nodes r f v h = absurd (other (codes "leave") (word_of f) v refl refl)
+
+pub is_trim : (nodes : ℕ) (r : List ℕ) (f : Event) → codes "trim" ≡ word_of f → Rest nodes r f → (c : List ℕ) × (k : ℕ) × (f ≡ Trim c k) × Rest nodes r (Trim c k)
+is_trim nodes r (Trim c k) v h = (c, k, refl, h)
+is_trim nodes r f v h = absurd (other (codes "trim") (word_of f) v refl refl)
+
+pub is_forget : (nodes : ℕ) (r : List ℕ) (f : Event) → codes "forget" ≡ word_of f → Rest nodes r f → (c : List ℕ) × (f ≡ Forget c) × Rest nodes r (Forget c)
+is_forget nodes r (Forget c) v h = (c, refl, h)
+is_forget nodes r f v h = absurd (other (codes "forget") (word_of f) v refl refl)
+
+pub is_restart : (nodes : ℕ) (r : List ℕ) (f : Event) → codes "restart" ≡ word_of f → Rest nodes r f → (n : ℕ) × (f ≡ Restart n) × Rest nodes r (Restart n)
+is_restart nodes r (Restart n) v h = (n, refl, h)
+is_restart nodes r f v h = absurd (other (codes "restart") (word_of f) v refl refl)
+
+pub is_check : (nodes : ℕ) (r : List ℕ) (f : Event) → codes "check" ≡ word_of f → Rest nodes r f → (x : List ℕ) × (c : List ℕ) × (f ≡ Check x c) × Rest nodes r (Check x c)
+is_check nodes r (Check x c) v h = (x, c, refl, h)
+is_check nodes r f v h = absurd (other (codes "check") (word_of f) v refl refl)
+
+pub is_list : (nodes : ℕ) (r : List ℕ) (f : Event) → codes "list" ≡ word_of f → Rest nodes r f → (x : List ℕ) × (c : List ℕ) × (limit : ℤ) × (f ≡ ListHistory x c limit) × Rest nodes r (ListHistory x c limit)
+is_list nodes r (ListHistory x c limit) v h = (x, c, limit, refl, h)
+is_list nodes r f v h = absurd (other (codes "list") (word_of f) v refl refl)
+
+-- ---- where there is none
 
 pub no_epoch : (nodes : ℕ) (r : List ℕ) → ((e : List ℕ) → Rest nodes r (Epoch e) → ⊥) → IsNone (Says nodes (codes "epoch" ++ 32 ∷ r))
-no_epoch nodes r lacks = λ e built h. let s = splits nodes (codes "epoch") r e (unspaced_word (codes "epoch") refl) h in only_epoch nodes r lacks e s.0 s.1
-
-only_connect : (nodes : ℕ) (r : List ℕ) → ((x : List ℕ) (n : ℕ) → Rest nodes r (Connect x n) → ⊥) → (e : Event) → codes "connect" ≡ word_of e → Rest nodes r e → ⊥
-only_connect nodes r lacks (Connect x n) v h = lacks x n h
-only_connect nodes r lacks e v h = other (codes "connect") (word_of e) v refl refl
+no_epoch nodes r lacks = λ e built h.
+    let s = splits nodes (codes "epoch") r e (unspaced_word (codes "epoch") refl) h in
+    let i = is_epoch nodes r e s.0 s.1 in
+    lacks i.0 i.2
 
 pub no_connect : (nodes : ℕ) (r : List ℕ) → ((x : List ℕ) (n : ℕ) → Rest nodes r (Connect x n) → ⊥) → IsNone (Says nodes (codes "connect" ++ 32 ∷ r))
-no_connect nodes r lacks = λ e built h. let s = splits nodes (codes "connect") r e (unspaced_word (codes "connect") refl) h in only_connect nodes r lacks e s.0 s.1
-
-only_ask : (nodes : ℕ) (r : List ℕ) → ((x : List ℕ) (c : List ℕ) → Rest nodes r (Ask x c) → ⊥) → (e : Event) → codes "ask" ≡ word_of e → Rest nodes r e → ⊥
-only_ask nodes r lacks (Ask x c) v h = lacks x c h
-only_ask nodes r lacks e v h = other (codes "ask") (word_of e) v refl refl
+no_connect nodes r lacks = λ e built h.
+    let s = splits nodes (codes "connect") r e (unspaced_word (codes "connect") refl) h in
+    let i = is_connect nodes r e s.0 s.1 in
+    lacks i.0 i.1 i.3
 
 pub no_ask : (nodes : ℕ) (r : List ℕ) → ((x : List ℕ) (c : List ℕ) → Rest nodes r (Ask x c) → ⊥) → IsNone (Says nodes (codes "ask" ++ 32 ∷ r))
-no_ask nodes r lacks = λ e built h. let s = splits nodes (codes "ask") r e (unspaced_word (codes "ask") refl) h in only_ask nodes r lacks e s.0 s.1
-
-only_read : (nodes : ℕ) (r : List ℕ) → ((x : List ℕ) (c : List ℕ) → Rest nodes r (Read x c) → ⊥) → (e : Event) → codes "read" ≡ word_of e → Rest nodes r e → ⊥
-only_read nodes r lacks (Read x c) v h = lacks x c h
-only_read nodes r lacks e v h = other (codes "read") (word_of e) v refl refl
+no_ask nodes r lacks = λ e built h.
+    let s = splits nodes (codes "ask") r e (unspaced_word (codes "ask") refl) h in
+    let i = is_ask nodes r e s.0 s.1 in
+    lacks i.0 i.1 i.3
 
 pub no_read : (nodes : ℕ) (r : List ℕ) → ((x : List ℕ) (c : List ℕ) → Rest nodes r (Read x c) → ⊥) → IsNone (Says nodes (codes "read" ++ 32 ∷ r))
-no_read nodes r lacks = λ e built h. let s = splits nodes (codes "read") r e (unspaced_word (codes "read") refl) h in only_read nodes r lacks e s.0 s.1
-
-only_finish : (nodes : ℕ) (r : List ℕ) → ((x : List ℕ) (c : List ℕ) → Rest nodes r (Finish x c) → ⊥) → (e : Event) → codes "finish" ≡ word_of e → Rest nodes r e → ⊥
-only_finish nodes r lacks (Finish x c) v h = lacks x c h
-only_finish nodes r lacks e v h = other (codes "finish") (word_of e) v refl refl
+no_read nodes r lacks = λ e built h.
+    let s = splits nodes (codes "read") r e (unspaced_word (codes "read") refl) h in
+    let i = is_read nodes r e s.0 s.1 in
+    lacks i.0 i.1 i.3
 
 pub no_finish : (nodes : ℕ) (r : List ℕ) → ((x : List ℕ) (c : List ℕ) → Rest nodes r (Finish x c) → ⊥) → IsNone (Says nodes (codes "finish" ++ 32 ∷ r))
-no_finish nodes r lacks = λ e built h. let s = splits nodes (codes "finish") r e (unspaced_word (codes "finish") refl) h in only_finish nodes r lacks e s.0 s.1
-
-only_publish : (nodes : ℕ) (r : List ℕ) → ((c : List ℕ) (body : List ℕ) → Rest nodes r (Publish c body) → ⊥) → (e : Event) → codes "publish" ≡ word_of e → Rest nodes r e → ⊥
-only_publish nodes r lacks (Publish c body) v h = lacks c body h
-only_publish nodes r lacks e v h = other (codes "publish") (word_of e) v refl refl
+no_finish nodes r lacks = λ e built h.
+    let s = splits nodes (codes "finish") r e (unspaced_word (codes "finish") refl) h in
+    let i = is_finish nodes r e s.0 s.1 in
+    lacks i.0 i.1 i.3
 
 pub no_publish : (nodes : ℕ) (r : List ℕ) → ((c : List ℕ) (body : List ℕ) → Rest nodes r (Publish c body) → ⊥) → IsNone (Says nodes (codes "publish" ++ 32 ∷ r))
-no_publish nodes r lacks = λ e built h. let s = splits nodes (codes "publish") r e (unspaced_word (codes "publish") refl) h in only_publish nodes r lacks e s.0 s.1
-
-only_deliver : (nodes : ℕ) (r : List ℕ) → ((n : ℕ) (i : ℕ) → Rest nodes r (Deliver n i) → ⊥) → (e : Event) → codes "deliver" ≡ word_of e → Rest nodes r e → ⊥
-only_deliver nodes r lacks (Deliver n i) v h = lacks n i h
-only_deliver nodes r lacks e v h = other (codes "deliver") (word_of e) v refl refl
+no_publish nodes r lacks = λ e built h.
+    let s = splits nodes (codes "publish") r e (unspaced_word (codes "publish") refl) h in
+    let i = is_publish nodes r e s.0 s.1 in
+    lacks i.0 i.1 i.3
 
 pub no_deliver : (nodes : ℕ) (r : List ℕ) → ((n : ℕ) (i : ℕ) → Rest nodes r (Deliver n i) → ⊥) → IsNone (Says nodes (codes "deliver" ++ 32 ∷ r))
-no_deliver nodes r lacks = λ e built h. let s = splits nodes (codes "deliver") r e (unspaced_word (codes "deliver") refl) h in only_deliver nodes r lacks e s.0 s.1
-
-only_take : (nodes : ℕ) (r : List ℕ) → ((x : List ℕ) → Rest nodes r (Take x) → ⊥) → (e : Event) → codes "take" ≡ word_of e → Rest nodes r e → ⊥
-only_take nodes r lacks (Take x) v h = lacks x h
-only_take nodes r lacks e v h = other (codes "take") (word_of e) v refl refl
+no_deliver nodes r lacks = λ e built h.
+    let s = splits nodes (codes "deliver") r e (unspaced_word (codes "deliver") refl) h in
+    let i = is_deliver nodes r e s.0 s.1 in
+    lacks i.0 i.1 i.3
 
 pub no_take : (nodes : ℕ) (r : List ℕ) → ((x : List ℕ) → Rest nodes r (Take x) → ⊥) → IsNone (Says nodes (codes "take" ++ 32 ∷ r))
-no_take nodes r lacks = λ e built h. let s = splits nodes (codes "take") r e (unspaced_word (codes "take") refl) h in only_take nodes r lacks e s.0 s.1
+no_take nodes r lacks = λ e built h.
+    let s = splits nodes (codes "take") r e (unspaced_word (codes "take") refl) h in
+    let i = is_take nodes r e s.0 s.1 in
+    lacks i.0 i.2
 
 -- a line whose first word is none of those that are read today
 unknown : (w : List ℕ) → w ≢ codes "epoch" → w ≢ codes "connect" → w ≢ codes "ask" → w ≢ codes "read" → w ≢ codes "finish" → w ≢ codes "publish" → w ≢ codes "deliver" → w ≢ codes "take" → (e : Event) → IsTrue (is_built e) → w ≡ word_of e → ⊥

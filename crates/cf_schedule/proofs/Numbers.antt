@@ -1,5 +1,5 @@
 -- Whole numbers without sign or leading zeros.
-use Rattle.std.proofs.Common.{◌≡◌, ◌≢◌, ℕ, ◌<◌, ◌≤◌, ◌^◌, ◌⊎◌, Bool, true, false, List, [], ◌∷◌, length, get_or, refl, sym, ap, ◌∙◌, subst, arith, inl, inr, zero, suc}
+use Rattle.std.proofs.Common.{◌≡◌, ℕ, ◌<◌, ◌≤◌, ◌^◌, true, false, List, ◌∷◌, length, get_or, sym, ap, ◌∙◌, subst, arith, zero, suc}
 use Rattle.std.specs.Prelude.{Result}
 use Rattle.std.specs.Result.{OkIff}
 use Rattle.std.specs.Char.{is_ascii_digit}
@@ -37,3 +37,8 @@ no_number_parsed s h = λ n l e.
     let v : digits_value 10 s ≡ n = ap (digits_value 10) e ∙ digits_value-decimal own n (omega arith) in
     let long : 0 < length s = subst (λ t. 0 < length t) (sym e) (decimal_nonempty n (omega arith)) in
     h (long, omega arith)
+
+-- a number has no sign
+pub number_unsigned : (n : ℕ) → n ≤ last_number → (s : List ℕ) → decimal n ≡ 45 ∷ s → ⊥
+number_unsigned zero l s e = omega (arith, ap (λ t. get_or t 0 0) (sym (decimal_digit 0 (omega arith)) ∙ e))
+number_unsigned (suc n) l s e = omega (arith, first_decimal (suc n) (omega arith) (omega arith), ap (λ t. get_or t 0 0) e)

@@ -1,7 +1,6 @@
 -- What is refused as unreadable.
-use Rattle.std.proofs.Common.{◌≡◌, ℕ, List, [], ◌∷◌, ◌++◌, Bool, Result, Ok, Err, refl, sym, ap, subst, ◌∙◌}
-use Rattle.std.specs.Prelude.{◌↔◌, IsErrOf, IfErr}
-use Rattle.cf_schedule.specs.Event.{Event}
+use Rattle.std.proofs.Common.{◌≡◌, ℕ, List, ◌∷◌, ◌++◌, Result, Err, refl, sym, ap, subst, ◌∙◌}
+use Rattle.std.specs.Prelude.{◌↔◌, IsErrOf}
 use Rattle.cf_schedule.specs.ScheduleLine.{Says}
 use Rattle.cf_schedule.specs.LineRead.{IsUnspaced, CutsAtSpace, Refused, IsNone, Answers}
 use Rattle.cf_schedule.specs.declared.event.Event as declared

@@ -42,3 +42,10 @@ IsNone Q = (e : Event) → IsTrue (is_built e) → Q e → ⊥
 abbrev pub Answers : (Event → Type 0) → Result declared.Event EventFault → Type 0
 Answers Q (Ok e) = Q (seen e)
 Answers Q (Err e) = Refused e (IsNone Q)
+
+-- the event e was read, unless memory ran out
+abbrev pub ReadAs : Event → Result (Option declared.Event) EventFault → Type 0
+ReadAs e (Ok (Some d)) = seen d ≡ e
+ReadAs e (Ok None) = ⊥
+ReadAs e (Err Unreadable) = ⊥
+ReadAs e (Err Memory) = Unit {0}

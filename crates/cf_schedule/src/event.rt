@@ -1,15 +1,17 @@
 //! One line of a schedule, as a value.
 
-ghost use Rattle.std.specs.Prelude.{◌≡◌, ◌≢◌, ℕ, ◌<◌, List, [], ◌∷◌, ◌++◌, codes, IfOk, IfErr, MatchOption};
+ghost use Rattle.std.specs.Prelude.{◌≡◌, ◌≢◌, ℕ, ◌<◌, List, [], ◌∷◌, ◌++◌, codes, IfOk, IfErr, MatchOption, IsTrue, ◌≤◌};
 ghost use Rattle.std.specs.Fmt.{decimal};
 ghost use Rattle.cf_schedule.specs.Word.{IsClientName, IsChannelName};
-ghost use Rattle.cf_schedule.specs.ScheduleLine.{Says, IsPassedOver, spaced};
+ghost use Rattle.cf_schedule.specs.ScheduleLine.{Says, IsPassedOver, spaced, is_built, last_number};
+ghost use Rattle.cf_schedule.specs.Event.{Event as SaidEvent};
 ghost use Rattle.cf_schedule.specs.Seen.{seen};
-ghost use Rattle.cf_schedule.specs.LineRead.{IsUnspaced, CutsAtSpace, Refused, IsNone, Answers};
+ghost use Rattle.cf_schedule.specs.LineRead.{IsUnspaced, CutsAtSpace, Refused, IsNone, Answers, ReadAs};
 
 use crate::body::Body;
 use crate::name::{ChannelName, ClientName};
 use crate::number::whole_number;
+use cf_json::one_value;
 use cf_protocol::Epoch;
 use std::alloc::{AllocError, Global};
 use thiserror::Error;
@@ -87,9 +89,12 @@ impl Event {
         ensures found { IfOk result (λ o. MatchOption o (IsPassedOver line.now) (λ e. Says nodes line.now (seen e))) }
         // A line that is passed over is.
         ensures passed_over { IsPassedOver line.now → result ≡ Ok None }
+        // A line that says an event which is read today is read as it, unless memory runs out.
+        ensures only { (e : SaidEvent) → IsTrue (is_built e) → Says nodes line.now e → ReadAs e result }
         // A line that is unreadable says no event that is read today.
         ensures unreadable { IfErr result (λ e. Refused e (IsNone (Says nodes line.now))) }
     {
+        one_event();
         if line.is_empty() || line.starts_with('#') {
             return Ok(None);
         }
@@ -98,6 +103,14 @@ impl Event {
             Err(fault) => Err(fault),
         }
     }
+}
+
+/// A line says one event alone, and one that is passed over says none.
+pub fn one_event()
+    ensures one { (nodes : ℕ) (line : List ℕ) (e f : SaidEvent) → nodes ≤ last_number → Says nodes line e → Says nodes line f → e ≡ f }
+    ensures none { (nodes : ℕ) (line : List ℕ) (e : SaidEvent) → Says nodes line e → IsPassedOver line → ⊥ }
+{
+    one_value();
 }
 
 fn event_of(alloc: Global, line: &str, nodes: u8) -> Result<Event, EventFault>

@@ -1,4 +1,4 @@
-use Rattle.std.proofs.Common.{◌≡◌, ℕ, List, sym, ◌∙◌, subst}
+use Rattle.std.proofs.Common.{subst}
 use Rattle.std.proofs.lemmas.Result.{err_from_is_err_and}
 use Rattle.cf_schedule.specs.Word.{IsClientName, IsChannelName}
 use Rattle.cf_schedule.proofs.Words.{never_cut, unspaced_client}
@@ -12,12 +12,12 @@ pub returns-in_err-client-clause-err : goal.returns-in_err-client-clause-err
 returns-in_err-client-clause-err c =
     let p = err_from_is_err_and c.from_residual.result c.from_residual.ensures.1 in
     rw (p.1, p.2) (refused_name _ _ _ c.in_err-client.ensures.unreadable (λ not_name x d client channel e.
-      let cut = same_cut c.args.text.now c.in-Some.client.now c.in-Some.channel.now x d c.in-Some.ensures (unspaced_client x client) e in
-      not_name (subst IsClientName cut.0 client)))
+    let cut = same_cut c.args.text.now c.in-Some.client.now c.in-Some.channel.now x d c.in-Some.ensures (unspaced_client x client) e in
+    not_name (subst IsClientName cut.0 client)))
 
 pub returns-in_err-channel-clause-err : goal.returns-in_err-channel-clause-err
 returns-in_err-channel-clause-err c =
     let p = err_from_is_err_and c.from_residual-in_err-channel.result c.from_residual-in_err-channel.ensures.1 in
     rw (p.1, p.2) (refused_name _ _ _ c.in_err-channel.ensures.unreadable (λ not_name x d client channel e.
-      let cut = same_cut c.args.text.now c.in-Some.client.now c.in-Some.channel.now x d c.in-Some.ensures (unspaced_client x client) e in
-      not_name (subst IsChannelName cut.1 channel)))
+    let cut = same_cut c.args.text.now c.in-Some.client.now c.in-Some.channel.now x d c.in-Some.ensures (unspaced_client x client) e in
+    not_name (subst IsChannelName cut.1 channel)))

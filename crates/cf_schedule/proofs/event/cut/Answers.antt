@@ -1,4 +1,4 @@
-use Rattle.std.proofs.Common.{◌≡◌, ℕ, ◌<◌, length, get_or, MatchOption, arith, List, Bor, refl}
+use Rattle.std.proofs.Common.{ℕ, MatchOption, arith, List, Bor}
 use Rattle.std.specs.Prelude.{Option, Some, None}
 use Rattle.std.proofs.lemmas.Str.Pattern.{split_parts, IsSplitOnceResult}
 use Rattle.cf_schedule.specs.LineRead.{IsUnspaced, CutsAtSpace}

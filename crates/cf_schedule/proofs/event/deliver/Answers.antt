@@ -1,4 +1,4 @@
-use Rattle.std.proofs.Common.{◌≡◌, ℕ, ◌<◌, ◌≤◌, List, sym, ◌∙◌, subst, arith}
+use Rattle.std.proofs.Common.{sym, arith}
 use Rattle.std.specs.Fmt.{decimal}
 use Rattle.cf_schedule.proofs.Words.{never_cut, unspaced_number}
 use Rattle.cf_schedule.proofs.Lines.{no_deliver}

@@ -1,4 +1,4 @@
-use Rattle.std.proofs.Common.{◌≡◌, ℕ, List, codes}
+use Rattle.std.proofs.Common.{codes}
 use Rattle.cf_schedule.proofs.Lines.{no_word}
 use Rattle.cf_schedule.proofs.Refusals.{answers_at, none_at}
 use Rattle.cf_schedule.proofs.event.event_of.Goals as goal
@@ -25,4 +25,4 @@ pub returns-in_default-word : goal.returns-in_default-word
 returns-in_default-word c =
     let d = c.in_default-word in
     none_at c.args.nodes c.args.line.now c.in-Some.word.now c.in-Some.rest.now c.in-Some.ensures
-      (no_word c.args.nodes c.in-Some.word.now c.in-Some.rest.now c.in-Some.ensures.word d.not-epoch d.not-connect d.not-ask d.not-read d.not-finish d.not-publish d.not-deliver d.not-take)
+    (no_word c.args.nodes c.in-Some.word.now c.in-Some.rest.now c.in-Some.ensures.word d.not-epoch d.not-connect d.not-ask d.not-read d.not-finish d.not-publish d.not-deliver d.not-take)

@@ -2,7 +2,6 @@ use Rattle.std.proofs.Common.{◌≡◌, ◌<◌, ◌^◌, ℕ, arith, sym, leng
 use Rattle.std.specs.Str.Parse.{digits_value}
 use Rattle.std.proofs.lemmas.Bool.{false≢true}
 use Rattle.std.proofs.lemmas.Str.Pattern.{starts_char}
-use Rattle.cf_schedule.specs.LineRead.{IsNoNumber}
 use Rattle.cf_schedule.proofs.Numbers.{no_number_undigits, no_number_zero, number_parsed, number_written, no_number_parsed}
 use Rattle.cf_schedule.proofs.number.whole_number.Goals as goal
 use Rattle.cf_schedule.proofs.number.whole_number.Goals.{else-text-gt1-via-then-text-gt1+else-starts_with, else-text-gt1-via-else-text-gt1}
@@ -21,8 +20,8 @@ returns-in-Ok c =
     let digits = sym c.if-not-has_digits_alone.ensures in
     let parsed : ((0 < length s) × (digits_value 10 s < 2 ^ 64)) × (c.in-Ok.number ≡ digits_value 10 s) = number_parsed {E = ℕ} s (Ok c.in-Ok.number) c.in-Ok.ensures.value.0 digits in
     let first : get_or s 0 0 ≡ 48 → length s ≡ 1 = elim c.else-text-gt1.branch [
-      else-text-gt1-via-then-text-gt1+else-starts_with w ↦
-        λ e. absurd (false≢true (sym w.if-starts_with.false ∙ (starts_char 48 s w.starts_with.result w.starts_with.ensures.cases (omega arith) (omega arith)).1 e))
+      | else-text-gt1-via-then-text-gt1+else-starts_with w ↦
+          λ e. absurd (false≢true (sym w.if-starts_with.false ∙ (starts_char 48 s w.starts_with.result w.starts_with.ensures.cases (omega arith) (omega arith)).1 e))
       | else-text-gt1-via-else-text-gt1 w ↦ λ e. let low = w.if-text-gt1.false in let high = parsed.0.0 in omega arith
     ] in
     number_written s c.in-Ok.number digits first parsed.0 parsed.1

@@ -1,6 +1,5 @@
-use Rattle.std.proofs.Common.{◌≡◌, ℕ, ◌≤◌, arith, sym, subst, ap, ◌∙◌, Ok}
-use Rattle.cf_json.specs.Grammar.{Tree, depth}
-use Rattle.cf_json.specs.Spans.{Span, Document, IsAt}
+use Rattle.std.proofs.Common.{◌≡◌, arith, sym, subst, ◌∙◌, Ok}
+use Rattle.cf_json.specs.Spans.{Span, Document}
 use Rattle.cf_schedule.proofs.Data.{document_is_at}
 use Rattle.cf_schedule.proofs.body.Body.read.Goals as goal
 
