@@ -1,6 +1,6 @@
 pub mod Schedules
 pub mod Sentences
-pub mod Words
+pub mod Spacing
 pub mod Numbers
 pub mod Lines
 pub mod Data

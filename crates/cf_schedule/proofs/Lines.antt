@@ -7,7 +7,7 @@ use Rattle.cf_schedule.specs.Word.{IsClientName, IsChannelName}
 use Rattle.cf_schedule.specs.Event.{Event, Epoch, Connect, Ask, AskFrom, Read, Finish, Publish, PublishBy, Deliver, Take, Break, Leave, Trim, Forget, BrokerRestart, Restart, Check, ListHistory}
 use Rattle.cf_schedule.specs.ScheduleLine.{Says, spaced, IsEpochWord, IsLimit, IsData, is_built, last_number, most_left}
 use Rattle.cf_schedule.specs.LineRead.{IsUnspaced, IsNone}
-use Rattle.cf_schedule.proofs.Words.{one_cut, never_cut, unspaced_word}
+use Rattle.cf_schedule.proofs.Spacing.{one_cut, never_cut, unspaced_word}
 
 abbrev pub word_of : Event → List ℕ
 word_of (Epoch e) = codes "epoch"

@@ -11,7 +11,7 @@ use Rattle.std.proofs.lemmas.Fmt.{digits_decimal, digits_value-decimal, decimal-
 use Rattle.std.proofs.lemmas.Str.Parse.{parse_digits}
 use Rattle.cf_schedule.specs.ScheduleLine.{last_number}
 use Rattle.cf_schedule.specs.LineRead.{IsNoNumber}
-use Rattle.cf_schedule.proofs.Words.{own}
+use Rattle.cf_schedule.proofs.Spacing.{own}
 
 pub no_number_undigits : (s : List ℕ) → list_all is_ascii_digit s ≡ false → IsNoNumber s
 no_number_undigits s h = λ n l e. false≢true (sym h ∙ ap (list_all is_ascii_digit) e ∙ digits_decimal own n (omega arith))

@@ -6,7 +6,7 @@ use Rattle.cf_schedule.specs.LineRead.{IsUnspaced, CutsAtSpace, Refused, IsNone,
 use Rattle.cf_schedule.specs.declared.event.Event as declared
 use Rattle.cf_schedule.specs.declared.event.EventFault.{EventFault}
 use Rattle.cf_schedule.specs.declared.event.EventFault.TheVariants.{Unreadable, Memory}
-use Rattle.cf_schedule.proofs.Words.{one_cut}
+use Rattle.cf_schedule.proofs.Spacing.{one_cut}
 
 pub refused_so : (e : EventFault) (P Q : Type 0) → (P → Q) → Refused e P → Refused e Q
 refused_so Unreadable P Q f h = f h

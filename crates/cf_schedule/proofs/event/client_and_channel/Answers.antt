@@ -1,7 +1,7 @@
 use Rattle.std.proofs.Common.{subst}
 use Rattle.std.proofs.lemmas.Result.{err_from_is_err_and}
 use Rattle.cf_schedule.specs.Word.{IsClientName, IsChannelName}
-use Rattle.cf_schedule.proofs.Words.{never_cut, unspaced_client}
+use Rattle.cf_schedule.proofs.Spacing.{never_cut, unspaced_client}
 use Rattle.cf_schedule.proofs.Refusals.{refused_name, same_cut}
 use Rattle.cf_schedule.proofs.event.client_and_channel.Goals as goal
 

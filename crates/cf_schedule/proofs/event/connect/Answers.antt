@@ -2,7 +2,7 @@ use Rattle.std.proofs.Common.{sym, subst}
 use Rattle.std.specs.Fmt.{decimal}
 use Rattle.std.proofs.lemmas.Result.{err_from_is_err_and}
 use Rattle.cf_schedule.specs.Word.{IsClientName}
-use Rattle.cf_schedule.proofs.Words.{never_cut, unspaced_client}
+use Rattle.cf_schedule.proofs.Spacing.{never_cut, unspaced_client}
 use Rattle.cf_schedule.proofs.Lines.{no_connect}
 use Rattle.cf_schedule.proofs.Refusals.{refused_name, same_cut}
 use Rattle.cf_schedule.proofs.event.connect.Goals as goal

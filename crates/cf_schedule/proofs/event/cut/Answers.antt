@@ -2,7 +2,7 @@ use Rattle.std.proofs.Common.{ℕ, MatchOption, arith, List, Bor}
 use Rattle.std.specs.Prelude.{Option, Some, None}
 use Rattle.std.proofs.lemmas.Str.Pattern.{split_parts, IsSplitOnceResult}
 use Rattle.cf_schedule.specs.LineRead.{IsUnspaced, CutsAtSpace}
-use Rattle.cf_schedule.proofs.Words.{unspaced_at}
+use Rattle.cf_schedule.proofs.Spacing.{unspaced_at}
 use Rattle.cf_schedule.proofs.event.cut.Goals as goal
 
 cut_by : (s : List ℕ) (r : Option (Bor (List ℕ) × Bor (List ℕ))) → IsSplitOnceResult 32 s r → MatchOption r (IsUnspaced s) (λ p. CutsAtSpace s p.0.now p.1.now)

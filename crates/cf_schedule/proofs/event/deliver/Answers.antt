@@ -1,6 +1,6 @@
 use Rattle.std.proofs.Common.{sym, arith}
 use Rattle.std.specs.Fmt.{decimal}
-use Rattle.cf_schedule.proofs.Words.{never_cut, unspaced_number}
+use Rattle.cf_schedule.proofs.Spacing.{never_cut, unspaced_number}
 use Rattle.cf_schedule.proofs.Lines.{no_deliver}
 use Rattle.cf_schedule.proofs.Refusals.{same_cut}
 use Rattle.cf_schedule.proofs.event.deliver.Goals as goal

@@ -2,7 +2,7 @@ use Rattle.std.proofs.Common.{subst}
 use Rattle.std.proofs.lemmas.Result.{err_from_is_err_and}
 use Rattle.cf_schedule.specs.Word.{IsChannelName}
 use Rattle.cf_schedule.specs.ScheduleLine.{IsData}
-use Rattle.cf_schedule.proofs.Words.{never_cut, unspaced_channel}
+use Rattle.cf_schedule.proofs.Spacing.{never_cut, unspaced_channel}
 use Rattle.cf_schedule.proofs.Lines.{no_publish}
 use Rattle.cf_schedule.proofs.Refusals.{refused_name, refused_so, same_cut}
 use Rattle.cf_schedule.proofs.event.publish.Goals as goal
