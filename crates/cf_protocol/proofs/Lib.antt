@@ -4,3 +4,4 @@ pub mod Lengths
 pub mod Compacts
 pub mod Lookups
 pub mod Readings
+pub mod Standing

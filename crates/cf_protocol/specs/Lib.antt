@@ -16,3 +16,4 @@ pub mod Regular
 pub mod Unreadable
 pub mod Shown
 pub mod LogEntry
+pub mod Reading

@@ -10,6 +10,7 @@ mod namespaces;
 mod outgoing;
 mod position;
 mod publication;
+mod read;
 mod settings;
 mod table;
 mod tokens;
@@ -24,7 +25,7 @@ pub use namespaces::{Namespaces, read_namespaces};
 pub use outgoing::{Outcome, Outgoing, Pushed};
 pub use position::Position;
 pub use publication::{Info, Publication};
+pub use read::{read_commands, read_replies};
 pub use settings::Settings;
 pub use tokens::{Tokens, read_tokens};
 pub use write::{write_command, write_reply};
-

@@ -1,0 +1,47 @@
+-- Members and values where they stand in a text.
+use Rattle.std.proofs.Common.{◌≡◌, ℕ, suc, zero, ◌+◌, ◌<◌, Bool, true, false, cond, List, [], ◌∷◌, drop, get_or, length, Option, Some, None, MatchOption, Result, Ok, Err, option_map, refl, ap, sym, subst, ◌∙◌, arith, rules, add-one, string_bytes}
+use Rattle.std.specs.Option.{IsSomeAnd, option_and_then}
+use Rattle.std.specs.List.{AllZip}
+use Rattle.std.specs.Str.{bytes_eq}
+use Rattle.std.specs.declared.string.String.{String}
+use Rattle.std.specs.declared.alloc.Global.{Global}
+use Rattle.std.proofs.lemmas.Bool.{cond-true, cond-false}
+use Rattle.std.proofs.Math.Seq.{drop-cons}
+use Rattle.cf_json.specs.Grammar.{Tree, null, boolean, number, text as string, array, object, Parts, no_parts, part}
+use Rattle.cf_json.specs.Spans.{Span, IsAt}
+use Rattle.cf_json.specs.Characters.{characters}
+use Rattle.cf_json.specs.Members as json
+use Rattle.cf_protocol.specs.Fields.{Fields, look_up, members_of, members_onto, items_of, as_object, as_items}
+use Rattle.cf_protocol.specs.Reading.{Tells, Answers, IsMember, Reads, Finds, Stand}
+
+-- the member at hand has another key
+passes_cons : (text k : List ℕ) (m : String Global × Span) (ms : List (String Global × Span)) (gs : Fields) → Reads text (m ∷ ms) gs → bytes_eq k (string_bytes m.0) ≡ false
+    → (hs : Fields) × Reads text ms hs × (look_up k hs ≡ look_up k gs)
+passes_cons text k m ms [] r e = absurd r
+passes_cons text k m ms (g ∷ gs) r e =
+    (gs, r.1, sym (cond-false (bytes_eq k g.0) (Some g.1) (look_up k gs) (ap (bytes_eq k) (sym r.0.0) ∙ e)))
+
+pub passes : (text k : List ℕ) (ms : List (String Global × Span)) (i : ℕ) (m : String Global × Span) (gs : Fields) → i < length ms → m ≡ get_or ms i m → Reads text (drop i ms) gs
+    → bytes_eq k (string_bytes m.0) ≡ false → (hs : Fields) × Reads text (drop (i + 1) ms) hs × (look_up k hs ≡ look_up k gs)
+passes text k ms i m gs l is r e =
+    let next : drop (suc i) ms ≡ drop (i + 1) ms = ap (λ n. drop n ms) (sym (add-one i)) in
+    let same : drop i ms ≡ m ∷ drop (i + 1) ms = drop-cons ms i m l ∙ ap (λ x. x ∷ drop (suc i) ms) (sym is) ∙ ap (λ l. m ∷ l) next in
+    passes_cons text k m (drop (i + 1) ms) gs (subst (λ l. Reads text l gs) same r) e
+
+-- what stands at a place of a list has its fellow
+pub fellow : {A B : Type 0} (R : A → B → Type 0) (xs : List A) (ys : List B) (i : ℕ) (x d : A) → AllZip R xs ys → i < length xs → x ≡ get_or xs i d → (y : B) × R x y
+fellow R [] ys i x d z l e = absurd (omega (arith, l))
+fellow R (w ∷ xs) [] i x d z l e = absurd z
+fellow R (w ∷ xs) (y ∷ ys) zero x d z l e = (y, subst (λ v. R v y) (sym e) z.0)
+fellow R (w ∷ xs) (y ∷ ys) (suc i) x d z l e = fellow R xs ys i x d z.1 (omega (arith, l)) e
+
+pub some_and : {A : Type 0} (o : Option A) (P : A → Type 0) → IsSomeAnd o P → (x : A) × (o ≡ Some x) × P x
+some_and None P h = absurd h
+some_and (Some x) P h = (x, refl, h)
+
+-- an object that stands, of which one of two kinds of answer told
+pub some_object : {M F : Type 0} (R : M → F → Type 0) (o : Option (Option F)) (r : Option M) (m : M) → r ≡ Some m
+    → IsSomeAnd o (λ x. MatchOption r (x ≡ None) (λ m. IsSomeAnd x (R m))) → (f : F) × (o ≡ Some (Some f)) × R m f
+some_object R None r m e h = absurd h
+some_object {M} {F} R (Some None) r m e h = absurd (subst (λ q. MatchOption q (◌≡◌ {A = Option F} None None) (λ n. IsSomeAnd {T = F} None (R n))) e h)
+some_object {M} {F} R (Some (Some f)) r m e h = (f, refl, subst (λ q. MatchOption q (◌≡◌ {A = Option F} (Some f) None) (λ n. R n f)) e h)

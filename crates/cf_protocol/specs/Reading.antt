@@ -1,0 +1,51 @@
+-- What the reading calls answer, beside what the definitions have.
+use Rattle.std.specs.Prelude.{◌≡◌, ⊤, List, ℕ, Result, Ok, Err, Option, Some, None, option_and_then, option_map, []}
+use Rattle.std.specs.List.{AllZip}
+use Rattle.std.specs.Option.{IsSomeAnd}
+use Rattle.std.specs.String.{string_bytes}
+use Rattle.std.specs.declared.string.String.{String}
+use Rattle.std.specs.declared.alloc.Global.{Global}
+use Rattle.cf_json.specs.Grammar.{Tree}
+use Rattle.cf_json.specs.Spans.{Span, IsAt}
+use Rattle.cf_protocol.specs.Fields.{Fields, look_up, unless_null, read_or, as_object, as_items}
+use Rattle.cf_protocol.specs.declared.fault.ReadFault.{ReadFault}
+use Rattle.cf_protocol.specs.declared.fault.ReadFault.TheVariants.{Bad, Memory}
+
+-- Ok of something that stands for what is there, and Bad only where nothing is
+abbrev pub Tells : {T A : Type 0} → (T → A → Type 0) → Result T ReadFault → Option A → Type 0
+Tells R (Ok v) o = IsSomeAnd o (R v)
+Tells R (Err Bad) o = o ≡ None
+Tells R (Err Memory) o = ⊤
+
+-- the same, where what is found is a function of the answer
+abbrev pub Answers : {T A : Type 0} → (T → A) → Result T ReadFault → Option A → Type 0
+Answers show (Ok v) o = o ≡ Some (show v)
+Answers show (Err Bad) o = o ≡ None
+Answers show (Err Memory) o = ⊤
+
+-- a member that was found: its key, and the span of its value
+abbrev pub IsMember : List ℕ → String Global × Span → List ℕ × Tree → Type 0
+IsMember text m f = (string_bytes m.0 ≡ f.0) × IsAt text f.1 m.1
+
+-- these are the members, and where they stand in the text
+abbrev pub Reads : List ℕ → List (String Global × Span) → Fields → Type 0
+Reads text found fs = AllZip (IsMember text) found fs
+
+-- where a value stands, if one is there
+abbrev pub Finds : List ℕ → Option Span → Option Tree → Type 0
+Finds text None o = o ≡ None
+Finds text (Some s) o = IsSomeAnd o (λ t. IsAt text t s)
+
+abbrev pub present_at : List ℕ → Fields → Option Tree
+present_at k fs = option_and_then unless_null (look_up k fs)
+
+-- an object's members, where it is there
+abbrev pub object_at : List ℕ → Fields → Option (Option Fields)
+object_at k fs = read_or None (λ t. option_map Some (as_object t)) (present_at k fs)
+
+-- the items of a list, none where it isn't there
+abbrev pub items_at : List ℕ → Fields → Option (List Tree)
+items_at k fs = read_or [] as_items (present_at k fs)
+
+abbrev pub Stand : List ℕ → List Span → List Tree → Type 0
+Stand text spans ts = AllZip (λ s t. IsAt text t s) spans ts

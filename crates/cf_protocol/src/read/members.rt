@@ -1,0 +1,167 @@
+//! The members of an object, read by their keys.
+ghost use Rattle.std.specs.Prelude.{◌≡◌, ℕ, List, [], false, Option, Some, None, MatchOption, IfOk, ◌≤◌, string_bytes};
+ghost use Rattle.std.specs.Option.{IsSomeAnd};
+ghost use Rattle.cf_json.specs.Grammar.{Tree};
+ghost use Rattle.cf_json.specs.Spans.{IsAt};
+ghost use Rattle.cf_protocol.specs.Fields.{Fields, look_up, read_or, as_object, as_text, as_flag};
+ghost use Rattle.cf_protocol.specs.Reading.{Tells, Answers, Reads, Finds, Stand, present_at, object_at, items_at};
+
+use crate::epoch::Epoch;
+use crate::fault::ReadFault;
+use crate::position::Position;
+use cf_json::{Kind, Span, items, kind, members, read_signed, read_text, read_whole};
+use std::alloc::Global;
+
+/// The members of an object of a text, each by its key.
+#[derive(Drop)]
+pub struct Members<'a> {
+    /// The text in which they stand.
+    pub text: &'a str,
+    /// Their keys, and where their values stand.
+    pub found: Vec<(String, Span)>,
+}
+
+impl<'a> Members<'a> {
+    /// The members of the value, which is to be an object.
+    pub fn of(alloc: Global, text: &'a str, span: Span) -> Result<Members<'a>, ReadFault>
+        requires { (t : Tree) × IsAt text.now t span }
+        ensures { (t : Tree) → IsAt text.now t span → Tells (λ m fs. Reads m.text.now m.found.items fs) result (as_object t) }
+    {
+        if kind(text, span) != Kind::Object {
+            return Err(ReadFault::Bad);
+        }
+        let found = members(alloc, text, span)?;
+        Ok(Members { text, found })
+    }
+
+    /// Where the value of this key stands.
+    pub fn get(&self, key: &str) -> Option<Span>
+        ensures { (fs : Fields) → Reads self.now.text.now self.now.found.items fs → Finds self.now.text.now result (look_up key.now fs) }
+    {
+        for member in &self.found {
+            if key == member.0.as_str() {
+                return Some(member.1);
+            }
+        }
+        None
+    }
+
+    /// The same, where `null` counts as absent.
+    pub fn present(&self, key: &str) -> Option<Span>
+        requires { (fs : Fields) × Reads self.now.text.now self.now.found.items fs }
+        ensures { (fs : Fields) → Reads self.now.text.now self.now.found.items fs → Finds self.now.text.now result (present_at key.now fs) }
+    {
+        let span = self.get(key)?;
+        if kind(self.text, span) == Kind::Null {
+            return None;
+        }
+        Some(span)
+    }
+
+    /// A text; the empty one where it is absent.
+    pub fn text(&self, alloc: Global, key: &str) -> Result<String, ReadFault>
+        requires { (fs : Fields) × Reads self.now.text.now self.now.found.items fs }
+        ensures { (fs : Fields) → Reads self.now.text.now self.now.found.items fs → Answers string_bytes result (read_or [] as_text (present_at key.now fs)) }
+    {
+        let Some(span) = self.present(key) else {
+            return Ok(String::new(alloc));
+        };
+        if kind(self.text, span) != Kind::Text {
+            return Err(ReadFault::Bad);
+        }
+        let text = read_text(alloc, self.text, span)?;
+        Ok(text)
+    }
+
+    /// A flag; false where it is absent.
+    pub fn flag(&self, key: &str) -> Result<bool, ReadFault>
+        requires { (fs : Fields) × Reads self.now.text.now self.now.found.items fs }
+        ensures { (fs : Fields) → Reads self.now.text.now self.now.found.items fs → Answers (λ b. b) result (read_or false as_flag (present_at key.now fs)) }
+    {
+        let Some(span) = self.present(key) else {
+            return Ok(false);
+        };
+        match kind(self.text, span) {
+            Kind::True => Ok(true),
+            Kind::False => Ok(false),
+            _ => Err(ReadFault::Bad),
+        }
+    }
+
+    /// A whole number of at most so much; 0 where it is absent.
+    pub fn whole(&self, key: &str, most: u64) -> Result<u64, ReadFault>
+        requires { (fs : Fields) × Reads self.now.text.now self.now.found.items fs }
+        ensures { IfOk result (λ n. n ≤ most) }
+    {
+        let Some(span) = self.present(key) else {
+            return Ok(0);
+        };
+        if kind(self.text, span) != Kind::Number {
+            return Err(ReadFault::Bad);
+        }
+        match read_whole(self.text, span) {
+            Some(number) if number <= most => Ok(number),
+            _ => Err(ReadFault::Bad),
+        }
+    }
+
+    /// A limit, a whole number of 32 bits with a sign; 0 where it is absent.
+    pub fn limit(&self, key: &str) -> Result<i32, ReadFault>
+        requires { (fs : Fields) × Reads self.now.text.now self.now.found.items fs }
+    {
+        let Some(span) = self.present(key) else {
+            return Ok(0);
+        };
+        if kind(self.text, span) != Kind::Number {
+            return Err(ReadFault::Bad);
+        }
+        let Some(number) = read_signed(self.text, span) else {
+            return Err(ReadFault::Bad);
+        };
+        match i32::try_from(number) {
+            Ok(number) => Ok(number),
+            Err(_) => Err(ReadFault::Bad),
+        }
+    }
+
+    /// The members of an object, where one stands.
+    pub fn object(&self, alloc: Global, key: &str) -> Result<Option<Members<'a>>, ReadFault>
+        requires { (fs : Fields) × Reads self.now.text.now self.now.found.items fs }
+        ensures { (fs : Fields) → Reads self.now.text.now self.now.found.items fs → Tells (λ o r. MatchOption o (r ≡ None) (λ m. IsSomeAnd r (λ gs. Reads m.text.now m.found.items gs))) result (object_at key.now fs) }
+    {
+        match self.present(key) {
+            Some(span) => {
+                let found = Members::of(alloc, self.text, span)?;
+                Ok(Some(found))
+            }
+            None => Ok(None),
+        }
+    }
+
+    /// The items of a list; none where it is absent.
+    pub fn list(&self, alloc: Global, key: &str) -> Result<Vec<Span>, ReadFault>
+        requires { (fs : Fields) × Reads self.now.text.now self.now.found.items fs }
+        ensures { (fs : Fields) → Reads self.now.text.now self.now.found.items fs → Tells (λ v ts. Stand self.now.text.now v.items ts) result (items_at key.now fs) }
+    {
+        let Some(span) = self.present(key) else {
+            return Ok(Vec::new(alloc));
+        };
+        if kind(self.text, span) != Kind::Array {
+            return Err(ReadFault::Bad);
+        }
+        let found = items(alloc, self.text, span)?;
+        Ok(found)
+    }
+
+    /// The position that `epoch` and `offset` say.
+    pub fn position(&self, alloc: Global) -> Result<Position, ReadFault>
+        requires { (fs : Fields) × Reads self.now.text.now self.now.found.items fs }
+    {
+        let epoch = self.text(alloc, "epoch")?;
+        let offset = self.whole("offset", u64::MAX)?;
+        Ok(Position {
+            epoch: Epoch::from_text(epoch.as_str()),
+            offset,
+        })
+    }
+}
