@@ -4,3 +4,5 @@ pub mod Ring
 pub mod Stream
 pub mod FreshEpochs
 pub mod Streams
+pub mod PublicationList
+pub mod LogState

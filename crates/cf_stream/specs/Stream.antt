@@ -1,8 +1,10 @@
 -- What contracts see of a stream, and what its calls do and answer.
 -- Source: Centrifugo, history and recovery; the limits and the exact rule of recovery are this project's own profile.
-use Rattle.std.specs.Prelude.{◌≡◌, ℕ, ◌+◌, ◌-◌, ◌≤◌, min, max, List, [], ◌∷◌, ◌++◌, length, take, drop, slice_get, Option, Some, None, ℤ, pos, negsuc, nat_le, if◌then◌else◌, Bool, not, IsTrue, ◌↔◌}
+use Rattle.std.specs.Prelude.{◌≡◌, ℕ, ◌+◌, ◌-◌, ◌≤◌, min, max, List, [], ◌∷◌, ◌++◌, length, take, drop, slice_get, Option, Some, None, ℤ, nat_le, if◌then◌else◌, Bool, not, IsTrue, ◌↔◌}
 use Rattle.cf_protocol.specs.declared.position.Position.{Position}
 use Rattle.cf_protocol.specs.Datum.{Datum, Placed, numbered}
+use Rattle.cf_stream.specs.StreamState.{last_offset}
+use Rattle.cf_stream.specs.StreamAnswer.{most_in_reply, allowed_by}
 
 -- a stream: its epoch, how many it may hold, how many were published in it, the last of these that it holds,
 -- and the moments of its last publication and of its last use
@@ -13,14 +15,6 @@ pub record Shown : Type 0 where
   pub held : List Datum
   pub published : ℕ
   pub used : ℕ
-
--- the offset after which nothing is published
-abbrev pub last_offset : ℕ
-last_offset = 9007199254740991
-
--- the most publications of an answer
-abbrev pub most_answered : ℕ
-most_answered = 300
 
 -- how long an unused stream stands, in seconds
 abbrev pub unused_seconds : ℕ
@@ -78,7 +72,7 @@ pub record IsWithin (s : Shown) : Type 0 where
 
 -- everything after the position is held, and it is at most 300
 abbrev pub Recovers : Shown → Position → Type 0
-Recovers s p = (p.epoch ≡ s.epoch) × (p.offset ≤ s.top) × (s.top - p.offset ≤ min (length s.held) most_answered)
+Recovers s p = (p.epoch ≡ s.epoch) × (p.offset ≤ s.top) × (s.top - p.offset ≤ min (length s.held) most_in_reply)
 
 abbrev pub RecoversFrom : Shown → Option Position → Type 0
 RecoversFrom s None = ⊥
@@ -104,11 +98,6 @@ pub record IsRecovery (s : Shown) (since : Option Position) (position : Position
   pub exact : IsTrue recovered ↔ RecoversFrom s since
   pub run : publications ≡ (if recovered then run_from s since else [])
 
--- how many a limit allows: at most 300, also where it is negative
-abbrev pub limited : ℤ → ℕ
-limited (pos n) = min n most_answered
-limited (negsuc n) = most_answered
-
 -- the offset after which the held publications begin
 abbrev pub floor_of : Shown → ℕ
 floor_of s = s.top - length s.held
@@ -118,10 +107,16 @@ abbrev pub start_of : Shown → Option Position → ℕ
 start_of s None = floor_of s
 start_of s (Some p) = max p.offset (floor_of s)
 
+-- the position is of the stream's epoch, if it is one
+abbrev pub IsInEpoch : Shown → Option Position → Type 0
+IsInEpoch s None = Unit {0}
+IsInEpoch s (Some p) = p.epoch ≡ s.epoch
+
 -- what a history answers
 pub record IsHistory (s : Shown) (since : Option Position) (limit : ℤ) (position : Position) (publications : List Placed) : Type 0 where
   pub at : position ≡ position_of s
-  pub first : publications ≡ take (limited limit) (after s (start_of s since))
+  pub in_epoch : IsInEpoch s since
+  pub first : publications ≡ take (allowed_by limit) (after s (start_of s since))
 
 -- the last publication held, at the top
 abbrev pub newest_of : Shown → Option Placed

@@ -1,6 +1,9 @@
 //! One stream.
-ghost use Rattle.std.specs.Prelude.{◌≡◌, ◌≢◌, ◌+◌, ◌-◌, ◌≤◌, ◌↔◌, [], ◌∷◌, ◌++◌, ◌==◌, length, take, IfOk, IfErr, OnOk, OnErr, IsTrue, IsErrOf, IsOkUnless, SomeIff, IsSomeAnd, IfSome, IsNone, option_copied, if◌then◌else◌, not};
-ghost use Rattle.cf_stream.specs.Stream.{started, pushed, used_at, trimmed, resized, ticked, position_of, missed_from, RecoversFrom, run_from, IsWithin, start_of, limited, after, in_epoch, IsRecovery, IsHistory, newest_of, stays};
+ghost use Rattle.std.specs.Prelude.{◌≡◌, ◌≢◌, ◌+◌, ◌-◌, ◌≤◌, ◌↔◌, [], ◌∷◌, ◌++◌, ◌==◌, length, take, IfOk, IfErr, OnOk, OnErr, IsTrue, IsErrOf, IsOkUnless, SomeIff, IsSomeAnd, IfSome, IsNone, option_copied, if◌then◌else◌, List};
+ghost use Rattle.cf_stream.specs.Stream.{started, pushed, used_at, trimmed, resized, ticked, position_of, missed_from, RecoversFrom, run_from, IsWithin, start_of, after, in_epoch, IsRecovery, IsHistory, IsInEpoch, newest_of, stays, is_over};
+ghost use Rattle.cf_stream.specs.PublicationList.{Shows, GoesOn, AnswersRead, AnswersHistory, opened, published, kept_newest, same};
+ghost use Rattle.cf_protocol.specs.Datum.{Datum};
+ghost use Rattle.cf_stream.specs.StreamAnswer.{allowed_by};
 ghost use Rattle.cf_stream.specs.Streams.{due_of};
 ghost use Rattle.std.specs.String.{string_bytes};
 
@@ -61,7 +64,8 @@ impl Stream {
     pub fn start(alloc: Global, epoch: Epoch, size: usize) -> Result<Stream, AllocError>
         requires nonempty { epoch ≢ [] }
         requires sized { (1 ≤ size) × (size ≤ LARGEST_SIZE) }
-        ensures { IfOk result (λ s. s ≡ started epoch size 0) }
+        ensures started { IfOk result (λ s. s ≡ started epoch size 0) }
+        ensures list { IfOk result (λ s. Shows s (opened epoch)) }
     {
         after_top(alloc, epoch, size, 0)
     }
@@ -76,7 +80,8 @@ impl Stream {
         requires nonempty { epoch ≢ [] }
         requires sized { (1 ≤ size) × (size ≤ LARGEST_SIZE) }
         requires top_fits { top ≤ LAST_OFFSET }
-        ensures { IfOk result (λ s. s ≡ started epoch size top) }
+        ensures started { IfOk result (λ s. s ≡ started epoch size top) }
+        ensures list { IfOk result (λ s. (ds : List Datum) → length ds ≡ top → Shows s (record { epoch = epoch; list = ds; held = 0 })) }
     {
         after_top(alloc, epoch, size, top)
     }
@@ -133,6 +138,7 @@ impl Stream {
         ensures refusals { IfErr result (λ e. e ≢ StreamRefusal.AtLastOffset → e ≡ StreamRefusal.Memory) }
         ensures err { OnErr result (self.new ≡ self.old) }
         ensures within { IsWithin self.new }
+        ensures list { OnOk result (GoesOn self.old self.new (published self.old.size (record { body = string_bytes body; info = info }))) }
     {
         if self.top == LAST_OFFSET {
             return Err(StreamRefusal::AtLastOffset);
@@ -155,6 +161,8 @@ impl Stream {
         ensures answer { IfOk result (λ r. IsRecovery self.old since r.position r.recovered r.publications.items) }
         ensures refusals { IsOkUnless result StreamRefusal.Memory }
         ensures err { OnErr result (self.new ≡ self.old) }
+        ensures list { IfOk result (λ r. AnswersRead self.old since r.position r.recovered r.publications.items) }
+        ensures same_list { OnOk result (GoesOn self.old self.new same) }
     {
         let position = self.position();
         let missed = self.missed_since(since);
@@ -187,6 +195,7 @@ impl Stream {
     fn newer_than(&self, since: Option<Position>) -> Option<usize>
         ensures other { IsNone result ↔ IsSomeAnd since (λ p. p.epoch ≢ self.now.epoch) }
         ensures within { IfSome result (λ n. n ≤ length self.now.held) }
+        ensures in_epoch { IfSome result (λ _. IsInEpoch self.now since) }
         ensures newer { IfSome result (λ n. after self.now (self.now.top - n) ≡ after self.now (start_of self.now since)) }
     {
         let held = self.ring.len();
@@ -227,6 +236,8 @@ impl Stream {
         ensures wrong_epoch { IsErrOf result StreamRefusal.WrongEpoch ↔ IsSomeAnd since (λ p. p.epoch ≢ self.old.epoch) }
         ensures refusals { IfErr result (λ e. e ≢ StreamRefusal.WrongEpoch → e ≡ StreamRefusal.Memory) }
         ensures err { OnErr result (self.new ≡ self.old) }
+        ensures list { IfOk result (λ h. AnswersHistory self.old since limit h.position h.publications.items) }
+        ensures same_list { OnOk result (GoesOn self.old self.new same) }
     {
         let position = self.position();
         let Some(count) = self.newer_than(since) else {
@@ -242,7 +253,8 @@ impl Stream {
 
     /// Keeps at most the newest `count` publications. It takes no memory.
     pub fn trim(&mut self, count: usize)
-        ensures { self.new ≡ trimmed count self.old }
+        ensures trimmed { self.new ≡ trimmed count self.old }
+        ensures list { GoesOn self.old self.new (kept_newest count) }
     {
         self.ring.truncate_front(count);
     }
@@ -250,7 +262,8 @@ impl Stream {
     /// Sets the size, and keeps the newest that it allows. It takes no memory, since the ring grows only in `publish`.
     pub fn resize(&mut self, size: usize)
         requires { (1 ≤ size) × (size ≤ LARGEST_SIZE) }
-        ensures { self.new ≡ resized size self.old }
+        ensures resized { self.new ≡ resized size self.old }
+        ensures list { GoesOn self.old self.new (kept_newest size) }
     {
         self.ring.truncate_front(size);
         self.size = size;
@@ -261,11 +274,12 @@ impl Stream {
     pub fn tick(&mut self, now: u64, seconds: u64) -> Fate
         ensures fate { (result ≡ Fate.Forgotten) ↔ (self.old.used + UNUSED_SECONDS ≤ now) }
         ensures ticked { self.new ≡ ticked now seconds self.old }
+        ensures list { GoesOn self.old self.new (if is_over self.old.published seconds now then kept_newest 0 else same) }
     {
-        if self.published <= now && now - self.published >= seconds {
+        if has_passed(self.published, seconds, now) {
             self.ring.clear();
         }
-        if self.used <= now && now - self.used >= UNUSED_SECONDS {
+        if has_passed(self.used, UNUSED_SECONDS, now) {
             Fate::Forgotten
         } else {
             Fate::Alive
@@ -284,10 +298,10 @@ impl Stream {
     pub(crate) fn due(&self, now: u64, seconds: u64) -> Option<Due>
         ensures { result ≡ due_of now seconds self.now }
     {
-        if self.used <= now && now - self.used >= UNUSED_SECONDS {
+        if has_passed(self.used, UNUSED_SECONDS, now) {
             return Some(Due::Forget);
         }
-        if self.published <= now && now - self.published >= seconds && !self.ring.is_empty() {
+        if has_passed(self.published, seconds, now) && !self.ring.is_empty() {
             return Some(Due::Empty);
         }
         None
@@ -319,6 +333,13 @@ fn after_top(alloc: Global, epoch: Epoch, size: usize, top: u64) -> Result<Strea
     })
 }
 
+/// Whether so many seconds have passed since a moment. None have where that moment is still to come.
+fn has_passed(moment: u64, seconds: u64, now: u64) -> bool
+    ensures { result ≡ is_over moment seconds now }
+{
+    moment <= now && now - moment >= seconds
+}
+
 /// Whether these are one epoch.
 pub(crate) fn same_epoch(first: Epoch, second: Epoch) -> bool
     ensures { IsTrue result ↔ (first ≡ second) }
@@ -328,7 +349,7 @@ pub(crate) fn same_epoch(first: Epoch, second: Epoch) -> bool
 
 /// How many publications a limit allows.
 fn limit_of(limit: i32) -> usize
-    ensures { result ≡ limited limit }
+    ensures { result ≡ allowed_by limit }
 {
     if limit < 0 || limit > MOST_ANSWERED as i32 {
         MOST_ANSWERED

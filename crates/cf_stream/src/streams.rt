@@ -1,5 +1,5 @@
 //! The streams of all channels.
-ghost use Rattle.std.specs.Prelude.{◌≡◌, ◌≢◌, ◌≤◌, ◌↔◌, IfOk, IfErr, OnErr, IsErrOf, IsSomeAnd, IsTrue, option_copied, Some, None, List, ℕ, unwrap_or, map, filter, option_and_then, IsSome};
+ghost use Rattle.std.specs.Prelude.{◌≡◌, ◌≢◌, ◌≤◌, ◌↔◌, IfOk, IfErr, OnErr, IsErrOf, IsSomeAnd, IsTrue, option_copied, Some, None, List, [], ◌∷◌, ℕ, unwrap_or, map, filter, option_and_then, IsSome};
 ghost use Rattle.std.specs.Option.{option_map};
 ghost use Rattle.std.specs.BTreeMap.{get_by_text, IsOrdered};
 ghost use Rattle.std.specs.FinMap as fin;
@@ -7,6 +7,9 @@ ghost use Rattle.std.specs.String.{string_bytes, string_cmp};
 ghost use Rattle.cf_protocol.specs.Settings.{settings_of};
 ghost use Rattle.cf_stream.specs.Stream.{pushed, used_at, trimmed, position_of, IsRecovery, IsHistory, stays, ticked, newest_of};
 ghost use Rattle.cf_stream.specs.Streams.{stream_of, put_at, stood_or, stood_or_opened, IsOfAnother, SetsAt, after_tick, due_channels, IsSetUp, size_at, seconds_at};
+ghost use Rattle.cf_stream.specs.PublicationList.{AnswersRead, AnswersHistory};
+ghost use Rattle.cf_stream.specs.LogState.{IsState, Adds, opening, if_stands, due_entries};
+ghost use Rattle.cf_protocol.specs.LogEntry.Entry.{Publish, Trim, Forget};
 ghost use Rattle.cf_stream.specs.FreshEpochs.{DrawsNone, Draws};
 
 use crate::answer::{History, Recovery};
@@ -40,7 +43,8 @@ impl Model for Streams {
 impl Streams {
     /// No streams, over these namespaces.
     pub fn new(alloc: Global, namespaces: &Namespaces) -> Result<Streams, AllocError>
-        ensures { IfOk result (λ s. s ≡ record { namespaces = namespaces.now; streams = fin.empty }) }
+        ensures empty { IfOk result (λ s. s ≡ record { namespaces = namespaces.now; streams = fin.empty }) }
+        ensures log { IfOk result (λ s. IsState s []) }
     {
         Ok(Streams {
             namespaces: namespaces.copied()?,
@@ -74,6 +78,7 @@ impl Streams {
         ensures refusals { IfErr result (λ e. e ≢ StreamRefusal.WrongEpoch × (e ≢ StreamRefusal.NoEpoch → epochs.new ≡ epochs.old)) }
         ensures err { OnErr result (self.new ≡ self.old) }
         ensures namespaces { self.new.namespaces ≡ self.old.namespaces }
+        ensures log { IfOk result (λ p. Adds self.old self.new (opening (stream_of self.old channel.now) channel.now p.epoch (Publish channel.now (record { body = string_bytes body; info = info }) ∷ []))) }
     {
         let size = size_for(&self.namespaces, channel);
         publish_in(
@@ -104,6 +109,8 @@ impl Streams {
         ensures refusals { IfErr result (λ e. e ≢ StreamRefusal.NoEpoch → (e ≡ StreamRefusal.Memory) × (epochs.new ≡ epochs.old)) }
         ensures err { OnErr result (self.new ≡ self.old) }
         ensures namespaces { self.new.namespaces ≡ self.old.namespaces }
+        ensures list { IfOk result (λ r. AnswersRead (stood_or_opened self.old channel.now r.position.epoch) since r.position r.recovered r.publications.items) }
+        ensures log { IfOk result (λ r. Adds self.old self.new (opening (stream_of self.old channel.now) channel.now r.position.epoch [])) }
     {
         let size = size_for(&self.namespaces, channel);
         read_in(&mut self.map, epochs, self.alloc, size, channel, since, now)
@@ -127,6 +134,8 @@ impl Streams {
         ensures refusals { IfErr result (λ e. e ≢ StreamRefusal.AtLastOffset × (e ≢ StreamRefusal.NoEpoch → epochs.new ≡ epochs.old)) }
         ensures err { OnErr result (self.new ≡ self.old) }
         ensures namespaces { self.new.namespaces ≡ self.old.namespaces }
+        ensures list { IfOk result (λ h. AnswersHistory (stood_or_opened self.old channel.now h.position.epoch) since limit h.position h.publications.items) }
+        ensures log { IfOk result (λ h. Adds self.old self.new (opening (stream_of self.old channel.now) channel.now h.position.epoch [])) }
     {
         let size = size_for(&self.namespaces, channel);
         history_in(
@@ -143,21 +152,24 @@ impl Streams {
 
     /// Keeps at most the newest publications of a channel. It takes no memory.
     pub fn trim(&mut self, channel: &str, count: usize)
-        ensures { self.new ≡ put_at self.old channel.now (option_map (trimmed count) (stream_of self.old channel.now)) }
+        ensures trimmed { self.new ≡ put_at self.old channel.now (option_map (trimmed count) (stream_of self.old channel.now)) }
+        ensures log { Adds self.old self.new (if_stands (stream_of self.old channel.now) (Trim channel.now count)) }
     {
         trim_at(&mut self.map, channel, count);
     }
 
     /// Ends a channel's stream. It takes no memory.
     pub fn forget(&mut self, channel: &str)
-        ensures { self.new ≡ put_at self.old channel.now None }
+        ensures forgotten { self.new ≡ put_at self.old channel.now None }
+        ensures log { Adds self.old self.new (if_stands (stream_of self.old channel.now) (Forget channel.now)) }
     {
         self.map.remove(channel);
     }
 
     /// Ends all streams. It takes no memory.
     pub fn forget_all(&mut self)
-        ensures { self.new ≡ record self.old { streams = fin.empty } }
+        ensures forgotten { self.new ≡ record self.old { streams = fin.empty } }
+        ensures log { IsState self.new [] }
     {
         self.map.clear();
     }
@@ -166,6 +178,7 @@ impl Streams {
     pub fn tick(&mut self, now: u64)
         ensures namespaces { self.new.namespaces ≡ self.old.namespaces }
         ensures streams { (q : List ℕ) → stream_of self.new q ≡ after_tick now (seconds_at self.old.namespaces q) (stream_of self.old q) }
+        ensures log { Adds self.old self.new (due_entries (due_channels now self.old.namespaces (fin.entries self.old.streams))) }
     {
         tick_in(&mut self.map, &self.namespaces, now);
     }

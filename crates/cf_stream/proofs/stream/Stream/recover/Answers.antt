@@ -1,6 +1,7 @@
 use Rattle.std.proofs.Common.{ap, ◌∙◌, ◌-◌, take, rules}
 use Rattle.cf_stream.specs.Stream.{after}
 use Rattle.cf_stream.proofs.Placing.{recovered_run}
+use Rattle.cf_stream.proofs.PublicationLists.{AnswersRead-from, GoesOn-used}
 use Rattle.cf_stream.proofs.stream.Stream.recover.Goals as goal
 
 pub returns-clause-answer : goal.returns-clause-answer
@@ -12,3 +13,9 @@ returns-clause-answer c =
           (c.in_ok-publications.ensures ∙ ap (λ n. take 300 (after c.args.self.now (c.args.self.now.top - n))) c.unwrap_or.ensures
           ∙ recovered_run c.args.self.now c.args.since c.missed_since-missed.result c.missed_since-missed.ensures);
     }
+
+pub returns-clause-list : goal.returns-clause-list
+returns-clause-list c = AnswersRead-from c.args.self.now c.args.since _ _ _ (returns-clause-answer c)
+
+pub returns-clause-same_list : goal.returns-clause-same_list
+returns-clause-same_list c = rw (← c.self.view_is) (GoesOn-used _ c.args.now)

@@ -1,6 +1,8 @@
 use Rattle.std.proofs.lemmas.Result.{IfOk-weaker, on_err_weaker}
 use Rattle.cf_stream.specs.declared.answer.Recovery.{Recovery}
 use Rattle.cf_stream.proofs.Channels.{get-by_channel, kept_by, kept_same}
+use Rattle.cf_stream.proofs.LogSteps.{Adds-read}
+use Rattle.cf_stream.proofs.PublicationLists.{AnswersRead-from}
 use Rattle.cf_stream.proofs.streams.Streams.read.Goals as goal
 
 pub returns-clause-ok : goal.returns-clause-ok
@@ -21,3 +23,9 @@ returns-clause-drawn g c = rw (← c.self.view_is, get-by_channel) c.read_in.ens
 
 pub returns-clause-no_epoch : goal.returns-clause-no_epoch
 returns-clause-no_epoch g c = rw (← c.self.view_is, get-by_channel) c.read_in.ensures.no_epoch
+
+pub returns-clause-log : goal.returns-clause-log
+returns-clause-log g c = IfOk-weaker c.read_in.result _ _ (λ (r : Recovery) h. rw h (Adds-read c.args.self.now c.args.channel.now r.position.epoch c.args.now)) (returns-clause-ok g c)
+
+pub returns-clause-list : goal.returns-clause-list
+returns-clause-list g c = IfOk-weaker c.read_in.result _ _ (λ (r : Recovery) h. AnswersRead-from _ _ _ _ _ h) (returns-clause-answer g c)

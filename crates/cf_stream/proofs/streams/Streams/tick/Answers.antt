@@ -2,6 +2,8 @@ use Rattle.std.proofs.Common.{◌∙◌}
 use Rattle.cf_stream.specs.Streams.{seconds_at}
 use Rattle.cf_stream.proofs.Ticks.{get-after_tick}
 use Rattle.cf_stream.proofs.Channels.{get-by_channel}
+use Rattle.cf_stream.specs.Streams.{by_channel}
+use Rattle.cf_stream.proofs.LogTicks.{Adds-tick}
 use Rattle.cf_stream.proofs.streams.Streams.tick.Goals as goal
 
 pub returns-clause-streams : goal.returns-clause-streams
@@ -9,3 +11,11 @@ returns-clause-streams c =
     rw (← c.self.view_is) (λ q. rw (get-by_channel c.self.inside.map q)
     (get-by_channel c.tick_in.new.streams q
     ∙ get-after_tick c.args.now (seconds_at c.self.inside.namespaces) c.self.inside.map c.tick_in.new.streams c.tick_in.ensures.ordered c.tick_in.ensures.entries q))
+
+pub returns-clause-log : goal.returns-clause-log
+returns-clause-log c =
+    rw (← c.self.view_is)
+    (Adds-tick _ (by_channel c.tick_in.new.streams) c.args.now
+    (λ q. rw (get-by_channel c.self.inside.map q)
+    (get-by_channel c.tick_in.new.streams q
+    ∙ get-after_tick c.args.now (seconds_at c.self.inside.namespaces) c.self.inside.map c.tick_in.new.streams c.tick_in.ensures.ordered c.tick_in.ensures.entries q)))

@@ -1,5 +1,9 @@
 use Rattle.cf_stream.proofs.Channels.{get-by_channel, kept_by}
+use Rattle.cf_stream.proofs.LogSteps.{Adds-trim}
 use Rattle.cf_stream.proofs.streams.Streams.trim.Goals as goal
 
-pub returns : goal.returns
-returns c = rw (← c.self.view_is, get-by_channel) (kept_by c.self.inside.namespaces c.self.inside.map c.trim_at.new.map c.args.channel.now _ c.trim_at.ensures)
+pub returns-clause-trimmed : goal.returns-clause-trimmed
+returns-clause-trimmed c = rw (← c.self.view_is, get-by_channel) (kept_by c.self.inside.namespaces c.self.inside.map c.trim_at.new.map c.args.channel.now _ c.trim_at.ensures)
+
+pub returns-clause-log : goal.returns-clause-log
+returns-clause-log c = rw (returns-clause-trimmed c) (Adds-trim c.args.self.now c.args.channel.now c.args.count)

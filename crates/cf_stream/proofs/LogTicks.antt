@@ -1,0 +1,141 @@
+-- A tick is a list of trims and forgets.
+use Rattle.std.proofs.Common.{◌≡◌, ℕ, List, [], ◌∷◌, ◌++◌, Bool, true, false, not, cond, Option, Some, None, refl, sym, ap, ◌∙◌, subst, map, length, arith, T, Ordering}
+use Rattle.std.specs.Prelude.{fold, ◌==◌, ◌&&◌}
+use Rattle.std.specs.declared.cmp.Ordering.TheVariants.{Less, Equal, Greater}
+use Rattle.std.specs.FinMap as fin
+use Rattle.std.specs.FinMap.Entries.{below_all, is_sorted}
+use Rattle.std.specs.List.{filter_map}
+use Rattle.std.specs.Option.{option_map}
+use Rattle.std.specs.Ordering.{nat_cmp, is_lt, is_eq, eq_by_cmp}
+use Rattle.std.specs.Cmp.Lexicographic.{slice_cmp}
+use Rattle.std.specs.Str.{bytes_eq}
+use Rattle.std.proofs.lemmas.Bool.{eqb-true}
+use Rattle.std.proofs.lemmas.List.{map-append}
+use Rattle.std.proofs.lemmas.List.Sums.{fold-append}
+use Rattle.std.proofs.lemmas.List.Elements.{filter_map-append}
+use Rattle.std.proofs.lemmas.Slice.Eq.{bytes_eq-Decides}
+use Rattle.cf_protocol.specs.Settings.{NamespaceTable}
+use Rattle.cf_protocol.specs.LogEntry.{Entry}
+use Rattle.cf_stream.specs.declared.due.Due.{Due}
+use Rattle.cf_stream.specs.declared.due.Due.TheVariants.{Forget as ToForget, Empty as ToEmpty}
+use Rattle.cf_stream.specs.Stream.{Shown, stays, is_over, ticked}
+use Rattle.cf_stream.specs.Streams.{Kept, Channels, stream_of, size_at, seconds_at, after_tick, due_of, due_channels}
+use Rattle.cf_stream.specs.PublicationList.{Life, Shows, kept_newest}
+use Rattle.cf_stream.specs.LogState.{ShowsAt, IsState, Adds, life_in, due_entry, due_entries}
+use Rattle.cf_stream.proofs.Channels.{same_key}
+use Rattle.cf_stream.proofs.PublicationLists.{Shows-emptied}
+use Rattle.cf_stream.proofs.LogStates.{changed, life_in-append}
+
+abbrev entries_of : ℕ → NamespaceTable → List (List ℕ × Shown) → List Entry
+entries_of now t es = due_entries (due_channels now t es)
+
+-- what is due, as a change
+abbrev due_change : Option Due → Option Life → Option Life
+due_change None o = o
+due_change (Some ToForget) o = None
+due_change (Some ToEmpty) o = option_map (kept_newest 0) o
+
+abbrev due_at : ℕ → ℕ → Option Shown → Option Due
+due_at now seconds None = None
+due_at now seconds (Some s) = due_of now seconds s
+
+first : (a b : Bool) → T (a && b) → T a
+first true b h = tt
+first false b h = h
+
+second : (a b : Bool) → T (a && b) → T b
+second true b h = h
+second false b h = absurd h
+
+less : (o : Ordering) → T (is_lt o) → is_eq o ≡ false
+less Less h = refl
+less Equal h = absurd h
+less Greater h = absurd h
+
+-- each key stands once
+abbrev Apart : List (List ℕ × Shown) → Type 0
+Apart [] = Unit {0}
+Apart (e ∷ es) = (fin.find (slice_cmp nat_cmp) e.0 es ≡ None) × Apart es
+
+find_below : (q : List ℕ) (es : List (List ℕ × Shown)) → T (below_all (slice_cmp nat_cmp) q es) → fin.find (slice_cmp nat_cmp) q es ≡ None
+find_below q [] h = refl
+find_below q (e ∷ es) h =
+    let rest : List (List ℕ × Shown) = es in
+    ap (λ b. cond b (Some e.1) (fin.find (slice_cmp nat_cmp) q rest)) (less (slice_cmp nat_cmp q e.0) (first (is_lt (slice_cmp nat_cmp q e.0)) (below_all (slice_cmp nat_cmp) q es) h))
+    ∙ find_below q es (second (is_lt (slice_cmp nat_cmp q e.0)) (below_all (slice_cmp nat_cmp) q es) h)
+
+sorted_apart : (es : List (List ℕ × Shown)) → T (is_sorted (slice_cmp nat_cmp) es) → Apart es
+sorted_apart [] h = tt
+sorted_apart (e ∷ es) h =
+    (find_below e.0 es (first (below_all (slice_cmp nat_cmp) e.0 es) (is_sorted (slice_cmp nat_cmp) es) h), sorted_apart es (second (below_all (slice_cmp nat_cmp) e.0 es) (is_sorted (slice_cmp nat_cmp) es) h))
+
+-- what is due to one channel changes that channel alone
+one_due : (size : ℕ) (q c : List ℕ) (d : Option Due) (o : Option Life)
+    → fold (changed size q) o (map (λ (e : List ℕ × Due). due_entry e.0 e.1) (filter_map (λ (x : Option (List ℕ × Due)). x) (option_map (λ d. (c, d)) d ∷ []))) ≡ cond (bytes_eq c q) (due_change d o) o
+one_due size q c None o = elim (bytes_eq c q) as (λ b. o ≡ cond b o o) [ true ↦ refl | false ↦ refl ]
+one_due size q c (Some ToForget) o = refl
+one_due size q c (Some ToEmpty) o = refl
+
+-- the entries of a tick, seen by one channel
+entries_seen : (now : ℕ) (t : NamespaceTable) (size : ℕ) (q : List ℕ) (es : List (List ℕ × Shown)) (o : Option Life) → Apart es
+    → fold (changed size q) o (entries_of now t es) ≡ due_change (due_at now (seconds_at t q) (fin.find (slice_cmp nat_cmp) q es)) o
+entries_seen now t size q [] o h = refl
+entries_seen now t size q (e ∷ es) o h =
+    let what : List ℕ × Shown → Option (List ℕ × Due) = λ x. option_map (λ d. (x.0, d)) (due_of now (seconds_at t x.0) x.1) in
+    let entry : List ℕ × Due → Entry = λ x. due_entry x.0 x.1 in
+    let d : Option Due = due_of now (seconds_at t e.0) e.1 in
+    let rest : Option Shown = fin.find (slice_cmp nat_cmp) q es in
+    let split : entries_of now t (e ∷ es) ≡ map entry (filter_map what (e ∷ [])) ++ entries_of now t es =
+    ap (map entry) (filter_map-append what (e ∷ []) es) ∙ map-append entry (filter_map what (e ∷ [])) (filter_map what es) in
+    let cases : (b : Bool) → bytes_eq e.0 q ≡ b → due_change (due_at now (seconds_at t q) rest) (cond b (due_change d o) o) ≡ due_change (due_at now (seconds_at t q) (cond b (Some e.1) rest)) o =
+    λ b. elim b as (λ b. bytes_eq e.0 q ≡ b → due_change (due_at now (seconds_at t q) rest) (cond b (due_change d o) o) ≡ due_change (due_at now (seconds_at t q) (cond b (Some e.1) rest)) o) [
+      | true ↦ λ is. let key = (bytes_eq-Decides e.0 q).0 is in
+          let none : rest ≡ None = subst (λ k. fin.find (slice_cmp nat_cmp) k es ≡ None) key h.0 in
+          ap (λ r. due_change (due_at now (seconds_at t q) r) (due_change d o)) none ∙ ap (λ k. due_change (due_of now (seconds_at t k) e.1) o) key
+      | false ↦ λ is. refl
+    ] in
+    ap (fold (changed size q) o) split
+    ∙ fold-append (changed size q) o (map entry (filter_map what (e ∷ []))) (entries_of now t es)
+    ∙ ap (λ r. fold (changed size q) r (entries_of now t es)) (one_due size q e.0 d o)
+    ∙ entries_seen now t size q es (cond (bytes_eq e.0 q) (due_change d o) o) h.1
+    ∙ cases (bytes_eq e.0 q) refl
+    ∙ ap (λ b. due_change (due_at now (seconds_at t q) (cond b (Some e.1) rest)) o) (same_key e.0 q)
+
+none_held : {X : Type 0} (xs : List X) → length xs ≡ 0 → xs ≡ []
+none_held [] e = refl
+none_held (x ∷ xs) e = absurd (omega arith)
+
+-- a stream that held nothing is as before
+Shows-idle : (s : Shown) (l : Life) → Shows s l → length s.held ≡ 0 → Shows (record s { held = [] }) l
+Shows-idle s l h e = record { epoch = h.epoch; top = h.top; newest_held = sym (none_held s.held e) ∙ h.newest_held; within = h.within; sized = h.sized }
+
+tick_cases : (size : ℕ) (s : Shown) (l : Life) (b v z : Bool) → (length s.held == 0) ≡ z → Shows s l × (s.size ≡ size)
+    → ShowsAt size (cond b (Some (cond v (record s { held = [] }) s)) None) (due_change (cond b (cond (v && not z) (Some ToEmpty) None) (Some ToForget)) (Some l))
+tick_cases size s l false v z e h = tt
+tick_cases size s l true false z e h = h
+tick_cases size s l true true true e h = (Shows-idle s l h.0 (eqb-true (length s.held) 0 e), h.1)
+tick_cases size s l true true false e h = (Shows-emptied s l h.0, h.1)
+
+-- what a tick leaves shows what its entries leave
+tick_shown : (size now seconds : ℕ) (o : Option Shown) (l : Option Life) → ShowsAt size o l → ShowsAt size (after_tick now seconds o) (due_change (due_at now seconds o) l)
+tick_shown size now seconds None None h = tt
+tick_shown size now seconds None (Some l) h = absurd h
+tick_shown size now seconds (Some s) None h = absurd h
+tick_shown size now seconds (Some s) (Some l) h = tick_cases size s l (stays now s) (is_over s.published seconds now) (length s.held == 0) refl h
+
+pub Adds-tick : (k : Kept) (m : Channels) (now : ℕ) → ((q : List ℕ) → fin.get m q ≡ after_tick now (seconds_at k.namespaces q) (stream_of k q))
+    → Adds k (record { namespaces = k.namespaces; streams = m }) (entries_of now k.namespaces (fin.entries k.streams))
+Adds-tick k m now is = record {
+  state = λ log h. record {
+    at = λ q.
+        let sizes : List ℕ → ℕ = size_at k.namespaces in
+        let seconds : ℕ = seconds_at k.namespaces q in
+        let es : List Entry = entries_of now k.namespaces (fin.entries k.streams) in
+        let life : Option Life = life_in sizes log q in
+        let seen : life_in sizes (log ++ es) q ≡ due_change (due_at now seconds (stream_of k q)) life =
+        life_in-append sizes q es log ∙ entries_seen now k.namespaces (sizes q) q (fin.entries k.streams) life (sorted_apart (fin.entries k.streams) (fin.entries_sorted k.streams))
+        ∙ ap (λ r. due_change (due_at now seconds r) life) (sym (fin.get-entries k.streams q)) in
+        subst (λ x. ShowsAt (sizes q) x (life_in sizes (log ++ es) q)) (sym (is q))
+        (subst (ShowsAt (sizes q) (after_tick now seconds (stream_of k q))) (sym seen) (tick_shown (sizes q) now seconds (stream_of k q) life (h.at q)));
+  };
+}

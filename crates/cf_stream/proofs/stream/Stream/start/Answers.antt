@@ -1,0 +1,7 @@
+use Rattle.std.proofs.lemmas.Result.{IfOk-weaker}
+use Rattle.cf_stream.specs.Stream.{Shown}
+use Rattle.cf_stream.proofs.PublicationLists.{Shows-started}
+use Rattle.cf_stream.proofs.stream.Stream.start.Goals as goal
+
+pub returns-clause-list : goal.returns-clause-list
+returns-clause-list c = IfOk-weaker c.after_top.result _ _ (λ (s : Shown) h. rw h (Shows-started c.args.epoch c.args.size)) c.after_top.ensures
