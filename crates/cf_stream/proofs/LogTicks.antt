@@ -6,7 +6,7 @@ use Rattle.std.specs.FinMap as fin
 use Rattle.std.specs.FinMap.Entries.{below_all, is_sorted}
 use Rattle.std.specs.List.{filter_map}
 use Rattle.std.specs.Option.{option_map}
-use Rattle.std.specs.Ordering.{nat_cmp, is_lt, is_eq, eq_by_cmp}
+use Rattle.std.specs.Ordering.{nat_cmp, is_lt, is_eq}
 use Rattle.std.specs.Cmp.Lexicographic.{slice_cmp}
 use Rattle.std.specs.Str.{bytes_eq}
 use Rattle.std.proofs.lemmas.Bool.{eqb-true}
@@ -18,10 +18,10 @@ use Rattle.cf_protocol.specs.Settings.{NamespaceTable}
 use Rattle.cf_protocol.specs.LogEntry.{Entry}
 use Rattle.cf_stream.specs.declared.due.Due.{Due}
 use Rattle.cf_stream.specs.declared.due.Due.TheVariants.{Forget as ToForget, Empty as ToEmpty}
-use Rattle.cf_stream.specs.Stream.{Shown, stays, is_over, ticked}
+use Rattle.cf_stream.specs.Stream.{Shown, stays, is_over}
 use Rattle.cf_stream.specs.Streams.{Kept, Channels, stream_of, size_at, seconds_at, after_tick, due_of, due_channels}
 use Rattle.cf_stream.specs.PublicationList.{Life, Shows, kept_newest}
-use Rattle.cf_stream.specs.LogState.{ShowsAt, IsState, Adds, life_in, due_entry, due_entries}
+use Rattle.cf_stream.specs.LogState.{ShowsAt, Adds, life_in, due_entry, due_entries}
 use Rattle.cf_stream.proofs.Channels.{same_key}
 use Rattle.cf_stream.proofs.PublicationLists.{Shows-emptied}
 use Rattle.cf_stream.proofs.LogStates.{changed, life_in-append}

@@ -5,14 +5,14 @@ use Rattle.std.proofs.lemmas.Bool.{leb-true}
 use Rattle.std.proofs.lemmas.Bool.Decides.{leb_tells, Decides-and}
 use Rattle.circular_buffer.proofs.Places.{below_or_not}
 use Rattle.std.proofs.lemmas.Slice.Eq.{bytes_eq-Decides}
-use Rattle.std.specs.Prelude.{nat_le, Decides, IsTrue, ◌&&◌, if◌then◌else◌, Bool, true, false, Option, Some, None, cond, ℤ}
+use Rattle.std.specs.Prelude.{nat_le, Decides, ◌&&◌, if◌then◌else◌, Bool, true, false, Option, Some, None, cond, ℤ}
 use Rattle.std.specs.Str.{bytes_eq}
 use Rattle.cf_protocol.specs.declared.position.Position.{Position}
 use Rattle.cf_protocol.specs.Datum.{Datum, Placed, numbered}
 use Rattle.cf_protocol.specs.Note.{Reading, placed_from}
-use Rattle.cf_stream.specs.Stream.{Shown, Recovers, RecoversFrom, IsRecovery, IsHistory, started, pushed, used_at, trimmed, resized, ticked, is_over, after, newest}
+use Rattle.cf_stream.specs.Stream.{Shown, Recovers, IsRecovery, IsHistory, started, pushed, used_at, trimmed, resized, ticked, is_over, after, newest}
 use Rattle.cf_stream.proofs.Placing.{newest_none, take-numbered, take-min}
-use Rattle.cf_stream.specs.StreamAnswer.{still_held, read_of, listed_above, allowed_by}
+use Rattle.cf_stream.specs.StreamAnswer.{still_held, listed_above, allowed_by}
 use Rattle.cf_stream.specs.PublicationList.{Life, Shows, GoesOn, IsRead, AnswersRead, IsListed, AnswersHistory, state_of, opened, published, kept_newest, same}
 
 -- the last of the last

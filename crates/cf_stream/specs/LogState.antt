@@ -1,17 +1,16 @@
 -- The streams that a log leaves: each channel's epoch, list and number held, by filters over the log. (This project's own profile.)
-use Rattle.std.specs.Prelude.{◌≡◌, ℕ, ◌+◌, min, List, [], ◌∷◌, ◌++◌, reverse, filter, fold, Option, Some, None, Bool, false, not, if◌then◌else◌, slice_get, map, ℤ}
+use Rattle.std.specs.Prelude.{◌≡◌, ℕ, ◌+◌, min, List, [], ◌∷◌, ◌++◌, reverse, filter, fold, Option, Some, None, Bool, false, not, if◌then◌else◌, slice_get, map}
 use Rattle.std.specs.List.{take_while, filter_map}
 use Rattle.std.specs.Option.{option_map, option_and_then}
 use Rattle.std.specs.Str.{bytes_eq}
-use Rattle.cf_protocol.specs.declared.position.Position.{Position}
-use Rattle.cf_protocol.specs.Datum.{Datum, Placed}
+use Rattle.cf_protocol.specs.Datum.{Datum}
 use Rattle.cf_protocol.specs.LogEntry.{Entry}
 use Rattle.cf_protocol.specs.LogEntry.Entry.{Open, Publish, Trim, Forget}
 use Rattle.cf_stream.specs.declared.due.Due.{Due}
 use Rattle.cf_stream.specs.declared.due.Due.TheVariants.{Forget as ToForget, Empty as ToEmpty}
 use Rattle.cf_stream.specs.Stream.{Shown}
 use Rattle.cf_stream.specs.Streams.{Kept, stream_of, size_at}
-use Rattle.cf_stream.specs.PublicationList.{Life, Shows, IsRead, IsListed}
+use Rattle.cf_stream.specs.PublicationList.{Life, Shows}
 
 -- the entry opens or ends the channel's stream
 abbrev pub is_turn : List ℕ → Entry → Bool

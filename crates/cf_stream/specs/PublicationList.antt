@@ -1,9 +1,9 @@
 -- The endless list behind a stream: everything that was published in its epoch. A stream has as many, holds the last of them,
 -- and answers what the list has. (Centrifugo, history and recovery.)
-use Rattle.std.specs.Prelude.{◌≡◌, ℕ, ◌+◌, ◌-◌, ◌≤◌, min, List, [], ◌∷◌, ◌++◌, length, Option, Some, None, Bool, ℤ}
+use Rattle.std.specs.Prelude.{◌≡◌, ℕ, ◌+◌, ◌-◌, ◌≤◌, min, List, [], ◌∷◌, ◌++◌, length, Option, Some, Bool, ℤ}
 use Rattle.cf_protocol.specs.declared.position.Position.{Position}
 use Rattle.cf_protocol.specs.Datum.{Datum, Placed}
-use Rattle.cf_protocol.specs.Note.{Reading, placed_from}
+use Rattle.cf_protocol.specs.Note.{placed_from}
 use Rattle.cf_stream.specs.Stream.{Shown, newest}
 use Rattle.cf_stream.specs.StreamState.{StreamState}
 use Rattle.cf_stream.specs.StreamAnswer.{read_of, history_of, Listing}
