@@ -1,3 +1,4 @@
+pub mod Scripts
 pub mod Schedules
 pub mod Sentences
 pub mod Spacing
@@ -6,3 +7,4 @@ pub mod Lines
 pub mod Data
 pub mod Refusals
 pub mod Events
+pub mod Refused

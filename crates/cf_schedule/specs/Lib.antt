@@ -2,6 +2,7 @@ pub mod Event
 pub mod ScheduleLine
 pub mod Trace
 pub mod TraceLine
+pub mod WorkedRows
 pub mod Word
 pub mod Config
 pub mod Errand

@@ -6,6 +6,7 @@ mod event;
 pub mod laws;
 mod name;
 mod number;
+pub mod rows;
 pub mod words;
 
 pub use body::{Body, MAX_BODY_DEPTH};

@@ -1,0 +1,52 @@
+//! Schedules and what is printed for them, computed on the definitions; and traces that are not safe.
+ghost use Rattle.std.specs.Prelude.{◌≡◌, [], ◌∷◌, List, codes};
+ghost use Rattle.cf_schedule.specs.Config.{Config};
+ghost use Rattle.cf_schedule.specs.LooseRun.{Happening, lines};
+ghost use Rattle.cf_schedule.specs.StreamSafety.{Safe};
+ghost use Rattle.cf_schedule.specs.Trace.{Published};
+ghost use Rattle.cf_schedule.specs.WorkedRows.{ann, as_lines, bob, buffered_gap, buffered_reordering, delivery_after_node_restart, first_publication, gap_ends_subscription, keeping, late_but_there, leave_and_return, lists_and_refusals, lost, new_epoch_after_restart, news, no_epoch_yet, place, plain, position_check, recovered, shown, take, tells_again, tells_pub, tells_recovered, tells_sub, told_by, two_breaks, two_come};
+
+/// What the interval machine's clients are told in schedules that show each of its rules.
+pub fn worked_rows()
+    ensures first_publication { shown plain first_publication ≡
+        as_lines ("ann news sub aaaa 0 fresh" ∷ "ann news pub aaaa 1 {\"t\":1}" ∷ []) }
+    ensures recovered { shown (keeping 3) recovered ≡
+        as_lines ("ann news sub aaaa 0 fresh" ∷ "ann news pub aaaa 1 1" ∷ "ann news pub aaaa 2 2" ∷ "ann news sub aaaa 5 recovered" ∷ "ann news pub aaaa 3 3" ∷ "ann news pub aaaa 4 4" ∷ "ann news pub aaaa 5 5" ∷ []) }
+    ensures lost { shown (keeping 3) lost ≡
+        as_lines ("ann news sub aaaa 0 fresh" ∷ "ann news pub aaaa 1 1" ∷ "ann news sub aaaa 5 lost" ∷ []) }
+    ensures buffered_reordering { shown plain buffered_reordering ≡
+        as_lines ("ann news sub aaaa 2 fresh" ∷ "ann news pub aaaa 3 3" ∷ "ann news pub aaaa 4 4" ∷ []) }
+    ensures buffered_gap { shown plain buffered_gap ≡ as_lines ("ann news sub aaaa 2 fresh" ∷ "ann news again 2500" ∷ []) }
+    ensures gap_ends_subscription { shown plain gap_ends_subscription ≡
+        as_lines ("ann news sub aaaa 0 fresh" ∷ "ann news pub aaaa 1 \"a\"" ∷ "ann news again 2500" ∷ "ann news sub aaaa 3 recovered" ∷ "ann news pub aaaa 2 \"b\"" ∷ "ann news pub aaaa 3 \"c\"" ∷ []) }
+    ensures two_breaks { shown plain two_breaks ≡
+        as_lines ("ann news sub aaaa 0 fresh" ∷ "ann news pub aaaa 1 {\"t\":1}" ∷ "ann news sub aaaa 3 recovered" ∷ "ann news pub aaaa 2 2" ∷ "ann news pub aaaa 3 3" ∷ []) }
+    ensures three_ignored { shown plain (leave_and_return (take ∷ take ∷ take ∷ [])) ≡
+        as_lines ("ann news sub aaaa 0 fresh" ∷ []) }
+    ensures leave_and_return { shown plain (leave_and_return (take ∷ take ∷ take ∷ take ∷ [])) ≡
+        as_lines ("ann news sub aaaa 0 fresh" ∷ "ann news sub aaaa 2 recovered" ∷ "ann news pub aaaa 1 1" ∷ "ann news pub aaaa 2 2" ∷ []) }
+    ensures new_epoch_after_restart { shown plain new_epoch_after_restart ≡
+        as_lines ("ann news sub aaaa 0 fresh" ∷ "ann news pub aaaa 1 {\"t\":1}" ∷ "ann news sub bbbb 1 lost" ∷ []) }
+    ensures delivery_after_node_restart { shown plain delivery_after_node_restart ≡
+        as_lines ("ann news sub aaaa 0 fresh" ∷ "ann news sub aaaa 1 recovered" ∷ "ann news pub aaaa 1 1" ∷ []) }
+    ensures position_check { shown plain position_check ≡ as_lines ("ann news sub aaaa 0 fresh" ∷ "ann news again 2500" ∷ []) }
+    ensures late_but_there { shown plain late_but_there ≡ as_lines ("ann news sub aaaa 0 fresh" ∷ "ann news pub aaaa 1 1" ∷ []) }
+    ensures no_epoch_yet { shown plain no_epoch_yet ≡ as_lines ([]) }
+    ensures lists_and_refusals { shown plain lists_and_refusals ≡
+        as_lines ("ann news sub aaaa 0 fresh" ∷ "ann news pub aaaa 1 {\"t\":1}" ∷ "ann news list aaaa 1 1" ∷ "ann news list aaaa 1 0" ∷ "ann chat:x refused 102" ∷ "ann chat:x refused 102" ∷ []) }
+{}
+
+/// What stream safety refuses: a gap, a repeat, a publication before the subscription and one after its end, a `recovered`
+/// where the stream no longer held all that was missing or that brings less than it, and two data at one place.
+pub fn unsafe_traces()
+    ensures gap { Safe plain (lines two_come) (tells_sub 6 0 ∷ tells_pub 11 2 "2" ∷ []) → ⊥ }
+    ensures repeat { Safe plain (lines two_come) (tells_sub 6 0 ∷ tells_pub 11 1 "1" ∷ tells_pub 12 1 "1" ∷ []) → ⊥ }
+    ensures before_subscribed { Safe plain (lines two_come) (tells_pub 5 1 "1" ∷ tells_sub 6 0 ∷ []) → ⊥ }
+    ensures after_end { Safe plain (lines two_come) (tells_sub 6 0 ∷ tells_again 11 ∷ tells_pub 12 1 "1" ∷ []) → ⊥ }
+    ensures false_recovered { Safe (keeping 3) (lines lost)
+        (tells_sub 6 0 ∷ tells_pub 11 1 "1" ∷ tells_recovered 20 5 ∷ tells_pub 20 2 "2" ∷ tells_pub 20 3 "3" ∷ tells_pub 20 4 "4" ∷ tells_pub 20 5 "5" ∷ []) → ⊥ }
+    ensures short_run { Safe (keeping 3) (lines recovered)
+        (tells_sub 6 0 ∷ tells_pub 11 1 "1" ∷ tells_pub 12 2 "2" ∷ tells_recovered 21 5 ∷ tells_pub 21 3 "3" ∷ tells_pub 21 4 "4" ∷ []) → ⊥ }
+    ensures two_data { (config : Config) (happenings : List Happening)
+        → Safe config happenings (told_by 1 ann (Published news (place 1) (codes "1")) ∷ told_by 2 bob (Published news (place 1) (codes "2")) ∷ []) → ⊥ }
+{}
