@@ -1,4 +1,4 @@
--- The one text of a string (RFC 8259, section 7): what has to be escaped is, as short as may be, and nothing else.
+-- The one text in which a string is written. RFC 8259, section 7, allows several: here what has to be escaped is, as short as may be, and nothing else.
 use Rattle.std.specs.Prelude.{ℕ, ◌+◌, ◌/◌, ◌%◌, List, [], ◌∷◌, ◌++◌, ◌==◌, nat_lt, if◌then◌else◌, Option, Some, None, flat_map, sum_by}
 
 -- the letter that stands behind a backslash for this byte: itself for a quotation mark or a backslash, `b`, `f`, `n`, `r` or `t`
@@ -8,12 +8,12 @@ short_letter x = if x == 34 then Some 34 else if x == 92 then Some 92 else if x 
 abbrev pub hex_digit : ℕ → ℕ
 hex_digit d = if nat_lt d 10 then 48 + d else 87 + d
 
--- a control character is written as its code unit, `\u00` and two hexadecimal digits
-abbrev pub escape_long : ℕ → List ℕ
-escape_long x = if nat_lt x 32 then 92 ∷ 117 ∷ 48 ∷ 48 ∷ hex_digit (x / 16) ∷ hex_digit (x % 16) ∷ [] else x ∷ []
+-- a byte that no letter stands for: a control character by its code unit, `\u00` and two hexadecimal digits, and any other by itself
+abbrev pub escape_by_code : ℕ → List ℕ
+escape_by_code x = if nat_lt x 32 then 92 ∷ 117 ∷ 48 ∷ 48 ∷ hex_digit (x / 16) ∷ hex_digit (x % 16) ∷ [] else x ∷ []
 
 abbrev pub escape_by : ℕ → Option ℕ → List ℕ
-escape_by x None = escape_long x
+escape_by x None = escape_by_code x
 escape_by x (Some letter) = 92 ∷ letter ∷ []
 
 unfoldable pub escape : ℕ → List ℕ
