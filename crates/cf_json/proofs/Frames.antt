@@ -12,7 +12,7 @@ use Rattle.cf_json.specs.Stops.{fault_of}
 use Rattle.cf_json.specs.declared.stop.Stop.{Stop}
 use Rattle.cf_json.specs.declared.stop.Stop.TheVariants.{NotJson, TooDeep}
 use Rattle.cf_json.specs.Reading.{stopped, after_space, value_end, numeric, apart_end}
-use Rattle.cf_json.proofs.Tokens.{Unspaced, chosen, not_ok, space_takes, space_again}
+use Rattle.cf_json.proofs.Tokens.{Unspaced, chosen, not_ok, space_takes, space_again, space_then, no_space}
 use Rattle.cf_json.proofs.Numbers.{bind_ok, ok_is, number_begins}
 use Rattle.cf_json.proofs.Takes.{value_takes}
 use Rattle.cf_json.proofs.Meets.{value_begins, Begins-unspaced, Outcome, value_meets}
@@ -20,16 +20,6 @@ use Rattle.cf_json.proofs.Alone.{value_alone}
 use Rattle.cf_json.proofs.Documents.{Front, front_then, space_front, value_front, at_front, front_longer}
 
 -- ---- white space
-
-all-append : (a b : List ℕ) (P : ℕ → Type 0) → AllByRecursion P a → AllByRecursion P b → AllByRecursion P (a ++ b)
-all-append [] b P p q = q
-all-append (x ∷ a) b P p q = (p.0, all-append a b P p.1 q)
-
-space_then : (a b c : List ℕ) → Space a b → Space b c → Space a c
-space_then a b c h g = (h.0 ++ g.0, all-append h.0 g.0 _ h.1 g.1, h.2 ∙ ap (λ t. h.0 ++ t) g.2 ∙ sym (append_assoc h.0 g.0 c))
-
-no_space : (s : List ℕ) → Space s s
-no_space s = ([], tt, refl)
 
 pub values_behind : (ts : List Tree) (places : List Place) (a b : List ℕ) → Space a b → Values ts places b → Values ts places a
 values_behind [] places a b h v = (v.0, space_then a b [] h v.1)

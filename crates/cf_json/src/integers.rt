@@ -12,7 +12,7 @@ pub fn read_whole(text: &str, span: Span) -> Option<u64>
     ensures { (n : List ℕ) → IsAt text.now (number n) span → result ≡ option_and_then as_u64 (whole_of n) }
 {
     match text[span.from..span.to].parse::<u64>() {
-        Ok(found) => Some(found),
+        Ok(whole) => Some(whole),
         Err(_) => None,
     }
 }
@@ -23,7 +23,7 @@ pub fn read_signed(text: &str, span: Span) -> Option<i64>
     ensures { (n : List ℕ) → IsAt text.now (number n) span → result ≡ option_and_then as_i64 (signed_of n) }
 {
     match text[span.from..span.to].parse::<i64>() {
-        Ok(found) => Some(found),
+        Ok(signed) => Some(signed),
         Err(_) => None,
     }
 }

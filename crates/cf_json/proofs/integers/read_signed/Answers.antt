@@ -20,8 +20,8 @@ range-requires-clause-end_boundary c = (cut c.args.text.now (number c.requires.0
 pub returns-in-Ok : goal.returns-in-Ok
 returns-in-Ok c = λ n h.
     let own = c.range.ensures.value ∙ own_at c.args.text.now n c.args.span h.begins h.ends h.value.1 in
-    let v = subst (λ b. (IsNumeral 10 (without_leading_sign b) × SFits w64 (signed_digits_value 10 b)) × (c.in-Ok.found ≡ signed_digits_value 10 b)) own c.in-Ok.ensures.value.0 in
-    ap Some (to_z-of_z w64 c.in-Ok.found (subst (λ z. SFits w64 z) (sym v.1) v.0.1)) ∙ signed_reads n (Some c.in-Ok.found) h.value.0 v
+    let v = subst (λ b. (IsNumeral 10 (without_leading_sign b) × SFits w64 (signed_digits_value 10 b)) × (c.in-Ok.signed ≡ signed_digits_value 10 b)) own c.in-Ok.ensures.value.0 in
+    ap Some (to_z-of_z w64 c.in-Ok.signed (subst (λ z. SFits w64 z) (sym v.1) v.0.1)) ∙ signed_reads n (Some c.in-Ok.signed) h.value.0 v
 
 pub returns-in-Err : goal.returns-in-Err
 returns-in-Err c = λ n h.

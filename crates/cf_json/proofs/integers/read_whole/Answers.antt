@@ -18,8 +18,8 @@ range-requires-clause-end_boundary c = (cut c.args.text.now (number c.requires.0
 pub returns-in-Ok : goal.returns-in-Ok
 returns-in-Ok c = λ n h.
     let own = c.range.ensures.value ∙ own_at c.args.text.now n c.args.span h.begins h.ends h.value.1 in
-    unsigned_reads n (Some c.in-Ok.found) h.value.0
-    (subst (λ b. (IsNumeral 10 b × (digits_value 10 b < 2 ^ 64)) × (c.in-Ok.found ≡ digits_value 10 b)) (ap without_leading_plus own ∙ no_plus n h.value.0) c.in-Ok.ensures.value.0)
+    unsigned_reads n (Some c.in-Ok.whole) h.value.0
+    (subst (λ b. (IsNumeral 10 b × (digits_value 10 b < 2 ^ 64)) × (c.in-Ok.whole ≡ digits_value 10 b)) (ap without_leading_plus own ∙ no_plus n h.value.0) c.in-Ok.ensures.value.0)
 
 pub returns-in-Err : goal.returns-in-Err
 returns-in-Err c = λ n h.
