@@ -6,3 +6,4 @@ pub mod PublicationLists
 pub mod LogStates
 pub mod LogSteps
 pub mod LogTicks
+pub mod ChannelChanges

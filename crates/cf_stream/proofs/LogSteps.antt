@@ -15,7 +15,8 @@ use Rattle.cf_protocol.specs.LogEntry.Entry.{Open, Publish, Trim, Forget}
 use Rattle.cf_stream.specs.Stream.{Shown, started, pushed, used_at, trimmed}
 use Rattle.cf_stream.specs.Streams.{Kept, stream_of, put_at, by_channel, stood_or, stood_or_opened, size_at}
 use Rattle.cf_stream.specs.PublicationList.{Life, Shows, opened, published, kept_newest}
-use Rattle.cf_stream.specs.LogState.{ShowsAt, IsState, Adds, life_in, opening, if_stands}
+use Rattle.cf_stream.specs.ChannelLists.{ShowsAt, AreShown}
+use Rattle.cf_stream.specs.LogState.{IsState, Adds, life_in, opening, if_stands}
 use Rattle.cf_stream.proofs.Channels.{get-by_channel, stream_of-put_at}
 use Rattle.cf_stream.proofs.PublicationLists.{Shows-started, Shows-pushed, Shows-used, Shows-trimmed}
 use Rattle.cf_stream.proofs.LogStates.{changed, life_in-append}
@@ -127,8 +128,8 @@ Adds-forget k c = record {
       cases (stream_of k c) refl;
 }
 
--- no streams, and no log
-pub IsState-empty : (t : NamespaceTable) (m : BTreeMap (String Global) Shown) → m.entries ≡ [] → IsState (record { namespaces = t; streams = by_channel m }) []
-IsState-empty t m e = record {
+-- no streams, and no lists
+pub AreShown-empty : (t : NamespaceTable) (m : BTreeMap (String Global) Shown) → m.entries ≡ [] → AreShown (record { namespaces = t; streams = by_channel m }) (λ _. None)
+AreShown-empty t m e = record {
   at = λ q. subst (λ x. ShowsAt (size_at t q) x None) (sym (get-by_channel m q ∙ ap (lookup (is_at (λ k. slice_cmp nat_cmp q (string_bytes k)))) e)) tt;
 }

@@ -21,7 +21,8 @@ use Rattle.cf_stream.specs.declared.due.Due.TheVariants.{Forget as ToForget, Emp
 use Rattle.cf_stream.specs.Stream.{Shown, stays, is_over}
 use Rattle.cf_stream.specs.Streams.{Kept, Channels, stream_of, size_at, seconds_at, after_tick, due_of, due_channels}
 use Rattle.cf_stream.specs.PublicationList.{Life, Shows, kept_newest}
-use Rattle.cf_stream.specs.LogState.{ShowsAt, Adds, life_in, due_entry, due_entries}
+use Rattle.cf_stream.specs.ChannelLists.{ShowsAt}
+use Rattle.cf_stream.specs.LogState.{Adds, life_in, due_entry, due_entries}
 use Rattle.cf_stream.proofs.Channels.{same_key}
 use Rattle.cf_stream.proofs.PublicationLists.{Shows-emptied}
 use Rattle.cf_stream.proofs.LogStates.{changed, life_in-append}

@@ -5,4 +5,5 @@ pub mod Stream
 pub mod FreshEpochs
 pub mod Streams
 pub mod PublicationList
+pub mod ChannelLists
 pub mod LogState

@@ -1,5 +1,5 @@
 -- The streams that a log leaves: each channel's epoch, list and number held, by filters over the log. (This project's own profile.)
-use Rattle.std.specs.Prelude.{◌≡◌, ℕ, ◌+◌, min, List, [], ◌∷◌, ◌++◌, reverse, filter, fold, Option, Some, None, Bool, false, not, if◌then◌else◌, slice_get, map}
+use Rattle.std.specs.Prelude.{ℕ, ◌+◌, min, List, [], ◌∷◌, ◌++◌, reverse, filter, fold, Option, Some, None, Bool, false, not, if◌then◌else◌, slice_get, map}
 use Rattle.std.specs.List.{take_while, filter_map}
 use Rattle.std.specs.Option.{option_map, option_and_then}
 use Rattle.std.specs.Str.{bytes_eq}
@@ -9,8 +9,9 @@ use Rattle.cf_protocol.specs.LogEntry.Entry.{Open, Publish, Trim, Forget}
 use Rattle.cf_stream.specs.declared.due.Due.{Due}
 use Rattle.cf_stream.specs.declared.due.Due.TheVariants.{Forget as ToForget, Empty as ToEmpty}
 use Rattle.cf_stream.specs.Stream.{Shown}
-use Rattle.cf_stream.specs.Streams.{Kept, stream_of, size_at}
-use Rattle.cf_stream.specs.PublicationList.{Life, Shows}
+use Rattle.cf_stream.specs.Streams.{Kept, size_at}
+use Rattle.cf_stream.specs.PublicationList.{Life}
+use Rattle.cf_stream.specs.ChannelLists.{AreShown}
 
 -- the entry opens or ends the channel's stream
 abbrev pub is_turn : List ℕ → Entry → Bool
@@ -64,16 +65,9 @@ held_in size log q = fold (held_after size q) 0 (since_turn log q)
 abbrev pub life_in : (List ℕ → ℕ) → List Entry → List ℕ → Option Life
 life_in sizes log q = option_map (λ e. record { epoch = e; list = list_in log q; held = held_in (sizes q) log q }) (epoch_in log q)
 
--- a stream for a life, and none for none
-abbrev pub ShowsAt : ℕ → Option Shown → Option Life → Type 0
-ShowsAt size None None = Unit {0}
-ShowsAt size (Some s) (Some l) = Shows s l × (s.size ≡ size)
-ShowsAt size None (Some l) = ⊥
-ShowsAt size (Some s) None = ⊥
-
 -- the streams are what the log leaves
-pub record IsState (k : Kept) (log : List Entry) : Type 0 where
-  pub at : (q : List ℕ) → ShowsAt (size_at k.namespaces q) (stream_of k q) (life_in (size_at k.namespaces) log q)
+abbrev pub IsState : Kept → List Entry → Type 0
+IsState k log = AreShown k (life_in (size_at k.namespaces) log)
 
 -- whatever log leaves the one streams, with these entries it leaves the others
 pub record Adds (old new : Kept) (entries : List Entry) : Type 0 where

@@ -7,7 +7,8 @@ ghost use Rattle.std.specs.String.{string_bytes, string_cmp};
 ghost use Rattle.cf_protocol.specs.Settings.{settings_of};
 ghost use Rattle.cf_stream.specs.Stream.{pushed, used_at, trimmed, position_of, IsRecovery, IsHistory, stays, ticked, newest_of};
 ghost use Rattle.cf_stream.specs.Streams.{stream_of, put_at, stood_or, stood_or_opened, IsOfAnother, SetsAt, after_tick, due_channels, IsSetUp, size_at, seconds_at};
-ghost use Rattle.cf_stream.specs.PublicationList.{AnswersRead, AnswersHistory};
+ghost use Rattle.cf_stream.specs.PublicationList.{published, kept_newest};
+ghost use Rattle.cf_stream.specs.ChannelLists.{AreShown, ChangesAt, ReadsAt, ListsAt, life_or};
 ghost use Rattle.cf_stream.specs.LogState.{IsState, Adds, opening, if_stands, due_entries};
 ghost use Rattle.cf_protocol.specs.LogEntry.Entry.{Publish, Trim, Forget};
 ghost use Rattle.cf_stream.specs.FreshEpochs.{DrawsNone, Draws};
@@ -45,6 +46,7 @@ impl Streams {
     pub fn new(alloc: Global, namespaces: &Namespaces) -> Result<Streams, AllocError>
         ensures empty { IfOk result (λ s. s ≡ record { namespaces = namespaces.now; streams = fin.empty }) }
         ensures log { IfOk result (λ s. IsState s []) }
+        ensures lists { IfOk result (λ s. AreShown s (λ _. None)) }
     {
         Ok(Streams {
             namespaces: namespaces.copied()?,
@@ -79,6 +81,7 @@ impl Streams {
         ensures err { OnErr result (self.new ≡ self.old) }
         ensures namespaces { self.new.namespaces ≡ self.old.namespaces }
         ensures log { IfOk result (λ p. Adds self.old self.new (opening (stream_of self.old channel.now) channel.now p.epoch (Publish channel.now (record { body = string_bytes body; info = info }) ∷ []))) }
+        ensures lists { IfOk result (λ p. ChangesAt self.old self.new channel.now (λ l. Some (published (size_at self.old.namespaces channel.now) (record { body = string_bytes body; info = info }) (life_or l p.epoch)))) }
     {
         let size = size_for(&self.namespaces, channel);
         publish_in(
@@ -109,8 +112,9 @@ impl Streams {
         ensures refusals { IfErr result (λ e. e ≢ StreamRefusal.NoEpoch → (e ≡ StreamRefusal.Memory) × (epochs.new ≡ epochs.old)) }
         ensures err { OnErr result (self.new ≡ self.old) }
         ensures namespaces { self.new.namespaces ≡ self.old.namespaces }
-        ensures list { IfOk result (λ r. AnswersRead (stood_or_opened self.old channel.now r.position.epoch) since r.position r.recovered r.publications.items) }
+        ensures list_answer { IfOk result (λ r. ReadsAt self.old channel.now since r.position r.recovered r.publications.items) }
         ensures log { IfOk result (λ r. Adds self.old self.new (opening (stream_of self.old channel.now) channel.now r.position.epoch [])) }
+        ensures lists { IfOk result (λ r. ChangesAt self.old self.new channel.now (λ l. Some (life_or l r.position.epoch))) }
     {
         let size = size_for(&self.namespaces, channel);
         read_in(&mut self.map, epochs, self.alloc, size, channel, since, now)
@@ -134,8 +138,9 @@ impl Streams {
         ensures refusals { IfErr result (λ e. e ≢ StreamRefusal.AtLastOffset × (e ≢ StreamRefusal.NoEpoch → epochs.new ≡ epochs.old)) }
         ensures err { OnErr result (self.new ≡ self.old) }
         ensures namespaces { self.new.namespaces ≡ self.old.namespaces }
-        ensures list { IfOk result (λ h. AnswersHistory (stood_or_opened self.old channel.now h.position.epoch) since limit h.position h.publications.items) }
+        ensures list_answer { IfOk result (λ h. ListsAt self.old channel.now since limit h.position h.publications.items) }
         ensures log { IfOk result (λ h. Adds self.old self.new (opening (stream_of self.old channel.now) channel.now h.position.epoch [])) }
+        ensures lists { IfOk result (λ h. ChangesAt self.old self.new channel.now (λ l. Some (life_or l h.position.epoch))) }
     {
         let size = size_for(&self.namespaces, channel);
         history_in(
@@ -154,6 +159,7 @@ impl Streams {
     pub fn trim(&mut self, channel: &str, count: usize)
         ensures trimmed { self.new ≡ put_at self.old channel.now (option_map (trimmed count) (stream_of self.old channel.now)) }
         ensures log { Adds self.old self.new (if_stands (stream_of self.old channel.now) (Trim channel.now count)) }
+        ensures lists { ChangesAt self.old self.new channel.now (option_map (kept_newest count)) }
     {
         trim_at(&mut self.map, channel, count);
     }
@@ -162,6 +168,7 @@ impl Streams {
     pub fn forget(&mut self, channel: &str)
         ensures forgotten { self.new ≡ put_at self.old channel.now None }
         ensures log { Adds self.old self.new (if_stands (stream_of self.old channel.now) (Forget channel.now)) }
+        ensures lists { ChangesAt self.old self.new channel.now (λ _. None) }
     {
         self.map.remove(channel);
     }
@@ -170,6 +177,7 @@ impl Streams {
     pub fn forget_all(&mut self)
         ensures forgotten { self.new ≡ record self.old { streams = fin.empty } }
         ensures log { IsState self.new [] }
+        ensures lists { AreShown self.new (λ _. None) }
     {
         self.map.clear();
     }

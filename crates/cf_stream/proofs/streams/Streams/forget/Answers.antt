@@ -1,6 +1,7 @@
 use Rattle.std.proofs.Common.{arith, None}
 use Rattle.std.proofs.lemmas.Map.Text.{text_keys}
 use Rattle.cf_stream.proofs.Channels.{kept_by}
+use Rattle.cf_stream.proofs.ChannelChanges.{ChangesAt-forget}
 use Rattle.cf_stream.proofs.LogSteps.{Adds-forget}
 use Rattle.cf_stream.proofs.streams.Streams.forget.Goals as goal
 
@@ -9,3 +10,6 @@ returns-clause-forgotten c = rw (← c.self.view_is) (kept_by c.self.inside.name
 
 pub returns-clause-log : goal.returns-clause-log
 returns-clause-log c = rw (returns-clause-forgotten c) (Adds-forget c.args.self.now c.args.channel.now)
+
+pub returns-clause-lists : goal.returns-clause-lists
+returns-clause-lists c = rw (returns-clause-forgotten c) (ChangesAt-forget c.args.self.now c.args.channel.now)

@@ -4,7 +4,7 @@ use Rattle.std.proofs.lemmas.Result.{IfOk-weaker, on_err_weaker}
 use Rattle.cf_stream.specs.declared.answer.History.{History}
 use Rattle.cf_stream.proofs.Channels.{get-by_channel, kept_by, kept_same}
 use Rattle.cf_stream.proofs.LogSteps.{Adds-read}
-use Rattle.cf_stream.proofs.PublicationLists.{AnswersHistory-from}
+use Rattle.cf_stream.proofs.ChannelChanges.{ChangesAt-read, ListsAt-from}
 use Rattle.cf_stream.proofs.streams.Streams.history.Goals as goal
 
 pub returns-clause-ok : goal.returns-clause-ok
@@ -33,5 +33,8 @@ returns-clause-no_epoch g c = rw (← c.self.view_is, get-by_channel) c.history_
 pub returns-clause-log : goal.returns-clause-log
 returns-clause-log g c = IfOk-weaker c.history_in.result _ _ (λ (r : History) h. rw h (Adds-read c.args.self.now c.args.channel.now r.position.epoch c.args.now)) (returns-clause-ok g c)
 
-pub returns-clause-list : goal.returns-clause-list
-returns-clause-list g c = IfOk-weaker c.history_in.result _ _ (λ (r : History) h. AnswersHistory-from _ _ _ _ _ h) (returns-clause-answer g c)
+pub returns-clause-list_answer : goal.returns-clause-list_answer
+returns-clause-list_answer g c = IfOk-weaker c.history_in.result _ _ (λ (r : History) h. ListsAt-from c.args.self.now c.args.channel.now _ _ _ _ h) (returns-clause-answer g c)
+
+pub returns-clause-lists : goal.returns-clause-lists
+returns-clause-lists g c = IfOk-weaker c.history_in.result _ _ (λ (r : History) h. rw h (ChangesAt-read c.args.self.now c.args.channel.now r.position.epoch c.args.now)) (returns-clause-ok g c)

@@ -1,6 +1,7 @@
 use Rattle.std.proofs.lemmas.Result.{IfOk-weaker, on_err_weaker}
 use Rattle.cf_protocol.specs.declared.position.Position.{Position}
 use Rattle.cf_stream.proofs.Channels.{get-by_channel, kept_by, kept_same}
+use Rattle.cf_stream.proofs.ChannelChanges.{ChangesAt-publish}
 use Rattle.cf_stream.proofs.LogSteps.{Adds-publish}
 use Rattle.cf_stream.proofs.streams.Streams.publish.Goals as goal
 
@@ -28,3 +29,6 @@ returns-clause-no_epoch g c = rw (← c.self.view_is, get-by_channel) c.publish_
 
 pub returns-clause-log : goal.returns-clause-log
 returns-clause-log g c = IfOk-weaker c.publish_in.result _ _ (λ (p : Position) h. rw h (Adds-publish c.args.self.now c.args.channel.now p.epoch _ c.args.now)) (returns-clause-ok g c)
+
+pub returns-clause-lists : goal.returns-clause-lists
+returns-clause-lists g c = IfOk-weaker c.publish_in.result _ _ (λ (p : Position) h. rw h (ChangesAt-publish c.args.self.now c.args.channel.now p.epoch _ c.args.now)) (returns-clause-ok g c)

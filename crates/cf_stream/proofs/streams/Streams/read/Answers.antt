@@ -2,7 +2,7 @@ use Rattle.std.proofs.lemmas.Result.{IfOk-weaker, on_err_weaker}
 use Rattle.cf_stream.specs.declared.answer.Recovery.{Recovery}
 use Rattle.cf_stream.proofs.Channels.{get-by_channel, kept_by, kept_same}
 use Rattle.cf_stream.proofs.LogSteps.{Adds-read}
-use Rattle.cf_stream.proofs.PublicationLists.{AnswersRead-from}
+use Rattle.cf_stream.proofs.ChannelChanges.{ChangesAt-read, ReadsAt-from}
 use Rattle.cf_stream.proofs.streams.Streams.read.Goals as goal
 
 pub returns-clause-ok : goal.returns-clause-ok
@@ -27,5 +27,8 @@ returns-clause-no_epoch g c = rw (← c.self.view_is, get-by_channel) c.read_in.
 pub returns-clause-log : goal.returns-clause-log
 returns-clause-log g c = IfOk-weaker c.read_in.result _ _ (λ (r : Recovery) h. rw h (Adds-read c.args.self.now c.args.channel.now r.position.epoch c.args.now)) (returns-clause-ok g c)
 
-pub returns-clause-list : goal.returns-clause-list
-returns-clause-list g c = IfOk-weaker c.read_in.result _ _ (λ (r : Recovery) h. AnswersRead-from _ _ _ _ _ h) (returns-clause-answer g c)
+pub returns-clause-list_answer : goal.returns-clause-list_answer
+returns-clause-list_answer g c = IfOk-weaker c.read_in.result _ _ (λ (r : Recovery) h. ReadsAt-from c.args.self.now c.args.channel.now _ _ _ _ h) (returns-clause-answer g c)
+
+pub returns-clause-lists : goal.returns-clause-lists
+returns-clause-lists g c = IfOk-weaker c.read_in.result _ _ (λ (r : Recovery) h. rw h (ChangesAt-read c.args.self.now c.args.channel.now r.position.epoch c.args.now)) (returns-clause-ok g c)

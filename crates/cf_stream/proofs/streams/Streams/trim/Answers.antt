@@ -1,4 +1,5 @@
 use Rattle.cf_stream.proofs.Channels.{get-by_channel, kept_by}
+use Rattle.cf_stream.proofs.ChannelChanges.{ChangesAt-trim}
 use Rattle.cf_stream.proofs.LogSteps.{Adds-trim}
 use Rattle.cf_stream.proofs.streams.Streams.trim.Goals as goal
 
@@ -7,3 +8,6 @@ returns-clause-trimmed c = rw (← c.self.view_is, get-by_channel) (kept_by c.se
 
 pub returns-clause-log : goal.returns-clause-log
 returns-clause-log c = rw (returns-clause-trimmed c) (Adds-trim c.args.self.now c.args.channel.now c.args.count)
+
+pub returns-clause-lists : goal.returns-clause-lists
+returns-clause-lists c = rw (returns-clause-trimmed c) (ChangesAt-trim c.args.self.now c.args.channel.now c.args.count)
