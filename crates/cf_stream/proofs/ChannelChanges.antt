@@ -9,7 +9,7 @@ use Rattle.cf_protocol.specs.Datum.{Datum, Placed}
 use Rattle.cf_stream.specs.Stream.{Shown, pushed, used_at, trimmed, IsRecovery, IsHistory}
 use Rattle.cf_stream.specs.Streams.{Kept, stream_of, put_at, stood_or, stood_or_opened, size_at}
 use Rattle.cf_stream.specs.PublicationList.{Life, Shows, published, kept_newest}
-use Rattle.cf_stream.specs.ChannelLists.{ShowsAt, AreShown, life_or, ChangesAt, ReadsAt, ListsAt}
+use Rattle.cf_stream.specs.ChannelLists.{ShowsAt, life_or, ChangesAt, ReadsAt, ListsAt}
 use Rattle.cf_stream.proofs.Channels.{stream_of-put_at}
 use Rattle.cf_stream.proofs.PublicationLists.{Shows-started, Shows-pushed, Shows-used, Shows-trimmed, IsRead-Shows, IsListed-Shows}
 
