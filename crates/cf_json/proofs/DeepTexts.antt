@@ -1,18 +1,17 @@
 -- A text that begins only texts whose values nest too deep is one in which the reading meets a bracket too many, and the other way round.
-use Rattle.std.proofs.Common.{◌≡◌, ℕ, suc, ◌+◌, ◌≤◌, ◌<◌, List, [], ◌∷◌, ◌++◌, length, take, drop, Bool, true, false, Err, refl, sym, ap, ◌∙◌, subst, append_assoc, arith, inl, inr}
+use Rattle.std.proofs.Common.{◌≡◌, ℕ, suc, ◌+◌, ◌≤◌, List, [], ◌∷◌, ◌++◌, length, take, drop, Bool, true, false, Err, refl, sym, ap, ◌∙◌, subst, append_assoc, arith, inl, inr}
 use Rattle.std.specs.List.{AllByRecursion}
 use Rattle.std.proofs.lemmas.Bool.{cases_lt}
 use Rattle.std.proofs.lemmas.List.{length-append, length-drop, drop_at, take_at, append-nil, nil_from_length, take-append-drop}
 use Rattle.cf_json.specs.Bytes.{is_space}
-use Rattle.cf_json.specs.Grammar.{Tree, number, array, object, no_parts, Space, Value, IsNumber, depth}
+use Rattle.cf_json.specs.Grammar.{Tree, number, array, object, no_parts, Value, IsNumber, depth}
 use Rattle.cf_json.specs.Spans.{Span, Document, OnlyDeep, BeginsTooDeep, max_depth}
 use Rattle.cf_json.specs.declared.stop.Stop.TheVariants.{TooDeep}
 use Rattle.cf_json.specs.Reading.{after_space, value_end, close}
-use Rattle.cf_json.proofs.Tokens.{Unspaced, space_takes, spaces_again}
+use Rattle.cf_json.proofs.Tokens.{space_takes, spaces_again}
 use Rattle.cf_json.proofs.Meets.{Begins-unspaced}
-use Rattle.cf_json.proofs.Moves.{Moves}
 use Rattle.cf_json.proofs.Documents.{met, is_deep}
-use Rattle.cf_json.proofs.Holes.{opening, Hole, hole_begins, hole_reads, hole_moves, closers, hole_filled, Filled}
+use Rattle.cf_json.proofs.Holes.{opening, Hole, hole_begins, hole_reads, hole_moves, closers, hole_filled}
 use Rattle.cf_json.proofs.Deeps.{value_bars}
 
 -- two ways to cut one text

@@ -1,10 +1,10 @@
 -- Only an opening bracket stops a reading for its depth.
-use Rattle.std.proofs.Common.{◌≡◌, ◌≢◌, ◌⊎◌, ℕ, zero, suc, ◌+◌, ◌≤◌, ◌<◌, List, [], ◌∷◌, ◌++◌, length, drop, Bool, true, false, cond, ◌==◌, nat_lt, Ok, Err, refl, sym, ap, ◌∙◌, subst, arith, inl, inr}
+use Rattle.std.proofs.Common.{◌≡◌, ◌⊎◌, ℕ, zero, suc, List, [], ◌∷◌, length, drop, Bool, true, false, cond, ◌==◌, nat_lt, Ok, Err, refl, sym, ap, ◌∙◌, subst, inl, inr}
 use Rattle.std.specs.Prelude.{codes, nat_eq}
 use Rattle.std.specs.List.{starts_with}
 use Rattle.std.proofs.lemmas.Bool.{eqb-true}
 use Rattle.cf_json.specs.Bytes.{is_digit, is_hex, is_escape, is_exponent_mark}
-use Rattle.cf_json.specs.Grammar.{Tree, Parts, no_parts, part, Space, Key, Value, depth}
+use Rattle.cf_json.specs.Grammar.{Parts, no_parts, part, Space, Key}
 use Rattle.cf_json.specs.declared.stop.Stop.{Stop}
 use Rattle.cf_json.specs.declared.stop.Stop.TheVariants.{NotJson, TooDeep}
 use Rattle.cf_json.specs.declared.token.Within.{Within}
@@ -91,7 +91,7 @@ key_not true s = bind_not (quoted_end s) (λ r. colon_at (after_space r)) (quote
 
 -- ---- the bracket
 
-bind_err : (a : Reading) (f : List ℕ → Reading) (e : Stop) → (a >>= f) ≡ Err e → (a ≡ Err e) ⊎ ((m : List ℕ) × (a ≡ Ok m) × (f m ≡ Err e))
+pub bind_err : (a : Reading) (f : List ℕ → Reading) (e : Stop) → (a >>= f) ≡ Err e → (a ≡ Err e) ⊎ ((m : List ℕ) × (a ≡ Ok m) × (f m ≡ Err e))
 bind_err (Ok m) f e h = inr (m, refl, h)
 bind_err (Err d) f e h = inl h
 

@@ -1,16 +1,14 @@
 -- Frames: what is read of one is in the relation.
 use Rattle.std.proofs.Common.{◌≡◌, ◌≢◌, ◌⊎◌, ℕ, ◌-◌, ◌≤◌, ◌<◌, List, [], ◌∷◌, ◌++◌, length, take, drop, map, Bool, true, false, cond, ◌&&◌, Ok, Err, refl, sym, ap, ◌∙◌, subst, append_assoc, arith, inl, inr}
-use Rattle.std.specs.List.{AllByRecursion, AllZip}
+use Rattle.std.specs.List.{AllZip}
 use Rattle.std.proofs.lemmas.List.{take-append-drop, map_push, append-nil}
-use Rattle.std.proofs.lemmas.Bool.{cases_lt}
 use Rattle.std.proofs.lemmas.Slice.Zip.{all_zipped_more}
 use Rattle.cf_json.specs.Bytes.{is_space, is_digit, is_exponent_mark}
 use Rattle.cf_json.specs.Grammar.{Tree, null, boolean, number, text, array, object, Space, Value, Place, Stops, Ends, depth}
 use Rattle.cf_json.specs.Spans.{Span, IsAt, span_at, max_depth}
-use Rattle.cf_json.specs.Frame.{Values, Apart, NoMinus, IsFrame, RefusesFrame, frame_depth}
-use Rattle.cf_json.specs.Stops.{fault_of}
+use Rattle.cf_json.specs.Frame.{Values, Apart, NoMinus, IsFrame, frame_depth}
 use Rattle.cf_json.specs.declared.stop.Stop.{Stop}
-use Rattle.cf_json.specs.declared.stop.Stop.TheVariants.{NotJson, TooDeep}
+use Rattle.cf_json.specs.declared.stop.Stop.TheVariants.{TooDeep}
 use Rattle.cf_json.specs.Reading.{stopped, after_space, value_end, numeric, apart_end}
 use Rattle.cf_json.proofs.Tokens.{Unspaced, chosen, not_ok, space_takes, space_again, space_then, no_space}
 use Rattle.cf_json.proofs.Numbers.{bind_ok, ok_is, number_begins}
@@ -106,7 +104,7 @@ apart_ok : (d : ℕ) (s r : List ℕ) → value_end d s ≡ Ok r → (numeric s 
 unfolding apart_end
 apart_ok d s r e n = rw (e, n) refl
 
-apart_err : (d : ℕ) (s : List ℕ) (e : Stop) → value_end d s ≡ Err e → apart_end d s ≡ Err e
+pub apart_err : (d : ℕ) (s : List ℕ) (e : Stop) → value_end d s ≡ Err e → apart_end d s ≡ Err e
 unfolding apart_end
 apart_err d s e h = rw h refl
 
@@ -117,12 +115,26 @@ apart_meets t d s r h a =
 
 -- ---- the loop
 
+-- these values one after another, each no deeper than is read, up to where another begins
+abbrev pub Done : List Tree → List ℕ → List ℕ → Type 0
+Done [] s r = Space s r
+Done (t ∷ ts) s r = (s1 s2 : List ℕ) × Space s s1 × Value t s1 s2 × Apart t s2 × (depth t ≤ max_depth) × Done ts s2 r
+
+done_push : (ts : List Tree) (t : Tree) (s c r : List ℕ) → Done ts s c → Value t c r → Apart t r → depth t ≤ max_depth → Done (ts ++ t ∷ []) s r
+done_push [] t s c r h v a d = (c, r, h, v, a, d, no_space r)
+done_push (u ∷ ts) t s c r h v a d = (h.0, h.1, h.2, h.3, h.4, h.5, done_push ts t h.1 c r h.6 v a d)
+
+done_on : (ts : List Tree) (s a b : List ℕ) → Done ts s a → Space a b → Done ts s b
+done_on [] s a b h g = space_then s a b h g
+done_on (t ∷ ts) s a b h g = (h.0, h.1, h.2, h.3, h.4, h.5, done_on ts h.1 a b h.6 g)
+
 -- the values found so far: whatever follows here completes them, and every frame goes on so
 pub record SoFar (all rest : List ℕ) (found : List Span) : Type 0 where
   pub trees : List Tree
   pub places : List Place
   pub spans : found ≡ map (span_at all) places
   pub stand : AllZip (λ s t. IsAt all t s) found trees
+  pub done : Done trees all rest
   pub completes : (ts : List Tree) (others : List Place) → Values ts others rest → Values (trees ++ ts) (places ++ others) all
   pub every : (ts : List Tree) (others : List Place) → ts ≢ [] → Values ts others all → (us : List Tree) × (there : List Place) × Values us there rest × (ts ≡ trees ++ us)
 
@@ -144,20 +156,20 @@ after_unspaced [] = tt
 after_unspaced (x ∷ xs) = unspaced_step x xs (is_space x) refl (after_unspaced xs)
 
 -- behind white space the values stand as they are
-values_on : (ts : List Tree) (places : List Place) (a : List ℕ) → Values ts places a → Values ts places (after_space a)
+pub values_on : (ts : List Tree) (places : List Place) (a : List ℕ) → Values ts places a → Values ts places (after_space a)
 values_on [] places a v = (v.0, subst (λ u. Space u []) (sym (space_again a [] v.1 tt)) (no_space []))
 values_on (t ∷ ts) places a v =
     let first = space_again a v.0 v.3 (Begins-unspaced v.0 (value_begins t v.0 v.1 v.4)) in
     (v.0, v.1, v.2, subst (λ u. Space u v.0) (sym first) (no_space v.0), v.4, v.5, v.6, v.7)
 
-no_values : (places : List Place) (a : List ℕ) → Values [] places a → Unspaced a → a ≡ []
+pub no_values : (places : List Place) (a : List ℕ) → Values [] places a → Unspaced a → a ≡ []
 no_values places a v u = sym (space_again a a (no_space a) u) ∙ space_again a [] v.1 tt
 
 -- the value that a frame has next
 abbrev pub Following : List ℕ → List Tree → List Tree → Type 0
 Following rest done ts = (t : Tree) × (us : List Tree) × (r : List ℕ) × (others : List Place) × Value t rest r × Apart t r × Values us others r × (ts ≡ done ++ t ∷ us)
 
-next_value : (rest : List ℕ) (us : List Tree) (there : List Place) → Unspaced rest → us ≢ [] → Values us there rest → (t : Tree) × (vs : List Tree) × (r : List ℕ) × (others : List Place) × Value t rest r × Apart t r × Values vs others r × (us ≡ t ∷ vs)
+pub next_value : (rest : List ℕ) (us : List Tree) (there : List Place) → Unspaced rest → us ≢ [] → Values us there rest → (t : Tree) × (vs : List Tree) × (r : List ℕ) × (others : List Place) × Value t rest r × Apart t r × Values vs others r × (us ≡ t ∷ vs)
 next_value rest [] there u some v = absurd (some refl)
 next_value rest (t ∷ vs) there u some v =
     let first : rest ≡ v.0 = sym (space_again rest rest (no_space rest) u) ∙ space_again rest v.0 v.3 (Begins-unspaced v.0 (value_begins t v.0 v.1 v.4)) in
@@ -186,6 +198,7 @@ head_first all rest e =
         places = [];
         spans = refl;
         stand = tt;
+        done = subst (Space all) (sym e) (space_takes all);
         completes = λ ts others v. values_behind ts others all rest (subst (Space all) (sym e) (space_takes all)) v;
         every = λ ts others some v. (ts, others, subst (Values ts others) (sym e) (values_on ts others all v), refl);
       };
@@ -221,6 +234,7 @@ one_value_more all rest after found h e =
         places = i.places ++ place ∷ [];
         spans = ap (λ u. u ++ span_at all place ∷ []) i.spans ∙ sym (map_push (span_at all) i.places place);
         stand = all_zipped_more (λ s u. IsAt all u s) found i.trees (span_at all place) t.0 i.stand is_at;
+        done = done_push i.trees t.0 all rest after i.done t.1 t.2 t.3;
         completes = λ ts others v. rw (append_assoc i.trees (t.0 ∷ []) ts, append_assoc i.places (place ∷ []) others) (i.completes (t.0 ∷ ts) (place ∷ others) (rest, after, others, no_space rest, t.1, t.2, v, refl));
         every = λ ts others some v. let f = following all rest found h ts (some, others, v) in
             let same = same_next t.0 f.0 rest after f.2 e t.1 t.2 f.4 f.5 in
@@ -263,6 +277,7 @@ module _ (all after : List ℕ) (found : List Span) (n : SoFar all after found) 
           places = n.places;
           spans = n.spans;
           stand = n.stand;
+          done = done_on n.trees all after rest n.done (subst (Space after) (sym e) (space_takes after));
           completes = λ ts others v. n.completes ts others (values_behind ts others after rest (subst (Space after) (sym e) (space_takes after)) v);
           every = λ ts others more v. let f = n.every ts others more v in (f.0, f.1, subst (Values f.0 f.1) (sym e) (values_on f.0 f.1 after f.2), f.3);
         };
@@ -271,29 +286,6 @@ module _ (all after : List ℕ) (found : List Span) (n : SoFar all after found) 
 
 -- ---- faults
 
-deep_behind : (ts us : List Tree) (t : Tree) (n : ℕ) → n < depth t → n < frame_depth (ts ++ t ∷ us)
+pub deep_behind : (ts us : List Tree) (t : Tree) (n : ℕ) → n < depth t → n < frame_depth (ts ++ t ∷ us)
 deep_behind [] us t n h = omega arith
 deep_behind (v ∷ ts) us t n h = let i = deep_behind ts us t n h in omega arith
-
-module _ (all rest : List ℕ) (found : List Span) (h : Head all rest found) where
-  not_refused : (left : ℕ) → apart_end max_depth rest ≡ Err (NotJson left) → (ts : List Tree) → IsFrame all ts → ⊥
-  not_refused left e ts f =
-      let n = following all rest found h ts f in
-      let m = apart_meets n.0 max_depth rest n.2 n.4 n.5 in
-      elim (cases_lt max_depth (depth n.0)) [
-        | inl deep ↦ let o = m.1 deep in let both : Err (NotJson left) ≡ Err (TooDeep o.0) = sym e ∙ o.1 in cc
-        | inr shallow ↦ let both : Err (NotJson left) ≡ Ok n.2 = sym e ∙ m.0 shallow in absurd cc
-      ]
-
-  is_deep : (left : ℕ) → apart_end max_depth rest ≡ Err (TooDeep left) → (ts : List Tree) → IsFrame all ts → max_depth < frame_depth ts
-  is_deep left e ts f =
-      let n = following all rest found h ts f in
-      let m = apart_meets n.0 max_depth rest n.2 n.4 n.5 in
-      elim (cases_lt max_depth (depth n.0)) [
-        | inl deep ↦ subst (λ x. max_depth < frame_depth x) (sym n.7) (deep_behind h.so_far.trees n.1 n.0 max_depth deep)
-        | inr shallow ↦ let both : Err (TooDeep left) ≡ Ok n.2 = sym e ∙ m.0 shallow in absurd cc
-      ]
-
-  pub frame_refused : (e : Stop) → apart_end max_depth rest ≡ Err e → RefusesFrame all (fault_of (length all) e)
-  frame_refused (NotJson left) e = (omega arith, not_refused left e)
-  frame_refused (TooDeep left) e = (omega arith, is_deep left e)

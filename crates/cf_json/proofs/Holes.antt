@@ -1,20 +1,11 @@
 -- The place where a reading meets a bracket that opens a level too many: the way there, and what may stand in its place.
-use Rattle.std.proofs.Common.{◌≡◌, ◌≢◌, ◌⊎◌, ℕ, zero, suc, ◌+◌, ◌≤◌, ◌<◌, max, List, [], ◌∷◌, ◌++◌, length, Bool, true, false, cond, ◌==◌, nat_lt, Ok, Err, refl, sym, ap, ◌∙◌, subst, append_assoc, arith, inl, inr}
-use Rattle.std.specs.Prelude.{codes, nat_eq}
-use Rattle.std.specs.List.{starts_with}
-use Rattle.std.proofs.lemmas.Bool.{eqb-true}
-use Rattle.std.proofs.lemmas.List.{length-append}
-use Rattle.cf_json.specs.Bytes.{is_space, is_digit, is_hex, is_escape, is_exponent_mark}
-use Rattle.cf_json.specs.Grammar.{Tree, null, boolean, number, text, array, object, Parts, no_parts, part, Ends, Space, Key, Place, Value, Inside, More, depth, parts_depth}
+use Rattle.std.proofs.Common.{◌≡◌, ℕ, zero, suc, ◌+◌, ◌≤◌, max, List, [], ◌∷◌, ◌++◌, length, Bool, true, false, Err, refl, sym, ap, ◌∙◌, subst, append_assoc, arith}
+use Rattle.cf_json.specs.Grammar.{Tree, array, object, Parts, no_parts, part, Ends, Space, Key, Place, Value, Inside, depth, parts_depth}
 use Rattle.cf_json.specs.declared.stop.Stop.{Stop}
-use Rattle.cf_json.specs.declared.stop.Stop.TheVariants.{NotJson, TooDeep}
-use Rattle.cf_json.specs.declared.token.Within.{Within}
-use Rattle.cf_json.specs.declared.token.Within.TheVariants.{Plain, Escaped, Hex4, Hex3, Hex2, Hex1}
-use Rattle.cf_json.specs.Reading.{Reading, ◌>>=◌, stopped, after_space, go_on, text_end, after_digits, digits_end, after_sign, exponent_end, fraction_end, whole_end, after_minus, number_end, word_end, colon_at, quoted_end, key_end, part_end, close, then_more, parts_end, unless_closed, inside_end, value_from, too_deep, value_end}
-use Rattle.cf_json.proofs.Turns.{opened, value_end-nil, value_end-cons, inside_is, inside_open, part_passes, value_stops, then_comma}
+use Rattle.cf_json.specs.declared.stop.Stop.TheVariants.{TooDeep}
+use Rattle.cf_json.specs.Reading.{after_space, close, then_more, parts_end, inside_end, too_deep, value_end}
+use Rattle.cf_json.proofs.Turns.{opened, value_end-cons, inside_open, part_passes, value_stops, then_comma}
 use Rattle.cf_json.proofs.Tokens.{Unspaced, space_takes, space_again}
-use Rattle.cf_json.proofs.Numbers.{ok_is}
-use Rattle.cf_json.proofs.Takes.{value_takes, key_takes}
 use Rattle.cf_json.proofs.Meets.{Begins, value_begins, key_begins, Begins-unspaced, not_close, Ends-space, Stops-Ends, comma_stands, key_again, value_meets, space_shorter, key_shorter, value_shorter, bracket_begins, brace_begins}
 use Rattle.cf_json.proofs.Moves.{Rule, Moves, Then, One, moves_then, moves_as, one_moves, space_moves, key_moves, value_moves}
 

@@ -1,5 +1,5 @@
 -- A frame: one value or more, with white space or none around each of them.
-use Rattle.std.specs.Prelude.{◌≡◌, ◌≢◌, ◌<◌, ◌≤◌, ⊤, ℕ, max, List, [], ◌∷◌, length}
+use Rattle.std.specs.Prelude.{◌≡◌, ◌≢◌, ◌<◌, ◌≤◌, ⊤, ℕ, max, List, [], ◌∷◌, ◌++◌, length, take}
 use Rattle.cf_json.specs.Grammar.{Tree, null, boolean, number, text, array, object, Place, Space, Value, Ends, depth}
 use Rattle.cf_json.specs.Spans.{max_depth}
 use Rattle.cf_json.specs.declared.fault.Fault.{Fault}
@@ -33,8 +33,16 @@ abbrev pub frame_depth : List Tree → ℕ
 frame_depth [] = 0
 frame_depth (t ∷ ts) = max (depth t) (frame_depth ts)
 
+-- a text that a frame begins with, but no frame whose values nest no deeper than is read
+abbrev pub OnlyDeepFrame : List ℕ → Type 0
+OnlyDeepFrame start = ((rest : List ℕ) × (ts : List Tree) × IsFrame (start ++ rest) ts) × ((rest : List ℕ) (ts : List Tree) → IsFrame (start ++ rest) ts → max_depth < frame_depth ts)
+
+-- some beginning of the text is one
+abbrev pub BeginsTooDeepFrame : List ℕ → Type 0
+BeginsTooDeepFrame s = (n : ℕ) × OnlyDeepFrame (take n s)
+
 -- what each fault says of a text that is read as a frame
 abbrev pub RefusesFrame : List ℕ → Fault → Type 0
-RefusesFrame s (NotJson p) = (p ≤ length s) × ((ts : List Tree) → IsFrame s ts → ⊥)
-RefusesFrame s (TooDeep p) = (p ≤ length s) × ((ts : List Tree) → IsFrame s ts → max_depth < frame_depth ts)
+RefusesFrame s (NotJson p) = (p ≤ length s) × ((ts : List Tree) → IsFrame s ts → ⊥) × (BeginsTooDeepFrame s → ⊥)
+RefusesFrame s (TooDeep p) = (p ≤ length s) × ((ts : List Tree) → IsFrame s ts → max_depth < frame_depth ts) × BeginsTooDeepFrame s
 RefusesFrame s Memory = ⊤

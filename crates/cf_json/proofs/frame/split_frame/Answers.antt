@@ -4,7 +4,8 @@ use Rattle.std.proofs.lemmas.List.{nil_from_length}
 use Rattle.cf_json.specs.Reading.{after_space}
 use Rattle.cf_json.specs.Spans.{Span}
 use Rattle.cf_json.specs.Stops.{fault_of}
-use Rattle.cf_json.proofs.Frames.{Head, head_first, one_value_more, frame_done, frame_only, head_on, frame_refused}
+use Rattle.cf_json.proofs.Frames.{Head, head_first, one_value_more, frame_done, frame_only, head_on}
+use Rattle.cf_json.proofs.DeepFrames.{frame_refused}
 use Rattle.cf_json.proofs.frame.split_frame.Goals as goal
 
 -- the spans found, with one more
