@@ -5,10 +5,10 @@ use Rattle.cf_protocol.specs.Written.{note_text, command_text}
 use Rattle.cf_protocol.specs.Request.{Command}
 use Rattle.cf_hub.specs.Connection.{Wording}
 
-abbrev pub note_length : Lists → Note → ℕ
+unfoldable pub note_length : Lists → Note → ℕ
 note_length lists n = length (note_text lists n)
 
-abbrev pub command_length : Command → ℕ
+unfoldable pub command_length : Command → ℕ
 command_length k = length (command_text k)
 
 -- the close code of a session that is too slow

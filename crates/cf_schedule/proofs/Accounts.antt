@@ -1,0 +1,113 @@
+-- The account that a trace gives is what befell: the entries of each event are those that it wrote.
+use Rattle.std.proofs.Common.{◌≡◌, ℕ, suc, ◌≤◌, ◌<◌, ◌==◌, Bool, true, false, List, [], ◌∷◌, ◌++◌, refl, sym, ap, subst, arith, append_assoc, ◌≢◌, if◌then◌else◌}
+use Rattle.std.proofs.lemmas.List.{append-nil}
+use Rattle.std.proofs.lemmas.Bool.Decides.{nat_tests}
+use Rattle.cf_schedule.specs.Config.{Config}
+use Rattle.cf_schedule.specs.Event.{Event, Take}
+use Rattle.cf_schedule.specs.World.{World, start}
+use Rattle.cf_schedule.specs.LooseRun.{Happening, Line, Receive, loosely_allows, befalls}
+use Rattle.cf_schedule.specs.Trace.{Item, Entry}
+use Rattle.cf_schedule.specs.Told.{entries, tells, loosely_tells, loosely_writes, loose_trace}
+use Rattle.cf_schedule.specs.Marks.{Mark, entry_marks, allowed_marks, numbered, account}
+use Rattle.cf_schedule.specs.StreamSafety.{IsSafe, nothing_seen, SafeAccounts, Safe}
+use Rattle.cf_schedule.proofs.Tales.{tale, safe_tale}
+use Rattle.cf_schedule.proofs.Tracing.{one_datum}
+
+abbrev AreBelow : ℕ → List Entry → Type 0
+AreBelow n [] = Unit {0}
+AreBelow n (e ∷ es) = (e.at < n) × AreBelow n es
+
+abbrev AreAt : ℕ → List Entry → Type 0
+AreAt n [] = Unit {0}
+AreAt n (e ∷ es) = (e.at ≡ n) × AreAt n es
+
+abbrev AreFrom : ℕ → List Entry → Type 0
+AreFrom n [] = Unit {0}
+AreFrom n (e ∷ es) = (n ≤ e.at) × AreFrom n es
+
+differs : (m n : ℕ) → m ≢ n → (m == n) ≡ false
+differs m n h = grind (arith, nat_tests)
+
+same : (m n : ℕ) → m ≡ n → (m == n) ≡ true
+same m n h = grind (arith, nat_tests)
+
+none-below : (n : ℕ) (es : List Entry) → AreBelow n es → numbered n es ≡ []
+none-below n [] h = refl
+none-below n (e ∷ es) h = rw (differs e.at n (λ i. absurd (omega (arith, h.0)))) (none-below n es h.1)
+
+none-from : (n : ℕ) (es : List Entry) → AreFrom (suc n) es → numbered n es ≡ []
+none-from n [] h = refl
+none-from n (e ∷ es) h = rw (differs e.at n (λ i. absurd (omega (arith, h.0)))) (none-from n es h.1)
+
+all-at : (n : ℕ) (es : List Entry) → AreAt n es → numbered n es ≡ es
+all-at n [] h = refl
+all-at n (e ∷ es) h = rw (same e.at n h.0) (ap (λ (x : List Entry). e ∷ x) (all-at n es h.1))
+
+numbered-append : (n : ℕ) (xs ys : List Entry) → numbered n (xs ++ ys) ≡ numbered n xs ++ numbered n ys
+numbered-append n [] ys = refl
+numbered-append n (e ∷ xs) ys = of_test (e.at == n) (numbered-append n xs ys)
+  where
+    of_test : (t : Bool) → numbered n (xs ++ ys) ≡ numbered n xs ++ numbered n ys
+        → (if t then e ∷ numbered n (xs ++ ys) else numbered n (xs ++ ys)) ≡ (if t then e ∷ numbered n xs else numbered n xs) ++ numbered n ys
+    of_test true h = ap (λ (x : List Entry). e ∷ x) h
+    of_test false h = h
+
+at-entries : (n : ℕ) (x : List ℕ) (is : List Item) → AreAt n (entries n x is)
+at-entries n x [] = tt
+at-entries n x (i ∷ is) = (refl, at-entries n x is)
+
+at-tells : (n : ℕ) (w : World) (e : Event) → AreAt n (tells n w e)
+at-tells n w (Take x) = at-entries n x _
+at-tells n w e = tt
+
+at-loosely : (n : ℕ) (w : World) (h : Happening) → AreAt n (loosely_tells n w h)
+at-loosely n w (Line e) = at-tells n w e
+at-loosely n w (Receive x) = at-entries n x _
+at-loosely n w h = tt
+
+at-writes : (cfg : Config) (n : ℕ) (w : World) (h : Happening) → AreAt n (loosely_writes cfg n w h)
+at-writes cfg n w h = of_test (loosely_allows cfg w h)
+  where
+    of_test : (t : Bool) → AreAt n (if t then loosely_tells n w h else [])
+    of_test true = at-loosely n w h
+    of_test false = tt
+
+from-append : (n : ℕ) (xs ys : List Entry) → AreAt n xs → AreFrom (suc n) ys → AreFrom n (xs ++ ys)
+from-append n [] [] h k = tt
+from-append n [] (y ∷ ys) h k = (omega (arith, k.0), from-append n [] ys tt k.1)
+from-append n (x ∷ xs) ys h k = (omega (arith, h.0), from-append n xs ys h.1 k)
+
+from-trace : (cfg : Config) (hs : List Happening) (n : ℕ) (w : World) → AreFrom n (loose_trace cfg n w hs)
+from-trace cfg [] n w = tt
+from-trace cfg (h ∷ hs) n w = from-append n (loosely_writes cfg n w h) _ (at-writes cfg n w h) (from-trace cfg hs (suc n) (befalls cfg w h))
+
+below-append : (n : ℕ) (xs ys : List Entry) → AreBelow n xs → AreAt n ys → AreBelow (suc n) (xs ++ ys)
+below-append n [] [] h k = tt
+below-append n [] (y ∷ ys) h k = (omega (arith, k.0), below-append n [] ys tt k.1)
+below-append n (x ∷ xs) ys h k = (omega (arith, h.0), below-append n xs ys h.1 k)
+
+account-tale : (cfg : Config) (x c : List ℕ) (hs : List Happening) (n : ℕ) (w : World) (before : List Entry) → AreBelow n before
+    → account cfg x c (before ++ loose_trace cfg n w hs) n w hs ≡ tale cfg x c n w hs
+account-tale cfg x c [] n w before b = refl
+account-tale cfg x c (h ∷ hs) n w before b =
+    let here : numbered n (before ++ (loosely_writes cfg n w h ++ loose_trace cfg (suc n) (befalls cfg w h) hs)) ≡ loosely_writes cfg n w h =
+    rw (
+      numbered-append n before (loosely_writes cfg n w h ++ loose_trace cfg (suc n) (befalls cfg w h) hs),
+      none-below n before b,
+      numbered-append n (loosely_writes cfg n w h) (loose_trace cfg (suc n) (befalls cfg w h) hs),
+      all-at n (loosely_writes cfg n w h) (at-writes cfg n w h),
+      none-from n (loose_trace cfg (suc n) (befalls cfg w h) hs) (from-trace cfg hs (suc n) (befalls cfg w h)),
+    )
+    (append-nil (loosely_writes cfg n w h)) in
+    let later : account cfg x c ((before ++ loosely_writes cfg n w h) ++ loose_trace cfg (suc n) (befalls cfg w h) hs) (suc n) (befalls cfg w h) hs ≡ tale cfg x c (suc n) (befalls cfg w h) hs =
+    account-tale cfg x c hs (suc n) (befalls cfg w h) (before ++ loosely_writes cfg n w h) (below-append n before (loosely_writes cfg n w h) b (at-writes cfg n w h)) in
+    rw here (ap (λ (rest : List (List Mark)). (allowed_marks cfg x c w h ++ entry_marks x c (loosely_writes cfg n w h)) ∷ rest)
+    (subst (λ (t : List Entry). account cfg x c t (suc n) (befalls cfg w h) hs ≡ tale cfg x c (suc n) (befalls cfg w h) hs)
+    (append_assoc before (loosely_writes cfg n w h) (loose_trace cfg (suc n) (befalls cfg w h) hs)) later))
+
+pub safe_accounts : (cfg : Config) (hs : List Happening) → SafeAccounts cfg hs (loose_trace cfg 1 start hs)
+safe_accounts cfg hs x c = subst (λ (m : List (List Mark)). IsSafe nothing_seen m) (sym (account-tale cfg x c hs 1 start [] tt)) (safe_tale cfg hs x c)
+
+-- THE HEADLINE, of every loose run
+pub safe_loose : (cfg : Config) (hs : List Happening) → Safe cfg hs (loose_trace cfg 1 start hs)
+safe_loose cfg hs = (one_datum cfg hs, safe_accounts cfg hs)

@@ -1,0 +1,125 @@
+-- Stream safety of every run of the interval machine, and of every loose run.
+use Rattle.std.proofs.Common.{ℕ, Option, Some, None, List, [], ◌∷◌, subst, inl, inr}
+use Rattle.cf_protocol.specs.Position.{Position}
+use Rattle.cf_protocol.specs.Note.{Note, Reply, Pub, End, Fails, Put as PutDone, Left, Listed, PingDue, Close}
+use Rattle.cf_stream.specs.StreamState.{StreamState}
+use Rattle.cf_hub.specs.Connection.{Sub, Off, Asked, Ready, On}
+use Rattle.cf_client.specs.ClientState.{Mode, Idle, Asking, Live, last_of}
+use Rattle.cf_schedule.specs.Config.{Config}
+use Rattle.cf_schedule.specs.Event.{Event}
+use Rattle.cf_schedule.specs.Errand.{Errand, Sent, Subscribe, Unsubscribe, Publish, History}
+use Rattle.cf_schedule.specs.PublicationList.{tops}
+use Rattle.cf_schedule.specs.World.{World, start}
+use Rattle.cf_schedule.specs.IntervalMachine.{run}
+use Rattle.cf_schedule.specs.LooseRun.{Happening, loose_run, lines}
+use Rattle.cf_schedule.specs.Trace.{Entry}
+use Rattle.cf_schedule.specs.Told.{trace, loose_trace}
+use Rattle.cf_schedule.specs.Marks.{account}
+use Rattle.cf_schedule.specs.StreamSafety.{AreTrueTo, OneDatum, Unbroken, RecoveredRun, HonestRecovery, Safe, nothing_seen}
+use Rattle.cf_schedule.specs.Leading.{coming, Lead, LeadsOn, IsListed}
+use Rattle.cf_schedule.proofs.Names.{text_tells}
+use Rattle.cf_schedule.proofs.Standing.{Leads, Awaits, Stands, due}
+use Rattle.cf_schedule.proofs.Within.{LastWithin}
+use Rattle.cf_schedule.proofs.Bounding.{within-last_of}
+use Rattle.cf_schedule.proofs.Steps.{fine-run, fine-start}
+use Rattle.cf_schedule.proofs.Schedules.{run_of_lines, trace_of_lines}
+use Rattle.cf_schedule.proofs.Accounts.{safe_loose}
+use Rattle.cf_schedule.proofs.Sentences.{one_datum_of, unbroken_of, recovered_of, honest_of}
+
+-- what leads, in the words of the law
+lead-from : (read : StreamState) (c : List ℕ) (p : Position) (ns : List Note) (s : Sub) → Leads read c (Live p) ns s → Lead c p ns s
+lead-from read c p [] Off h = h
+lead-from read c p [] (Asked k since arrived) h = h
+lead-from read c p [] (Ready k was r arrived) h = h
+lead-from read c p [] (On q mark) h = h
+lead-from read c p (Reply d k was r ∷ ns) s h = lead-from read c p ns s h.1
+lead-from read c p (Pub d q ∷ ns) s h =
+    elim (text_tells d c) [
+      | inl e ↦ rw e.0 (h.0 e.1, lead-from read c q ns s (rw e.0 at h.1))
+      | inr e ↦ rw e.0 (lead-from read c p ns s (rw e.0 at h.1))
+    ]
+lead-from read c p (End d ∷ ns) s h =
+    elim (text_tells d c) [
+      | inl e ↦ rw e.0 tt
+      | inr e ↦ rw e.0 (lead-from read c p ns s (rw e.0 at h.1))
+    ]
+lead-from read c p (Fails d k code ∷ ns) s h = lead-from read c p ns s h.1
+lead-from read c p (PutDone k ∷ ns) s h = lead-from read c p ns s h.1
+lead-from read c p (Left k ∷ ns) s h = lead-from read c p ns s h.1
+lead-from read c p (Listed d k at low count ∷ ns) s h = lead-from read c p ns s h.1
+lead-from read c p (PingDue ∷ ns) s h = lead-from read c p ns s h.1
+lead-from read c p (Close code ∷ ns) s h = tt
+
+leads-on : (read : StreamState) (c : List ℕ) (m : Mode) (ns : List Note) (s : Sub) (o : Option Sent) → Stands read c m ns s o → LeadsOn c m ns s
+leads-on read c (Idle last) ns s o h = tt
+leads-on read c (Asking id from last) ns s o h = tt
+leads-on read c (Live p) ns s None h = lead-from read c p ns s h
+leads-on read c (Live p) ns s (Some k) h = of_errand k.errand h
+  where
+    of_errand : (e : Errand) → Awaits (Live p) k.id e → LeadsOn c (Live p) ns s
+    of_errand (Subscribe d from) x = absurd x
+    of_errand (Unsubscribe d) x = absurd x
+    of_errand (Publish d body) x = absurd x
+    of_errand (History d limit) x = absurd x
+
+abbrev pub LeadsIn : World → Type 0
+LeadsIn w = (x c : List ℕ) → LeadsOn c ((w.links x).client.modes c) (coming (w.links x)) ((w.links x).line.subs c)
+
+abbrev pub ListedIn : World → Type 0
+ListedIn w = (x c : List ℕ) → IsListed (tops w.broker.lists c) (last_of ((w.links x).client.modes c))
+
+listed-of : (top : List ℕ → ℕ) (o : Option Position) → LastWithin top o → IsListed top o
+listed-of top None h = tt
+listed-of top (Some p) h = h
+
+loose_leads : (cfg : Config) (hs : List Happening) → LeadsIn (loose_run cfg start hs)
+loose_leads cfg hs x c =
+    let f = fine-run cfg hs (λ x c. nothing_seen) start fine-start in
+    let w : World = loose_run cfg start hs in
+    leads-on (f.0 x c).read c ((w.links x).client.modes c) (coming (w.links x)) ((w.links x).line.subs c) (due c (w.links x).up) ((f.1.good x).stands c)
+
+loose_listed : (cfg : Config) (hs : List Happening) → ListedIn (loose_run cfg start hs)
+loose_listed cfg hs x c =
+    let f = fine-run cfg hs (λ x c. nothing_seen) start fine-start in
+    let w : World = loose_run cfg start hs in
+    listed-of (tops w.broker.lists c) (last_of ((w.links x).client.modes c))
+    (within-last_of (tops w.broker.lists c) ((w.links x).client.modes c) ((f.1.bounded x).modes c))
+
+-- NOTES LEAD, in every run
+pub notes_lead : (cfg : Config) (es : List Event) → LeadsIn (run cfg start es)
+notes_lead cfg es = subst LeadsIn (run_of_lines cfg es start) (loose_leads cfg (lines es))
+
+pub positions_listed : (cfg : Config) (es : List Event) → ListedIn (run cfg start es)
+positions_listed cfg es = subst ListedIn (run_of_lines cfg es start) (loose_listed cfg (lines es))
+
+-- THE HEADLINE, of every run
+pub safe_run : (cfg : Config) (es : List Event) → Safe cfg (lines es) (trace cfg 1 start es)
+safe_run cfg es = subst (λ (t : List Entry). Safe cfg (lines es) t) (trace_of_lines cfg es 1 start) (safe_loose cfg (lines es))
+
+pub true_run : (cfg : Config) (es : List Event) → AreTrueTo (run cfg start es).broker.lists (trace cfg 1 start es)
+true_run cfg es = subst (λ (w : World). AreTrueTo w.broker.lists (trace cfg 1 start es)) (run_of_lines cfg es start) (safe_run cfg es).0
+
+pub one_datum_run : (cfg : Config) (es : List Event) → OneDatum (trace cfg 1 start es)
+one_datum_run cfg es = one_datum_of (run cfg start es).broker.lists (trace cfg 1 start es) (true_run cfg es)
+
+pub unbroken_run : (cfg : Config) (es : List Event) (x c : List ℕ) → Unbroken (account cfg x c (trace cfg 1 start es) 1 start (lines es))
+unbroken_run cfg es x c = unbroken_of (account cfg x c (trace cfg 1 start es) 1 start (lines es)) ((safe_run cfg es).1 x c)
+
+pub recovered_run : (cfg : Config) (es : List Event) (x c : List ℕ) → RecoveredRun (account cfg x c (trace cfg 1 start es) 1 start (lines es))
+recovered_run cfg es x c = recovered_of (account cfg x c (trace cfg 1 start es) 1 start (lines es)) ((safe_run cfg es).1 x c)
+
+pub honest_run : (cfg : Config) (es : List Event) (x c : List ℕ) → HonestRecovery (account cfg x c (trace cfg 1 start es) 1 start (lines es))
+honest_run cfg es x c = honest_of (account cfg x c (trace cfg 1 start es) 1 start (lines es)) ((safe_run cfg es).1 x c)
+
+-- the same of a loose run
+pub loose_one_datum : (cfg : Config) (hs : List Happening) → OneDatum (loose_trace cfg 1 start hs)
+loose_one_datum cfg hs = one_datum_of (loose_run cfg start hs).broker.lists (loose_trace cfg 1 start hs) (safe_loose cfg hs).0
+
+pub loose_unbroken : (cfg : Config) (hs : List Happening) (x c : List ℕ) → Unbroken (account cfg x c (loose_trace cfg 1 start hs) 1 start hs)
+loose_unbroken cfg hs x c = unbroken_of (account cfg x c (loose_trace cfg 1 start hs) 1 start hs) ((safe_loose cfg hs).1 x c)
+
+pub loose_recovered : (cfg : Config) (hs : List Happening) (x c : List ℕ) → RecoveredRun (account cfg x c (loose_trace cfg 1 start hs) 1 start hs)
+loose_recovered cfg hs x c = recovered_of (account cfg x c (loose_trace cfg 1 start hs) 1 start hs) ((safe_loose cfg hs).1 x c)
+
+pub loose_honest : (cfg : Config) (hs : List Happening) (x c : List ℕ) → HonestRecovery (account cfg x c (loose_trace cfg 1 start hs) 1 start hs)
+loose_honest cfg hs x c = honest_of (account cfg x c (loose_trace cfg 1 start hs) 1 start hs) ((safe_loose cfg hs).1 x c)

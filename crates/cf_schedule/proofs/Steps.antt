@@ -1,0 +1,420 @@
+-- One step of the world: what each happening does keeps its invariant, and what it tells is safe.
+use Rattle.std.proofs.Common.{◌≡◌, ℕ, ◌≤◌, ◌∙◌, Bool, true, false, Option, Some, None, List, [], ◌∷◌, ◌++◌, length, refl, sym, subst, arith, inl, inr, if◌then◌else◌, is_some}
+use Rattle.std.proofs.Math.Nat.{le_refl}
+use Rattle.std.specs.Str.{bytes_eq}
+use Rattle.cf_protocol.specs.Names.{with}
+use Rattle.cf_protocol.specs.Position.{Position}
+use Rattle.cf_protocol.specs.Note.{Lists, Note, Reply, Pub, End, Fails, Put as PutDone, Left, Listed, PingDue, Close}
+use Rattle.cf_stream.specs.StreamState.{StreamState}
+use Rattle.cf_stream.specs.StreamAnswer.{read_of}
+use Rattle.cf_hub.specs.Connection.{Sub, Off, Asked, Ready, On, Line, put_sub, read_at as line_read_at, finishes, checks, closes_now}
+use Rattle.cf_client.specs.ClientState.{Mode, Idle, Asking, Live, Client, last_of, idle, takes}
+use Rattle.cf_schedule.specs.Config.{Config}
+use Rattle.cf_schedule.specs.Event.{Event, Epoch, Connect, Ask, AskFrom, Read, Finish, Publish, PublishBy, Deliver, Take, Break, Leave, Trim, Forget, BrokerRestart, Restart, Check, ListHistory}
+use Rattle.cf_schedule.specs.Errand.{Errand, Sent, Subscribe, Unsubscribe, Publish as PublishErrand, History}
+use Rattle.cf_schedule.specs.PublicationList.{Place, Broker, tops, publication, epoch_comes, opened, publish, trim, forget, forget_all, stands_at}
+use Rattle.cf_schedule.specs.Weights.{wording}
+use Rattle.cf_schedule.specs.Link.{Link, with_line, sends, hears, errs, says, fails, finishes_over, breaks, holds, receive_first}
+use Rattle.cf_schedule.specs.World.{World, start, link_with, broker_with, on_node}
+use Rattle.cf_schedule.specs.Refusals.{Judgement, judged}
+use Rattle.cf_schedule.specs.IntervalMachine.{size_of, sent, broker_by, closes_by, is_refused, heard_as, hear_first, heard, as_judged, answer_by, answered, command_by, judgement, exchange, connects, read_found, read_at, delivered, restarts, effect}
+use Rattle.cf_schedule.specs.LooseRun.{Happening, Line as LineOf, SendAsk, SendAskFrom, SendLeave, SendPublish, SendHistory, Hear, Hold, Receive, ErrorEnters, NoteEnters, Fail, FinishOver, CloseNow, CheckAgainst, failed_if, loose_effect, loosely_allows, befalls, loose_run}
+use Rattle.cf_schedule.specs.Marks.{Mark, Asks, Reads, Stops, only, read_mark, read_marks}
+use Rattle.cf_schedule.specs.StreamSafety.{Seen, sees, sees_all, nothing_seen, IsSafe}
+use Rattle.cf_schedule.proofs.Names.{text_tells, by_test, both_test, with-all, with-both}
+use Rattle.cf_schedule.proofs.Standing.{due, IsGoodWith, IsGood}
+use Rattle.cf_schedule.proofs.Leading.{due-bound}
+use Rattle.cf_schedule.proofs.Within.{LastWithin, SubWithin, ErrandWithin, IsBounded, HasTop, IsSteady}
+use Rattle.cf_schedule.proofs.Keeping.{good-closes_with, good-comes, good-finishes, good-finishes_over, good-sends}
+use Rattle.cf_schedule.proofs.Hearing.{good-hears, good-errs, good-says, good-fails, good-reads, good-breaks, good-holds, good-receive_first, good_checks}
+use Rattle.cf_schedule.proofs.Bounding.{within-last_of, bounded-comes, bounded-finishes, bounded-finishes_over, bounded-closes_with, bounded-sends, bounded-hears, bounded-errs, bounded-says, bounded-fails, bounded-reads, bounded-breaks, bounded-holds, bounded-receive_first, bounded_checks}
+use Rattle.cf_schedule.proofs.Brokering.{grow-link, steady-epoch, steady-opened, steady-publish, steady-trim, steady-forget, steady-forget_all, lists-opened, lists-epoch, lists-trim, tops-publish, below-read, within_publication}
+use Rattle.cf_schedule.proofs.Telling.{told, told_first, Knows, Tells, knows-last, tells-front, quiet_told}
+use Rattle.cf_schedule.proofs.Stepping.{IsFine, IsStep, step_marks, loose_marks, marks, client-hears_first, client-errs, client-says, client-fail_at, client-hold_first, same-found, closes_by-good, closes_by-bounded, closes_by-client, steady-broker_by, same-tops, tops-broker_by, answer-good, answer-bounded, answer_client}
+
+only-nil : (x y : List ℕ) → only x y [] ≡ []
+only-nil x y = by_test (λ ms. ms ≡ []) (bytes_eq x y) [] [] (λ h. refl) (λ h. refl)
+
+-- a step that tells nothing, after another one
+afterwards : (seen : List ℕ → List ℕ → Seen) (v w : World) (ms : List ℕ → List ℕ → List Mark)
+    → IsStep seen v ms → IsStep (λ x c. sees_all (seen x c) (ms x c)) w (λ x c. []) → IsStep seen w ms
+afterwards seen v w ms a b = record { fine = b.fine; safe = a.safe }
+
+modes-take : (n : Note) (ns : List Note) (l : Link) (c : List ℕ) → (receive_first (n ∷ ns) l).client.modes c ≡ takes c (l.client.modes c) n
+modes-take (Reply d k was r) ns l c = refl
+modes-take (Pub d q) ns l c = refl
+modes-take (End d) ns l c = refl
+modes-take (Fails d k code) ns l c = refl
+modes-take (PutDone k) ns l c = refl
+modes-take (Left k) ns l c = refl
+modes-take (Listed d k at low count) ns l c = refl
+modes-take PingDue ns l c = refl
+modes-take (Close code) ns l c = by_mode c (l.client.modes c)
+  where
+    by_mode : (c : List ℕ) (m : Mode) → idle m ≡ takes c m (Close code)
+    by_mode c (Idle last) = refl
+    by_mode c (Asking id from last) = refl
+    by_mode c (Live p) = refl
+
+module _ (seen : List ℕ → List ℕ → Seen) (w : World) (f : IsFine seen w) where
+  abbrev lists : Lists
+  lists = w.broker.lists
+
+  -- any step, by its parts
+  many : (v : World) (ms : List ℕ → List ℕ → List Mark)
+      → IsSteady v.broker
+      → ((x : List ℕ) → IsGood (λ c. (sees_all (seen x c) (ms x c)).read) (v.links x))
+      → ((x : List ℕ) → IsBounded (tops v.broker.lists) (v.links x))
+      → ((x c : List ℕ) → Tells (seen x c) (ms x c) ((v.links x).client.modes c))
+      → IsStep seen v ms
+  many v ms steady good bounded tells = record {
+    fine = record { steady = steady; bounded = bounded; good = good; knows = λ x c. (tells x c).2 };
+    safe = λ x c. ((tells x c).0, (tells x c).1);
+  }
+
+  -- nothing happens
+  still : IsStep seen w (λ x c. [])
+  still = record { fine = f; safe = λ x c. (tt, tt) }
+
+  -- the broker alone
+  broker-step : (b : Broker) → IsSteady b → ((d i : List ℕ) → tops w.broker.lists d i ≤ tops b.lists d i)
+      → IsStep seen (broker_with b w) (λ x c. [])
+  broker-step b steady grow =
+      many (broker_with b w) (λ x c. []) steady f.good (λ x. grow-link (tops w.broker.lists) (tops b.lists) grow (w.links x) (f.bounded x)) (λ x c. (tt, tt, f.knows x c))
+
+  -- one client's link, and perhaps the broker and the counts
+  one : (b : Broker) (boots counters : ℕ → ℕ) (clients : List (List ℕ)) (y : List ℕ) (l : Link) (at : List ℕ → List Mark)
+      → IsSteady b → ((d i : List ℕ) → tops w.broker.lists d i ≤ tops b.lists d i)
+      → IsGood (λ c. (sees_all (seen y c) (at c)).read) l
+      → IsBounded (tops b.lists) l
+      → ((c : List ℕ) → Tells (seen y c) (at c) (l.client.modes c))
+      → IsStep seen (record { broker = b; boots = boots; counters = counters; clients = clients; links = with w.links y l }) (λ x c. only x y (at c))
+  one b boots counters clients y l at steady grow good bounded tells =
+      many (record { broker = b; boots = boots; counters = counters; clients = clients; links = with w.links y l }) (λ x c. only x y (at c)) steady
+      (λ x. elim (text_tells x y) [
+        | inl h ↦ rw h.0 (subst (λ z. IsGood (λ c. (sees_all (seen z c) (at c)).read) l) (sym h.1) good)
+        | inr h ↦ rw h.0 (f.good x)
+      ])
+      (with-all (λ x l. IsBounded (tops b.lists) l) w.links y l bounded (λ x ne. grow-link (tops w.broker.lists) (tops b.lists) grow (w.links x) (f.bounded x)))
+      (λ x c. elim (text_tells x y) [
+        | inl h ↦ rw h.0 (subst (λ z. Tells (seen z c) (at c) (l.client.modes c)) (sym h.1) (tells c))
+        | inr h ↦ rw h.0 (tt, tt, f.knows x c)
+      ])
+
+  -- a link alone
+  link-step : (y : List ℕ) (l : Link) (at : List ℕ → List Mark)
+      → IsGood (λ c. (sees_all (seen y c) (at c)).read) l
+      → IsBounded (tops w.broker.lists) l
+      → ((c : List ℕ) → Tells (seen y c) (at c) (l.client.modes c))
+      → IsStep seen (link_with y l w) (λ x c. only x y (at c))
+  link-step y l at good bounded tells = one w.broker w.boots w.counters w.clients y l at f.steady (λ d i. le_refl _) good bounded tells
+
+  -- a link and perhaps the broker, and nothing is told
+  quiet-step : (b : Broker) (boots counters : ℕ → ℕ) (clients : List (List ℕ)) (y : List ℕ) (l : Link)
+      → IsSteady b → ((d i : List ℕ) → tops w.broker.lists d i ≤ tops b.lists d i)
+      → IsGood (λ c. (seen y c).read) l → IsBounded (tops w.broker.lists) l → l.client ≡ (w.links y).client
+      → IsStep seen (record { broker = b; boots = boots; counters = counters; clients = clients; links = with w.links y l }) (λ x c. [])
+  quiet-step b boots counters clients y l steady grow good bounded e =
+      many (record { broker = b; boots = boots; counters = counters; clients = clients; links = with w.links y l }) (λ x c. []) steady
+      (with-all (λ x l. IsGood (λ c. (seen x c).read) l) w.links y l good (λ x ne. f.good x))
+      (with-all (λ x l. IsBounded (tops b.lists) l) w.links y l (grow-link (tops w.broker.lists) (tops b.lists) grow l bounded)
+      (λ x ne. grow-link (tops w.broker.lists) (tops b.lists) grow (w.links x) (f.bounded x)))
+      (λ x c. (tt, tt, with-all (λ x l. Knows (seen x c) (l.client.modes c)) w.links y l (rw e (f.knows y c)) (λ x ne. f.knows x c) x))
+
+  quiet-link : (y : List ℕ) (l : Link)
+      → IsGood (λ c. (seen y c).read) l → IsBounded (tops w.broker.lists) l → l.client ≡ (w.links y).client
+      → IsStep seen (link_with y l w) (λ x c. [])
+  quiet-link y l good bounded e = quiet-step w.broker w.boots w.counters w.clients y l f.steady (λ d i. le_refl _) good bounded e
+
+  -- the client sends an ask
+  ask-step : (y c : List ℕ) (flag : Bool) (from : Option Position)
+      → (if flag then last_of ((w.links y).client.modes c) else None) ≡ from
+      → LastWithin (tops w.broker.lists c) from
+      → IsStep seen (sent y (Subscribe c from) w) (λ x d. only x y (only d c (Asks flag ∷ [])))
+  ask-step y c flag from e within =
+      link-step y (sends (Subscribe c from) (w.links y)) (λ d. only d c (Asks flag ∷ []))
+      (same-found (λ d. (seen y d).read) _ _
+      (λ d. by_test (λ ms. (sees_all (seen y d) ms).read ≡ (seen y d).read) (bytes_eq d c) (Asks flag ∷ []) [] (λ h. refl) (λ h. refl))
+      (good-sends (λ d. (seen y d).read) lists (w.links y) (Subscribe c from) (f.good y)))
+      (bounded-sends (tops w.broker.lists) lists (w.links y) (Subscribe c from) (f.bounded y) within)
+      (with-both (λ d ms m. Tells (seen y d) ms m) (λ d. []) (w.links y).client.modes c (Asks flag ∷ []) _
+      (let k = knows-last (seen y c) ((w.links y).client.modes c) (f.knows y c) in ((tt, tt), tt, (k, rw k e)))
+      (λ d ne. (tt, tt, f.knows y d)))
+
+  tells-stop : (y c : List ℕ) → Tells (seen y c) (Stops ∷ []) (idle ((w.links y).client.modes c))
+  tells-stop y c = ((tt, tt), tt, knows-last (seen y c) ((w.links y).client.modes c) (f.knows y c))
+
+  -- or that it leaves
+  leave-step : (y c : List ℕ) → IsStep seen (sent y (Unsubscribe c) w) (λ x d. only x y (only d c (Stops ∷ [])))
+  leave-step y c =
+      link-step y (sends (Unsubscribe c) (w.links y)) (λ d. only d c (Stops ∷ []))
+      (same-found (λ d. (seen y d).read) _ _
+      (λ d. by_test (λ ms. (sees_all (seen y d) ms).read ≡ (seen y d).read) (bytes_eq d c) (Stops ∷ []) [] (λ h. refl) (λ h. refl))
+      (good-sends (λ d. (seen y d).read) lists (w.links y) (Unsubscribe c) (f.good y)))
+      (bounded-sends (tops w.broker.lists) lists (w.links y) (Unsubscribe c) (f.bounded y) tt)
+      (with-both (λ d ms m. Tells (seen y d) ms m) (λ d. []) (w.links y).client.modes c (Stops ∷ []) _ (tells-stop y c) (λ d ne. (tt, tt, f.knows y d)))
+
+  -- or another command: its modes stay
+  call-step : (y : List ℕ) (e : Errand) → (sends e (w.links y)).client.modes ≡ (w.links y).client.modes → ErrandWithin (tops w.broker.lists) e
+      → IsStep seen (sent y e w) (λ x d. [])
+  call-step y e same within =
+      many (sent y e w) (λ x d. []) f.steady
+      (with-all (λ x l. IsGood (λ c. (seen x c).read) l) w.links y (sends e (w.links y)) (good-sends (λ d. (seen y d).read) lists (w.links y) e (f.good y)) (λ x ne. f.good x))
+      (with-all (λ x l. IsBounded (tops w.broker.lists) l) w.links y (sends e (w.links y)) (bounded-sends (tops w.broker.lists) lists (w.links y) e (f.bounded y) within) (λ x ne. f.bounded x))
+      (λ x c. (tt, tt, with-all (λ x l. Knows (seen x c) (l.client.modes c)) w.links y (sends e (w.links y)) (rw same (f.knows y c)) (λ x ne. f.knows x c) x))
+
+  -- the node hears a command
+  pub heard-step : (cfg : Config) (y : List ℕ) (change : Judgement → Judgement) → IsStep seen (heard cfg y change w) (λ x c. [])
+  heard-step cfg y change = first (w.links y).up
+    where
+      judged_as : (e : Errand) (j : Judgement) → IsStep seen (heard_as cfg y e j w) (λ x c. [])
+      judged_as e j =
+          quiet-step (broker_by cfg (w.links y) e j w.broker) w.boots w.counters w.clients y (closes_by j (hears (is_refused j) (w.links y)))
+          (steady-broker_by cfg (w.links y) e j w.broker f.steady)
+          (tops-broker_by cfg (w.links y) e j w.broker)
+          (closes_by-good (λ c. (seen y c).read) lists j _ (good-hears (λ c. (seen y c).read) lists (is_refused j) (w.links y) (f.good y)))
+          (closes_by-bounded (tops w.broker.lists) lists j _ (bounded-hears (tops w.broker.lists) lists (is_refused j) (w.links y) (f.bounded y)))
+          (closes_by-client j (hears (is_refused j) (w.links y)) ∙ client-hears_first (is_refused j) (w.links y).up (w.links y))
+
+      first : (ks : List Sent) → IsStep seen (hear_first cfg y change ks w) (λ x c. [])
+      first [] = still
+      first (k ∷ ks) = judged_as k.errand (change (judged cfg w (w.links y) k))
+
+  -- and answers one
+  pub answered-step : (y : List ℕ) (k : Sent) (j : Judgement) → IsStep seen (answered y k j w) (λ x c. [])
+  answered-step y k j =
+      quiet-link y (answer_by (wording lists) w.broker k j (w.links y))
+      (answer-good (λ c. (seen y c).read) lists w.broker k j (w.links y) (f.good y))
+      (answer-bounded (tops w.broker.lists) lists w.broker k j (w.links y) (f.bounded y))
+      (answer_client lists w.broker k j (w.links y))
+
+  -- the stream is read for a subscription
+  read-nothing : (b : Broker) (y c : List ℕ) → IsSteady b → b.lists ≡ w.broker.lists
+      → IsStep seen (broker_with b w) (λ x d. only x y (only d c []))
+  read-nothing b y c steady e =
+      many (broker_with b w) _ steady
+      (λ x. same-found (λ d. (seen x d).read) _ _ (λ d. rw (only-nil d c, only-nil x y) refl) (f.good x))
+      (λ x. rw e (f.bounded x))
+      (λ x d. rw (only-nil d c, only-nil x y) (tt, tt, f.knows x d))
+
+  read-ready : (b : Broker) (y c : List ℕ) (k : ℕ) (since : Option Position) (arrived : List Position) (s : StreamState)
+      → IsSteady b → b.lists ≡ w.broker.lists → b.streams c ≡ Some s → (w.links y).line.subs c ≡ Asked k since arrived
+      → IsStep seen (link_with y (with_line (put_sub c (Ready k (is_some since) (read_of since s) arrived) (w.links y).line) (w.links y)) (broker_with b w))
+      (λ x d. only x y (only d c (Reads s ∷ [])))
+  read-ready b y c k since arrived s steady e g a =
+      let top : length (w.broker.lists c s.epoch) ≡ s.top = subst (λ (t : Lists). length (t c s.epoch) ≡ s.top) e (subst (HasTop (tops b.lists c)) g (steady.top c)) in
+      let within = (subst (SubWithin (tops w.broker.lists c)) a ((f.bounded y).subs c)).0 in
+      one b w.boots w.counters w.clients y (with_line (put_sub c (Ready k (is_some since) (read_of since s) arrived) (w.links y).line) (w.links y)) (λ d. only d c (Reads s ∷ []))
+      steady (same-tops w.broker.lists b.lists e)
+      (same-found (with (λ d. (seen y d).read) c s) _ _
+      (λ d. both_test (λ ms r. (sees_all (seen y d) ms).read ≡ r) (bytes_eq d c) (Reads s ∷ []) [] s (seen y d).read (λ h. refl) (λ h. refl))
+      (good-reads (λ d. (seen y d).read) lists (w.links y) c k since arrived s (f.good y) a (below-read (tops w.broker.lists c) since s within top)))
+      (rw e (bounded-reads (tops w.broker.lists) lists (w.links y) c k since arrived s (f.bounded y) a (rw top (le_refl _))))
+      (with-all (λ d ms. Tells (seen y d) ms ((w.links y).client.modes d)) (λ d. []) c (Reads s ∷ [])
+      ((tt, tt), tt, knows-again (seen y c) ((w.links y).client.modes c) s (f.knows y c))
+      (λ d ne. (tt, tt, f.knows y d)))
+    where
+      knows-again : (t : Seen) (m : Mode) (s : StreamState) → Knows t m → Knows (sees t (Reads s)) m
+      knows-again t (Idle last) s k = k
+      knows-again t (Asking id from last) s k = k
+      knows-again t (Live p) s k = k
+
+  read-found : (b : Broker) (y c : List ℕ) (k : ℕ) (since : Option Position) (arrived : List Position) (o : Option StreamState)
+      → IsSteady b → b.lists ≡ w.broker.lists → b.streams c ≡ o → (w.links y).line.subs c ≡ Asked k since arrived
+      → IsStep seen (read_found y c since o (broker_with b w)) (λ x d. only x y (only d c (read_mark o)))
+  read-found b y c k since arrived None steady e s a = read-nothing b y c steady e
+  read-found b y c k since arrived (Some s) steady e g a =
+      subst (λ t. IsStep seen (link_with y (with_line (line_read_at c (read_of since s) t (w.links y).line) (w.links y)) (broker_with b w)) (λ x d. only x y (only d c (Reads s ∷ []))))
+      (sym a) (read-ready b y c k since arrived s steady e g a)
+
+  pub read-step : (y c : List ℕ) (s : Sub) → (w.links y).line.subs c ≡ s
+      → IsStep seen (read_at y c s w) (λ x d. only x y (only d c (read_marks s ((opened c w.broker).streams c))))
+  read-step y c Off e = read-nothing w.broker y c f.steady refl
+  read-step y c (Asked k since arrived) e =
+      read-found (opened c w.broker) y c k since arrived ((opened c w.broker).streams c) (steady-opened c w.broker f.steady) (lists-opened c w.broker) refl e
+  read-step y c (Ready k was r arrived) e = read-nothing w.broker y c f.steady refl
+  read-step y c (On p mark) e = read-nothing w.broker y c f.steady refl
+
+  -- the first note that is on its way reaches the client
+  pub receive-step : (y : List ℕ) (l : Link) (ns : List Note)
+      → IsGood (λ c. (seen y c).read) l → IsBounded (tops w.broker.lists) l → l.client ≡ (w.links y).client → l.way ≡ ns
+      → IsStep seen (link_with y (receive_first ns l) w) (λ x c. only x y (told_first c ((w.links y).client.modes c) ns))
+  receive-step y l [] g b same e = link-step y l (λ c. []) g b (λ c. rw same (tt, tt, f.knows y c))
+  receive-step y l (n ∷ ns) g b same e =
+      let coming : IsGoodWith (λ c. (seen y c).read) (n ∷ (ns ++ l.line.notes)) l = subst (λ xs. IsGoodWith (λ c. (seen y c).read) (xs ++ l.line.notes) l) e g in
+      subst (λ (k : Client). IsStep seen (link_with y (receive_first (n ∷ ns) l) w) (λ x c. only x y (told c (k.modes c) n))) same
+      (link-step y (receive_first (n ∷ ns) l) (λ c. told c (l.client.modes c) n)
+      (same-found (λ c. (seen y c).read) _ _ (λ c. quiet_told (seen y c) c (l.client.modes c) n)
+      (good-receive_first (λ c. (seen y c).read) lists l (n ∷ ns) g e))
+      (bounded-receive_first (tops w.broker.lists) lists l (n ∷ ns) b e)
+      (λ c. rw (modes-take n ns l c) (tells-front (seen y c) c l.heard (l.client.modes c) n (ns ++ l.line.notes) (l.line.subs c) (due c l.up)
+      (rw same (f.knows y c)) (coming.stands c) (due-bound c l.heard l.client.fresh l.up g.rises) coming.old.0)))
+
+  pub break-step : (y : List ℕ) → IsStep seen (link_with y (breaks (w.links y)) w) (λ x c. only x y (Stops ∷ []))
+  break-step y =
+      link-step y (breaks (w.links y)) (λ c. Stops ∷ [])
+      (good-breaks (λ c. (seen y c).read) lists (w.links y))
+      (bounded-breaks (tops w.broker.lists) lists (w.links y) (f.bounded y))
+      (tells-stop y)
+
+  deliver-step : (n : ℕ) (i : ℕ) (o : Option Place) → publication i w.broker ≡ o → IsStep seen (delivered n o w) (λ x c. [])
+  deliver-step n i None e = still
+  deliver-step n i (Some p) e =
+      many (delivered n (Some p) w) (λ x c. []) f.steady
+      (λ x. by_test (IsGood (λ c. (seen x c).read)) (on_node n (w.links x).node) _ _
+      (λ h. good-comes (λ c. (seen x c).read) lists (w.links x) p.channel p.at (f.good x)) (λ h. f.good x))
+      (λ x. by_test (IsBounded (tops w.broker.lists)) (on_node n (w.links x).node) _ _
+      (λ h. bounded-comes (tops w.broker.lists) lists (w.links x) p.channel p.at (f.bounded x) (within_publication w.broker i p f.steady e))
+      (λ h. f.bounded x))
+      (λ x c. (
+        tt,
+        tt,
+        by_test (λ (l : Link). Knows (seen x c) (l.client.modes c)) (on_node n (w.links x).node) _ _ (λ h. f.knows x c) (λ h. f.knows x c),
+      ))
+
+  restart-step : (n : ℕ) → IsStep seen (restarts n w) (λ x c. if on_node n (w.links x).node then Stops ∷ [] else [])
+  restart-step n =
+      many (restarts n w) _ f.steady
+      (λ x. both_test (λ (ms : List Mark) (l : Link). IsGood (λ c. (sees_all (seen x c) ms).read) l) (on_node n (w.links x).node) (Stops ∷ []) [] _ _
+      (λ h. good-breaks (λ c. (seen x c).read) lists (w.links x)) (λ h. f.good x))
+      (λ x. by_test (IsBounded (tops w.broker.lists)) (on_node n (w.links x).node) _ _
+      (λ h. bounded-breaks (tops w.broker.lists) lists (w.links x) (f.bounded x)) (λ h. f.bounded x))
+      (λ x c. both_test (λ (ms : List Mark) (l : Link). Tells (seen x c) ms (l.client.modes c)) (on_node n (w.links x).node) (Stops ∷ []) [] _ _
+      (λ h. tells-stop x c) (λ h. (tt, tt, f.knows x c)))
+
+  connect-step : (y : List ℕ) (n : ℕ) → IsStep seen (connects y n w) (λ x c. [])
+  connect-step y n =
+      quiet-step w.broker w.boots _ _ y _ f.steady (λ d i. le_refl _)
+      (let g = f.good y in record { stands = g.stands; rises = g.rises; old = g.old; subs_old = g.subs_old; unclosed = g.unclosed; shut = g.shut })
+      (let g = f.bounded y in record { modes = g.modes; notes = g.notes; subs = g.subs; ups = g.ups })
+      refl
+
+  -- something happens at a session
+  line-step : (y : List ℕ) (v : Line Note) → IsGood (λ c. (seen y c).read) (with_line v (w.links y)) → IsBounded (tops w.broker.lists) (with_line v (w.links y))
+      → IsStep seen (link_with y (with_line v (w.links y)) w) (λ x c. [])
+  line-step y v g b = quiet-link y (with_line v (w.links y)) g b refl
+
+-- a command is sent, heard and answered
+exchange-step : (cfg : Config) (y : List ℕ) (e : Errand) (seen : List ℕ → List ℕ → Seen) (w : World) (ms : List ℕ → List ℕ → List Mark)
+    → IsStep seen (sent y e w) ms → IsStep seen (exchange cfg y e w) ms
+exchange-step cfg y e seen w ms a =
+    let seen' : List ℕ → List ℕ → Seen = λ x c. sees_all (seen x c) (ms x c) in
+    let h : IsStep seen' (heard cfg y as_judged (sent y e w)) (λ x c. []) = heard-step seen' (sent y e w) a.fine cfg y as_judged in
+    let r : IsStep seen' (exchange cfg y e w) (λ x c. []) =
+    answered-step seen' (heard cfg y as_judged (sent y e w)) h.fine y (command_by y e w) (judgement cfg y e w) in
+    afterwards seen (sent y e w) (exchange cfg y e w) ms a r
+
+-- each line's effect
+module _ (cfg : Config) (seen : List ℕ → List ℕ → Seen) (w : World) (f : IsFine seen w) where
+  last_within : (x c : List ℕ) → LastWithin (tops w.broker.lists c) (last_of ((w.links x).client.modes c))
+  last_within x c = within-last_of (tops w.broker.lists c) ((w.links x).client.modes c) ((f.bounded x).modes c)
+
+  effect-step : (e : Event) → IsStep seen (effect cfg w e) (λ x c. step_marks x c w e)
+  effect-step (Epoch e) = broker-step seen w f (epoch_comes e w.broker) (steady-epoch e w.broker f.steady) (same-tops w.broker.lists (epoch_comes e w.broker).lists (lists-epoch e w.broker))
+  effect-step (Connect x n) = connect-step seen w f x n
+  effect-step (Ask x c) = exchange-step cfg x (Subscribe c None) seen w _ (ask-step seen w f x c false None refl tt)
+  effect-step (AskFrom x c) =
+      exchange-step cfg x (Subscribe c (last_of ((w.links x).client.modes c))) seen w _ (ask-step seen w f x c true (last_of ((w.links x).client.modes c)) refl (last_within x c))
+  effect-step (Read x c) = read-step seen w f x c ((w.links x).line.subs c) refl
+  effect-step (Finish x c) =
+      line-step seen w f x (finishes (wording w.broker.lists) c (w.links x).line)
+      (good-finishes (λ c. (seen x c).read) w.broker.lists (w.links x) c (f.good x))
+      (bounded-finishes (tops w.broker.lists) w.broker.lists (w.links x) c (f.bounded x))
+  effect-step (Publish c body) =
+      broker-step seen w f (publish (size_of cfg c) c (record { body = body; info = None }) w.broker)
+      (steady-publish (size_of cfg c) c (record { body = body; info = None }) w.broker f.steady) (tops-publish (size_of cfg c) c (record { body = body; info = None }) w.broker)
+  effect-step (PublishBy x c body) = exchange-step cfg x (PublishErrand c body) seen w _ (call-step seen w f x (PublishErrand c body) refl tt)
+  effect-step (Deliver n i) = deliver-step seen w f n i (publication i w.broker) refl
+  effect-step (Take x) =
+      receive-step seen w f x (holds (w.links x)) (holds (w.links x)).way
+      (good-holds (λ c. (seen x c).read) w.broker.lists (w.links x) (f.good x))
+      (bounded-holds (tops w.broker.lists) w.broker.lists (w.links x) (f.bounded x))
+      (client-hold_first (w.links x).line.notes (w.links x)) refl
+  effect-step (Break x) = break-step seen w f x
+  effect-step (Leave x c) = exchange-step cfg x (Unsubscribe c) seen w _ (leave-step seen w f x c)
+  effect-step (Trim c k) = broker-step seen w f (trim c k w.broker) (steady-trim c k w.broker f.steady) (same-tops w.broker.lists (trim c k w.broker).lists (lists-trim c k w.broker))
+  effect-step (Forget c) = broker-step seen w f (forget c w.broker) (steady-forget c w.broker f.steady) (λ d i. le_refl _)
+  effect-step BrokerRestart = broker-step seen w f (forget_all w.broker) (steady-forget_all w.broker f.steady) (λ d i. le_refl _)
+  effect-step (Restart n) = restart-step seen w f n
+  effect-step (Check x c) =
+      line-step seen w f x (checks (wording w.broker.lists) c (stands_at (w.broker.streams c)) (w.links x).line)
+      (good_checks (λ c. (seen x c).read) w.broker.lists (w.links x) c (stands_at (w.broker.streams c)) (f.good x))
+      (bounded_checks (tops w.broker.lists) w.broker.lists (w.links x) c (stands_at (w.broker.streams c)) (f.bounded x))
+  effect-step (ListHistory x c limit) = exchange-step cfg x (History c limit) seen w _ (call-step seen w f x (History c limit) refl tt)
+
+  loose-step : (h : Happening) → IsStep seen (loose_effect cfg w h) (λ x c. loose_marks x c w h)
+  loose-step (LineOf e) = effect-step e
+  loose-step (SendAsk x c) = ask-step seen w f x c false None refl tt
+  loose-step (SendAskFrom x c) = ask-step seen w f x c true (last_of ((w.links x).client.modes c)) refl (last_within x c)
+  loose-step (SendLeave x c) = leave-step seen w f x c
+  loose-step (SendPublish x c body) = call-step seen w f x (PublishErrand c body) refl tt
+  loose-step (SendHistory x c limit) = call-step seen w f x (History c limit) refl tt
+  loose-step (Hear x failing) = heard-step seen w f cfg x (failed_if failing)
+  loose-step (Hold x) =
+      quiet-link seen w f x (holds (w.links x)) (good-holds (λ c. (seen x c).read) w.broker.lists (w.links x) (f.good x))
+      (bounded-holds (tops w.broker.lists) w.broker.lists (w.links x) (f.bounded x)) (client-hold_first (w.links x).line.notes (w.links x))
+  loose-step (Receive x) = receive-step seen w f x (w.links x) (w.links x).way (f.good x) (f.bounded x) refl refl
+  loose-step (ErrorEnters x c id code) =
+      quiet-link seen w f x (errs (wording w.broker.lists) c id code (w.links x)) (good-errs (λ d. (seen x d).read) w.broker.lists (w.links x) c id code (f.good x))
+      (bounded-errs (tops w.broker.lists) w.broker.lists (w.links x) c id code (f.bounded x)) (client-errs w.broker.lists c id code (w.links x))
+  loose-step (NoteEnters x n) =
+      quiet-link seen w f x (says (wording w.broker.lists) n (w.links x)) (good-says (λ d. (seen x d).read) w.broker.lists (w.links x) n (f.good x))
+      (bounded-says (tops w.broker.lists) w.broker.lists (w.links x) n (f.bounded x)) (client-says w.broker.lists n (w.links x))
+  loose-step (Fail x c) =
+      quiet-link seen w f x (fails c (w.links x)) (good-fails (λ d. (seen x d).read) w.broker.lists (w.links x) c (f.good x))
+      (bounded-fails (tops w.broker.lists) w.broker.lists (w.links x) c (f.bounded x)) (client-fail_at c ((w.links x).line.subs c) (w.links x))
+  loose-step (FinishOver x c) =
+      line-step seen w f x (finishes_over (wording w.broker.lists) c (w.links x).line) (good-finishes_over (λ d. (seen x d).read) w.broker.lists (w.links x) c (f.good x))
+      (bounded-finishes_over (tops w.broker.lists) w.broker.lists (w.links x) c (f.bounded x))
+  loose-step (CloseNow x code) =
+      line-step seen w f x (closes_now (Close code) (w.links x).line) (good-closes_with (λ d. (seen x d).read) w.broker.lists (w.links x) code (f.good x))
+      (bounded-closes_with (tops w.broker.lists) w.broker.lists (w.links x) code (f.bounded x))
+  loose-step (CheckAgainst x c top) =
+      line-step seen w f x (checks (wording w.broker.lists) c top (w.links x).line) (good_checks (λ d. (seen x d).read) w.broker.lists (w.links x) c top (f.good x))
+      (bounded_checks (tops w.broker.lists) w.broker.lists (w.links x) c top (f.bounded x))
+
+  pub step : (h : Happening) → IsStep seen (befalls cfg w h) (λ x c. marks cfg x c w h)
+  step h = allowed (loosely_allows cfg w h) (loose-step h)
+    where
+      allowed : (b : Bool) → IsStep seen (loose_effect cfg w h) (λ x c. loose_marks x c w h)
+          → IsStep seen (if b then loose_effect cfg w h else w) (λ x c. if b then loose_marks x c w h else [])
+      allowed true k = k
+      allowed false k = still seen w f
+
+-- from any world that is fine
+abbrev pub history : Config → List ℕ → List ℕ → World → List Happening → List (List Mark)
+history cfg x c w [] = []
+history cfg x c w (h ∷ hs) = marks cfg x c w h ∷ history cfg x c (befalls cfg w h) hs
+
+safe-from : (cfg : Config) (hs : List Happening) (seen : List ℕ → List ℕ → Seen) (w : World) → IsFine seen w → (x c : List ℕ) → IsSafe (seen x c) (history cfg x c w hs)
+safe-from cfg [] seen w f x c = tt
+safe-from cfg (h ∷ hs) seen w f x c =
+    let s = step cfg seen w f h in
+    let here = s.safe x c in
+    (here.0, here.1, safe-from cfg hs (λ x c. sees_all (seen x c) (marks cfg x c w h)) (befalls cfg w h) s.fine x c)
+
+pub fine-start : IsFine (λ x c. nothing_seen) start
+fine-start = record {
+  steady = record {
+    top = λ c. tt;
+    unused = λ e h c. refl;
+    unseen = λ e h c. refl;
+    waiting_came = λ e h. h;
+    distinct = tt;
+    apart = λ c. tt;
+    among = λ c. tt;
+    within = tt;
+  };
+  bounded = λ x. record { modes = λ c. tt; notes = tt; subs = λ c. tt; ups = tt };
+  good = λ x. record { stands = λ c. tt; rises = omega arith; old = tt; subs_old = λ c. tt; unclosed = λ h. tt; shut = λ h c. refl };
+  knows = λ x c. refl;
+}
+
+pub safe_history : (cfg : Config) (hs : List Happening) (x c : List ℕ) → IsSafe nothing_seen (history cfg x c start hs)
+safe_history cfg hs x c = safe-from cfg hs (λ x c. nothing_seen) start fine-start x c
+
+pub fine-run : (cfg : Config) (hs : List Happening) (seen : List ℕ → List ℕ → Seen) (w : World) → IsFine seen w
+    → (after : List ℕ → List ℕ → Seen) × IsFine after (loose_run cfg w hs)
+fine-run cfg [] seen w f = (seen, f)
+fine-run cfg (h ∷ hs) seen w f =
+    let s = step cfg seen w f h in fine-run cfg hs (λ x c. sees_all (seen x c) (marks cfg x c w h)) (befalls cfg w h) s.fine
