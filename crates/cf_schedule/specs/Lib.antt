@@ -1,4 +1,7 @@
+pub mod Fresh
+pub mod Stopping
 pub mod Event
+pub mod OutQueue
 pub mod ScheduleLine
 pub mod Trace
 pub mod TraceLine

@@ -2,13 +2,30 @@
 #![tactic(auto)]
 
 mod body;
+mod client;
+mod config;
+mod epochs;
 mod event;
+mod halt;
+mod hub;
 pub mod laws;
 mod name;
 mod number;
+mod queue;
 pub mod rows;
+mod session;
+#[cfg(test)]
+mod tests;
+mod trace;
+mod verdict;
+mod whole;
 pub mod words;
+mod world;
 
 pub use body::{Body, MAX_BODY_DEPTH};
+pub use client::AppEvent;
+pub use config::Config;
 pub use event::{Event, EventFault};
 pub use name::{ChannelName, ClientName};
+pub use trace::{Entry, Trace};
+pub use whole::{Stopped, fresh, run};

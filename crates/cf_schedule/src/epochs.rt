@@ -1,0 +1,54 @@
+//! The epochs that wait for streams.
+ghost use Rattle.std.specs.Prelude.{◌≡◌, ◌++◌, ◌∷◌, ◌||◌, ◌==◌, [], length, OnOk, if◌then◌else◌};
+ghost use Rattle.std.specs.BTreeSet.{contains_text};
+
+use cf_protocol::Epoch;
+use cf_stream::Epochs;
+use std::alloc::{AllocError, Global};
+use std::collections::{BTreeSet, VecDeque};
+
+/// The epochs that wait, the next one first. None comes twice.
+#[derive(Drop)]
+pub(crate) struct WaitingEpochs {
+    waiting: VecDeque<Epoch>,
+    came: BTreeSet<String>,
+    alloc: Global,
+}
+
+impl WaitingEpochs {
+    pub(crate) fn new(alloc: Global) -> WaitingEpochs
+        ensures { result.waiting.items ≡ [] }
+    {
+        WaitingEpochs {
+            waiting: VecDeque::new(alloc),
+            came: BTreeSet::new(alloc),
+            alloc,
+        }
+    }
+
+    /// An epoch waits, behind the others. An empty one, and one that came before, changes nothing.
+    pub(crate) fn add(&mut self, epoch: Epoch) -> Result<(), AllocError>
+        ensures { OnOk result (self.new.waiting.items ≡
+            (if (length epoch == 0) || contains_text self.old.came epoch
+            then self.old.waiting.items else self.old.waiting.items ++ epoch ∷ [])) }
+    {
+        if epoch.is_empty() || self.came.contains(epoch.as_str()) {
+            return Ok(());
+        }
+        let key = String::from_str(self.alloc, epoch.as_str())?;
+        self.waiting.push_back(epoch)?;
+        self.came.insert(key)?;
+        Ok(())
+    }
+}
+
+impl Epochs for WaitingEpochs {
+    ghost use Rattle.std.specs.Prelude.{◌≡◌, slice_get, drop};
+
+    // the front one, if one waits
+    ghost draws = { λ old epoch new. (epoch ≡ slice_get old.waiting.items 0) × (new.waiting.items ≡ drop 1 old.waiting.items) };
+
+    fn draw(&mut self) -> Option<Epoch> {
+        self.waiting.pop_front()
+    }
+}

@@ -1,0 +1,90 @@
+//! A whole run of a schedule.
+ghost use Rattle.std.specs.Prelude.{◌≡◌, length, IfErr};
+ghost use Rattle.std.specs.List.{list_any};
+ghost use Rattle.cf_schedule.specs.Fresh.{are_fresh, is_new, brings};
+ghost use Rattle.cf_schedule.specs.Stopping.{StopsWithin};
+
+use crate::config::Config;
+use crate::event::Event;
+use crate::halt::Halt;
+use crate::trace::Trace;
+use crate::world::World;
+use cf_protocol::Epoch;
+use std::alloc::Global;
+
+/// Why a run stopped before the end of its schedule, and what the applications had got by then.
+#[derive(Drop)]
+pub enum Stopped {
+    /// The event after the first `done` needs a part that isn't built yet.
+    NotYet { done: usize, trace: Trace },
+    /// No memory was left for the event after the first `done`, or for the world before the first.
+    Memory { done: usize, trace: Trace },
+}
+
+/// What the applications get in a run of a schedule.
+pub fn run(alloc: Global, config: &Config, events: &[Event]) -> Result<Trace, Stopped>
+    ensures { IfErr result (StopsWithin (length events.now)) }
+{
+    let mut trace = Trace {
+        entries: Vec::new(alloc),
+    };
+    let Ok(mut world) = World::new(alloc, config) else {
+        return Err(Stopped::Memory { done: 0, trace });
+    };
+    for (done, event) in events.iter().enumerate() {
+        match world.step(done + 1, event) {
+            Ok(mut entries) => {
+                if trace.entries.append(&mut entries).is_err() {
+                    return Err(Stopped::Memory { done, trace });
+                }
+            }
+            Err(Halt::NotYet) => return Err(Stopped::NotYet { done, trace }),
+            Err(Halt::Memory) => return Err(Stopped::Memory { done, trace }),
+        }
+    }
+    Ok(trace)
+}
+
+/// Whether no two epoch events of a schedule bring one epoch, and none an empty one.
+pub fn fresh(events: &[Event]) -> bool
+    ensures { result ≡ are_fresh events.now }
+{
+    let mut rest = events;
+    while let Some((event, later)) = rest.split_first() {
+        if !is_new(event, later) {
+            return false;
+        }
+        rest = later;
+    }
+    true
+}
+
+// Whether the event brings no epoch, or one that isn't empty and that none of the others brings.
+fn is_new(event: &Event, others: &[Event]) -> bool
+    ensures { result ≡ is_new event.now others.now }
+{
+    match event {
+        Event::Epoch { epoch } => {
+            if epoch.is_empty() {
+                return false;
+            }
+            !one_brings(others, epoch)
+        }
+        _ => true,
+    }
+}
+
+fn one_brings(events: &[Event], epoch: &Epoch) -> bool
+    ensures { result ≡ list_any (brings epoch.now) events.now }
+{
+    events.iter().any(|event| brings(event, epoch))
+}
+
+fn brings(event: &Event, epoch: &Epoch) -> bool
+    ensures { result ≡ brings epoch.now event.now }
+{
+    match event {
+        Event::Epoch { epoch: another } => another.as_str() == epoch.as_str(),
+        _ => false,
+    }
+}

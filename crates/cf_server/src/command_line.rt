@@ -1,0 +1,58 @@
+//! The program's words.
+
+use crate::fault::Fault;
+use clap::error::ErrorKind;
+use clap::{Command, Error};
+use std::alloc::Global;
+use std::process::ExitCode;
+
+const ABOUT: &str = "Broadcast nodes that speak Centrifugo's client protocol, proved in Rattle.";
+
+const SIMULATE: &str =
+    "Reads a schedule from standard input, runs it, and prints what each client gets";
+
+const PROGRAM_NOTES: &str = "With no command it is `simulate`.
+
+Exit status: 0 done, 2 unusable words or input, 3 out of memory, 4 input or output failed.";
+
+const SCHEDULE_NOTES: &str = "A schedule has a line for each event, its words parted by one space:
+  epoch E         an epoch waits, behind the others, for the next stream that opens
+  connect X N     client X connects to node N, which is 0
+  ask X C         X sends the subscribe command for channel C, and its node reads it
+  read X C        the channel's stream is read for X's subscription
+  finish X C      the subscription stands, and its reply waits for X
+  publish C DATA  JSON data is published to C
+  deliver N I     node N is given the publication I, counted from 1 over all channels
+  take X          X takes the first text that waits for it
+A line that is empty or begins with # is passed over. An event that can't happen changes nothing.
+
+What is printed, each by the `take` that brings it:
+  X C sub E O fresh  X is subscribed to C, from offset O of epoch E
+  X C pub E O DATA   X got the publication of C at offset O of epoch E";
+
+/// Reads the program's words. With none but the program's name they ask for `simulate`. An error is what is to be shown:
+/// the help that was asked for, or why the words can't be used.
+pub fn read<'a>(alloc: Global, words: &'a [String]) -> Result<(), Error> {
+    let simulate = Command::new(alloc, "simulate")
+        .about(SIMULATE)
+        .after_help(SCHEDULE_NOTES);
+    let program = Command::new(alloc, "cf_server")
+        .about(ABOUT)
+        .after_help(PROGRAM_NOTES)
+        .subcommand(simulate)?;
+    program.try_get_matches_from(words)?;
+    Ok(())
+}
+
+/// Shows an error of `read`, and gives the exit status.
+pub fn show<R: Print + Eprint>(rt: &R, error: &Error) -> Result<ExitCode, Fault> {
+    if error.kind() == ErrorKind::OutOfMemory {
+        return Err(Fault::Memory);
+    }
+    error.print(rt)?;
+    Ok(if error.use_stderr() {
+        ExitCode::from(2)
+    } else {
+        ExitCode::SUCCESS
+    })
+}

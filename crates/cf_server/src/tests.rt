@@ -1,0 +1,302 @@
+use crate::default_config;
+use crate::simulate::simulate;
+use std::alloc::Global;
+use std::io;
+use std::io::{Read, Write};
+use std::test::Fail;
+
+// What a schedule's run writes, its status, and what it says on standard error.
+fn ran(alloc: Global, input: &[u8]) -> Result<(String, u8, String), Fail> {
+    let config = default_config(alloc)?;
+    let mut reader = input;
+    let mut writer = Vec::new(alloc);
+    let (status, fault) = match simulate(alloc, &mut reader, &mut writer, &config) {
+        Ok(()) => (0, String::new(alloc)),
+        Err(fault) => (fault.status(), fault.to_string(alloc)?),
+    };
+    Ok((String::from_utf8(writer)?, status, fault))
+}
+
+const FIRST_PUBLICATION: &str = "epoch aaaa
+connect ann 0
+ask ann news
+read ann news
+finish ann news
+take ann
+publish news {\"t\":1}
+deliver 0 1
+take ann
+";
+
+#[test]
+fn first_publication(rt: HostRuntime) -> Result<(), Fail> {
+    let (written, status, fault) = ran(rt.alloc(), FIRST_PUBLICATION.as_bytes())?;
+    assert_eq!(rt;
+        written.as_str(),
+        "ann news sub aaaa 0 fresh\nann news pub aaaa 1 {\"t\":1}\n"
+    );
+    assert_eq!(rt; status, 0);
+    assert_eq!(rt; fault.as_str(), "");
+    Ok(())
+}
+
+#[test]
+fn schedule_faults(rt: HostRuntime) -> Result<(), Fail> {
+    let cases = [
+        ("", 0, ""),
+        (
+            "epoch aaaa\nepoch aaaa\n",
+            2,
+            "line 2: epoch aaaa is used twice",
+        ),
+        (
+            "epoch aaaa\n# one\n\nepoch bbbb\nepoch aaaa",
+            2,
+            "line 5: epoch aaaa is used twice",
+        ),
+        ("connect ann", 2, "line 1: unreadable"),
+        ("connect ann 0\nconnect ann 0 \n", 2, "line 2: unreadable"),
+        ("connect ann 1", 2, "line 1: unreadable"),
+        ("# a comment\n\nconnect ann 00\n", 2, "line 3: unreadable"),
+        ("epoch aaaa\r\n", 2, "line 1: unreadable"),
+        (" # no comment", 2, "line 1: unreadable"),
+        ("break ann", 2, "line 1: unreadable"),
+        ("deliver 0 18446744073709551616", 2, "line 1: unreadable"),
+        ("publish news {\"t\":1", 2, "line 1: unreadable"),
+    ];
+    for (input, status, fault) in cases {
+        let (written, got, said) = ran(rt.alloc(), input.as_bytes())?;
+        assert_eq!(rt; written.as_str(), "", "at {input:?}");
+        assert_eq!(rt; got, status, "at {input:?}");
+        assert_eq!(rt; said.as_str(), fault, "at {input:?}");
+    }
+    Ok(())
+}
+
+// What isn't UTF-8 is looked for in the whole input first.
+#[test]
+fn not_utf8(rt: HostRuntime) -> Result<(), Fail> {
+    let (written, status, fault) = ran(rt.alloc(), b"connect ann\ntake ann\xff\n")?;
+    assert_eq!(rt; written.as_str(), "");
+    assert_eq!(rt; status, 2);
+    assert_eq!(rt; fault.as_str(), "not UTF-8");
+    Ok(())
+}
+
+#[test]
+fn two_clients_on_two_channels(rt: HostRuntime) -> Result<(), Fail> {
+    let input = "epoch aaaa
+epoch bbbb
+connect ann 0
+connect bob 0
+ask ann news
+ask bob sport
+read bob sport
+finish bob sport
+read ann news
+finish ann news
+publish news 1
+publish sport 2
+publish news [ 3 , 4 ]
+deliver 0 1
+deliver 0 2
+deliver 0 3
+take ann
+take bob
+take bob
+take ann
+take ann
+";
+    let (written, status, fault) = ran(rt.alloc(), input.as_bytes())?;
+    assert_eq!(rt;
+        written.as_str(),
+        "ann news sub bbbb 0 fresh
+bob sport sub aaaa 0 fresh
+bob sport pub aaaa 1 2
+ann news pub bbbb 1 1
+ann news pub bbbb 2 [3,4]
+"
+    );
+    assert_eq!(rt; status, 0);
+    assert_eq!(rt; fault.as_str(), "");
+    Ok(())
+}
+
+// A client that subscribes late gets what is published from then on.
+#[test]
+fn late_subscriber(rt: HostRuntime) -> Result<(), Fail> {
+    let input = "epoch aaaa
+publish news 1
+publish news 2
+connect ann 0
+ask ann news
+read ann news
+finish ann news
+deliver 0 2
+deliver 0 1
+publish news 3
+deliver 0 3
+take ann
+take ann
+take ann
+";
+    let (written, status, _) = ran(rt.alloc(), input.as_bytes())?;
+    assert_eq!(rt;
+        written.as_str(),
+        "ann news sub aaaa 2 fresh\nann news pub aaaa 3 3\n"
+    );
+    assert_eq!(rt; status, 0);
+    Ok(())
+}
+
+// A delivery that comes twice is dropped the second time, and a take from an empty queue gives nothing.
+#[test]
+fn delivery_twice(rt: HostRuntime) -> Result<(), Fail> {
+    let input = "epoch aaaa
+take ann
+connect ann 0
+take ann
+ask ann news
+read ann news
+finish ann news
+publish news 1
+deliver 0 1
+deliver 0 1
+deliver 0 0
+deliver 0 7
+take ann
+take ann
+take ann
+";
+    let (written, status, _) = ran(rt.alloc(), input.as_bytes())?;
+    assert_eq!(rt;
+        written.as_str(),
+        "ann news sub aaaa 0 fresh\nann news pub aaaa 1 1\n"
+    );
+    assert_eq!(rt; status, 0);
+    Ok(())
+}
+
+// Where no epoch waits, what would open a stream changes nothing.
+#[test]
+fn no_epoch_waits(rt: HostRuntime) -> Result<(), Fail> {
+    let input = "publish news 1
+connect ann 0
+ask ann news
+read ann news
+finish ann news
+epoch aaaa
+read ann news
+finish ann news
+publish news 2
+deliver 0 1
+take ann
+take ann
+";
+    let (written, status, _) = ran(rt.alloc(), input.as_bytes())?;
+    assert_eq!(rt;
+        written.as_str(),
+        "ann news sub aaaa 0 fresh\nann news pub aaaa 1 2\n"
+    );
+    assert_eq!(rt; status, 0);
+    Ok(())
+}
+
+// Lines that are passed over count, and the trace up to the stop is written.
+#[test]
+fn stops_not_yet(rt: HostRuntime) -> Result<(), Fail> {
+    let subscribed = "# ann misses a publication
+epoch aaaa
+
+connect ann 0
+ask ann news
+";
+    let cases = [
+        (
+            "read ann news\nfinish ann news\ntake ann\npublish news 1\npublish news 2\n# the gap\ndeliver 0 2\n",
+            "ann news sub aaaa 0 fresh\n",
+            "line 12: not yet",
+        ),
+        (
+            "read ann news\npublish news 1\ndeliver 0 1\n",
+            "",
+            "line 8: not yet",
+        ),
+        (
+            "read ann news\nfinish ann news\nask ann chat:x\ntake ann\n",
+            "",
+            "line 8: not yet",
+        ),
+    ];
+    for (more, output, fault) in cases {
+        let mut input = String::from_str(rt.alloc(), subscribed)?;
+        input.push_str(more)?;
+        let (written, status, said) = ran(rt.alloc(), input.as_bytes())?;
+        assert_eq!(rt; written.as_str(), output, "at {more:?}");
+        assert_eq!(rt; status, 2, "at {more:?}");
+        assert_eq!(rt; said.as_str(), fault, "at {more:?}");
+    }
+    Ok(())
+}
+
+// A push of 1,048,576 bytes is queued, and one of a byte more isn't.
+#[test]
+fn slow_consumer(rt: HostRuntime) -> Result<(), Fail> {
+    let before = "epoch aaaa
+connect ann 0
+ask ann c
+read ann c
+finish ann c
+take ann
+publish c ";
+    for (letters, lines, fault) in [(1_048_523, 2, ""), (1_048_524, 1, "line 8: not yet")] {
+        let mut input = String::from_str(rt.alloc(), before)?;
+        input.push('"')?;
+        for _ in 0..letters {
+            input.push('x')?;
+        }
+        input.push_str("\"\ndeliver 0 1\ntake ann\n")?;
+        let (written, _, said) = ran(rt.alloc(), input.as_bytes())?;
+        assert_eq!(rt; written.as_str().lines().count(), lines);
+        assert_eq!(rt; said.as_str(), fault);
+    }
+    Ok(())
+}
+
+// An input or output that fails.
+#[derive(Drop)]
+struct Failing;
+
+impl Read for Failing {
+    fn read(&mut self, _buf: &mut [u8]) -> io::Result<usize> {
+        Err(io::Error::from(io::ErrorKind::ConnectionReset))
+    }
+}
+
+impl Write for Failing {
+    fn write(&mut self, _buf: &[u8]) -> io::Result<usize> {
+        Err(io::Error::from(io::ErrorKind::BrokenPipe))
+    }
+
+    fn flush(&mut self) -> io::Result<()> {
+        Err(io::Error::from(io::ErrorKind::BrokenPipe))
+    }
+}
+
+#[test]
+fn failed_input_and_output(rt: HostRuntime) -> Result<(), Fail> {
+    let alloc = rt.alloc();
+    let config = default_config(alloc)?;
+    let mut writer = Vec::new(alloc);
+    let Err(fault) = simulate(alloc, &mut Failing, &mut writer, &config) else {
+        return Err(Fail::from("a failed read is no end of the input"));
+    };
+    assert_eq!(rt; fault.status(), 4);
+    let mut reader = FIRST_PUBLICATION.as_bytes();
+    let Err(fault) = simulate(alloc, &mut reader, &mut Failing, &config) else {
+        return Err(Fail::from("a failed write is no success"));
+    };
+    assert_eq!(rt; fault.status(), 4);
+    assert_eq!(rt; fault.to_string(alloc)?.as_str(), "input or output failed");
+    Ok(())
+}
