@@ -1,6 +1,6 @@
 -- The publications that come to a node while a subscription is being asked for: a set of positions in its channel.
 -- (Centrifugo buffers them between subscribing and the reply; the limit is this project's own profile.)
-use Rattle.std.specs.Prelude.{ℕ, ◌==◌, nat_le, nat_lt, max, ◌&&◌, ◌||◌, Bool, true, false, if◌then◌else◌, List, [], ◌∷◌, length}
+use Rattle.std.specs.Prelude.{◌≡◌, ℕ, ◌==◌, nat_le, nat_lt, max, ◌&&◌, ◌||◌, Bool, true, false, if◌then◌else◌, List, [], ◌∷◌, length}
 use Rattle.std.specs.Str.{bytes_eq}
 use Rattle.cf_protocol.specs.Position.{Position}
 
@@ -30,3 +30,8 @@ highest (p ∷ ps) = max p.offset (highest ps)
 abbrev pub all_within : List Position → List ℕ → ℕ → Bool
 all_within [] e h = true
 all_within (p ∷ ps) e h = (bytes_eq p.epoch e && nat_le p.offset h) && all_within ps e h
+
+-- each of these is there once
+abbrev pub AreOnce : List Position → Type 0
+AreOnce [] = Unit {0}
+AreOnce (p ∷ ps) = (has ps p.epoch p.offset ≡ false) × AreOnce ps

@@ -1,0 +1,23 @@
+//! What the definitions of this crate amount to. Each law is a function that does nothing: its contract is the law.
+ghost use Rattle.std.specs.Prelude.{◌≡◌, ◌+◌, ◌≤◌, ◌↔◌, ◌==◌, ◌&&◌, ◌||◌, List, false, true, ℕ};
+ghost use Rattle.std.specs.Str.{bytes_eq};
+ghost use Rattle.cf_protocol.specs.Note.{Reading};
+ghost use Rattle.cf_protocol.specs.Position.{Position};
+ghost use Rattle.cf_recovery.specs.Arrivals.{AreOnce, arrives, has, overfull};
+ghost use Rattle.cf_recovery.specs.Release.{LiesWithin, Reaches, falls_short, run_length};
+
+/// What arrives is a set: a position that comes is in it, none other becomes so, and each is there once.
+pub fn arrivals_are_a_set()
+    ensures member { (q : Position) (arrived : List Position) (e : List ℕ) (i : ℕ) → has (arrives q arrived) e i ≡ ((bytes_eq q.epoch e && (q.offset == i)) || has arrived e i) }
+    ensures once { (q : Position) (arrived : List Position) → AreOnce arrived → AreOnce (arrives q arrived) }
+{}
+
+/// The run that a release passes on ends at the greatest offset up to which everything above the reply's position arrived,
+/// where no more arrived than are kept; else it is empty. The release falls short exactly where more arrived than are kept,
+/// or a position of another epoch or above the run's end.
+pub fn run_ends_at_the_greatest()
+    ensures reached { (arrived : List Position) (r : Reading) → Reaches arrived r.epoch r.top (r.top + run_length arrived r) }
+    ensures greatest { (arrived : List Position) (r : Reading) (n : ℕ) → overfull arrived ≡ false → Reaches arrived r.epoch r.top n → n ≤ r.top + run_length arrived r }
+    ensures overfull { (arrived : List Position) (r : Reading) → overfull arrived ≡ true → run_length arrived r ≡ 0 }
+    ensures sufficient { (arrived : List Position) (r : Reading) → (falls_short arrived r ≡ false) ↔ ((overfull arrived ≡ false) × LiesWithin arrived r.epoch (r.top + run_length arrived r)) }
+{}
