@@ -1,12 +1,12 @@
 -- A tick is a list of trims and forgets.
 use Rattle.std.proofs.Common.{◌≡◌, ℕ, List, [], ◌∷◌, ◌++◌, Bool, true, false, not, cond, Option, Some, None, refl, sym, ap, ◌∙◌, subst, map, length, arith, T, Ordering}
-use Rattle.std.specs.Prelude.{fold, ◌==◌, ◌&&◌}
+use Rattle.std.specs.Prelude.{fold, ◌==◌, ◌&&◌, ◌↔◌}
 use Rattle.std.specs.declared.cmp.Ordering.TheVariants.{Less, Equal, Greater}
 use Rattle.std.specs.FinMap as fin
 use Rattle.std.specs.FinMap.Entries.{below_all, is_sorted}
-use Rattle.std.specs.List.{filter_map}
+use Rattle.std.specs.List.{filter_map, cons_option}
 use Rattle.std.specs.Option.{option_map}
-use Rattle.std.specs.Ordering.{nat_cmp, is_lt, is_eq}
+use Rattle.std.specs.Ordering.{nat_cmp, is_lt, is_eq, eq_by_cmp}
 use Rattle.std.specs.Cmp.Lexicographic.{slice_cmp}
 use Rattle.std.specs.Str.{bytes_eq}
 use Rattle.std.proofs.lemmas.Bool.{eqb-true}
@@ -19,7 +19,7 @@ use Rattle.cf_protocol.specs.LogEntry.{Entry}
 use Rattle.cf_stream.specs.declared.due.Due.{Due}
 use Rattle.cf_stream.specs.declared.due.Due.TheVariants.{Forget as ToForget, Empty as ToEmpty}
 use Rattle.cf_stream.specs.Stream.{Shown, stays, is_over}
-use Rattle.cf_stream.specs.Streams.{Kept, Channels, stream_of, size_at, seconds_at, after_tick, due_of, due_channels}
+use Rattle.cf_stream.specs.Streams.{Kept, Channels, stream_of, size_at, seconds_at, after_tick, due_of, due_at, due_to, due_channels}
 use Rattle.cf_stream.specs.PublicationList.{Life, Shows, kept_newest}
 use Rattle.cf_stream.specs.ChannelLists.{ShowsAt}
 use Rattle.cf_stream.specs.LogState.{Adds, life_in, due_entry, due_entries}
@@ -35,10 +35,6 @@ abbrev due_change : Option Due → Option Life → Option Life
 due_change None o = o
 due_change (Some ToForget) o = None
 due_change (Some ToEmpty) o = option_map (kept_newest 0) o
-
-abbrev due_at : ℕ → ℕ → Option Shown → Option Due
-due_at now seconds None = None
-due_at now seconds (Some s) = due_of now seconds s
 
 first : (a b : Bool) → T (a && b) → T a
 first true b h = tt
@@ -140,3 +136,62 @@ Adds-tick k m now is = record {
         (subst (ShowsAt (sizes q) (after_tick now seconds (stream_of k q))) (sym seen) (tick_shown (sizes q) now seconds (stream_of k q) life (h.at q)));
   };
 }
+
+-- ---- what is due is what a tick changes
+
+held_by : Option Shown → ℕ
+held_by None = 0
+held_by (Some s) = length s.held
+
+changed_cases : (s : Shown) (b v z : Bool) → (length s.held == 0) ≡ z
+    → (cond {A = Option Due} b (cond (v && not z) (Some ToEmpty) None) (Some ToForget) ≡ None) ↔ (cond {A = Option Shown} b (Some (cond v (record s { held = [] }) s)) None ≡ Some s)
+unfolding held_by
+changed_cases s false v z e = (λ h. cc, λ h. cc)
+changed_cases s true false z e = (λ h. refl, λ h. refl)
+changed_cases s true true true e = (λ h. (let none = none_held s.held (eqb-true (length s.held) 0 e) in λ i. Some (record s { held = sym none i })), λ h. refl)
+changed_cases s true true false e = (λ h. cc, λ h. let none : false ≡ true = sym e ∙ ap (λ n. n == 0) (sym (ap held_by h)) in cc)
+
+pub changed_by_tick : (now seconds : ℕ) (o : Option Shown) → (due_at now seconds o ≡ None) ↔ (after_tick now seconds o ≡ o)
+changed_by_tick now seconds None = (λ h. refl, λ h. refl)
+changed_by_tick now seconds (Some s) = changed_cases s (stays now s) (is_over s.published seconds now) (length s.held == 0) refl
+
+or_else : Option Due → Option Due → Option Due
+or_else None o = o
+or_else (Some d) o = Some d
+
+-- what a list has for a channel, where its first entry is what is due to another or the same
+due_first : (q c : List ℕ) (d : Option Due) (rest : List (List ℕ × Due))
+    → due_to (cons_option (option_map (λ (x : Due). (c, x)) d) rest) q ≡ cond (eq_by_cmp (slice_cmp nat_cmp) q c) (or_else d (due_to rest q)) (due_to rest q)
+unfolding or_else
+due_first q c None rest = elim (eq_by_cmp (slice_cmp nat_cmp) q c) as (λ b. due_to rest q ≡ cond b (due_to rest q) (due_to rest q)) [ true ↦ refl | false ↦ refl ]
+due_first q c (Some d) rest = refl
+
+or_none : (d : Option Due) → or_else d None ≡ d
+unfolding or_else
+or_none None = refl
+or_none (Some d) = refl
+
+due_found : (now : ℕ) (t : NamespaceTable) (q : List ℕ) (es : List (List ℕ × Shown)) → Apart es
+    → due_to (due_channels now t es) q ≡ due_at now (seconds_at t q) (fin.find (slice_cmp nat_cmp) q es)
+due_found now t q [] h = refl
+due_found now t q (e ∷ es) h =
+    let d : Option Due = due_of now (seconds_at t e.0) e.1 in
+    let rest : Option Shown = fin.find (slice_cmp nat_cmp) q es in
+    let more : Option Due = due_to (due_channels now t es) q in
+    let cases : (b : Bool) → bytes_eq e.0 q ≡ b → cond b (or_else d more) more ≡ due_at now (seconds_at t q) (cond b (Some e.1) rest) =
+    λ b. elim b as (λ b. bytes_eq e.0 q ≡ b → cond b (or_else d more) more ≡ due_at now (seconds_at t q) (cond b (Some e.1) rest)) [
+      | true ↦ λ is. let key = (bytes_eq-Decides e.0 q).0 is in
+          let none : rest ≡ None = subst (λ k. fin.find (slice_cmp nat_cmp) k es ≡ None) key h.0 in
+          ap (or_else d) (due_found now t q es h.1 ∙ ap (due_at now (seconds_at t q)) none) ∙ or_none d ∙ ap (λ k. due_of now (seconds_at t k) e.1) key
+      | false ↦ λ is. due_found now t q es h.1
+    ] in
+    due_first q e.0 d (due_channels now t es)
+    ∙ ap (λ b. cond b (or_else d more) more) (sym (same_key e.0 q))
+    ∙ cases (bytes_eq e.0 q) refl
+    ∙ ap (λ b. due_at now (seconds_at t q) (cond b (Some e.1) rest)) (same_key e.0 q)
+
+-- the walk has for each channel what is due to it
+pub due_exact : (k : Kept) (now : ℕ) (q : List ℕ) → due_to (due_channels now k.namespaces (fin.entries k.streams)) q ≡ due_at now (seconds_at k.namespaces q) (stream_of k q)
+due_exact k now q =
+    due_found now k.namespaces q (fin.entries k.streams) (sorted_apart (fin.entries k.streams) (fin.entries_sorted k.streams))
+    ∙ ap (due_at now (seconds_at k.namespaces q)) (sym (fin.get-entries k.streams q))

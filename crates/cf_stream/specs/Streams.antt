@@ -106,6 +106,15 @@ abbrev pub due_of : ℕ → ℕ → Shown → Option Due
 due_of now seconds s =
     if stays now s then (if is_over s.published seconds now && not (length s.held == 0) then Some Empty else None) else Some Forget
 
+-- the same at a channel, which may have no stream
+abbrev pub due_at : ℕ → ℕ → Option Shown → Option Due
+due_at now seconds None = None
+due_at now seconds (Some s) = due_of now seconds s
+
+-- what a list of what is due has for a channel
+abbrev pub due_to : List (List ℕ × Due) → List ℕ → Option Due
+due_to ds q = fin.find (slice_cmp nat_cmp) q ds
+
 -- the channels, in the order of their bytes, to which a tick would do something
 abbrev pub due_channels : ℕ → NamespaceTable → List (List ℕ × Shown) → List (List ℕ × Due)
 due_channels now t es = filter_map (λ e. option_map (λ d. (e.0, d)) (due_of now (seconds_at t e.0) e.1)) es

@@ -6,7 +6,7 @@ ghost use Rattle.std.specs.FinMap as fin;
 ghost use Rattle.std.specs.String.{string_bytes, string_cmp};
 ghost use Rattle.cf_protocol.specs.Settings.{settings_of};
 ghost use Rattle.cf_stream.specs.Stream.{pushed, used_at, trimmed, position_of, IsRecovery, IsHistory, stays, ticked, newest_of};
-ghost use Rattle.cf_stream.specs.Streams.{stream_of, put_at, stood_or, stood_or_opened, IsOfAnother, SetsAt, after_tick, due_channels, IsSetUp, size_at, seconds_at};
+ghost use Rattle.cf_stream.specs.Streams.{stream_of, put_at, stood_or, stood_or_opened, IsOfAnother, SetsAt, after_tick, due_at, due_to, due_channels, IsSetUp, size_at, seconds_at};
 ghost use Rattle.cf_stream.specs.PublicationList.{published, kept_newest};
 ghost use Rattle.cf_stream.specs.ChannelLists.{AreShown, ChangesAt, ReadsAt, ListsAt, life_or};
 ghost use Rattle.cf_stream.specs.LogState.{IsState, Adds, opening, if_stands, due_entries};
@@ -187,13 +187,15 @@ impl Streams {
         ensures namespaces { self.new.namespaces ≡ self.old.namespaces }
         ensures streams { (q : List ℕ) → stream_of self.new q ≡ after_tick now (seconds_at self.old.namespaces q) (stream_of self.old q) }
         ensures log { Adds self.old self.new (due_entries (due_channels now self.old.namespaces (fin.entries self.old.streams))) }
+        ensures due { (q : List ℕ) → (due_at now (seconds_at self.old.namespaces q) (stream_of self.old q) ≡ None) ↔ (stream_of self.new q ≡ stream_of self.old q) }
     {
         tick_in(&mut self.map, &self.namespaces, now);
     }
 
     /// The channels to which `tick` would do something, in the order of their bytes. It takes no memory.
     pub fn due(&self, now: u64) -> DueWalk<'_>
-        ensures { result ≡ due_channels now self.now.namespaces (fin.entries self.now.streams) }
+        ensures walk { result ≡ due_channels now self.now.namespaces (fin.entries self.now.streams) }
+        ensures exact { (q : List ℕ) → due_to result q ≡ due_at now (seconds_at self.now.namespaces q) (stream_of self.now q) }
     {
         DueWalk {
             rest: self.map.iter(),

@@ -3,7 +3,7 @@ use Rattle.cf_stream.specs.Streams.{seconds_at}
 use Rattle.cf_stream.proofs.Ticks.{get-after_tick}
 use Rattle.cf_stream.proofs.Channels.{get-by_channel}
 use Rattle.cf_stream.specs.Streams.{by_channel}
-use Rattle.cf_stream.proofs.LogTicks.{Adds-tick}
+use Rattle.cf_stream.proofs.LogTicks.{Adds-tick, changed_by_tick}
 use Rattle.cf_stream.proofs.streams.Streams.tick.Goals as goal
 
 pub returns-clause-streams : goal.returns-clause-streams
@@ -19,3 +19,6 @@ returns-clause-log c =
     (λ q. rw (get-by_channel c.self.inside.map q)
     (get-by_channel c.tick_in.new.streams q
     ∙ get-after_tick c.args.now (seconds_at c.self.inside.namespaces) c.self.inside.map c.tick_in.new.streams c.tick_in.ensures.ordered c.tick_in.ensures.entries q)))
+
+pub returns-clause-due : goal.returns-clause-due
+returns-clause-due c = λ q. rw (returns-clause-streams c q) (changed_by_tick c.args.now _ _)
