@@ -1,3 +1,4 @@
+pub mod DeliveryVerdict
 pub mod Fresh
 pub mod Stopping
 pub mod Event

@@ -1,5 +1,7 @@
 //! What a delivered publication means for a subscription.
-ghost use Rattle.std.specs.Prelude.{◌≡◌, ◌+◌, ◌≤◌, ◌↔◌};
+ghost use Rattle.std.specs.Prelude.{◌≡◌};
+ghost use Rattle.cf_recovery.specs.Verdict.{verdict};
+ghost use Rattle.cf_schedule.specs.DeliveryVerdict.{meaning};
 
 use cf_protocol::{Epoch, Position};
 
@@ -16,8 +18,7 @@ pub(crate) enum Verdict {
 
 /// The verdict on the publication of this epoch and offset, for a subscription at `mark`.
 pub(crate) fn check(mark: &Position, epoch: &Epoch, offset: u64) -> Verdict
-    ensures drop { (result ≡ Verdict.Drop) ↔ ((epoch.now ≡ mark.now.epoch) × (offset ≤ mark.now.offset)) }
-    ensures pass { (result ≡ Verdict.Pass) ↔ ((epoch.now ≡ mark.now.epoch) × (offset ≡ mark.now.offset + 1)) }
+    ensures { meaning result ≡ verdict mark.now (record { epoch = epoch.now; offset = offset }) }
 {
     if epoch.as_str() == mark.epoch.as_str() {
         if offset <= mark.offset {
