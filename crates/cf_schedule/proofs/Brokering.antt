@@ -10,9 +10,10 @@ use Rattle.cf_hub.specs.Connection.{Sub, Off, Asked, Ready, On}
 use Rattle.cf_client.specs.ClientState.{Mode, Idle, Asking, Live}
 use Rattle.cf_schedule.specs.Errand.{Errand, Sent, Subscribe, Unsubscribe, Publish, History}
 use Rattle.cf_schedule.specs.PublicationList.{Place, Broker, tops, publication, epoch_comes, open_at, opened, list_with, add_at, publish, trim_at, trim, forget, forget_all}
+use Rattle.cf_schedule.specs.FreshEpochs.{AreDistinct}
 use Rattle.cf_schedule.specs.Link.{Link}
 use Rattle.cf_schedule.proofs.Standing.{Below}
-use Rattle.cf_schedule.proofs.Within.{IsWithin, LastWithin, AreWithin, ModeWithin, SubWithin, NoteWithin, NotesWithin, ErrandWithin, UpsWithin, IsBounded, HasTop, IsApart, IsAmong, AreDistinct, PlacesWithin, IsSteady}
+use Rattle.cf_schedule.proofs.Within.{IsWithin, LastWithin, AreWithin, ModeWithin, SubWithin, NoteWithin, NotesWithin, ErrandWithin, UpsWithin, IsBounded, HasTop, IsApart, IsAmong, PlacesWithin, IsSteady}
 use Rattle.cf_schedule.proofs.Names.{text_tells, by_test, with-all, with-both, with-same, with-two}
 
 -- bounds that held hold under higher tops
@@ -117,6 +118,12 @@ not_true false k = refl
 false-true : (b : Bool) → b ≡ true → b ≡ false → ⊥
 false-true b h k = cc
 
+or_left : (a b : Bool) → (a || b) ≡ false → a ≡ false
+or_left a b h = grind arith
+
+not_empty : (e : List ℕ) → (length e == 0) ≡ false → e ≢ []
+not_empty e h i = absurd (false-true (length e == 0) (rw i refl) h)
+
 or_right : (a b : Bool) → (a || b) ≡ false → b ≡ false
 or_right a b h = grind arith
 
@@ -146,6 +153,7 @@ steady-epoch e b g =
         | inr j ↦ is_among-tail e i b.came (g.waiting_came i j)
       ];
       distinct = AreDistinct-more b.waiting e g.distinct (not_true _ (λ k. false-true (is_among e b.came) (g.waiting_came e k) h));
+      named = not_among-cons e [] b.came (not_empty e (or_left (length e == 0) (is_among e b.came) i')) g.named;
       apart = λ c. apart-more e b.waiting b.came (b.streams c) h (g.among c) (g.apart c);
       among = λ c. among-cons e b.came (b.streams c) (g.among c);
       within = g.within;
@@ -164,6 +172,7 @@ steady-open_at c None (x ∷ es) b g e =
       unseen = g.unseen;
       waiting_came = λ i k. g.waiting_came i (rw e (is_among-tail x i es k));
       distinct = distinct.1;
+      named = g.named;
       apart = with-all (λ d s. IsApart es s) b.streams c _ distinct.0 (λ d ne. apart-tail x es (b.streams d) (subst (λ v. IsApart v (b.streams d)) e (g.apart d)));
       among = with-all (λ d s. IsAmong b.came s) b.streams c _ (g.waiting_came x first) (λ d ne. g.among d);
       within = g.within;
@@ -199,6 +208,7 @@ steady-add_at size c d (Some s) b g e =
           (λ j. absurd (false-true _ among j)) (λ x i j. g.unseen i j x) x i k;
       waiting_came = g.waiting_came;
       distinct = g.distinct;
+      named = g.named;
       apart = with-all (λ d s. IsApart b.waiting s) b.streams c _ apart (λ d ne. g.apart d);
       among = with-all (λ d s. IsAmong b.came s) b.streams c _ among (λ d ne. g.among d);
       within = PlacesWithin-more _ b.accepted _ (grow-places (tops b.lists) _ (grow-add b.lists c s.epoch d) b.accepted g.within)
@@ -218,6 +228,7 @@ steady-trim_at c k (Some s) b g e = record {
   unseen = g.unseen;
   waiting_came = g.waiting_came;
   distinct = g.distinct;
+  named = g.named;
   apart = with-all (λ d s. IsApart b.waiting s) b.streams c _ (subst (IsApart b.waiting) e (g.apart c)) (λ d ne. g.apart d);
   among = with-all (λ d s. IsAmong b.came s) b.streams c _ (subst (IsAmong b.came) e (g.among c)) (λ d ne. g.among d);
   within = g.within;
@@ -233,6 +244,7 @@ steady-forget c b g = record {
   unseen = g.unseen;
   waiting_came = g.waiting_came;
   distinct = g.distinct;
+  named = g.named;
   apart = with-all (λ d s. IsApart b.waiting s) b.streams c None tt (λ d ne. g.apart d);
   among = with-all (λ d s. IsAmong b.came s) b.streams c None tt (λ d ne. g.among d);
   within = g.within;
@@ -245,6 +257,7 @@ steady-forget_all b g = record {
   unseen = g.unseen;
   waiting_came = g.waiting_came;
   distinct = g.distinct;
+  named = g.named;
   apart = λ c. tt;
   among = λ c. tt;
   within = g.within;

@@ -1,5 +1,7 @@
 -- Stream safety of every run of the interval machine, and of every loose run.
-use Rattle.std.proofs.Common.{ℕ, Option, Some, None, List, [], ◌∷◌, subst, inl, inr}
+use Rattle.std.proofs.Common.{◌≡◌, ℕ, Bool, true, false, Option, Some, None, List, [], ◌∷◌, length, refl, sym, subst, arith, inl, inr}
+use Rattle.cf_protocol.specs.Names.{is_among}
+use Rattle.cf_protocol.specs.Datum.{Datum}
 use Rattle.cf_protocol.specs.Position.{Position}
 use Rattle.cf_protocol.specs.Note.{Note, Reply, Pub, End, Fails, Put as PutDone, Left, Listed, PingDue, Close}
 use Rattle.cf_stream.specs.StreamState.{StreamState}
@@ -8,7 +10,8 @@ use Rattle.cf_client.specs.ClientState.{Mode, Idle, Asking, Live, last_of}
 use Rattle.cf_schedule.specs.Config.{Config}
 use Rattle.cf_schedule.specs.Event.{Event}
 use Rattle.cf_schedule.specs.Errand.{Errand, Sent, Subscribe, Unsubscribe, Publish, History}
-use Rattle.cf_schedule.specs.PublicationList.{tops}
+use Rattle.cf_schedule.specs.PublicationList.{Broker, tops}
+use Rattle.cf_schedule.specs.FreshEpochs.{AreFresh}
 use Rattle.cf_schedule.specs.World.{World, start}
 use Rattle.cf_schedule.specs.IntervalMachine.{run}
 use Rattle.cf_schedule.specs.LooseRun.{Happening, loose_run, lines}
@@ -19,7 +22,7 @@ use Rattle.cf_schedule.specs.StreamSafety.{AreTrueTo, OneDatum, Unbroken, Recove
 use Rattle.cf_schedule.specs.Leading.{coming, Lead, LeadsOn, IsListed}
 use Rattle.cf_schedule.proofs.Names.{text_tells}
 use Rattle.cf_schedule.proofs.Standing.{Leads, Awaits, Stands, due}
-use Rattle.cf_schedule.proofs.Within.{LastWithin}
+use Rattle.cf_schedule.proofs.Within.{LastWithin, IsApart, IsSteady}
 use Rattle.cf_schedule.proofs.Bounding.{within-last_of}
 use Rattle.cf_schedule.proofs.Steps.{fine-run, fine-start}
 use Rattle.cf_schedule.proofs.Schedules.{run_of_lines, trace_of_lines}
@@ -123,3 +126,26 @@ loose_recovered cfg hs x c = recovered_of (account cfg x c (loose_trace cfg 1 st
 
 pub loose_honest : (cfg : Config) (hs : List Happening) (x c : List ℕ) → HonestRecovery (account cfg x c (loose_trace cfg 1 start hs) 1 start hs)
 loose_honest cfg hs x c = honest_of (account cfg x c (loose_trace cfg 1 start hs) 1 start hs) ((safe_loose cfg hs).1 x c)
+
+-- FRESH EPOCHS
+false-true : (b : Bool) → b ≡ true → b ≡ false → ⊥
+false-true b h k = cc
+
+no_data : (l : List Datum) → length l ≡ 0 → l ≡ []
+no_data [] h = refl
+no_data (d ∷ l) h = absurd (omega arith)
+
+fresh-broker : (b : Broker) → IsSteady b → AreFresh b
+fresh-broker b g = (
+  (λ e h. (
+    (λ i. false-true (is_among [] b.came) (subst (λ x. is_among x b.came ≡ true) i (g.waiting_came e h)) g.named),
+    (λ c s i j. false-true (is_among s.epoch b.waiting) (subst (λ x. is_among x b.waiting ≡ true) (sym j) h) (subst (IsApart b.waiting) i (g.apart c))),
+    (λ c. no_data (b.lists c e) (g.unused e h c)),
+  )),
+  g.distinct,
+)
+
+pub fresh_run : (cfg : Config) (es : List Event) → AreFresh (run cfg start es).broker
+fresh_run cfg es =
+    subst (λ (w : World). AreFresh w.broker) (run_of_lines cfg es start)
+    (fresh-broker (loose_run cfg start (lines es)).broker (fine-run cfg (lines es) (λ x c. nothing_seen) start fine-start).1.steady)

@@ -401,6 +401,7 @@ fine-start = record {
     unseen = λ e h c. refl;
     waiting_came = λ e h. h;
     distinct = tt;
+    named = refl;
     apart = λ c. tt;
     among = λ c. tt;
     within = tt;

@@ -8,6 +8,7 @@ use Rattle.cf_hub.specs.Connection.{Sub, Off, Asked, Ready, On}
 use Rattle.cf_client.specs.ClientState.{Mode, Idle, Asking, Live, read_to}
 use Rattle.cf_schedule.specs.Errand.{Errand, Sent, Subscribe, Unsubscribe, Publish, History}
 use Rattle.cf_schedule.specs.PublicationList.{Place, Broker, tops}
+use Rattle.cf_schedule.specs.FreshEpochs.{AreDistinct}
 use Rattle.cf_schedule.specs.Link.{Link}
 use Rattle.cf_schedule.specs.Leading.{coming}
 
@@ -76,10 +77,6 @@ abbrev pub IsAmong : List (List ℕ) → Option StreamState → Type 0
 IsAmong came None = Unit {0}
 IsAmong came (Some s) = is_among s.epoch came ≡ true
 
-abbrev pub AreDistinct : List (List ℕ) → Type 0
-AreDistinct [] = Unit {0}
-AreDistinct (e ∷ es) = (is_among e es ≡ false) × AreDistinct es
-
 abbrev pub PlacesWithin : (List ℕ → List ℕ → ℕ) → List Place → Type 0
 PlacesWithin tops [] = Unit {0}
 PlacesWithin tops (p ∷ ps) = IsWithin (tops p.channel) p.at × PlacesWithin tops ps
@@ -91,6 +88,7 @@ pub record IsSteady (b : Broker) : Type 0 where
   pub unseen : (e : List ℕ) → is_among e b.came ≡ false → (c : List ℕ) → tops b.lists c e ≡ 0
   pub waiting_came : (e : List ℕ) → is_among e b.waiting ≡ true → is_among e b.came ≡ true
   pub distinct : AreDistinct b.waiting
+  pub named : is_among [] b.came ≡ false
   pub apart : (c : List ℕ) → IsApart b.waiting (b.streams c)
   pub among : (c : List ℕ) → IsAmong b.came (b.streams c)
   pub within : PlacesWithin (tops b.lists) b.accepted

@@ -11,6 +11,7 @@ pub mod Word
 pub mod Config
 pub mod Errand
 pub mod PublicationList
+pub mod FreshEpochs
 pub mod Weights
 pub mod Link
 pub mod World

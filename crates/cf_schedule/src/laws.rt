@@ -5,6 +5,7 @@ ghost use Rattle.std.specs.Prelude.{◌≡◌, List, ℕ};
 ghost use Rattle.cf_client.specs.ClientState.{last_of};
 ghost use Rattle.cf_schedule.specs.Config.{Config};
 ghost use Rattle.cf_schedule.specs.Event.{Event};
+ghost use Rattle.cf_schedule.specs.FreshEpochs.{AreFresh};
 ghost use Rattle.cf_schedule.specs.IntervalMachine.{run};
 ghost use Rattle.cf_schedule.specs.Leading.{IsListed, LeadsOn, coming};
 ghost use Rattle.cf_schedule.specs.LooseRun.{Happening, lines, loose_run};
@@ -49,6 +50,13 @@ pub fn one_datum()
 pub fn notes_lead()
     ensures lead { (config : Config) (events : List Event) (client channel : List ℕ) → LeadsOn channel (((run config start events).links client).client.modes channel) (coming ((run config start events).links client)) (((run config start events).links client).line.subs channel) }
     ensures listed { (config : Config) (events : List Event) (client channel : List ℕ) → IsListed (tops (run config start events).broker.lists channel) (last_of (((run config start events).links client).client.modes channel)) }
+{}
+
+/// After every run each epoch that waits is fresh: it is not empty, no stream stands in it, no channel ever had a publication
+/// in it, and it waits once. So no epoch is drawn twice, whatever epochs come.
+#[tactic(auto, using(crate::proofs::Headline::fresh_run))]
+pub fn epochs_are_fresh()
+    ensures { (config : Config) (events : List Event) → AreFresh (run config start events).broker }
 {}
 
 /// A schedule is a loose run of its lines: it leads to the same world and has the same trace.
