@@ -1,5 +1,5 @@
 -- No epoch is drawn twice, and none is empty: the machine sees to that by itself, whatever epochs come.
-use Rattle.std.specs.Prelude.{◌≡◌, ◌≢◌, ℕ, false, true, Option, Some, List, [], ◌∷◌}
+use Rattle.std.specs.Prelude.{◌≡◌, ◌≢◌, ℕ, false, true, Some, List, [], ◌∷◌}
 use Rattle.cf_protocol.specs.Names.{is_among}
 use Rattle.cf_stream.specs.StreamState.{StreamState}
 use Rattle.cf_schedule.specs.PublicationList.{Broker}
