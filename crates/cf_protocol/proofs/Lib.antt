@@ -5,3 +5,6 @@ pub mod Compacts
 pub mod Lookups
 pub mod Readings
 pub mod Standing
+pub mod Writings
+pub mod Outgoings
+pub mod Clients

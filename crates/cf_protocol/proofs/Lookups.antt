@@ -8,7 +8,8 @@ use Rattle.std.proofs.lemmas.Slice.Eq.{bytes_eq-Decides}
 use Prim.Native.String.{String as Name}
 use Rattle.cf_json.specs.Grammar.{Tree}
 use Rattle.cf_json.specs.Characters.{characters, pieces, joined}
-use Rattle.cf_protocol.specs.Fields.{Fields, put, members_onto, object_as, look_up, unless_null, each_of}
+use Rattle.cf_json.specs.Members.{Fields, put, members_onto}
+use Rattle.cf_protocol.specs.Fields.{object_as, look_up, unless_null, each_of}
 use Rattle.cf_protocol.specs.Written.{Member, parts_of, object_of}
 
 -- ---- keys
@@ -25,7 +26,7 @@ plain_characters (x ∷ xs) h = let p = and_parts (not (x == 92)) (is_plain xs) 
 
 abbrev pub are_plain : List Member → Bool
 are_plain [] = true
-are_plain (m ∷ ms) = is_plain (codes m.0) && are_plain ms
+are_plain (m ∷ ms) = is_plain m.0 && are_plain ms
 
 -- ---- look-ups
 
@@ -36,7 +37,7 @@ or_else (Some t) b = Some t
 -- the last member with this key that stands
 abbrev pub slot : List ℕ → List Member → Option Tree
 slot k [] = None
-slot k (m ∷ ms) = if bytes_eq k (codes m.0) then or_else (slot k ms) m.1 else slot k ms
+slot k (m ∷ ms) = if bytes_eq k m.0 then or_else (slot k ms) m.1 else slot k ms
 
 once : {X : Type 0} (b : Bool) (x y z : X) → cond b x z ≡ cond b x (cond b y z)
 once true x y z = refl
@@ -48,7 +49,7 @@ apart true false x y z h = refl
 apart false true x y z h = refl
 apart false false x y z h = refl
 
-look_up-put : (k c : List ℕ) (t : Tree) (fs : Fields) → look_up k (put fs c t) ≡ (if bytes_eq k c then Some t else look_up k fs)
+look_up-put : (k c : List ℕ) (t : Tree) (fs : Fields) → look_up k (put fs (c, t)) ≡ (if bytes_eq k c then Some t else look_up k fs)
 look_up-put k c t [] = refl
 look_up-put k c t (f ∷ fs) =
     elim (cases_Bool (bytes_eq f.0 c)) [
@@ -82,16 +83,16 @@ same (Some u) b false = refl
 find : (ms : List Member) (acc : Fields) → are_plain ms ≡ true → Found ms acc
 find [] acc h = record { fields = acc; is = refl; at = λ k. refl }
 find ((k, None) ∷ ms) acc h =
-    let p = and_parts (is_plain (codes k)) (are_plain ms) h in
+    let p = and_parts (is_plain k) (are_plain ms) h in
     let r = find ms acc p.1 in
-    record { fields = r.fields; is = r.is; at = λ l. r.at l ∙ same (slot l ms) (look_up l acc) (bytes_eq l (codes k)) }
+    record { fields = r.fields; is = r.is; at = λ l. r.at l ∙ same (slot l ms) (look_up l acc) (bytes_eq l k) }
 find ((k, Some t) ∷ ms) acc h =
-    let p = and_parts (is_plain (codes k)) (are_plain ms) h in
-    let r = find ms (put acc (codes k) t) p.1 in
+    let p = and_parts (is_plain k) (are_plain ms) h in
+    let r = find ms (put acc (k, t)) p.1 in
     record {
       fields = r.fields;
-      is = rw (plain_characters (codes k) p.0) r.is;
-      at = λ l. r.at l ∙ ap (λ o. or_else (slot l ms) o) (look_up-put l (codes k) t acc) ∙ step (slot l ms) (look_up l acc) t (bytes_eq l (codes k));
+      is = rw (plain_characters k p.0) r.is;
+      at = λ l. r.at l ∙ ap (λ o. or_else (slot l ms) o) (look_up-put l k t acc) ∙ step (slot l ms) (look_up l acc) t (bytes_eq l k);
     }
 
 or_else-none : (a : Option Tree) → or_else a None ≡ a

@@ -1,12 +1,13 @@
 -- A member that was written is read as what was written.
 use Rattle.std.proofs.Common.{◌≡◌, ℕ, zero, suc, ◌≤◌, true, Some, refl, arith, ne_eqb, le-leb}
-use Rattle.std.proofs.lemmas.Fmt.{digits_decimal, digits_value-decimal}
-use Rattle.std.proofs.lemmas.Str.Parse.{IsNumeralModel, numerals_by_value, tells_all_ascii_digits}
+use Rattle.std.proofs.lemmas.Fmt.{decimal_is_IsNumeral}
+use Rattle.std.proofs.lemmas.Slice.Eq.{bytes_eq-Decides}
 use Rattle.std.specs.Prelude.{codes, decimal}
-use Rattle.std.specs.Str.{all_ascii_digits}
 use Rattle.std.specs.Str.Parse.{digits_value}
 use Prim.Native.String.{String as Name}
-use Rattle.cf_protocol.specs.Fields.{◌>>=◌, Fields, read_all, look_up, object_as, object_or_none, objects, whole_of, signed_of, within, as_whole, present, max_u32, max_u64, is_limit}
+use Rattle.cf_protocol.specs.Fields.{◌>>=◌, read_all, look_up, object_as, object_or_none, objects, within, as_whole, present, max_u32, max_u64, is_limit}
+use Rattle.cf_json.specs.Integers.{whole_of}
+use Rattle.cf_json.specs.Members.{Fields}
 use Rattle.cf_protocol.specs.Fields as fields
 use Rattle.cf_protocol.specs.Written.{Member, object_of, inner, list}
 use Rattle.cf_protocol.specs.Written as written
@@ -14,14 +15,10 @@ use Rattle.cf_protocol.specs.Regular.{IsCode}
 
 -- ---- numbers
 
-own : IsNumeralModel (λ ds. all_ascii_digits ds ≡ true) (digits_value 10)
-own = numerals_by_value (λ ds. all_ascii_digits ds ≡ true) tells_all_ascii_digits
-
 whole_is : (n : ℕ) → n ≤ max_u64 → whole_of (decimal n) ≡ Some n
 whole_is n h =
-    let digits : all_ascii_digits (decimal n) ≡ true = digits_decimal own n (omega arith) in
-    let value : digits_value 10 (decimal n) ≡ n = digits_value-decimal own n (omega arith) in
-    rw (digits, value) refl
+    let value : digits_value 10 (decimal n) ≡ n = (decimal_is_IsNumeral n (omega arith)).1 in
+    rw (value, (bytes_eq-Decides (decimal n) (decimal n)).1 refl) refl
 
 within_is : (low high n : ℕ) → low ≤ n → n ≤ high → within low high n ≡ Some n
 within_is low high n a b = rw (le-leb low n a, le-leb n high b) refl

@@ -3,8 +3,9 @@ use Rattle.std.specs.Prelude.{ℕ, ◌==◌, nat_le, List, [], ◌∷◌, Bool, 
 use Prim.Native.String.{String as Name}
 use Rattle.cf_json.specs.Grammar.{Tree, depth}
 use Rattle.cf_json.specs.Compact.{compact_text}
+use Rattle.cf_json.specs.Members.{Fields}
 use Rattle.cf_protocol.specs.Request.{Data, Absent, TooDeep, Body, Request, Pong, Connect, Subscribe, Unsubscribe, Publish, Presence, PresenceStats, History, Ping, Send, Other, Command}
-use Rattle.cf_protocol.specs.Fields.{◌>>=◌, Fields, member, text, flag, whole, limit, position, object_as, object_or_none, each_of, the_only, max_u32}
+use Rattle.cf_protocol.specs.Fields.{◌>>=◌, member, text, flag, whole, limit, position, object_as, object_or_none, each_of, the_only, max_u32}
 
 -- ---- requests by their members
 

@@ -1,11 +1,12 @@
 -- Reading the members of an object by their keys.
 -- (RFC 8259, section 4. What an absent member counts as, and the ranges, are this project's own profile.)
 use Rattle.std.specs.Prelude.{ℕ, nat_le, ◌==◌, ℤ, pos, negsuc, neg_ℤ, int_le, List, [], ◌∷◌, ◌++◌, not, filter, Bool, false, ◌&&◌, if◌then◌else◌, Option, Some, None, option_map, option_to_list, option_and_then, codes}
-use Rattle.std.specs.Str.{bytes_eq, all_ascii_digits}
-use Rattle.std.specs.Str.Parse.{digits_value}
+use Rattle.std.specs.Str.{bytes_eq}
 use Prim.Native.String.{String as Name}
 use Rattle.cf_json.specs.Grammar.{Tree, null, boolean, number, text as string, array, object, Parts, no_parts, part}
 use Rattle.cf_json.specs.Characters.{characters}
+use Rattle.cf_json.specs.Integers.{whole_of, signed_of}
+pub use Rattle.cf_json.specs.Members.{Fields, members_onto, members_of, items_of}
 use Rattle.cf_protocol.specs.Epoch.{epoch_of}
 use Rattle.cf_protocol.specs.Position.{Position}
 
@@ -32,15 +33,6 @@ abbrev pub as_flag : Tree → Option Bool
 as_flag (boolean b) = Some b
 as_flag t = None
 
--- A number that is spelled by digits alone: without sign, fraction or exponent. (RFC 8259, section 6, has no leading zeros.)
-abbrev pub whole_of : List ℕ → Option ℕ
-whole_of s = if all_ascii_digits s then Some (digits_value 10 s) else None
-
--- the same, with a minus sign before it or none
-abbrev pub signed_of : List ℕ → Option ℤ
-signed_of [] = None
-signed_of (x ∷ s) = if x == 45 then option_map (λ n. neg_ℤ (pos n)) (whole_of s) else option_map pos (whole_of (x ∷ s))
-
 abbrev pub within : ℕ → ℕ → ℕ → Option ℕ
 within low high n = if nat_le low n && nat_le n high then Some n else None
 
@@ -65,29 +57,10 @@ max_u64 = 18446744073709551615
 
 -- ---- members by their keys
 
--- the members of an object, by the characters of their keys
-abbrev pub Fields : Type 0
-Fields = List (List ℕ × Tree)
-
--- a member takes the place of an earlier one with its key
-abbrev pub put : Fields → List ℕ → Tree → Fields
-put fs k t = filter (λ f. not (bytes_eq f.0 k)) fs ++ (k, t) ∷ []
-
-abbrev pub members_onto : Fields → Parts → Option Fields
-members_onto fs no_parts = Some fs
-members_onto fs (part k t ps) = characters k >>= λ c. members_onto (put fs c t) ps
-
-abbrev pub members_of : Parts → Option Fields
-members_of ps = members_onto [] ps
-
 -- None: no object, or one with a key that has no characters
 abbrev pub as_object : Tree → Option Fields
 as_object (object ps) = members_of ps
 as_object t = None
-
-abbrev pub items_of : Parts → List Tree
-items_of no_parts = []
-items_of (part k t ps) = t ∷ items_of ps
 
 -- an object, read by f
 abbrev pub object_as : {A : Type 0} → (Fields → Option A) → Tree → Option A

@@ -17,3 +17,4 @@ pub mod Unreadable
 pub mod Shown
 pub mod LogEntry
 pub mod Reading
+pub mod Writing

@@ -1,5 +1,5 @@
 -- What is on its way to a client, in positions and without data.
-use Rattle.std.specs.Prelude.{ℕ, ◌-◌, List, Bool, Option, Some, None, option_map, slice_get, take, drop}
+use Rattle.std.specs.Prelude.{ℕ, zero, suc, ◌-◌, List, Bool, Option, Some, None, option_map, slice_get, take, drop}
 use Rattle.cf_protocol.specs.Position.{Position}
 use Rattle.cf_protocol.specs.Datum.{Datum, Placed, numbered}
 use Rattle.cf_protocol.specs.Outgoing.{Outgoing, Ping, Answer, Push, Subscribed, Unsubscribed, Published, Past, Failed, Publication, Unsubscribe}
@@ -39,9 +39,10 @@ Lists = List ℕ → List ℕ → List Datum
 abbrev pub placed_from : List Datum → ℕ → ℕ → List Placed
 placed_from ds low count = numbered low (take count (drop low ds))
 
--- the publication at an offset of a list
+-- the publication at an offset of a list; 0 is no place
 abbrev pub placed_at : List Datum → ℕ → Option Placed
-placed_at ds o = option_map (λ d. record { offset = o; datum = d }) (slice_get ds (o - 1))
+placed_at ds zero = None
+placed_at ds (suc o) = option_map (λ d. record { offset = suc o; datum = d }) (slice_get ds o)
 
 -- insufficient state: the client must ask again
 abbrev pub insufficient : ℕ

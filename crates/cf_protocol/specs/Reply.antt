@@ -4,9 +4,10 @@ use Rattle.std.specs.FinMap.{from_entries}
 use Prim.Native.String.{String as Name}
 use Rattle.cf_json.specs.Grammar.{Tree}
 use Rattle.cf_json.specs.Compact.{compact_text}
+use Rattle.cf_json.specs.Members.{Fields}
 use Rattle.cf_protocol.specs.Datum.{Who, Placed}
 use Rattle.cf_protocol.specs.Outgoing.{Outcome, Connected, Subscribed, Unsubscribed, Published, Present, Counted, Past, Pinged, Failed, Pushed, Publication, Unsubscribe, Outgoing, Ping, Answer, Push}
-use Rattle.cf_protocol.specs.Fields.{◌>>=◌, Fields, read_all, read_or, as_object, object_as, as_whole, member, present, text, flag, whole, position, objects, object_or_none, each_of, the_only, max_u32, max_u64}
+use Rattle.cf_protocol.specs.Fields.{◌>>=◌, read_all, read_or, as_object, object_as, as_whole, member, present, text, flag, whole, position, objects, object_or_none, each_of, the_only, max_u32, max_u64}
 
 -- ---- results by their members
 

@@ -17,13 +17,17 @@ use Rattle.cf_protocol.specs.Note.{Note, Lists, outgoing_of, insufficient}
 
 -- ---- members
 
--- a key, and its value where the member stands
+-- a key as it is spelled, and its value where the member stands
 abbrev pub Member : Type 0
-Member = Name × Option Tree
+Member = List ℕ × Option Tree
 
-abbrev pub part_or_none : Name → Option Tree → Parts → Parts
+infix 20 ◌⇒◌
+abbrev pub ◌⇒◌ : Name → Option Tree → Member
+k ⇒ t = (codes k, t)
+
+abbrev pub part_or_none : List ℕ → Option Tree → Parts → Parts
 part_or_none k None ps = ps
-part_or_none k (Some t) ps = part (codes k) t ps
+part_or_none k (Some t) ps = part k t ps
 
 abbrev pub parts_of : List Member → Parts
 parts_of [] = no_parts
@@ -65,17 +69,17 @@ inner ms = unless_empty (parts_of ms)
 -- ---- what several texts have
 
 abbrev pub position : Position → List Member
-position p = ("epoch", text p.epoch) ∷ ("offset", whole p.offset) ∷ []
+position p = ("epoch" ⇒ text p.epoch) ∷ ("offset" ⇒ whole p.offset) ∷ []
 
 abbrev pub info : Who → List Member
-info w = ("client", text w.client) ∷ ("user", text w.user) ∷ []
+info w = ("client" ⇒ text w.client) ∷ ("user" ⇒ text w.user) ∷ []
 
 abbrev pub info_or_none : Option Who → Option Tree
 info_or_none None = None
 info_or_none (Some w) = inner (info w)
 
 abbrev pub publication : (List ℕ → Tree) → Placed → Tree
-publication body p = object_of (("data", Some (body p.datum.body)) ∷ ("info", info_or_none p.datum.info) ∷ ("offset", whole p.offset) ∷ [])
+publication body p = object_of (("data" ⇒ Some (body p.datum.body)) ∷ ("info" ⇒ info_or_none p.datum.info) ∷ ("offset" ⇒ whole p.offset) ∷ [])
 
 abbrev pub publications : (List ℕ → Tree) → List Placed → Option Tree
 publications body ps = list (map (publication body) ps)
@@ -84,7 +88,7 @@ publications body ps = list (map (publication body) ps)
 
 abbrev pub from : Option Position → List Member
 from None = []
-from (Some p) = position p ++ ("recover", flag true) ∷ []
+from (Some p) = position p ++ ("recover" ⇒ flag true) ∷ []
 
 abbrev pub since : Option Position → Option Tree
 since None = None
@@ -96,22 +100,22 @@ body_of body TooDeep = None
 body_of body (Body b) = Some (body b)
 
 abbrev pub channel_alone : List ℕ → Tree
-channel_alone channel = object_of (("channel", text channel) ∷ [])
+channel_alone channel = object_of (("channel" ⇒ text channel) ∷ [])
 
 -- the request object stands also where it is empty
 abbrev pub command : (List ℕ → Tree) → ℕ → Request → List Member
 command body id request.Pong = []
-command body id (request.Connect token) = ("connect", Some (object_of (("token", text token) ∷ []))) ∷ ("id", whole id) ∷ []
-command body id (request.Subscribe channel p) = ("id", whole id) ∷ ("subscribe", Some (object_of (("channel", text channel) ∷ from p))) ∷ []
-command body id (request.Unsubscribe channel) = ("id", whole id) ∷ ("unsubscribe", Some (channel_alone channel)) ∷ []
-command body id (request.Publish channel d) = ("id", whole id) ∷ ("publish", Some (object_of (("channel", text channel) ∷ ("data", body_of body d) ∷ []))) ∷ []
-command body id (request.Presence channel) = ("id", whole id) ∷ ("presence", Some (channel_alone channel)) ∷ []
-command body id (request.PresenceStats channel) = ("id", whole id) ∷ ("presence_stats", Some (channel_alone channel)) ∷ []
+command body id (request.Connect token) = ("connect" ⇒ Some (object_of (("token" ⇒ text token) ∷ []))) ∷ ("id" ⇒ whole id) ∷ []
+command body id (request.Subscribe channel p) = ("id" ⇒ whole id) ∷ ("subscribe" ⇒ Some (object_of (("channel" ⇒ text channel) ∷ from p))) ∷ []
+command body id (request.Unsubscribe channel) = ("id" ⇒ whole id) ∷ ("unsubscribe" ⇒ Some (channel_alone channel)) ∷ []
+command body id (request.Publish channel d) = ("id" ⇒ whole id) ∷ ("publish" ⇒ Some (object_of (("channel" ⇒ text channel) ∷ ("data" ⇒ body_of body d) ∷ []))) ∷ []
+command body id (request.Presence channel) = ("id" ⇒ whole id) ∷ ("presence" ⇒ Some (channel_alone channel)) ∷ []
+command body id (request.PresenceStats channel) = ("id" ⇒ whole id) ∷ ("presence_stats" ⇒ Some (channel_alone channel)) ∷ []
 command body id (request.History channel limit p reverse) =
-    ("history", Some (object_of (("channel", text channel) ∷ ("limit", signed limit) ∷ ("reverse", flag reverse) ∷ ("since", since p) ∷ []))) ∷ ("id", whole id) ∷ []
-command body id request.Ping = ("id", whole id) ∷ ("ping", Some (object_of [])) ∷ []
-command body id request.Send = ("id", whole id) ∷ ("send", Some (object_of [])) ∷ []
-command body id request.Other = ("id", whole id) ∷ ("rpc", Some (object_of [])) ∷ []
+    ("history" ⇒ Some (object_of (("channel" ⇒ text channel) ∷ ("limit" ⇒ signed limit) ∷ ("reverse" ⇒ flag reverse) ∷ ("since" ⇒ since p) ∷ []))) ∷ ("id" ⇒ whole id) ∷ []
+command body id request.Ping = ("id" ⇒ whole id) ∷ ("ping" ⇒ Some (object_of [])) ∷ []
+command body id request.Send = ("id" ⇒ whole id) ∷ ("send" ⇒ Some (object_of [])) ∷ []
+command body id request.Other = ("id" ⇒ whole id) ∷ ("rpc" ⇒ Some (object_of [])) ∷ []
 
 -- ---- replies and pushes
 
@@ -126,54 +130,53 @@ message_of code =
 abbrev pub reason_of : ℕ → List ℕ
 reason_of code = if code == insufficient then codes "insufficient state" else []
 
--- the info of each client under its id, also where it is empty
-abbrev pub clients_of : List (List ℕ × List ℕ) → Parts
-clients_of [] = no_parts
-clients_of (u ∷ us) = part (escaped u.0) (object_of (info (record { client = u.0; user = u.1 }))) (clients_of us)
+-- the info of a client under its id, also where it is empty
+abbrev pub client : List ℕ × List ℕ → Member
+client u = (escaped u.0, Some (object_of (info (record { client = u.0; user = u.1 }))))
 
 abbrev pub presence : Users → List Member
-presence users = ("presence", unless_empty (clients_of (entries users))) ∷ []
+presence users = ("presence" ⇒ inner (map client (entries users))) ∷ []
 
 abbrev pub connected : List ℕ → List Member
-connected client = ("client", text client) ∷ ("ping", whole 25) ∷ ("pong", flag true) ∷ ("version", text (codes "1.0.0")) ∷ []
+connected id = ("client" ⇒ text id) ∷ ("ping" ⇒ whole 25) ∷ ("pong" ⇒ flag true) ∷ ("version" ⇒ text (codes "1.0.0")) ∷ []
 
 abbrev pub subscribed : (List ℕ → Tree) → Position → List Placed → Bool → Bool → List Member
 subscribed body p ps recovered was =
-    ("epoch", text p.epoch) ∷ ("offset", whole p.offset) ∷ ("positioned", flag true) ∷ ("publications", publications body ps)
-    ∷ ("recoverable", flag true) ∷ ("recovered", flag recovered) ∷ ("was_recovering", flag was) ∷ []
+    ("epoch" ⇒ text p.epoch) ∷ ("offset" ⇒ whole p.offset) ∷ ("positioned" ⇒ flag true) ∷ ("publications" ⇒ publications body ps)
+    ∷ ("recoverable" ⇒ flag true) ∷ ("recovered" ⇒ flag recovered) ∷ ("was_recovering" ⇒ flag was) ∷ []
 
 abbrev pub counted : ℕ → ℕ → List Member
-counted clients users = ("num_clients", whole clients) ∷ ("num_users", whole users) ∷ []
+counted clients users = ("num_clients" ⇒ whole clients) ∷ ("num_users" ⇒ whole users) ∷ []
 
 abbrev pub past : (List ℕ → Tree) → Position → List Placed → List Member
-past body p ps = position p ++ ("publications", publications body ps) ∷ []
+past body p ps = position p ++ ("publications" ⇒ publications body ps) ∷ []
 
 abbrev pub error : ℕ → List Member
-error code = ("code", whole code) ∷ ("message", text (message_of code)) ∷ ("temporary", flag (code == 100)) ∷ []
+error code = ("code" ⇒ whole code) ∷ ("message" ⇒ text (message_of code)) ∷ ("temporary" ⇒ flag (code == 100)) ∷ []
 
 -- the result object stands also where it is empty
 abbrev pub reply : (List ℕ → Tree) → ℕ → Outcome → List Member
-reply body id (Connected client) = ("connect", Some (object_of (connected client))) ∷ ("id", whole id) ∷ []
-reply body id (Subscribed p ps recovered was) = ("id", whole id) ∷ ("subscribe", Some (object_of (subscribed body p ps recovered was))) ∷ []
-reply body id Unsubscribed = ("id", whole id) ∷ ("unsubscribe", Some (object_of [])) ∷ []
-reply body id Published = ("id", whole id) ∷ ("publish", Some (object_of [])) ∷ []
-reply body id (Present users) = ("id", whole id) ∷ ("presence", Some (object_of (presence users))) ∷ []
-reply body id (Counted clients users) = ("id", whole id) ∷ ("presence_stats", Some (object_of (counted clients users))) ∷ []
-reply body id (Past p ps) = ("history", Some (object_of (past body p ps))) ∷ ("id", whole id) ∷ []
-reply body id Pinged = ("id", whole id) ∷ ("ping", Some (object_of [])) ∷ []
-reply body id (Failed code) = ("error", inner (error code)) ∷ ("id", whole id) ∷ []
+reply body id (Connected client) = ("connect" ⇒ Some (object_of (connected client))) ∷ ("id" ⇒ whole id) ∷ []
+reply body id (Subscribed p ps recovered was) = ("id" ⇒ whole id) ∷ ("subscribe" ⇒ Some (object_of (subscribed body p ps recovered was))) ∷ []
+reply body id Unsubscribed = ("id" ⇒ whole id) ∷ ("unsubscribe" ⇒ Some (object_of [])) ∷ []
+reply body id Published = ("id" ⇒ whole id) ∷ ("publish" ⇒ Some (object_of [])) ∷ []
+reply body id (Present users) = ("id" ⇒ whole id) ∷ ("presence" ⇒ Some (object_of (presence users))) ∷ []
+reply body id (Counted clients users) = ("id" ⇒ whole id) ∷ ("presence_stats" ⇒ Some (object_of (counted clients users))) ∷ []
+reply body id (Past p ps) = ("history" ⇒ Some (object_of (past body p ps))) ∷ ("id" ⇒ whole id) ∷ []
+reply body id Pinged = ("id" ⇒ whole id) ∷ ("ping" ⇒ Some (object_of [])) ∷ []
+reply body id (Failed code) = ("error" ⇒ inner (error code)) ∷ ("id" ⇒ whole id) ∷ []
 
 abbrev pub unsubscribed : ℕ → List Member
-unsubscribed code = ("code", whole code) ∷ ("reason", text (reason_of code)) ∷ []
+unsubscribed code = ("code" ⇒ whole code) ∷ ("reason" ⇒ text (reason_of code)) ∷ []
 
 abbrev pub pushed : (List ℕ → Tree) → Pushed → Member
-pushed body (Publication p) = ("pub", Some (publication body p))
-pushed body (Unsubscribe code) = ("unsubscribe", inner (unsubscribed code))
+pushed body (Publication p) = ("pub" ⇒ Some (publication body p))
+pushed body (Unsubscribe code) = ("unsubscribe" ⇒ inner (unsubscribed code))
 
 abbrev pub outgoing : (List ℕ → Tree) → Outgoing → List Member
 outgoing body Ping = []
 outgoing body (Answer id result) = reply body id result
-outgoing body (Push channel push) = ("push", inner (("channel", text channel) ∷ pushed body push ∷ [])) ∷ []
+outgoing body (Push channel push) = ("push" ⇒ inner (("channel" ⇒ text channel) ∷ pushed body push ∷ [])) ∷ []
 
 -- ---- texts
 

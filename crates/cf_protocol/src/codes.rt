@@ -1,4 +1,6 @@
 //! The codes of errors, of unsubscribe pushes and of closes, and what they say.
+ghost use Rattle.std.specs.Prelude.{◌≡◌, ◌==◌};
+ghost use Rattle.cf_protocol.specs.Written.{message_of as message_by, reason_of};
 
 /// Why a command is refused. (Centrifugo's client protocol, error codes.)
 #[derive(Clone, Copy, PartialEq, Eq, Debug)]
@@ -38,7 +40,9 @@ impl ErrorCode {
 }
 
 /// The message that stands beside an error code; empty for a code that isn't one of ours.
-pub fn message_of(code: u32) -> &'static str {
+pub fn message_of(code: u32) -> &'static str
+    ensures { result.now ≡ message_by code }
+{
     match code {
         100 => "internal server error",
         102 => "unknown channel",
@@ -53,7 +57,9 @@ pub fn message_of(code: u32) -> &'static str {
 }
 
 /// Whether a command that is refused with this error code may be sent again.
-pub fn is_temporary(code: u32) -> bool {
+pub fn is_temporary(code: u32) -> bool
+    ensures { result ≡ (code == 100) }
+{
     code == 100
 }
 
@@ -61,7 +67,9 @@ pub fn is_temporary(code: u32) -> bool {
 pub const INSUFFICIENT: u32 = 2500;
 
 /// The reason that stands beside an unsubscribe code; empty for a code that isn't ours.
-pub fn unsubscribe_reason(code: u32) -> &'static str {
+pub fn unsubscribe_reason(code: u32) -> &'static str
+    ensures { result.now ≡ reason_of code }
+{
     if code == INSUFFICIENT {
         "insufficient state"
     } else {

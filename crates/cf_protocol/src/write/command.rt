@@ -1,27 +1,66 @@
 //! The texts of commands.
+ghost use Rattle.std.specs.Prelude.{◌≡◌, ◌∷◌, [], ℕ, List, Some, IfOk, string_bytes};
+ghost use Rattle.cf_json.specs.Grammar.{Tree};
+ghost use Rattle.cf_protocol.specs.Shown.{shown_command, shown_request, shown_data};
+ghost use Rattle.cf_protocol.specs.Written as written;
+ghost use Rattle.cf_protocol.specs.Written.{◌⇒◌, as_it_is, object_of, channel_alone, from, since as since_of, body_of, command_text, command as command_members};
+ghost use Rattle.cf_protocol.specs.Writing.{Adds};
+
 use crate::command::{Command, Data, Request};
 use crate::position::Position;
 use crate::write::writer::Writer;
 use std::alloc::{AllocError, Global};
 
-/// The text of a command.
-pub fn write_command(alloc: Global, command: &Command) -> Result<String, AllocError> {
+/// The one text of a command: compact, with members in byte order of their keys, and those left out that say nothing.
+///
+/// # Errors
+///
+/// Where there is no memory.
+pub fn write_command(alloc: Global, command: &Command) -> Result<String, AllocError>
+    ensures { IfOk result (λ s. string_bytes s ≡ command_text (shown_command command.now)) }
+{
     let mut writer = Writer::new(alloc);
     writer.begin("{")?;
     write_members(&mut writer, command.id, &command.request)?;
-    writer.end("}")?;
+    writer.value("}")?;
     Ok(writer.into_text())
 }
 
 /// The members of a command. Its request stands also where it is an empty object.
-fn write_members(writer: &mut Writer, id: u32, request: &Request) -> Result<(), AllocError> {
+fn write_members(writer: &mut Writer, id: u32, request: &Request) -> Result<(), AllocError>
+    ensures { IfOk result (λ _. Adds writer.old writer.new (command_members as_it_is id (shown_request request.now))) }
+{
     match request {
         Request::Pong => Ok(()),
         Request::Connect { token } => {
-            begin_request(writer, "connect")?;
-            writer.text_member("token", token.as_str())?;
-            writer.end("}")?;
-            writer.whole_member("id", u64::from(id))
+            write_connect(writer, token.as_str())?;
+            write_id(writer, id)?;
+            Ok(())
+        }
+        Request::Subscribe { channel, since } => {
+            write_id(writer, id)?;
+            write_subscribe(writer, channel.as_str(), since)?;
+            Ok(())
+        }
+        Request::Unsubscribe { channel } => {
+            write_id(writer, id)?;
+            write_channel(writer, "unsubscribe", channel.as_str())?;
+            Ok(())
+        }
+        Request::Publish { channel, body } => {
+            write_id(writer, id)?;
+            write_publish(writer, channel.as_str(), body)?;
+            Ok(())
+        }
+        Request::Presence { channel } => {
+            write_id(writer, id)?;
+            write_channel(writer, "presence", channel.as_str())?;
+            Ok(())
+        }
+        Request::PresenceStats { channel } => {
+            write_id(writer, id)?;
+            write_channel(writer, "presence_stats", channel.as_str())?;
+            Ok(())
         }
         Request::History {
             channel,
@@ -29,81 +68,153 @@ fn write_members(writer: &mut Writer, id: u32, request: &Request) -> Result<(), 
             since,
             reverse,
         } => {
-            begin_request(writer, "history")?;
-            writer.text_member("channel", channel.as_str())?;
-            writer.signed_member("limit", *limit)?;
-            writer.flag_member("reverse", *reverse)?;
-            write_since(writer, since)?;
-            writer.end("}")?;
-            writer.whole_member("id", u64::from(id))
+            write_history(writer, channel.as_str(), limit, since, *reverse)?;
+            write_id(writer, id)?;
+            Ok(())
         }
-        _ => {
-            writer.whole_member("id", u64::from(id))?;
-            write_request(writer, request)
+        Request::Ping => {
+            write_id(writer, id)?;
+            write_empty(writer, "ping")?;
+            Ok(())
+        }
+        Request::Send => {
+            write_id(writer, id)?;
+            write_empty(writer, "send")?;
+            Ok(())
+        }
+        Request::Other => {
+            write_id(writer, id)?;
+            write_empty(writer, "rpc")?;
+            Ok(())
         }
     }
 }
 
-/// The position of a history, left out where there is none.
-fn write_since(writer: &mut Writer, since: &Option<Position>) -> Result<(), AllocError> {
+/// The id of a command or a reply.
+pub fn write_id(writer: &mut Writer, id: u32) -> Result<(), AllocError>
+    ensures { IfOk result (λ _. Adds writer.old writer.new (("id" ⇒ written.whole id) ∷ [])) }
+{
+    writer.whole_member("id", u64::from(id))?;
+    Ok(())
+}
+
+/// An object without members.
+pub fn write_empty(writer: &mut Writer, key: &str) -> Result<(), AllocError>
+    ensures { IfOk result (λ _. Adds writer.old writer.new ((key.now, Some (object_of [])) ∷ [])) }
+{
+    writer.open(key, "{")?;
+    writer.value("}")?;
+    Ok(())
+}
+
+/// The members of a position.
+pub fn write_position(writer: &mut Writer, position: &Position) -> Result<(), AllocError>
+    ensures { IfOk result (λ _. Adds writer.old writer.new (written.position position.now)) }
+{
+    writer.text_member("epoch", position.epoch.as_str())?;
+    writer.whole_member("offset", position.offset)?;
+    Ok(())
+}
+
+fn write_connect(writer: &mut Writer, token: &str) -> Result<(), AllocError>
+    ensures { IfOk result (λ _. Adds writer.old writer.new (("connect" ⇒ Some (object_of (("token" ⇒ written.text token.now) ∷ []))) ∷ [])) }
+{
+    writer.open("connect", "{")?;
+    writer.text_member("token", token)?;
+    writer.value("}")?;
+    Ok(())
+}
+
+/// A request that has a channel alone.
+fn write_channel(writer: &mut Writer, key: &str, channel: &str) -> Result<(), AllocError>
+    ensures { IfOk result (λ _. Adds writer.old writer.new ((key.now, Some (channel_alone channel.now)) ∷ [])) }
+{
+    writer.open(key, "{")?;
+    writer.text_member("channel", channel)?;
+    writer.value("}")?;
+    Ok(())
+}
+
+fn write_subscribe(
+    writer: &mut Writer,
+    channel: &str,
+    since: &Option<Position>,
+) -> Result<(), AllocError>
+    ensures { IfOk result (λ _. Adds writer.old writer.new (("subscribe" ⇒ Some (object_of (("channel" ⇒ written.text channel.now) ∷ from since.now))) ∷ [])) }
+{
+    writer.open("subscribe", "{")?;
+    writer.text_member("channel", channel)?;
+    write_from(writer, since)?;
+    writer.value("}")?;
+    Ok(())
+}
+
+/// The position from which a client goes on.
+fn write_from(writer: &mut Writer, since: &Option<Position>) -> Result<(), AllocError>
+    ensures { IfOk result (λ _. Adds writer.old writer.new (from since.now)) }
+{
+    let Some(position) = since else {
+        return Ok(());
+    };
+    write_position(writer, position)?;
+    writer.flag_member("recover", true)?;
+    Ok(())
+}
+
+fn write_publish(writer: &mut Writer, channel: &str, body: &Data) -> Result<(), AllocError>
+    ensures { IfOk result (λ _. Adds writer.old writer.new (("publish" ⇒ Some (object_of (("channel" ⇒ written.text channel.now) ∷ ("data" ⇒ body_of as_it_is (shown_data body.now)) ∷ []))) ∷ [])) }
+{
+    writer.open("publish", "{")?;
+    writer.text_member("channel", channel)?;
+    write_data(writer, body)?;
+    writer.value("}")?;
+    Ok(())
+}
+
+fn write_data(writer: &mut Writer, body: &Data) -> Result<(), AllocError>
+    ensures { IfOk result (λ _. Adds writer.old writer.new (("data" ⇒ body_of as_it_is (shown_data body.now)) ∷ [])) }
+{
+    match body {
+        Data::Absent => Ok(()),
+        Data::TooDeep => Ok(()),
+        Data::Body(text) => {
+            writer.key("data")?;
+            writer.value(text.as_str())?;
+            Ok(())
+        }
+    }
+}
+
+fn write_history(
+    writer: &mut Writer,
+    channel: &str,
+    limit: &i32,
+    since: &Option<Position>,
+    reverse: bool,
+) -> Result<(), AllocError>
+    ensures { IfOk result (λ _. Adds writer.old writer.new (("history" ⇒ Some (object_of (("channel" ⇒ written.text channel.now) ∷ ("limit" ⇒ written.signed limit.now) ∷ ("reverse" ⇒ written.flag reverse) ∷ ("since" ⇒ since_of since.now) ∷ []))) ∷ [])) }
+{
+    writer.open("history", "{")?;
+    writer.text_member("channel", channel)?;
+    writer.signed_member("limit", limit)?;
+    writer.flag_member("reverse", reverse)?;
+    write_since(writer, since)?;
+    writer.value("}")?;
+    Ok(())
+}
+
+/// The position of a history, left out where there is none, and where it is the empty epoch at 0.
+fn write_since(writer: &mut Writer, since: &Option<Position>) -> Result<(), AllocError>
+    ensures { IfOk result (λ _. Adds writer.old writer.new (("since" ⇒ since_of since.now) ∷ [])) }
+{
     let Some(position) = since else {
         return Ok(());
     };
     if position.epoch.is_empty() && position.offset == 0 {
         return Ok(());
     }
-    writer.key("since")?;
-    writer.begin("{")?;
+    writer.open("since", "{")?;
     write_position(writer, position)?;
-    writer.end("}")
-}
-
-/// The members of a position.
-pub fn write_position(writer: &mut Writer, position: &Position) -> Result<(), AllocError> {
-    writer.text_member("epoch", position.epoch.as_str())?;
-    writer.whole_member("offset", position.offset)
-}
-
-fn begin_request(writer: &mut Writer, key: &str) -> Result<(), AllocError> {
-    writer.key(key)?;
-    writer.begin("{")
-}
-
-/// The member of a request whose key comes after `id`.
-fn write_request(writer: &mut Writer, request: &Request) -> Result<(), AllocError> {
-    match request {
-        Request::Subscribe { channel, since } => {
-            begin_request(writer, "subscribe")?;
-            writer.text_member("channel", channel.as_str())?;
-            if let Some(position) = since {
-                write_position(writer, position)?;
-                writer.flag_member("recover", true)?;
-            }
-        }
-        Request::Publish { channel, body } => {
-            begin_request(writer, "publish")?;
-            writer.text_member("channel", channel.as_str())?;
-            if let Data::Body(text) = body {
-                writer.key("data")?;
-                writer.value(text.as_str())?;
-            }
-        }
-        Request::Unsubscribe { channel } => write_channel(writer, "unsubscribe", channel.as_str())?,
-        Request::Presence { channel } => write_channel(writer, "presence", channel.as_str())?,
-        Request::PresenceStats { channel } => write_channel(
-            writer,
-            "presence_stats",
-            channel.as_str(),
-        )?,
-        Request::Ping => begin_request(writer, "ping")?,
-        Request::Send => begin_request(writer, "send")?,
-        _ => begin_request(writer, "rpc")?,
-    }
-    writer.end("}")
-}
-
-/// The begin of a request that has a channel alone.
-fn write_channel(writer: &mut Writer, key: &str, channel: &str) -> Result<(), AllocError> {
-    begin_request(writer, key)?;
-    writer.text_member("channel", channel)
+    writer.value("}")?;
+    Ok(())
 }

@@ -1,9 +1,17 @@
 //! The texts of replies and pushes.
+ghost use Rattle.std.specs.Prelude.{◌≡◌, ◌∷◌, [], ℕ, List, map, Some, IfOk, string_bytes, string_cmp};
+ghost use Rattle.cf_json.specs.Compact.{compact_text};
+ghost use Rattle.cf_protocol.specs.Shown.{shown_outgoing, shown_outcome, shown_pushed, shown_users};
+ghost use Rattle.cf_protocol.specs.Written as written;
+ghost use Rattle.cf_protocol.specs.Written.{◌⇒◌, as_it_is, object_of, inner, info as info_members, info_or_none, publication as publication_tree, publications as publications_list, connected, error as error_members, subscribed, counted, past, presence, unsubscribed, pushed, client as client_member, reply, outgoing as outgoing_members, outgoing_text};
+ghost use Rattle.cf_protocol.specs.Writing.{Adds, AddsValue, AddsItems, bytes_of};
+ghost use Rattle.std.specs.BTreeMap.{IsOrdered};
+
 use crate::codes::{is_temporary, message_of, unsubscribe_reason};
 use crate::outgoing::{Outcome, Outgoing, Pushed};
 use crate::position::Position;
 use crate::publication::{Info, Publication};
-use crate::write::command::write_position;
+use crate::write::command::{write_empty, write_id, write_position};
 use crate::write::writer::Writer;
 use std::alloc::{AllocError, Global};
 use std::collections::BTreeMap;
@@ -13,197 +21,317 @@ const PING_SECONDS: u64 = 25;
 /// The version that a client is told.
 const VERSION: &str = "1.0.0";
 
-/// The text of a reply or a push.
-pub fn write_reply(alloc: Global, outgoing: &Outgoing) -> Result<String, AllocError> {
+/// The one text of what goes out: compact, with members in byte order of their keys, and those left out that say nothing.
+///
+/// # Errors
+///
+/// Where there is no memory.
+pub fn write_reply(alloc: Global, outgoing: &Outgoing) -> Result<String, AllocError>
+    ensures { IfOk result (λ s. string_bytes s ≡ outgoing_text (shown_outgoing outgoing.now)) }
+{
     let mut writer = Writer::new(alloc);
     writer.begin("{")?;
-    match outgoing {
-        Outgoing::Ping => {}
-        Outgoing::Answer { id, outcome } => write_answer(&mut writer, *id, outcome)?,
-        Outgoing::Push { channel, push } => write_push(&mut writer, channel.as_str(), push)?,
-    }
-    writer.end("}")?;
+    write_members(&mut writer, outgoing)?;
+    writer.value("}")?;
     Ok(writer.into_text())
 }
 
-/// The members of a reply.
-fn write_answer(writer: &mut Writer, id: u32, outcome: &Outcome) -> Result<(), AllocError> {
+fn write_members(writer: &mut Writer, outgoing: &Outgoing) -> Result<(), AllocError>
+    ensures { IfOk result (λ _. Adds writer.old writer.new (outgoing_members as_it_is (shown_outgoing outgoing.now))) }
+{
+    match outgoing {
+        Outgoing::Ping => Ok(()),
+        Outgoing::Answer { id, outcome } => write_answer(writer, *id, outcome),
+        Outgoing::Push { channel, push } => write_push(writer, channel.as_str(), push),
+    }
+}
+
+/// The members of a reply. Its result stands also where it is an empty object.
+fn write_answer(writer: &mut Writer, id: u32, outcome: &Outcome) -> Result<(), AllocError>
+    ensures { IfOk result (λ _. Adds writer.old writer.new (reply as_it_is id (shown_outcome outcome.now))) }
+{
     match outcome {
         Outcome::Connected { client } => {
             write_connected(writer, client.as_str())?;
-            writer.whole_member("id", u64::from(id))
+            write_id(writer, id)?;
+            Ok(())
         }
-        Outcome::Failed { code } => {
-            write_error(writer, *code)?;
-            writer.whole_member("id", u64::from(id))
-        }
-        Outcome::Past {
-            position,
-            publications,
-        } => {
-            begin_result(writer, "history")?;
-            write_position(writer, position)?;
-            write_publications(writer, publications)?;
-            writer.end("}")?;
-            writer.whole_member("id", u64::from(id))
-        }
-        _ => {
-            writer.whole_member("id", u64::from(id))?;
-            write_outcome(writer, outcome)
-        }
-    }
-}
-
-fn begin_result(writer: &mut Writer, key: &str) -> Result<(), AllocError> {
-    writer.key(key)?;
-    writer.begin("{")
-}
-
-/// The result of a connect.
-fn write_connected(writer: &mut Writer, client: &str) -> Result<(), AllocError> {
-    begin_result(writer, "connect")?;
-    writer.text_member("client", client)?;
-    writer.whole_member("ping", PING_SECONDS)?;
-    writer.flag_member("pong", true)?;
-    writer.text_member("version", VERSION)?;
-    writer.end("}")
-}
-
-/// The error of a command that is refused.
-fn write_error(writer: &mut Writer, code: u32) -> Result<(), AllocError> {
-    if code == 0 {
-        return Ok(());
-    }
-    begin_result(writer, "error")?;
-    writer.whole_member("code", u64::from(code))?;
-    writer.text_member("message", message_of(code))?;
-    writer.flag_member("temporary", is_temporary(code))?;
-    writer.end("}")
-}
-
-/// The member of a result whose key comes after `id`. It stands also where it is an empty object.
-fn write_outcome(writer: &mut Writer, outcome: &Outcome) -> Result<(), AllocError> {
-    match outcome {
         Outcome::Subscribed {
             position,
             publications,
             recovered,
             was_recovering,
         } => {
-            begin_result(writer, "subscribe")?;
-            write_position(writer, position)?;
-            writer.flag_member("positioned", true)?;
-            write_publications(writer, publications)?;
-            writer.flag_member("recoverable", true)?;
-            writer.flag_member("recovered", *recovered)?;
-            writer.flag_member("was_recovering", *was_recovering)?;
+            write_id(writer, id)?;
+            write_subscribed(writer, position, publications, *recovered, *was_recovering)?;
+            Ok(())
+        }
+        Outcome::Unsubscribed => {
+            write_id(writer, id)?;
+            write_empty(writer, "unsubscribe")?;
+            Ok(())
+        }
+        Outcome::Published => {
+            write_id(writer, id)?;
+            write_empty(writer, "publish")?;
+            Ok(())
         }
         Outcome::Present { users } => {
-            begin_result(writer, "presence")?;
-            write_presence(writer, users)?;
+            write_id(writer, id)?;
+            write_present(writer, users)?;
+            Ok(())
         }
         Outcome::Counted { clients, users } => {
-            begin_result(writer, "presence_stats")?;
-            writer.whole_member("num_clients", *clients)?;
-            writer.whole_member("num_users", *users)?;
+            write_id(writer, id)?;
+            write_counted(writer, *clients, *users)?;
+            Ok(())
         }
-        Outcome::Unsubscribed => begin_result(writer, "unsubscribe")?,
-        Outcome::Published => begin_result(writer, "publish")?,
-        _ => begin_result(writer, "ping")?,
+        Outcome::Past {
+            position,
+            publications,
+        } => {
+            write_past(writer, position, publications)?;
+            write_id(writer, id)?;
+            Ok(())
+        }
+        Outcome::Pinged => {
+            write_id(writer, id)?;
+            write_empty(writer, "ping")?;
+            Ok(())
+        }
+        Outcome::Failed { code } => {
+            write_error(writer, *code)?;
+            write_id(writer, id)?;
+            Ok(())
+        }
     }
-    writer.end("}")
 }
 
-/// The clients that are there, each under its id with its info, which stands also where it is empty.
-fn write_presence(writer: &mut Writer, users: &BTreeMap<String, String>) -> Result<(), AllocError> {
+fn write_connected(writer: &mut Writer, client: &str) -> Result<(), AllocError>
+    ensures { IfOk result (λ _. Adds writer.old writer.new (("connect" ⇒ Some (object_of (connected client.now))) ∷ [])) }
+{
+    writer.open("connect", "{")?;
+    writer.text_member("client", client)?;
+    writer.whole_member("ping", PING_SECONDS)?;
+    writer.flag_member("pong", true)?;
+    writer.text_member("version", VERSION)?;
+    writer.value("}")?;
+    Ok(())
+}
+
+fn write_subscribed(
+    writer: &mut Writer,
+    position: &Position,
+    publications: &Vec<Publication>,
+    recovered: bool,
+    was_recovering: bool,
+) -> Result<(), AllocError>
+    ensures { IfOk result (λ _. Adds writer.old writer.new (("subscribe" ⇒ Some (object_of (subscribed as_it_is position.now publications.now.items recovered was_recovering))) ∷ [])) }
+{
+    writer.open("subscribe", "{")?;
+    write_position(writer, position)?;
+    writer.flag_member("positioned", true)?;
+    write_publications(writer, publications)?;
+    writer.flag_member("recoverable", true)?;
+    writer.flag_member("recovered", recovered)?;
+    writer.flag_member("was_recovering", was_recovering)?;
+    writer.value("}")?;
+    Ok(())
+}
+
+fn write_counted(writer: &mut Writer, clients: u64, users: u64) -> Result<(), AllocError>
+    ensures { IfOk result (λ _. Adds writer.old writer.new (("presence_stats" ⇒ Some (object_of (counted clients users))) ∷ [])) }
+{
+    writer.open("presence_stats", "{")?;
+    writer.whole_member("num_clients", clients)?;
+    writer.whole_member("num_users", users)?;
+    writer.value("}")?;
+    Ok(())
+}
+
+fn write_past(
+    writer: &mut Writer,
+    position: &Position,
+    publications: &Vec<Publication>,
+) -> Result<(), AllocError>
+    ensures { IfOk result (λ _. Adds writer.old writer.new (("history" ⇒ Some (object_of (past as_it_is position.now publications.now.items))) ∷ [])) }
+{
+    writer.open("history", "{")?;
+    write_position(writer, position)?;
+    write_publications(writer, publications)?;
+    writer.value("}")?;
+    Ok(())
+}
+
+/// The error of a command that is refused, left out where it has no code.
+fn write_error(writer: &mut Writer, code: u32) -> Result<(), AllocError>
+    ensures { IfOk result (λ _. Adds writer.old writer.new (("error" ⇒ inner (error_members code)) ∷ [])) }
+{
+    if code == 0 {
+        return Ok(());
+    }
+    writer.open("error", "{")?;
+    writer.whole_member("code", u64::from(code))?;
+    writer.text_member("message", message_of(code))?;
+    writer.flag_member("temporary", is_temporary(code))?;
+    writer.value("}")?;
+    Ok(())
+}
+
+/// The clients that are there.
+fn write_present(writer: &mut Writer, users: &BTreeMap<String, String>) -> Result<(), AllocError>
+    ensures { IfOk result (λ _. Adds writer.old writer.new (("presence" ⇒ Some (object_of (presence (shown_users users.now)))) ∷ [])) }
+{
+    writer.open("presence", "{")?;
+    write_clients(writer, users)?;
+    writer.value("}")?;
+    Ok(())
+}
+
+/// The clients by their ids, left out where there are none.
+fn write_clients(writer: &mut Writer, users: &BTreeMap<String, String>) -> Result<(), AllocError>
+    ensures { IfOk result (λ _. Adds writer.old writer.new (presence (shown_users users.now))) }
+{
     if users.is_empty() {
         return Ok(());
     }
-    begin_result(writer, "presence")?;
+    writer.open("presence", "{")?;
+    write_entries(writer, users)?;
+    writer.value("}")?;
+    Ok(())
+}
+
+/// Each client under its id with its info.
+fn write_entries(writer: &mut Writer, users: &BTreeMap<String, String>) -> Result<(), AllocError>
+    ensures adds { IfOk result (λ _. Adds writer.old writer.new (map client_member (bytes_of users.now.entries))) }
+    ensures ordered { IfOk result (λ _. IsOrdered string_cmp users.now) }
+{
     for (client, user) in users {
-        writer.key(client.as_str())?;
-        writer.begin("{")?;
-        write_info(writer, client.as_str(), user.as_str())?;
-        writer.end("}")?;
+        write_client(writer, client.as_str(), user.as_str())?;
     }
-    writer.end("}")
+    Ok(())
+}
+
+/// A client under its id with its info, which stands also where it is empty.
+fn write_client(writer: &mut Writer, client: &str, user: &str) -> Result<(), AllocError>
+    ensures { IfOk result (λ _. Adds writer.old writer.new (client_member (client.now, user.now) ∷ [])) }
+{
+    writer.text_key(client)?;
+    writer.begin("{")?;
+    write_info(writer, client, user)?;
+    writer.value("}")?;
+    Ok(())
 }
 
 /// The members of an info.
-fn write_info(writer: &mut Writer, client: &str, user: &str) -> Result<(), AllocError> {
+fn write_info(writer: &mut Writer, client: &str, user: &str) -> Result<(), AllocError>
+    ensures { IfOk result (λ _. Adds writer.old writer.new (info_members (record { client = client.now; user = user.now }))) }
+{
     writer.text_member("client", client)?;
-    writer.text_member("user", user)
+    writer.text_member("user", user)?;
+    Ok(())
 }
 
 /// The publications of a result, left out where there are none.
 fn write_publications(
     writer: &mut Writer,
     publications: &Vec<Publication>,
-) -> Result<(), AllocError> {
+) -> Result<(), AllocError>
+    ensures { IfOk result (λ _. Adds writer.old writer.new (("publications" ⇒ publications_list as_it_is publications.now.items) ∷ [])) }
+{
     if publications.is_empty() {
         return Ok(());
     }
-    writer.key("publications")?;
-    writer.begin("[")?;
+    writer.open("publications", "[")?;
+    write_items(writer, publications)?;
+    writer.value("]")?;
+    Ok(())
+}
+
+/// The items of a list of publications.
+fn write_items(writer: &mut Writer, publications: &Vec<Publication>) -> Result<(), AllocError>
+    ensures { IfOk result (λ _. AddsItems writer.old writer.new (map (publication_tree as_it_is) publications.now.items)) }
+{
     for publication in publications {
         writer.comma()?;
         write_publication(writer, publication)?;
     }
-    writer.end("]")
+    Ok(())
 }
 
 /// A publication, whose data always stands.
-fn write_publication(writer: &mut Writer, publication: &Publication) -> Result<(), AllocError> {
+fn write_publication(writer: &mut Writer, publication: &Publication) -> Result<(), AllocError>
+    ensures { IfOk result (λ _. AddsValue writer.old writer.new (compact_text (publication_tree as_it_is publication.now))) }
+{
     writer.begin("{")?;
     writer.key("data")?;
     writer.value(publication.body.as_str())?;
-    if let Some(info) = &publication.info {
-        write_publisher(writer, info)?;
-    }
+    write_publisher(writer, &publication.info)?;
     writer.whole_member("offset", publication.offset)?;
-    writer.end("}")
+    writer.value("}")?;
+    Ok(())
 }
 
-/// The info of a publication, left out where it is empty.
-fn write_publisher(writer: &mut Writer, info: &Info) -> Result<(), AllocError> {
-    if info.client.is_empty() && info.user.is_empty() {
+/// The info of a publication, left out where there is none.
+fn write_publisher(writer: &mut Writer, info: &Option<Info>) -> Result<(), AllocError>
+    ensures { IfOk result (λ _. Adds writer.old writer.new (("info" ⇒ info_or_none info.now) ∷ [])) }
+{
+    let Some(info) = info else {
+        return Ok(());
+    };
+    write_info_member(writer, info.client.as_str(), info.user.as_str())?;
+    Ok(())
+}
+
+/// An info, left out where it is empty.
+fn write_info_member(writer: &mut Writer, client: &str, user: &str) -> Result<(), AllocError>
+    ensures { IfOk result (λ _. Adds writer.old writer.new (("info" ⇒ inner (info_members (record { client = client.now; user = user.now }))) ∷ [])) }
+{
+    if client.is_empty() && user.is_empty() {
         return Ok(());
     }
-    writer.key("info")?;
-    writer.begin("{")?;
-    write_info(writer, info.client.as_str(), info.user.as_str())?;
-    writer.end("}")
+    writer.open("info", "{")?;
+    write_info(writer, client, user)?;
+    writer.value("}")?;
+    Ok(())
 }
 
 /// The member of a push, left out where it would be an empty object.
-fn write_push(writer: &mut Writer, channel: &str, push: &Pushed) -> Result<(), AllocError> {
+fn write_push(writer: &mut Writer, channel: &str, push: &Pushed) -> Result<(), AllocError>
+    ensures { IfOk result (λ _. Adds writer.old writer.new (("push" ⇒ inner (("channel" ⇒ written.text channel.now) ∷ pushed as_it_is (shown_pushed push.now) ∷ [])) ∷ [])) }
+{
     match push {
         Pushed::Publication(publication) => {
-            begin_result(writer, "push")?;
+            writer.open("push", "{")?;
             writer.text_member("channel", channel)?;
             writer.key("pub")?;
             write_publication(writer, publication)?;
-            writer.end("}")
+            writer.value("}")?;
+            Ok(())
         }
         Pushed::Unsubscribe { code } => {
             if *code == 0 && channel.is_empty() {
                 return Ok(());
             }
-            begin_result(writer, "push")?;
+            writer.open("push", "{")?;
             writer.text_member("channel", channel)?;
             write_unsubscribe(writer, *code)?;
-            writer.end("}")
+            writer.value("}")?;
+            Ok(())
         }
     }
 }
 
 /// The end of a subscription, left out where it has no code.
-fn write_unsubscribe(writer: &mut Writer, code: u32) -> Result<(), AllocError> {
+fn write_unsubscribe(writer: &mut Writer, code: u32) -> Result<(), AllocError>
+    ensures { IfOk result (λ _. Adds writer.old writer.new (("unsubscribe" ⇒ inner (unsubscribed code)) ∷ [])) }
+{
     if code == 0 {
         return Ok(());
     }
-    begin_result(writer, "unsubscribe")?;
+    writer.open("unsubscribe", "{")?;
     writer.whole_member("code", u64::from(code))?;
     writer.text_member("reason", unsubscribe_reason(code))?;
-    writer.end("}")
+    writer.value("}")?;
+    Ok(())
 }

@@ -1,4 +1,8 @@
 //! JSON text, written piece by piece.
+ghost use Rattle.std.specs.Prelude.{◌≡◌, ◌++◌, ◌∷◌, [], Some, IfOk, string_bytes, true};
+ghost use Rattle.cf_json.specs.Quoting.{quoted, escaped};
+ghost use Rattle.cf_protocol.specs.Written as written;
+ghost use Rattle.cf_protocol.specs.Writing.{Adds, AddsKey, AddsValue, Opens, OpensMember, comma as comma_after};
 
 use cf_json::quote;
 use std::alloc::{AllocError, Global};
@@ -14,7 +18,10 @@ pub struct Writer {
 
 impl Writer {
     /// An empty text.
-    pub fn new(alloc: Global) -> Writer {
+    pub fn new(alloc: Global) -> Writer
+        ensures text { string_bytes result.text ≡ [] }
+        ensures fresh { result.fresh ≡ true }
+    {
         Writer {
             text: String::new(alloc),
             fresh: true,
@@ -23,32 +30,36 @@ impl Writer {
     }
 
     /// What was written.
-    pub fn into_text(self) -> String {
+    pub fn into_text(self) -> String
+        ensures { string_bytes result ≡ string_bytes self.text }
+    {
         let Writer { text, .. } = self;
         text
     }
 
     /// Begins an object or an array.
-    pub fn begin(&mut self, bracket: &str) -> Result<(), AllocError> {
+    pub fn begin(&mut self, bracket: &str) -> Result<(), AllocError>
+        ensures { IfOk result (λ _. Opens self.old self.new bracket.now) }
+    {
         self.text.push_str(bracket)?;
         self.fresh = true;
         Ok(())
     }
 
-    /// Ends an object or an array.
-    pub fn end(&mut self, bracket: &str) -> Result<(), AllocError> {
-        self.value(bracket)
-    }
-
     /// A value, as its compact text.
-    pub fn value(&mut self, text: &str) -> Result<(), AllocError> {
+    pub fn value(&mut self, text: &str) -> Result<(), AllocError>
+        ensures { IfOk result (λ _. AddsValue self.old self.new text.now) }
+    {
         self.text.push_str(text)?;
         self.fresh = false;
         Ok(())
     }
 
     /// The comma before a further member or item.
-    pub fn comma(&mut self) -> Result<(), AllocError> {
+    pub fn comma(&mut self) -> Result<(), AllocError>
+        ensures text { IfOk result (λ _. string_bytes self.new.text ≡ string_bytes self.old.text ++ comma_after self.old.fresh) }
+        ensures fresh { IfOk result (λ _. self.new.fresh ≡ self.old.fresh) }
+    {
         if !self.fresh {
             self.text.push_str(",")?;
         }
@@ -56,21 +67,47 @@ impl Writer {
     }
 
     /// A text as a value.
-    pub fn text(&mut self, text: &str) -> Result<(), AllocError> {
+    pub fn text(&mut self, text: &str) -> Result<(), AllocError>
+        ensures { IfOk result (λ _. AddsValue self.old self.new (quoted text.now)) }
+    {
         let quoted = quote(self.alloc, text)?;
         self.value(quoted.as_str())
     }
 
-    /// The key of a member, whose value follows.
-    pub fn key(&mut self, key: &str) -> Result<(), AllocError> {
+    /// The key of a member, whose value follows. It has nothing that is escaped.
+    pub fn key(&mut self, key: &str) -> Result<(), AllocError>
+        ensures { IfOk result (λ _. AddsKey self.old self.new key.now) }
+    {
         self.comma()?;
-        self.text(key)?;
+        self.text.push_str("\"")?;
+        self.text.push_str(key)?;
+        self.text.push_str("\":")?;
+        Ok(())
+    }
+
+    /// A key of any text.
+    pub fn text_key(&mut self, key: &str) -> Result<(), AllocError>
+        ensures { IfOk result (λ _. AddsKey self.old self.new (escaped key.now)) }
+    {
+        self.comma()?;
+        let quoted = quote(self.alloc, key)?;
+        self.text.push_str(quoted.as_str())?;
         self.text.push_str(":")?;
         Ok(())
     }
 
+    /// The key of a member, and the bracket that opens its value.
+    pub fn open(&mut self, key: &str, bracket: &str) -> Result<(), AllocError>
+        ensures { IfOk result (λ _. OpensMember self.old self.new key.now bracket.now) }
+    {
+        self.key(key)?;
+        self.begin(bracket)
+    }
+
     /// A member that is left out where its text is empty.
-    pub fn text_member(&mut self, key: &str, text: &str) -> Result<(), AllocError> {
+    pub fn text_member(&mut self, key: &str, text: &str) -> Result<(), AllocError>
+        ensures { IfOk result (λ _. Adds self.old self.new ((key.now, written.text text.now) ∷ [])) }
+    {
         if !text.is_empty() {
             self.key(key)?;
             self.text(text)?;
@@ -79,7 +116,9 @@ impl Writer {
     }
 
     /// A member that is left out where its number is 0.
-    pub fn whole_member(&mut self, key: &str, number: u64) -> Result<(), AllocError> {
+    pub fn whole_member(&mut self, key: &str, number: u64) -> Result<(), AllocError>
+        ensures { IfOk result (λ _. Adds self.old self.new ((key.now, written.whole number) ∷ [])) }
+    {
         if number != 0 {
             self.key(key)?;
             let digits = number.to_string(self.alloc)?;
@@ -89,8 +128,10 @@ impl Writer {
     }
 
     /// A member that is left out where its number is 0.
-    pub fn signed_member(&mut self, key: &str, number: i32) -> Result<(), AllocError> {
-        if number != 0 {
+    pub fn signed_member(&mut self, key: &str, number: &i32) -> Result<(), AllocError>
+        ensures { IfOk result (λ _. Adds self.old self.new ((key.now, written.signed number.now) ∷ [])) }
+    {
+        if *number != 0 {
             self.key(key)?;
             let digits = number.to_string(self.alloc)?;
             self.value(digits.as_str())?;
@@ -99,7 +140,9 @@ impl Writer {
     }
 
     /// A member that is left out where it is false.
-    pub fn flag_member(&mut self, key: &str, flag: bool) -> Result<(), AllocError> {
+    pub fn flag_member(&mut self, key: &str, flag: bool) -> Result<(), AllocError>
+        ensures { IfOk result (λ _. Adds self.old self.new ((key.now, written.flag flag) ∷ [])) }
+    {
         if flag {
             self.key(key)?;
             self.value("true")?;

@@ -1,0 +1,7 @@
+use Rattle.cf_protocol.proofs.Outgoings.{error_adds}
+use Rattle.cf_protocol.proofs.write.outgoing.write_error.Goals as goal
+
+pub returns : goal.returns
+returns c =
+    error_adds c.args.code c.if-code-eq0.false c.from.ensures c.message_of.ensures c.is_temporary.ensures c.in_ok-open.ensures c.in_ok-whole_member.ensures c.in_ok-text_member.ensures c.in_ok-flag_member.ensures
+    c.in_ok-value.ensures
