@@ -18,3 +18,4 @@ pub mod Shown
 pub mod LogEntry
 pub mod Reading
 pub mod Writing
+pub mod Methods

@@ -1,69 +1,22 @@
 //! Commands.
+ghost use Rattle.std.specs.Prelude.{◌≡◌, Some, codes};
 ghost use Rattle.cf_json.specs.Grammar.{Tree};
 ghost use Rattle.cf_json.specs.Spans.{IsAt};
-ghost use Rattle.cf_protocol.specs.Fields.{Fields};
-ghost use Rattle.cf_protocol.specs.Reading.{Reads};
-ghost use Rattle.std.specs.Prelude.{IfOk};
+ghost use Rattle.cf_protocol.specs.Fields.{Fields, look_up};
+ghost use Rattle.cf_protocol.specs.Command.{connect, subscribe, publish, history, data_of};
+ghost use Rattle.cf_protocol.specs.Methods.{request_as, served};
+ghost use Rattle.cf_protocol.specs.Reading.{Answers, Reads};
+ghost use Rattle.cf_protocol.specs.Shown.{shown_request, shown_data};
 
 use crate::command::{Command, Data, Request};
 use crate::fault::ReadFault;
 use crate::read::members::Members;
+use crate::read::method::{Method, the_method};
 use cf_json::{Span, compact, depth};
 use std::alloc::Global;
 
 /// The deepest that the data of a publish may nest.
 const MAX_DATA_DEPTH: usize = 60;
-
-/// The keys of which a command has exactly one.
-#[derive(Clone, Copy, PartialEq, Eq, Debug)]
-enum Method {
-    Connect,
-    Subscribe,
-    Unsubscribe,
-    Publish,
-    Presence,
-    PresenceStats,
-    History,
-    Ping,
-    Send,
-    Rpc,
-    Refresh,
-    SubRefresh,
-}
-
-const METHODS: [Method; 12] = [
-    Method::Connect,
-    Method::Subscribe,
-    Method::Unsubscribe,
-    Method::Publish,
-    Method::Presence,
-    Method::PresenceStats,
-    Method::History,
-    Method::Ping,
-    Method::Send,
-    Method::Rpc,
-    Method::Refresh,
-    Method::SubRefresh,
-];
-
-impl Method {
-    fn key(self) -> &'static str {
-        match self {
-            Method::Connect => "connect",
-            Method::Subscribe => "subscribe",
-            Method::Unsubscribe => "unsubscribe",
-            Method::Publish => "publish",
-            Method::Presence => "presence",
-            Method::PresenceStats => "presence_stats",
-            Method::History => "history",
-            Method::Ping => "ping",
-            Method::Send => "send",
-            Method::Rpc => "rpc",
-            Method::Refresh => "refresh",
-            Method::SubRefresh => "sub_refresh",
-        }
-    }
-}
 
 /// The command that a value is. An object without members is the pong.
 pub fn read_command(alloc: Global, text: &str, span: Span) -> Result<Command, ReadFault>
@@ -76,33 +29,21 @@ pub fn read_command(alloc: Global, text: &str, span: Span) -> Result<Command, Re
             request: Request::Pong,
         });
     }
+    let command = read_named(alloc, &members)?;
+    Ok(command)
+}
+
+/// The command that has these members, of which there are some.
+fn read_named(alloc: Global, members: &Members<'_>) -> Result<Command, ReadFault>
+    requires { (fs : Fields) × Reads members.now.text.now members.now.found.items fs }
+{
     let id = members.whole("id", u64::from(u32::MAX))? as u32;
-    let (method, value) = the_method(&members)?;
+    let (method, value) = the_method(members)?;
     let request = read_request(alloc, members.text, method, value)?;
     if id == 0 && method != Method::Send {
         return Err(ReadFault::Bad);
     }
     Ok(Command { id, request })
-}
-
-/// The one method of a command, and where its value stands.
-fn the_method(members: &Members<'_>) -> Result<(Method, Span), ReadFault>
-    requires { (fs : Fields) × Reads members.now.text.now members.now.found.items fs }
-    ensures { IfOk result (λ r. (t : Tree) × IsAt members.now.text.now t r.1) }
-{
-    let mut only = None;
-    for method in METHODS {
-        if let Some(span) = members.present(method.key()) {
-            if only.is_some() {
-                return Err(ReadFault::Bad);
-            }
-            only = Some((method, span));
-        }
-    }
-    match only {
-        Some(found) => Ok(found),
-        None => Err(ReadFault::Bad),
-    }
 }
 
 /// The request of a method: its value is an object, but for those that aren't served.
@@ -113,66 +54,81 @@ fn read_request(
     value: Span,
 ) -> Result<Request, ReadFault>
     requires { (t : Tree) × IsAt text.now t value }
+    ensures { (t : Tree) → IsAt text.now t value → Answers shown_request result (request_as method t) }
 {
     match method {
         Method::Rpc | Method::Refresh | Method::SubRefresh => Ok(Request::Other),
         _ => {
             let members = Members::of(alloc, text, value)?;
-            read_served(alloc, method, &members)
+            let request = read_served(alloc, method, &members)?;
+            Ok(request)
         }
     }
 }
 
+/// The request of a method that has these members.
 fn read_served(alloc: Global, method: Method, members: &Members<'_>) -> Result<Request, ReadFault>
     requires { (fs : Fields) × Reads members.now.text.now members.now.found.items fs }
+    ensures { (fs : Fields) → Reads members.now.text.now members.now.found.items fs → Answers shown_request result (served method fs) }
 {
     match method {
-        Method::Connect => Ok(Request::Connect {
-            token: members.text(alloc, "token")?,
-        }),
+        Method::Connect => read_connect(alloc, members),
+        Method::Subscribe => read_subscribe(alloc, members),
+        Method::Publish => read_publish(alloc, members),
+        Method::History => read_history(alloc, members),
+        Method::Unsubscribe => {
+            let channel = members.text(alloc, "channel")?;
+            Ok(Request::Unsubscribe { channel })
+        }
+        Method::Presence => {
+            let channel = members.text(alloc, "channel")?;
+            Ok(Request::Presence { channel })
+        }
+        Method::PresenceStats => {
+            let channel = members.text(alloc, "channel")?;
+            Ok(Request::PresenceStats { channel })
+        }
         Method::Ping => Ok(Request::Ping),
         Method::Send => Ok(Request::Send),
-        _ => {
-            let channel = members.text(alloc, "channel")?;
-            read_on_channel(alloc, method, members, channel)
-        }
+        Method::Rpc | Method::Refresh | Method::SubRefresh => Ok(Request::Other),
     }
 }
 
-fn read_on_channel(
-    alloc: Global,
-    method: Method,
-    members: &Members<'_>,
-    channel: String,
-) -> Result<Request, ReadFault>
+fn read_connect(alloc: Global, members: &Members<'_>) -> Result<Request, ReadFault>
     requires { (fs : Fields) × Reads members.now.text.now members.now.found.items fs }
+    ensures { (fs : Fields) → Reads members.now.text.now members.now.found.items fs → Answers shown_request result (connect fs) }
 {
-    match method {
-        Method::Subscribe => {
-            let recover = members.flag("recover")?;
-            let from = members.position(alloc)?;
-            let since = if recover { Some(from) } else { None };
-            Ok(Request::Subscribe { channel, since })
-        }
-        Method::Unsubscribe => Ok(Request::Unsubscribe { channel }),
-        Method::Publish => {
-            let body = read_data(alloc, members)?;
-            Ok(Request::Publish { channel, body })
-        }
-        Method::Presence => Ok(Request::Presence { channel }),
-        Method::PresenceStats => Ok(Request::PresenceStats { channel }),
-        _ => read_history(alloc, members, channel),
-    }
+    let token = members.text(alloc, "token")?;
+    Ok(Request::Connect { token })
 }
 
-fn read_history(alloc: Global, members: &Members<'_>, channel: String) -> Result<Request, ReadFault>
+fn read_subscribe(alloc: Global, members: &Members<'_>) -> Result<Request, ReadFault>
     requires { (fs : Fields) × Reads members.now.text.now members.now.found.items fs }
+    ensures { (fs : Fields) → Reads members.now.text.now members.now.found.items fs → Answers shown_request result (subscribe fs) }
 {
+    let channel = members.text(alloc, "channel")?;
+    let recover = members.flag("recover")?;
+    let from = members.position(alloc)?;
+    let since = if recover { Some(from) } else { None };
+    Ok(Request::Subscribe { channel, since })
+}
+
+fn read_publish(alloc: Global, members: &Members<'_>) -> Result<Request, ReadFault>
+    requires { (fs : Fields) × Reads members.now.text.now members.now.found.items fs }
+    ensures { (fs : Fields) → Reads members.now.text.now members.now.found.items fs → Answers shown_request result (publish fs) }
+{
+    let channel = members.text(alloc, "channel")?;
+    let body = read_data(alloc, members)?;
+    Ok(Request::Publish { channel, body })
+}
+
+fn read_history(alloc: Global, members: &Members<'_>) -> Result<Request, ReadFault>
+    requires { (fs : Fields) × Reads members.now.text.now members.now.found.items fs }
+    ensures { (fs : Fields) → Reads members.now.text.now members.now.found.items fs → Answers shown_request result (history fs) }
+{
+    let channel = members.text(alloc, "channel")?;
     let limit = members.limit("limit")?;
-    let since = match members.object(alloc, "since")? {
-        Some(since) => Some(since.position(alloc)?),
-        None => None,
-    };
+    let since = members.since(alloc)?;
     let reverse = members.flag("reverse")?;
     Ok(Request::History {
         channel,
@@ -185,6 +141,7 @@ fn read_history(alloc: Global, members: &Members<'_>, channel: String) -> Result
 /// The data of a publish, which may be `null`.
 fn read_data(alloc: Global, members: &Members<'_>) -> Result<Data, ReadFault>
     requires { (fs : Fields) × Reads members.now.text.now members.now.found.items fs }
+    ensures { (fs : Fields) → Reads members.now.text.now members.now.found.items fs → Answers shown_data result (Some (data_of (look_up (codes "data") fs))) }
 {
     let Some(span) = members.get("data") else {
         return Ok(Data::Absent);
@@ -192,5 +149,6 @@ fn read_data(alloc: Global, members: &Members<'_>) -> Result<Data, ReadFault>
     if depth(members.text, span) > MAX_DATA_DEPTH {
         return Ok(Data::TooDeep);
     }
-    Ok(Data::Body(compact(alloc, members.text, span)?))
+    let body = compact(alloc, members.text, span)?;
+    Ok(Data::Body(body))
 }

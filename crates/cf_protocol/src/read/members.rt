@@ -1,9 +1,9 @@
 //! The members of an object, read by their keys.
-ghost use Rattle.std.specs.Prelude.{◌≡◌, ℕ, List, [], false, Option, Some, None, MatchOption, IfOk, ◌≤◌, string_bytes};
+ghost use Rattle.std.specs.Prelude.{option_and_then, ◌≡◌, ℕ, List, [], false, pos, Option, Some, None, MatchOption, IfOk, ◌≤◌, string_bytes};
 ghost use Rattle.std.specs.Option.{IsSomeAnd};
 ghost use Rattle.cf_json.specs.Grammar.{Tree};
 ghost use Rattle.cf_json.specs.Spans.{IsAt};
-ghost use Rattle.cf_protocol.specs.Fields.{Fields, look_up, read_or, as_object, as_text, as_flag};
+ghost use Rattle.cf_protocol.specs.Fields.{Fields, look_up, read_or, as_object, as_text, as_flag, as_whole, as_limit, position, object_or_none};
 ghost use Rattle.cf_protocol.specs.Reading.{Tells, Answers, Reads, Finds, Stand, present_at, object_at, items_at};
 
 use crate::epoch::Epoch;
@@ -91,7 +91,8 @@ impl<'a> Members<'a> {
     /// A whole number of at most so much; 0 where it is absent.
     pub fn whole(&self, key: &str, most: u64) -> Result<u64, ReadFault>
         requires { (fs : Fields) × Reads self.now.text.now self.now.found.items fs }
-        ensures { IfOk result (λ n. n ≤ most) }
+        ensures exact { (fs : Fields) → Reads self.now.text.now self.now.found.items fs → Answers (λ n. n) result (read_or 0 (as_whole 0 most) (present_at key.now fs)) }
+        ensures most { IfOk result (λ n. n ≤ most) }
     {
         let Some(span) = self.present(key) else {
             return Ok(0);
@@ -99,15 +100,19 @@ impl<'a> Members<'a> {
         if kind(self.text, span) != Kind::Number {
             return Err(ReadFault::Bad);
         }
-        match read_whole(self.text, span) {
-            Some(number) if number <= most => Ok(number),
-            _ => Err(ReadFault::Bad),
+        let Some(number) = read_whole(self.text, span) else {
+            return Err(ReadFault::Bad);
+        };
+        if number > most {
+            return Err(ReadFault::Bad);
         }
+        Ok(number)
     }
 
     /// A limit, a whole number of 32 bits with a sign; 0 where it is absent.
     pub fn limit(&self, key: &str) -> Result<i32, ReadFault>
         requires { (fs : Fields) × Reads self.now.text.now self.now.found.items fs }
+        ensures { (fs : Fields) → Reads self.now.text.now self.now.found.items fs → Answers (λ z. z) result (read_or (pos 0) as_limit (present_at key.now fs)) }
     {
         let Some(span) = self.present(key) else {
             return Ok(0);
@@ -118,10 +123,10 @@ impl<'a> Members<'a> {
         let Some(number) = read_signed(self.text, span) else {
             return Err(ReadFault::Bad);
         };
-        match i32::try_from(number) {
-            Ok(number) => Ok(number),
-            Err(_) => Err(ReadFault::Bad),
+        if number < i64::from(i32::MIN) || number > i64::from(i32::MAX) {
+            return Err(ReadFault::Bad);
         }
+        Ok(number as i32)
     }
 
     /// The members of an object, where one stands.
@@ -153,9 +158,23 @@ impl<'a> Members<'a> {
         Ok(found)
     }
 
+    /// A whole number from 1 to so much, which is there.
+    pub fn positive(&self, key: &str, most: u64) -> Result<u64, ReadFault>
+        requires { (fs : Fields) × Reads self.now.text.now self.now.found.items fs }
+        ensures exact { (fs : Fields) → Reads self.now.text.now self.now.found.items fs → Answers (λ n. n) result (option_and_then (as_whole 1 most) (present_at key.now fs)) }
+        ensures most { IfOk result (λ n. n ≤ most) }
+    {
+        let number = self.whole(key, most)?;
+        if number == 0 {
+            return Err(ReadFault::Bad);
+        }
+        Ok(number)
+    }
+
     /// The position that `epoch` and `offset` say.
     pub fn position(&self, alloc: Global) -> Result<Position, ReadFault>
         requires { (fs : Fields) × Reads self.now.text.now self.now.found.items fs }
+        ensures { (fs : Fields) → Reads self.now.text.now self.now.found.items fs → Answers (λ p. p) result (position fs) }
     {
         let epoch = self.text(alloc, "epoch")?;
         let offset = self.whole("offset", u64::MAX)?;
@@ -163,5 +182,19 @@ impl<'a> Members<'a> {
             epoch: Epoch::from_text(epoch.as_str()),
             offset,
         })
+    }
+
+    /// The position of `since`, where it is there.
+    pub fn since(&self, alloc: Global) -> Result<Option<Position>, ReadFault>
+        requires { (fs : Fields) × Reads self.now.text.now self.now.found.items fs }
+        ensures { (fs : Fields) → Reads self.now.text.now self.now.found.items fs → Answers (λ p. p) result (object_or_none position fs "since") }
+    {
+        match self.object(alloc, "since")? {
+            Some(found) => {
+                let position = found.position(alloc)?;
+                Ok(Some(position))
+            }
+            None => Ok(None),
+        }
     }
 }

@@ -3,6 +3,9 @@
 mod command;
 mod frame;
 mod members;
+mod method;
+mod outcome;
 mod outgoing;
+mod publication;
 
 pub use frame::{read_commands, read_replies};

@@ -1,7 +1,7 @@
 use Rattle.std.proofs.Common.{codes}
 use Rattle.cf_protocol.specs.Reading.{IsMember, Reads, object_at}
 use Rattle.cf_protocol.proofs.Standing.{fellow, some_object}
-use Rattle.cf_protocol.proofs.read.outgoing.read_present.Goals as goal
+use Rattle.cf_protocol.proofs.read.outcome.read_present.Goals as goal
 
 pub read_client-requires : goal.read_client-requires
 read_client-requires c =

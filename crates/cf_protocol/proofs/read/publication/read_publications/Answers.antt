@@ -2,7 +2,7 @@ use Rattle.std.proofs.Common.{refl, codes}
 use Rattle.cf_json.specs.Spans.{IsAt}
 use Rattle.cf_protocol.specs.Reading.{Stand, items_at}
 use Rattle.cf_protocol.proofs.Standing.{fellow, some_and}
-use Rattle.cf_protocol.proofs.read.outgoing.read_publications.Goals as goal
+use Rattle.cf_protocol.proofs.read.publication.read_publications.Goals as goal
 
 pub read_published-requires : goal.read_published-requires
 read_published-requires c =

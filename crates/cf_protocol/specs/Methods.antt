@@ -1,0 +1,79 @@
+-- The methods of commands, and the results of replies, by the keys under which they stand.
+use Rattle.std.specs.Prelude.{List, ℕ, Option, Some, None, option_map, codes}
+use Rattle.cf_json.specs.Grammar.{Tree}
+use Rattle.cf_protocol.specs.Fields.{Fields, object_as}
+use Rattle.cf_protocol.specs.Request as request
+use Rattle.cf_protocol.specs.Outgoing as outgoing
+use Rattle.cf_protocol.specs.Command as command
+use Rattle.cf_protocol.specs.Reply as reply
+use Rattle.cf_protocol.specs.declared.read.method.Method.{Method}
+use Rattle.cf_protocol.specs.declared.read.method.Method.TheVariants as method
+use Rattle.cf_protocol.specs.declared.read.outcome.ResultKey.{ResultKey}
+use Rattle.cf_protocol.specs.declared.read.outcome.ResultKey.TheVariants as key
+
+abbrev pub method_key : Method → List ℕ
+method_key method.Connect = codes "connect"
+method_key method.Subscribe = codes "subscribe"
+method_key method.Unsubscribe = codes "unsubscribe"
+method_key method.Publish = codes "publish"
+method_key method.Presence = codes "presence"
+method_key method.PresenceStats = codes "presence_stats"
+method_key method.History = codes "history"
+method_key method.Ping = codes "ping"
+method_key method.Send = codes "send"
+method_key method.Rpc = codes "rpc"
+method_key method.Refresh = codes "refresh"
+method_key method.SubRefresh = codes "sub_refresh"
+
+-- the request of a method that has these members
+abbrev pub served : Method → Fields → Option request.Request
+served method.Connect = command.connect
+served method.Subscribe = command.subscribe
+served method.Unsubscribe = command.unsubscribe
+served method.Publish = command.publish
+served method.Presence = command.presence
+served method.PresenceStats = command.presence_stats
+served method.History = command.history
+served method.Ping = command.without_members request.Ping
+served method.Send = command.without_members request.Send
+served method.Rpc = command.without_members request.Other
+served method.Refresh = command.without_members request.Other
+served method.SubRefresh = command.without_members request.Other
+
+-- what the value of a method is read as
+abbrev pub request_as : Method → Tree → Option request.Request
+request_as method.Connect = object_as command.connect
+request_as method.Subscribe = object_as command.subscribe
+request_as method.Unsubscribe = object_as command.unsubscribe
+request_as method.Publish = object_as command.publish
+request_as method.Presence = object_as command.presence
+request_as method.PresenceStats = object_as command.presence_stats
+request_as method.History = object_as command.history
+request_as method.Ping = object_as (command.without_members request.Ping)
+request_as method.Send = object_as (command.without_members request.Send)
+request_as method.Rpc = λ t. Some request.Other
+request_as method.Refresh = λ t. Some request.Other
+request_as method.SubRefresh = λ t. Some request.Other
+
+abbrev pub result_key : ResultKey → List ℕ
+result_key key.Error = codes "error"
+result_key key.Connect = codes "connect"
+result_key key.Subscribe = codes "subscribe"
+result_key key.Unsubscribe = codes "unsubscribe"
+result_key key.Publish = codes "publish"
+result_key key.Presence = codes "presence"
+result_key key.PresenceStats = codes "presence_stats"
+result_key key.History = codes "history"
+result_key key.Ping = codes "ping"
+
+-- the result that has these members
+abbrev pub outcome_of : ResultKey → Fields → Option outgoing.Outcome
+outcome_of key.Error = λ r. option_map outgoing.Failed (reply.code_in r)
+outcome_of key.Connect = reply.connected
+outcome_of key.Subscribe = reply.subscribed
+outcome_of key.Unsubscribe = reply.without_members outgoing.Unsubscribed
+outcome_of key.Publish = reply.without_members outgoing.Published
+outcome_of key.Presence = reply.present_users
+outcome_of key.PresenceStats = reply.counted
+outcome_of key.History = reply.past
+outcome_of key.Ping = reply.without_members outgoing.Pinged

@@ -1,0 +1,186 @@
+//! The results of replies.
+ghost use Rattle.std.specs.Prelude.{◌≡◌, IfOk};
+ghost use Rattle.cf_json.specs.Grammar.{Tree};
+ghost use Rattle.cf_json.specs.Spans.{IsAt};
+ghost use Rattle.cf_protocol.specs.Fields.{Fields};
+ghost use Rattle.cf_protocol.specs.Methods.{result_key, outcome_of};
+ghost use Rattle.cf_protocol.specs.Reading.{Answers, Reads};
+ghost use Rattle.cf_protocol.specs.Reply.{code_in, connected, counted};
+ghost use Rattle.cf_protocol.specs.Shown.{shown_outcome};
+
+use crate::fault::ReadFault;
+use crate::outgoing::Outcome;
+use crate::read::members::Members;
+use crate::read::publication::{read_client, read_publications};
+use cf_json::Span;
+use std::alloc::Global;
+use std::collections::BTreeMap;
+
+/// The keys of which a reply has exactly one.
+#[derive(Clone, Copy, PartialEq, Eq, Debug)]
+pub enum ResultKey {
+    Error,
+    Connect,
+    Subscribe,
+    Unsubscribe,
+    Publish,
+    Presence,
+    PresenceStats,
+    History,
+    Ping,
+}
+
+const RESULT_KEYS: [ResultKey; 9] = [
+    ResultKey::Error,
+    ResultKey::Connect,
+    ResultKey::Subscribe,
+    ResultKey::Unsubscribe,
+    ResultKey::Publish,
+    ResultKey::Presence,
+    ResultKey::PresenceStats,
+    ResultKey::History,
+    ResultKey::Ping,
+];
+
+impl ResultKey {
+    fn key(self) -> &'static str
+        ensures { result.now ≡ result_key self }
+    {
+        match self {
+            ResultKey::Error => "error",
+            ResultKey::Connect => "connect",
+            ResultKey::Subscribe => "subscribe",
+            ResultKey::Unsubscribe => "unsubscribe",
+            ResultKey::Publish => "publish",
+            ResultKey::Presence => "presence",
+            ResultKey::PresenceStats => "presence_stats",
+            ResultKey::History => "history",
+            ResultKey::Ping => "ping",
+        }
+    }
+}
+
+/// The one result of a reply, and where its value stands.
+pub fn the_result(members: &Members<'_>) -> Result<(ResultKey, Span), ReadFault>
+    requires { (fs : Fields) × Reads members.now.text.now members.now.found.items fs }
+    ensures { IfOk result (λ r. (t : Tree) × IsAt members.now.text.now t r.1) }
+{
+    let mut only = None;
+    for key in RESULT_KEYS {
+        if let Some(span) = members.present(key.key()) {
+            if only.is_some() {
+                return Err(ReadFault::Bad);
+            }
+            only = Some((key, span));
+        }
+    }
+    match only {
+        Some(found) => Ok(found),
+        None => Err(ReadFault::Bad),
+    }
+}
+
+/// The result of a key that has this value.
+pub fn read_result(
+    alloc: Global,
+    text: &str,
+    key: ResultKey,
+    span: Span,
+) -> Result<Outcome, ReadFault>
+    requires { (t : Tree) × IsAt text.now t span }
+{
+    let members = Members::of(alloc, text, span)?;
+    let outcome = read_outcome(alloc, key, &members)?;
+    Ok(outcome)
+}
+
+/// The result of a key that has these members.
+fn read_outcome(alloc: Global, key: ResultKey, members: &Members<'_>) -> Result<Outcome, ReadFault>
+    requires { (fs : Fields) × Reads members.now.text.now members.now.found.items fs }
+{
+    match key {
+        ResultKey::Error => read_failed(members),
+        ResultKey::Connect => read_connected(alloc, members),
+        ResultKey::Subscribe => read_subscribed(alloc, members),
+        ResultKey::Unsubscribe => Ok(Outcome::Unsubscribed),
+        ResultKey::Publish => Ok(Outcome::Published),
+        ResultKey::Presence => read_present(alloc, members),
+        ResultKey::PresenceStats => read_counted(members),
+        ResultKey::History => read_past(alloc, members),
+        ResultKey::Ping => Ok(Outcome::Pinged),
+    }
+}
+
+/// A code, which is at least 1.
+pub fn read_code(members: &Members<'_>) -> Result<u32, ReadFault>
+    requires { (fs : Fields) × Reads members.now.text.now members.now.found.items fs }
+    ensures { (fs : Fields) → Reads members.now.text.now members.now.found.items fs → Answers (λ n. n) result (code_in fs) }
+{
+    let code = members.positive("code", u64::from(u32::MAX))?;
+    Ok(code as u32)
+}
+
+fn read_failed(members: &Members<'_>) -> Result<Outcome, ReadFault>
+    requires { (fs : Fields) × Reads members.now.text.now members.now.found.items fs }
+    ensures { (fs : Fields) → Reads members.now.text.now members.now.found.items fs → Answers shown_outcome result (outcome_of ResultKey.Error fs) }
+{
+    let code = read_code(members)?;
+    Ok(Outcome::Failed { code })
+}
+
+fn read_connected(alloc: Global, members: &Members<'_>) -> Result<Outcome, ReadFault>
+    requires { (fs : Fields) × Reads members.now.text.now members.now.found.items fs }
+    ensures { (fs : Fields) → Reads members.now.text.now members.now.found.items fs → Answers shown_outcome result (connected fs) }
+{
+    let client = members.text(alloc, "client")?;
+    Ok(Outcome::Connected { client })
+}
+
+fn read_subscribed(alloc: Global, members: &Members<'_>) -> Result<Outcome, ReadFault>
+    requires { (fs : Fields) × Reads members.now.text.now members.now.found.items fs }
+{
+    let position = members.position(alloc)?;
+    let publications = read_publications(alloc, members)?;
+    let recovered = members.flag("recovered")?;
+    let was_recovering = members.flag("was_recovering")?;
+    Ok(Outcome::Subscribed {
+        position,
+        publications,
+        recovered,
+        was_recovering,
+    })
+}
+
+fn read_past(alloc: Global, members: &Members<'_>) -> Result<Outcome, ReadFault>
+    requires { (fs : Fields) × Reads members.now.text.now members.now.found.items fs }
+{
+    let position = members.position(alloc)?;
+    let publications = read_publications(alloc, members)?;
+    Ok(Outcome::Past {
+        position,
+        publications,
+    })
+}
+
+fn read_counted(members: &Members<'_>) -> Result<Outcome, ReadFault>
+    requires { (fs : Fields) × Reads members.now.text.now members.now.found.items fs }
+    ensures { (fs : Fields) → Reads members.now.text.now members.now.found.items fs → Answers shown_outcome result (counted fs) }
+{
+    let clients = members.whole("num_clients", u64::MAX)?;
+    let users = members.whole("num_users", u64::MAX)?;
+    Ok(Outcome::Counted { clients, users })
+}
+
+/// The clients that are there, each by its id, which is the key of its info.
+fn read_present(alloc: Global, members: &Members<'_>) -> Result<Outcome, ReadFault>
+    requires { (fs : Fields) × Reads members.now.text.now members.now.found.items fs }
+{
+    let mut users = BTreeMap::new(alloc);
+    if let Some(clients) = members.object(alloc, "presence")? {
+        for client in &clients.found {
+            let info = read_client(alloc, clients.text, client.1)?;
+            users.insert(client.0.clone()?, info.user)?;
+        }
+    }
+    Ok(Outcome::Present { users })
+}

@@ -1,0 +1,86 @@
+//! Publications in replies and pushes.
+ghost use Rattle.std.specs.Prelude.{◌≡◌};
+ghost use Rattle.cf_json.specs.Grammar.{Tree};
+ghost use Rattle.cf_json.specs.Spans.{IsAt};
+ghost use Rattle.cf_protocol.specs.Fields.{Fields, object_as, object_or_none};
+ghost use Rattle.cf_protocol.specs.Reading.{Answers, Reads};
+ghost use Rattle.cf_protocol.specs.Reply.{info, publication};
+
+use crate::fault::ReadFault;
+use crate::publication::{Info, Publication};
+use crate::read::members::Members;
+use cf_json::{Span, compact};
+use std::alloc::Global;
+
+pub fn read_info(alloc: Global, members: &Members<'_>) -> Result<Info, ReadFault>
+    requires { (fs : Fields) × Reads members.now.text.now members.now.found.items fs }
+    ensures { (fs : Fields) → Reads members.now.text.now members.now.found.items fs → Answers (λ w. w) result (info fs) }
+{
+    let client = members.text(alloc, "client")?;
+    let user = members.text(alloc, "user")?;
+    Ok(Info { user, client })
+}
+
+/// The info of a client that is there.
+pub fn read_client(alloc: Global, text: &str, span: Span) -> Result<Info, ReadFault>
+    requires { (t : Tree) × IsAt text.now t span }
+    ensures { (t : Tree) → IsAt text.now t span → Answers (λ w. w) result (object_as info t) }
+{
+    let members = Members::of(alloc, text, span)?;
+    let info = read_info(alloc, &members)?;
+    Ok(info)
+}
+
+/// The info of a publication, where a client published it.
+fn read_publisher(alloc: Global, members: &Members<'_>) -> Result<Option<Info>, ReadFault>
+    requires { (fs : Fields) × Reads members.now.text.now members.now.found.items fs }
+    ensures { (fs : Fields) → Reads members.now.text.now members.now.found.items fs → Answers (λ w. w) result (object_or_none info fs "info") }
+{
+    match members.object(alloc, "info")? {
+        Some(found) => {
+            let info = read_info(alloc, &found)?;
+            Ok(Some(info))
+        }
+        None => Ok(None),
+    }
+}
+
+/// A publication. Its data is there, and may be `null`.
+pub fn read_publication(alloc: Global, members: &Members<'_>) -> Result<Publication, ReadFault>
+    requires { (fs : Fields) × Reads members.now.text.now members.now.found.items fs }
+    ensures { (fs : Fields) → Reads members.now.text.now members.now.found.items fs → Answers (λ p. p) result (publication fs) }
+{
+    let Some(span) = members.get("data") else {
+        return Err(ReadFault::Bad);
+    };
+    let info = read_publisher(alloc, members)?;
+    let offset = members.whole("offset", u64::MAX)?;
+    let body = compact(alloc, members.text, span)?;
+    Ok(Publication { offset, body, info })
+}
+
+/// A publication of a list.
+fn read_published(alloc: Global, text: &str, span: Span) -> Result<Publication, ReadFault>
+    requires { (t : Tree) × IsAt text.now t span }
+    ensures { (t : Tree) → IsAt text.now t span → Answers (λ p. p) result (object_as publication t) }
+{
+    let members = Members::of(alloc, text, span)?;
+    let publication = read_publication(alloc, &members)?;
+    Ok(publication)
+}
+
+/// The publications of a result.
+pub fn read_publications(
+    alloc: Global,
+    members: &Members<'_>,
+) -> Result<Vec<Publication>, ReadFault>
+    requires { (fs : Fields) × Reads members.now.text.now members.now.found.items fs }
+{
+    let mut publications = Vec::new(alloc);
+    let spans = members.list(alloc, "publications")?;
+    for span in &spans {
+        let publication = read_published(alloc, members.text, *span)?;
+        publications.push(publication)?;
+    }
+    Ok(publications)
+}
