@@ -8,6 +8,7 @@ pub mod Data
 pub mod Refusals
 pub mod Events
 pub mod Refused
+pub mod Slow
 pub mod Names
 pub mod Standing
 pub mod Leading

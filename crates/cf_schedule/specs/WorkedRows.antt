@@ -17,7 +17,7 @@ abbrev pub plain : Config
 plain = keeping 100
 
 -- what is printed for a schedule
-abbrev pub shown : Config → List Event → List ℕ
+unfoldable pub shown : Config → List Event → List ℕ
 shown cfg es = printed (trace cfg 1 start es)
 
 -- these lines
@@ -125,3 +125,31 @@ tells_again n = told_by n ann (Resubscribing news 2500)
 
 abbrev pub bob : List ℕ
 bob = codes "bob"
+
+-- ---- a consumer that is too slow
+
+abbrev pub both : List ℕ
+both = codes "c"
+
+abbrev pub subscribes : List ℕ → List Event
+subscribes x = Connect x 0 ∷ Ask x both ∷ Read x both ∷ Finish x both ∷ Take x ∷ []
+
+-- ann and bob subscribe to one channel
+abbrev pub both_subscribe : List Event
+both_subscribe = Epoch (codes "aaaa") ∷ (subscribes ann ++ subscribes bob)
+
+-- after this publication bob takes what comes, and ann takes nothing until two have come
+abbrev pub slow_consumer : List ℕ → List Event
+slow_consumer body =
+    both_subscribe ++ Publish both body ∷ Deliver 0 1 ∷ Take bob ∷ Publish both (codes "0") ∷ Deliver 0 2 ∷ Take bob ∷ Take ann ∷ Take ann ∷ []
+
+-- this publication comes, and both take
+abbrev pub too_much : List ℕ → List Event
+too_much body = both_subscribe ++ Publish both body ∷ Deliver 0 1 ∷ Take bob ∷ Take ann ∷ []
+
+abbrev pub both_are_subscribed : List ℕ
+both_are_subscribed = as_lines ("ann c sub aaaa 0 fresh" ∷ "bob c sub aaaa 0 fresh" ∷ [])
+
+-- the line of a publication whose body is given
+abbrev pub pub_line : Name → List ℕ → List ℕ
+pub_line before body = codes before ++ body ++ 10 ∷ []

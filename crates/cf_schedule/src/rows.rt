@@ -1,10 +1,10 @@
 //! Schedules and what is printed for them, computed on the definitions; and traces that are not safe.
-ghost use Rattle.std.specs.Prelude.{◌≡◌, [], ◌∷◌, List, codes};
+ghost use Rattle.std.specs.Prelude.{◌≡◌, ◌++◌, ℕ, [], ◌∷◌, List, length, codes};
 ghost use Rattle.cf_schedule.specs.Config.{Config};
 ghost use Rattle.cf_schedule.specs.LooseRun.{Happening, lines};
 ghost use Rattle.cf_schedule.specs.StreamSafety.{Safe};
 ghost use Rattle.cf_schedule.specs.Trace.{Published};
-ghost use Rattle.cf_schedule.specs.WorkedRows.{ann, as_lines, bob, buffered_gap, buffered_reordering, delivery_after_node_restart, first_publication, gap_ends_subscription, keeping, late_but_there, leave_and_return, lists_and_refusals, lost, new_epoch_after_restart, news, no_epoch_yet, place, plain, position_check, recovered, shown, take, tells_again, tells_pub, tells_recovered, tells_sub, told_by, two_breaks, two_come};
+ghost use Rattle.cf_schedule.specs.WorkedRows.{ann, as_lines, bob, both_are_subscribed, buffered_gap, buffered_reordering, delivery_after_node_restart, first_publication, gap_ends_subscription, keeping, late_but_there, leave_and_return, lists_and_refusals, lost, new_epoch_after_restart, news, no_epoch_yet, place, plain, position_check, pub_line, recovered, shown, slow_consumer, take, tells_again, tells_pub, tells_recovered, tells_sub, told_by, too_much, two_breaks, two_come};
 
 /// What the interval machine's clients are told in schedules that show each of its rules.
 pub fn worked_rows()
@@ -34,7 +34,13 @@ pub fn worked_rows()
     ensures no_epoch_yet { shown plain no_epoch_yet ≡ as_lines ([]) }
     ensures lists_and_refusals { shown plain lists_and_refusals ≡
         as_lines ("ann news sub aaaa 0 fresh" ∷ "ann news pub aaaa 1 {\"t\":1}" ∷ "ann news list aaaa 1 1" ∷ "ann news list aaaa 1 0" ∷ "ann chat:x refused 102" ∷ "ann chat:x refused 102" ∷ []) }
-{}
+    ensures slow_consumer { (body : List ℕ) → length body ≡ 1048525 → shown plain (slow_consumer body) ≡
+        both_are_subscribed ++ (pub_line "bob c pub aaaa 1 " body ++ (as_lines ("bob c pub aaaa 2 0" ∷ []) ++ (pub_line "ann c pub aaaa 1 " body ++ as_lines ("ann closed 3008" ∷ [])))) }
+    ensures too_much { (body : List ℕ) → length body ≡ 1048526 → shown plain (too_much body) ≡
+        both_are_subscribed ++ as_lines ("bob closed 3008" ∷ "ann closed 3008" ∷ []) }
+{
+    cf_protocol::laws::push_length();
+}
 
 /// What stream safety refuses: a gap, a repeat, a publication before the subscription and one after its end, a `recovered`
 /// where the stream no longer held all that was missing or that brings less than it, and two data at one place.
