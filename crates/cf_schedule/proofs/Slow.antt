@@ -21,7 +21,7 @@ use Rattle.cf_schedule.specs.Link.{Link, with_line, hold_first, holds, receive_f
 use Rattle.cf_schedule.specs.World.{World, start, on_node, link_with, broker_with}
 use Rattle.cf_schedule.specs.IntervalMachine.{happens, allows, delivered, run, has_any}
 use Rattle.cf_schedule.specs.Trace.{Entry, Item, Published, Closed}
-use Rattle.cf_schedule.specs.Told.{trace, writes, entries, items, first_items, pub_items}
+use Rattle.cf_schedule.specs.Told.{trace, entries, items, first_items, pub_items}
 use Rattle.cf_schedule.specs.TraceLine.{printed, line_of}
 use Rattle.cf_schedule.specs.WorkedRows.{plain, ann, bob, both, both_subscribe, slow_consumer, too_much, shown, both_are_subscribed, pub_line, as_lines, place}
 
@@ -61,10 +61,10 @@ state top held = record { epoch = codes "aaaa"; top = top; held = held }
 publish_holds : (top held : ℕ) (ds : List Datum) (ps : List Place) (d : Datum) (b : Broker) → nat_lt top last_offset ≡ true → Holds b top held ds ps
     → Holds (publish 100 both d b) (top + 1) (min (held + 1) 100) (ds ++ d ∷ []) (ps ++ there (top + 1) ∷ [])
 publish_holds top held ds ps d b room h = subst (λ (k : Broker). Holds k (top + 1) (min (held + 1) 100) (ds ++ d ∷ []) (ps ++ there (top + 1) ∷ [])) (sym added) (record {
-      stream = refl;
-      list = ap (λ (es : List Datum). es ++ d ∷ []) h.list;
-      accepted = ap (λ (qs : List Place). qs ++ there (top + 1) ∷ []) h.accepted;
-    })
+  stream = refl;
+  list = ap (λ (es : List Datum). es ++ d ∷ []) h.list;
+  accepted = ap (λ (qs : List Place). qs ++ there (top + 1) ∷ []) h.accepted;
+})
   where
     more : Broker
     more = record b {
@@ -72,8 +72,10 @@ publish_holds top held ds ps d b room h = subst (λ (k : Broker). Holds k (top +
       lists = list_with both (codes "aaaa") d b.lists;
       accepted = b.accepted ++ there (top + 1) ∷ [];
     }
+
     stays : opened both b ≡ b
     stays = ap (λ (o : Option StreamState). open_at both o b.waiting b) h.stream
+
     added : publish 100 both d b ≡ more
     added =
         ap (λ (k : Broker). add_at 100 both d (k.streams both) k) stays
@@ -90,7 +92,7 @@ silent false = refl
 publish_then : (n : ℕ) (es : List Event) (out : List ℕ) (w : World) (top held : ℕ) (ds : List Datum) (ps : List Place) (body : List ℕ) (A B : Link → Type 0)
     → nat_lt top last_offset ≡ true → Holds w.broker top held ds ps → A (w.links ann) → B (w.links bob)
     → ((v : World) → Holds v.broker (top + 1) (min (held + 1) 100) (ds ++ nobody's body ∷ []) (ps ++ there (top + 1) ∷ []) → A (v.links ann) → B (v.links bob)
-        → printed (trace plain (suc n) v es) ≡ out)
+    → printed (trace plain (suc n) v es) ≡ out)
     → printed (trace plain n w (Publish both body ∷ es)) ≡ out
 unfolding none_told
 publish_then n es out w top held ds ps body A B room h a b next =
@@ -146,26 +148,36 @@ deliver_fits : (lists : Lists) (l : Link) (p q : Position) (ns : List Note) (see
     → Looks (deliver_to lists q l) (On q None) (ns ++ Pub both q ∷ []) false seen
 deliver_fits lists l p q ns seen passes h fits =
     subst (λ (k : Link). Looks k (On q None) (ns ++ Pub both q ∷ []) false seen) (sym comes_to) (record {
-      node = h.node; sub = refl; notes = ap (λ (ms : List Note). ms ++ Pub both q ∷ []) h.notes; closed = h.closed; way = h.way; mode = h.mode;
+      node = h.node;
+      sub = refl;
+      notes = ap (λ (ms : List Note). ms ++ Pub both q ∷ []) h.notes;
+      closed = h.closed;
+      way = h.way;
+      mode = h.mode;
     })
   where
     comes_to : deliver_to lists q l ≡ with_line (record (put_sub both (On q None) l.line) { notes = l.line.notes ++ Pub both q ∷ [] }) l
     comes_to = passed_line lists l p q ns seen passes h ∙ ap (λ (k : Line Note). with_line k l)
         (push_fits (wording lists) (Pub both q) (put_sub both (On q None) l.line) h.closed
-            (ap (λ (ms : List Note). nat_le (sum_by (note_length lists) ms + note_length lists (Pub both q)) most_waiting) h.notes ∙ fits))
+        (ap (λ (ms : List Note). nat_le (sum_by (note_length lists) ms + note_length lists (Pub both q)) most_waiting) h.notes ∙ fits))
 
 deliver_closes : (lists : Lists) (l : Link) (p q : Position) (ns : List Note) (seen : Position) → verdict p q ≡ Pass → Looks l (On p None) ns false seen
     → nat_le (sum_by (note_length lists) ns + note_length lists (Pub both q)) most_waiting ≡ false
     → Looks (deliver_to lists q l) Off (ns ++ Close 3008 ∷ []) true seen
 deliver_closes lists l p q ns seen passes h over =
     subst (λ (k : Link). Looks k Off (ns ++ Close 3008 ∷ []) true seen) (sym comes_to) (record {
-      node = h.node; sub = refl; notes = ap (λ (ms : List Note). ms ++ Close 3008 ∷ []) h.notes; closed = refl; way = h.way; mode = h.mode;
+      node = h.node;
+      sub = refl;
+      notes = ap (λ (ms : List Note). ms ++ Close 3008 ∷ []) h.notes;
+      closed = refl;
+      way = h.way;
+      mode = h.mode;
     })
   where
     comes_to : deliver_to lists q l ≡ with_line (closes (Close 3008) (put_sub both (On q None) l.line)) l
     comes_to = passed_line lists l p q ns seen passes h ∙ ap (λ (k : Line Note). with_line k l)
         (push_closes (wording lists) (Pub both q) (put_sub both (On q None) l.line) h.closed
-            (ap (λ (ms : List Note). nat_le (sum_by (note_length lists) ms + note_length lists (Pub both q)) most_waiting) h.notes ∙ over))
+        (ap (λ (ms : List Note). nat_le (sum_by (note_length lists) ms + note_length lists (Pub both q)) most_waiting) h.notes ∙ over))
 
 -- ---- a note is taken
 
@@ -179,7 +191,12 @@ taken_pub : (l : Link) (s : Sub) (q : Position) (ns : List Note) (c : Bool) (see
     → Looks (receives (holds l)) s ns c q
 taken_pub l s q ns c seen h =
     subst (λ (k : Link). Looks k s ns c q) (sym (taken l s (Pub both q) ns c seen h)) (record {
-      node = h.node; sub = h.sub; notes = refl; closed = h.closed; way = refl; mode = ap (λ m. takes both m (Pub both q)) h.mode;
+      node = h.node;
+      sub = h.sub;
+      notes = refl;
+      closed = h.closed;
+      way = refl;
+      mode = ap (λ m. takes both m (Pub both q)) h.mode;
     })
 
 -- what its client is told
@@ -201,9 +218,9 @@ take_then : (n : ℕ) (x : List ℕ) (es : List Event) (out : List ℕ) (w : Wor
     → printed (trace plain n w (Take x ∷ es)) ≡ (line_of (record { at = n; client = x; item = i }) ++ 10 ∷ []) ++ out
 take_then n x es out w s m ns c seen i h told next =
     ap (λ (t : Bool). printed ((if t then entries n x (first_items w.broker.lists (w.links x).client (holds (w.links x)).way) else [])
-        ++ trace plain (suc n) (if t then link_with x (receives (holds (w.links x))) w else w) es)) (can_take (w.links x) s m ns c seen h)
+    ++ trace plain (suc n) (if t then link_with x (receives (holds (w.links x))) w else w) es)) (can_take (w.links x) s m ns c seen h)
     ∙ ap (λ (is : List Item). printed (entries n x is ++ trace plain (suc n) (link_with x (receives (holds (w.links x))) w) es))
-        (first_told w.broker.lists (w.links x) s m ns c seen h ∙ told)
+    (first_told w.broker.lists (w.links x) s m ns c seen h ∙ told)
     ∙ ap (λ (t : List ℕ). (line_of (record { at = n; client = x; item = i }) ++ 10 ∷ []) ++ t) next
 
 -- ---- what the two publications weigh
@@ -276,12 +293,12 @@ pub too_much_row : PushLength → (body : List ℕ) → length body ≡ 1048526 
 too_much_row law body e =
     before_then (Publish both body ∷ Deliver 0 1 ∷ Take bob ∷ Take ann ∷ []) _
     (publish_then 12 (Deliver 0 1 ∷ Take bob ∷ Take ann ∷ []) _ after_both 0 0 [] [] body
-        (λ l. Looks l (On (place 0) None) [] false (place 0)) (λ l. Looks l (On (place 0) None) [] false (place 0)) refl begins_empty ann_begins bob_begins
-        (λ v h a b. deliver_then 13 1 (Take bob ∷ Take ann ∷ []) _ v (place 1) (λ k. Unit {0})
-            (λ l. Looks l Off (Close 3008 ∷ []) true (place 0)) (λ l. Looks l Off (Close 3008 ∷ []) true (place 0)) (accepted_first v.broker 1 1 _ [] h) tt
-            (deliver_closes v.broker.lists (v.links ann) (place 0) (place 1) [] (place 0) refl a (alone v.broker _ _ 1 1 1 1048577 false h (weight_of_first law body 1048526 [] e) refl))
-            (deliver_closes v.broker.lists (v.links bob) (place 0) (place 1) [] (place 0) refl b (alone v.broker _ _ 1 1 1 1048577 false h (weight_of_first law body 1048526 [] e) refl))
-            (λ u s. both_closed u)))
+    (λ l. Looks l (On (place 0) None) [] false (place 0)) (λ l. Looks l (On (place 0) None) [] false (place 0)) refl begins_empty ann_begins bob_begins
+    (λ v h a b. deliver_then 13 1 (Take bob ∷ Take ann ∷ []) _ v (place 1) (λ k. Unit {0})
+    (λ l. Looks l Off (Close 3008 ∷ []) true (place 0)) (λ l. Looks l Off (Close 3008 ∷ []) true (place 0)) (accepted_first v.broker 1 1 _ [] h) tt
+    (deliver_closes v.broker.lists (v.links ann) (place 0) (place 1) [] (place 0) refl a (alone v.broker _ _ 1 1 1 1048577 false h (weight_of_first law body 1048526 [] e) refl))
+    (deliver_closes v.broker.lists (v.links bob) (place 0) (place 1) [] (place 0) refl b (alone v.broker _ _ 1 1 1 1048577 false h (weight_of_first law body 1048526 [] e) refl))
+    (λ u s. both_closed u)))
 
 -- ---- as much as fits
 
@@ -295,11 +312,11 @@ last_takes : (body : List ℕ) (w : World) → two_held body w.broker → Looks 
 unfolding digits
 last_takes body w h a b =
     take_then 17 bob (Take ann ∷ Take ann ∷ []) _ w (On (place 2) None) (Pub both (place 2)) [] false (place 1) (Published both (place 2) (codes "0")) b
-        (told_pub w.broker (w.links bob) (place 2) (place 1) (codes "0") (body_there w.broker 2 2 _ _ 2 h) b.mode)
+    (told_pub w.broker (w.links bob) (place 2) (place 1) (codes "0") (body_there w.broker 2 2 _ _ 2 h) b.mode)
     (take_then 18 ann (Take ann ∷ []) _ w2 Off (Pub both (place 1)) (Close 3008 ∷ []) true (place 0) (Published both (place 1) body) a
-        (told_pub w.broker (w.links ann) (place 1) (place 0) body (body_there w.broker 2 2 _ _ 1 h) a.mode)
+    (told_pub w.broker (w.links ann) (place 1) (place 0) body (body_there w.broker 2 2 _ _ 1 h) a.mode)
     (take_then 19 ann [] _ (link_with ann (receives (holds (w.links ann))) w2) Off (Close 3008) [] true (place 1) (Closed 3008)
-        (taken_pub (w.links ann) Off (place 1) (Close 3008 ∷ []) true (place 0) a) refl refl))
+    (taken_pub (w.links ann) Off (place 1) (Close 3008 ∷ []) true (place 0) a) refl refl))
   where
     w2 : World
     w2 = link_with bob (receives (holds (w.links bob))) w
@@ -311,12 +328,12 @@ second_comes : PushLength → (body : List ℕ) → length body ≡ 1048525 → 
     ≡ as_lines ("bob c pub aaaa 2 0" ∷ []) ++ (pub_line "ann c pub aaaa 1 " body ++ as_lines ("ann closed 3008" ∷ []))
 second_comes law body e w h a b =
     deliver_then 16 2 (Take bob ∷ Take ann ∷ Take ann ∷ []) _ w (place 2) (two_held body)
-        (λ l. Looks l Off (Pub both (place 1) ∷ Close 3008 ∷ []) true (place 0)) (λ l. Looks l (On (place 2) None) (Pub both (place 2) ∷ []) false (place 1))
-        (ap (λ (qs : List Place). slice_get qs 1) h.accepted) h
-        (deliver_closes w.broker.lists (w.links ann) (place 1) (place 2) (Pub both (place 1) ∷ []) (place 0) refl a over)
-        (deliver_fits w.broker.lists (w.links bob) (place 1) (place 2) [] (place 1) refl b
-            (alone w.broker _ _ 2 2 2 52 true h (weight_of_second law body) refl))
-        (last_takes body)
+    (λ l. Looks l Off (Pub both (place 1) ∷ Close 3008 ∷ []) true (place 0)) (λ l. Looks l (On (place 2) None) (Pub both (place 2) ∷ []) false (place 1))
+    (ap (λ (qs : List Place). slice_get qs 1) h.accepted) h
+    (deliver_closes w.broker.lists (w.links ann) (place 1) (place 2) (Pub both (place 1) ∷ []) (place 0) refl a over)
+    (deliver_fits w.broker.lists (w.links bob) (place 1) (place 2) [] (place 1) refl b
+    (alone w.broker _ _ 2 2 2 52 true h (weight_of_second law body) refl))
+    (last_takes body)
   where
     over : nat_le (sum_by (note_length w.broker.lists) (Pub both (place 1) ∷ []) + note_length w.broker.lists (Pub both (place 2))) most_waiting ≡ false
     over =
@@ -331,22 +348,22 @@ bob_takes : PushLength → (body : List ℕ) → length body ≡ 1048525 → (w 
 unfolding digits
 bob_takes law body e w h a b =
     take_then 14 bob (Publish both (codes "0") ∷ Deliver 0 2 ∷ Take bob ∷ Take ann ∷ Take ann ∷ []) _ w (On (place 1) None) (Pub both (place 1)) [] false (place 0)
-        (Published both (place 1) body) b (told_pub w.broker (w.links bob) (place 1) (place 0) body (body_there w.broker 1 1 _ _ 1 h) b.mode)
+    (Published both (place 1) body) b (told_pub w.broker (w.links bob) (place 1) (place 0) body (body_there w.broker 1 1 _ _ 1 h) b.mode)
     (publish_then 15 (Deliver 0 2 ∷ Take bob ∷ Take ann ∷ Take ann ∷ []) _ (link_with bob (receives (holds (w.links bob))) w) 1 1 _ _ (codes "0")
-        (λ l. Looks l (On (place 1) None) (Pub both (place 1) ∷ []) false (place 0)) (λ l. Looks l (On (place 1) None) [] false (place 1)) refl h a
-        (taken_pub (w.links bob) (On (place 1) None) (place 1) [] false (place 0) b)
-        (second_comes law body e))
+    (λ l. Looks l (On (place 1) None) (Pub both (place 1) ∷ []) false (place 0)) (λ l. Looks l (On (place 1) None) [] false (place 1)) refl h a
+    (taken_pub (w.links bob) (On (place 1) None) (place 1) [] false (place 0) b)
+    (second_comes law body e))
 
 pub slow_consumer_row : PushLength → (body : List ℕ) → length body ≡ 1048525
     → shown plain (slow_consumer body) ≡ both_are_subscribed ++ (pub_line "bob c pub aaaa 1 " body ++ (as_lines ("bob c pub aaaa 2 0" ∷ []) ++ (pub_line "ann c pub aaaa 1 " body ++ as_lines ("ann closed 3008" ∷ []))))
 slow_consumer_row law body e =
     before_then (Publish both body ∷ Deliver 0 1 ∷ Take bob ∷ Publish both (codes "0") ∷ Deliver 0 2 ∷ Take bob ∷ Take ann ∷ Take ann ∷ []) _
     (publish_then 12 (Deliver 0 1 ∷ Take bob ∷ Publish both (codes "0") ∷ Deliver 0 2 ∷ Take bob ∷ Take ann ∷ Take ann ∷ []) _ after_both 0 0 [] [] body
-        (λ l. Looks l (On (place 0) None) [] false (place 0)) (λ l. Looks l (On (place 0) None) [] false (place 0)) refl begins_empty ann_begins bob_begins
-        (λ v h a b. deliver_then 13 1 (Take bob ∷ Publish both (codes "0") ∷ Deliver 0 2 ∷ Take bob ∷ Take ann ∷ Take ann ∷ []) _ v (place 1)
-            (λ k. Holds k 1 1 (nobody's body ∷ []) (there 1 ∷ []))
-            (λ l. Looks l (On (place 1) None) (Pub both (place 1) ∷ []) false (place 0)) (λ l. Looks l (On (place 1) None) (Pub both (place 1) ∷ []) false (place 0))
-            (accepted_first v.broker 1 1 _ [] h) h
-            (deliver_fits v.broker.lists (v.links ann) (place 0) (place 1) [] (place 0) refl a (alone v.broker _ _ 1 1 1 1048576 true h (weight_of_first law body 1048525 [] e) refl))
-            (deliver_fits v.broker.lists (v.links bob) (place 0) (place 1) [] (place 0) refl b (alone v.broker _ _ 1 1 1 1048576 true h (weight_of_first law body 1048525 [] e) refl))
-            (bob_takes law body e)))
+    (λ l. Looks l (On (place 0) None) [] false (place 0)) (λ l. Looks l (On (place 0) None) [] false (place 0)) refl begins_empty ann_begins bob_begins
+    (λ v h a b. deliver_then 13 1 (Take bob ∷ Publish both (codes "0") ∷ Deliver 0 2 ∷ Take bob ∷ Take ann ∷ Take ann ∷ []) _ v (place 1)
+    (λ k. Holds k 1 1 (nobody's body ∷ []) (there 1 ∷ []))
+    (λ l. Looks l (On (place 1) None) (Pub both (place 1) ∷ []) false (place 0)) (λ l. Looks l (On (place 1) None) (Pub both (place 1) ∷ []) false (place 0))
+    (accepted_first v.broker 1 1 _ [] h) h
+    (deliver_fits v.broker.lists (v.links ann) (place 0) (place 1) [] (place 0) refl a (alone v.broker _ _ 1 1 1 1048576 true h (weight_of_first law body 1048525 [] e) refl))
+    (deliver_fits v.broker.lists (v.links bob) (place 0) (place 1) [] (place 0) refl b (alone v.broker _ _ 1 1 1 1048576 true h (weight_of_first law body 1048525 [] e) refl))
+    (bob_takes law body e)))
