@@ -2,7 +2,7 @@
 use Rattle.std.specs.Prelude.{ℕ, List, [], ◌∷◌, ◌++◌, flat_map, codes, true, false, negsuc}
 use Prim.Native.String.{String as Name}
 use Rattle.cf_schedule.specs.Config.{Config}
-use Rattle.cf_schedule.specs.Event.{Event, Epoch, Connect, Ask, AskFrom, Read, Finish, Publish, PublishBy, Deliver, Take, Break, Leave, Trim, Forget, BrokerRestart, Restart, Check, ListHistory}
+use Rattle.cf_schedule.specs.Event.{Event, Epoch, Connect, Ask, AskFrom, Read, Finish, Publish, PublishBy, Deliver, Take, Break, Leave, Trim, BrokerRestart, Restart, Check, ListHistory}
 use Rattle.cf_protocol.specs.Position.{Position}
 use Rattle.cf_schedule.specs.Trace.{Item, Subscribed, Published, Resubscribing, Entry}
 use Rattle.cf_schedule.specs.World.{start}

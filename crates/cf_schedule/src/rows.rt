@@ -6,7 +6,8 @@ ghost use Rattle.cf_schedule.specs.StreamSafety.{Safe};
 ghost use Rattle.cf_schedule.specs.Trace.{Published};
 ghost use Rattle.cf_schedule.specs.WorkedRows.{ann, as_lines, bob, both_are_subscribed, buffered_gap, buffered_reordering, delivery_after_node_restart, first_publication, gap_ends_subscription, keeping, late_but_there, leave_and_return, lists_and_refusals, lost, new_epoch_after_restart, news, no_epoch_yet, place, plain, position_check, pub_line, recovered, shown, slow_consumer, take, tells_again, tells_pub, tells_recovered, tells_sub, told_by, too_much, two_breaks, two_come};
 
-/// What the interval machine's clients are told in schedules that show each of its rules.
+/// What the interval machine's clients are told in schedules that show each of its rules. The push of a body of 1,048,525
+/// bytes to the channel `c` has 1,048,576 bytes, the most that wait for one client.
 pub fn worked_rows()
     ensures first_publication { shown plain first_publication ≡
         as_lines ("ann news sub aaaa 0 fresh" ∷ "ann news pub aaaa 1 {\"t\":1}" ∷ []) }
