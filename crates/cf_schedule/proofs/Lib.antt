@@ -24,3 +24,5 @@ pub mod Tracing
 pub mod Tales
 pub mod Accounts
 pub mod Headline
+pub mod Owning
+pub mod OwnedRuns

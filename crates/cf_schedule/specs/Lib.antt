@@ -22,5 +22,6 @@ pub mod Told
 pub mod Marks
 pub mod StreamSafety
 pub mod Leading
+pub mod AnswersById
 pub mod Seen
 pub mod LineRead

@@ -3,6 +3,7 @@
 //! Each law is a function that does nothing: its contract is the law.
 ghost use Rattle.std.specs.Prelude.{◌≡◌, List, ℕ};
 ghost use Rattle.cf_client.specs.ClientState.{last_of};
+ghost use Rattle.cf_schedule.specs.AnswersById.{AreForChannel};
 ghost use Rattle.cf_schedule.specs.Config.{Config};
 ghost use Rattle.cf_schedule.specs.Event.{Event};
 ghost use Rattle.cf_schedule.specs.FreshEpochs.{AreFresh};
@@ -57,6 +58,13 @@ pub fn notes_lead()
 #[tactic(auto, using(crate::proofs::Headline::fresh_run))]
 pub fn epochs_are_fresh()
     ensures { (config : Config) (events : List Event) → AreFresh (run config start events).broker }
+{}
+
+/// Answers are matched by id alone: after every run a reply or an error that is coming to a client, under the id of an ask that
+/// is out, is for the channel that asks. The text of a reply names no channel.
+#[tactic(auto, using(crate::proofs::OwnedRuns::answers_by_id))]
+pub fn answers_by_id()
+    ensures { (config : Config) (events : List Event) (client channel : List ℕ) → AreForChannel channel (((run config start events).links client).client.modes channel) (coming ((run config start events).links client)) }
 {}
 
 /// A schedule is a loose run of its lines: it leads to the same world and has the same trace.

@@ -1,0 +1,337 @@
+-- Each id of a connection is of one command, and so of one channel.
+use Rattle.std.proofs.Common.{◌≡◌, ℕ, zero, suc, ◌+◌, ◌<◌, ◌==◌, ◌&&◌, ◌||◌, ◌∙◌, Bool, Option, Some, None, List, [], ◌∷◌, ◌++◌, refl, sym, subst, arith, append_assoc, inl, inr, if◌then◌else◌, nat_lt, nat_le, sum_by, not, is_some}
+use Rattle.std.proofs.lemmas.Bool.Decides.{eqb_tells}
+use Rattle.std.specs.Str.{bytes_eq}
+use Rattle.cf_protocol.specs.Position.{Position}
+use Rattle.cf_protocol.specs.Note.{Lists, Reading, Note, Reply, Pub, End, Fails, Put as PutDone, Left, Listed, PingDue, Close}
+use Rattle.cf_recovery.specs.Arrivals.{arrives}
+use Rattle.cf_recovery.specs.Release.{run_length, falls_short}
+use Rattle.cf_recovery.specs.Verdict.{next}
+use Rattle.cf_hub.specs.PositionCheck.{Checked, Fine, Behind, Ended, position_check}
+use Rattle.cf_hub.specs.Connection.{Sub, Off, Asked, Ready, On, Line, closes, push, most_waiting, put_sub, read_at as line_read_at, pass_at, passes, end_at, ends, come_at, comes, finish_at, finishes, by_check, check_at, checks}
+use Rattle.cf_client.specs.ClientState.{Mode, Idle, Asking, Live, idle, takes, read_to, hears as takes_note}
+use Rattle.cf_schedule.specs.Errand.{Errand, Sent, Subscribe, Unsubscribe, Publish as PublishErrand, History, channel_of}
+use Rattle.cf_schedule.specs.Weights.{wording}
+use Rattle.cf_schedule.specs.Link.{Link, with_line, sends, hears_subscribe, hears_errand, hears_first, hears, is_waiting, errs, says, closes_with, breaks, gets, hold_first, holds, receive_first, receives}
+use Rattle.cf_schedule.specs.Leading.{coming}
+use Rattle.cf_schedule.specs.AnswersById.{IsForChannel, AreForChannel}
+use Rattle.cf_schedule.proofs.Names.{by_test, with-all}
+use Rattle.cf_schedule.proofs.Keeping.{by_verdict_lem}
+
+-- id k was used for channel c
+abbrev pub IsOwn : (ℕ → List ℕ) → ℕ → List ℕ → ℕ → Type 0
+IsOwn owner fresh c k = (owner k ≡ c) × (k < fresh)
+
+abbrev OwnMode : (ℕ → List ℕ) → ℕ → List ℕ → Mode → Type 0
+OwnMode owner fresh c (Idle last) = Unit {0}
+OwnMode owner fresh c (Asking id from last) = IsOwn owner fresh c id
+OwnMode owner fresh c (Live p) = Unit {0}
+
+abbrev OwnSub : (ℕ → List ℕ) → ℕ → List ℕ → Sub → Type 0
+OwnSub owner fresh c Off = Unit {0}
+OwnSub owner fresh c (Asked k since arrived) = IsOwn owner fresh c k
+OwnSub owner fresh c (Ready k was r arrived) = IsOwn owner fresh c k
+OwnSub owner fresh c (On p mark) = Unit {0}
+
+abbrev OwnNote : (ℕ → List ℕ) → ℕ → Note → Type 0
+OwnNote owner fresh (Reply d k was r) = IsOwn owner fresh d k
+OwnNote owner fresh (Fails d k code) = IsOwn owner fresh d k
+OwnNote owner fresh n = Unit {0}
+
+abbrev OwnNotes : (ℕ → List ℕ) → ℕ → List Note → Type 0
+OwnNotes owner fresh [] = Unit {0}
+OwnNotes owner fresh (n ∷ ns) = OwnNote owner fresh n × OwnNotes owner fresh ns
+
+abbrev OwnUps : (ℕ → List ℕ) → ℕ → List Sent → Type 0
+OwnUps owner fresh [] = Unit {0}
+OwnUps owner fresh (k ∷ ks) = IsOwn owner fresh (channel_of k.errand) k.id × OwnUps owner fresh ks
+
+-- THE INVARIANT OF A LINK to whose client these notes are coming
+pub record IsOwnedWith (owner : ℕ → List ℕ) (ns : List Note) (l : Link) : Type 0 where
+  pub modes : (c : List ℕ) → OwnMode owner l.client.fresh c (l.client.modes c)
+  pub notes : OwnNotes owner l.client.fresh ns
+  pub subs : (c : List ℕ) → OwnSub owner l.client.fresh c (l.line.subs c)
+  pub ups : OwnUps owner l.client.fresh l.up
+
+abbrev pub IsOwned : (ℕ → List ℕ) → Link → Type 0
+IsOwned owner l = IsOwnedWith owner (coming l) l
+
+notes-more : (owner : ℕ → List ℕ) (fresh : ℕ) (ns : List Note) (n : Note) → OwnNotes owner fresh ns → OwnNote owner fresh n → OwnNotes owner fresh (ns ++ n ∷ [])
+notes-more owner fresh [] n h k = (k, tt)
+notes-more owner fresh (x ∷ ns) n h k = (h.0, notes-more owner fresh ns n h.1 k)
+
+own-takes : (owner : ℕ → List ℕ) (fresh : ℕ) (c : List ℕ) (m : Mode) (n : Note) → OwnMode owner fresh c m → OwnMode owner fresh c (takes c m n)
+own-takes owner fresh c (Idle last) n h = tt
+own-takes owner fresh c (Asking id from last) (Reply d k was r) h = by_test (OwnMode owner fresh c) (bytes_eq d c && (k == id)) _ _ (λ e. tt) (λ e. h)
+own-takes owner fresh c (Asking id from last) (Fails d k code) h = by_test (OwnMode owner fresh c) (bytes_eq d c && (k == id)) _ _ (λ e. tt) (λ e. h)
+own-takes owner fresh c (Asking id from last) (Close code) h = tt
+own-takes owner fresh c (Asking id from last) n h = h
+own-takes owner fresh c (Live p) (Pub d q) h = by_test (OwnMode owner fresh c) (bytes_eq d c) _ _ (λ e. tt) (λ e. tt)
+own-takes owner fresh c (Live p) (End d) h = by_test (OwnMode owner fresh c) (bytes_eq d c) _ _ (λ e. tt) (λ e. tt)
+own-takes owner fresh c (Live p) (Close code) h = tt
+own-takes owner fresh c (Live p) n h = tt
+
+module _ (owner : ℕ → List ℕ) (lists : Lists) where
+  own-more : (l : Link) (v : Line Note) (n : Note) → v.notes ≡ l.line.notes ++ n ∷ []
+      → IsOwned owner l → OwnNote owner l.client.fresh n → ((c : List ℕ) → OwnSub owner l.client.fresh c (v.subs c)) → IsOwned owner (with_line v l)
+  own-more l v n e g h s =
+      subst (λ ns. IsOwnedWith owner (l.way ++ ns) (with_line v l)) (sym e)
+      (subst (λ ns. IsOwnedWith owner ns (with_line v l)) (append_assoc l.way l.line.notes (n ∷ []))
+      (record { modes = g.modes; notes = notes-more owner l.client.fresh (coming l) n g.notes h; subs = s; ups = g.ups }))
+
+  own-push : (l : Link) (n : Note) → IsOwned owner l → OwnNote owner l.client.fresh n → IsOwned owner (with_line (push (wording lists) n l.line) l)
+  own-push l n g h =
+      by_test (λ (v : Line Note). IsOwned owner (with_line v l)) l.line.closed _ _ (λ e. g)
+      (λ e. by_test (λ (v : Line Note). IsOwned owner (with_line v l)) (nat_le (sum_by (wording lists).weight l.line.notes + (wording lists).weight n) most_waiting) _ _
+      (λ i. own-more l (record (l.line) { notes = l.line.notes ++ n ∷ [] }) n refl g h g.subs)
+      (λ i. own-more l (closes (Close 3008) l.line) (Close 3008) refl g tt (λ c. tt)))
+
+  own-put : (l : Link) (c : List ℕ) (t : Sub) → IsOwned owner l → OwnSub owner l.client.fresh c t → IsOwned owner (with_line (put_sub c t l.line) l)
+  own-put l c t g h = record {
+    modes = g.modes;
+    notes = g.notes;
+    subs = with-all (λ d s. OwnSub owner l.client.fresh d s) l.line.subs c t h (λ d ne. g.subs d);
+    ups = g.ups;
+  }
+
+  own-say : (l : Link) (c : List ℕ) (t : Sub) (n : Note) → IsOwned owner l → OwnSub owner l.client.fresh c t → OwnNote owner l.client.fresh n
+      → IsOwned owner (with_line (push (wording lists) n (put_sub c t l.line)) l)
+  own-say l c t n g h k = own-push (with_line (put_sub c t l.line) l) n (own-put l c t g h) k
+
+  own-pass_at : (l : Link) (c : List ℕ) (s : Sub) → IsOwned owner l → IsOwned owner (with_line (pass_at (wording lists) c s l.line) l)
+  own-pass_at l c Off g = g
+  own-pass_at l c (Asked k since arrived) g = g
+  own-pass_at l c (Ready k was x arrived) g = g
+  own-pass_at l c (On p mark) g = own-say l c (On (next p) mark) (Pub c (next p)) g tt tt
+
+  own-passes : (n : ℕ) (l : Link) (c : List ℕ) → IsOwned owner l → IsOwned owner (with_line (passes (wording lists) c n l.line) l)
+  own-passes zero l c g = g
+  own-passes (suc n) l c g = own-passes n (with_line (pass_at (wording lists) c (l.line.subs c) l.line) l) c (own-pass_at l c (l.line.subs c) g)
+
+  own-end_at : (l : Link) (c : List ℕ) (s : Sub) → IsOwned owner l → IsOwned owner (with_line (end_at (wording lists) c s l.line) l)
+  own-end_at l c Off g = g
+  own-end_at l c (Asked k since arrived) g = g
+  own-end_at l c (Ready k was x arrived) g = g
+  own-end_at l c (On p mark) g = own-say l c Off (End c) g tt tt
+
+  own-ends : (l : Link) (c : List ℕ) → IsOwned owner l → IsOwned owner (with_line (ends (wording lists) c l.line) l)
+  own-ends l c g = own-end_at l c (l.line.subs c) g
+
+  own-come_at : (l : Link) (c : List ℕ) (q : Position) (s : Sub) → IsOwned owner l → l.line.subs c ≡ s → IsOwned owner (with_line (come_at (wording lists) c q s l.line) l)
+  own-come_at l c q Off g e = g
+  own-come_at l c q (Asked k since arrived) g e = own-put l c (Asked k since (arrives q arrived)) g (subst (OwnSub owner l.client.fresh c) e (g.subs c))
+  own-come_at l c q (Ready k was r arrived) g e = own-put l c (Ready k was r (arrives q arrived)) g (subst (OwnSub owner l.client.fresh c) e (g.subs c))
+  own-come_at l c q (On p mark) g e =
+      by_verdict_lem (λ (v : Line Note). IsOwned owner (with_line v l)) (wording lists) c p q mark l.line g
+      (λ i. own-say l c (On q mark) (Pub c q) g tt tt) (own-say l c Off (End c) g tt tt)
+
+  pub own-comes : (l : Link) (c : List ℕ) (q : Position) → IsOwned owner l → IsOwned owner (with_line (comes (wording lists) c q l.line) l)
+  own-comes l c q g = own-come_at l c q (l.line.subs c) g refl
+
+  own-finish_at : (l : Link) (c : List ℕ) (s : Sub) → IsOwned owner l → l.line.subs c ≡ s → IsOwned owner (with_line (finish_at (wording lists) c s l.line) l)
+  own-finish_at l c Off g e = g
+  own-finish_at l c (Asked k since arrived) g e = g
+  own-finish_at l c (On p mark) g e = g
+  own-finish_at l c (Ready k was r arrived) g e =
+      let own : IsOwn owner l.client.fresh c k = subst (OwnSub owner l.client.fresh c) e (g.subs c) in
+      let answered : Link = with_line (push (wording lists) (Reply c k was r) (put_sub c (On (read_to r) None) l.line)) l in
+      let passed = own-passes (run_length arrived r) answered c (own-say l c (On (read_to r) None) (Reply c k was r) g tt own) in
+      by_test (λ (v : Line Note). IsOwned owner (with_line v l)) (falls_short arrived r) _ _
+      (λ h. own-ends (with_line (passes (wording lists) c (run_length arrived r) answered.line) l) c passed) (λ h. passed)
+
+  pub own-finishes : (l : Link) (c : List ℕ) → IsOwned owner l → IsOwned owner (with_line (finishes (wording lists) c l.line) l)
+  own-finishes l c g = own-finish_at l c (l.line.subs c) g refl
+
+  own-by_check : (l : Link) (c : List ℕ) (p : Position) (x : Checked) → IsOwned owner l → IsOwned owner (with_line (by_check (wording lists) c p x l.line) l)
+  own-by_check l c p Fine g = own-put l c (On p None) g tt
+  own-by_check l c p Behind g = own-put l c (On p (Some p.offset)) g tt
+  own-by_check l c p Ended g = own-say l c Off (End c) g tt tt
+
+  own-check_at : (l : Link) (c : List ℕ) (top : Option Position) (s : Sub) → IsOwned owner l → IsOwned owner (with_line (check_at (wording lists) c top s l.line) l)
+  own-check_at l c top Off g = g
+  own-check_at l c top (Asked k since arrived) g = g
+  own-check_at l c top (Ready k was r arrived) g = g
+  own-check_at l c top (On p mark) g = own-by_check l c p (position_check top p mark) g
+
+  pub own-checks : (l : Link) (c : List ℕ) (top : Option Position) → IsOwned owner l → IsOwned owner (with_line (checks (wording lists) c top l.line) l)
+  own-checks l c top g = own-check_at l c top (l.line.subs c) g
+
+  pub own-closes_with : (l : Link) (code : ℕ) → IsOwned owner l → IsOwned owner (closes_with code l)
+  own-closes_with l code g =
+      by_test (λ (v : Line Note). IsOwned owner (with_line v l)) l.line.closed _ _ (λ h. g)
+      (λ h. own-more l (closes (Close code) l.line) (Close code) refl g tt (λ c. tt))
+
+  pub own-reads : (l : Link) (c : List ℕ) (r : Reading) (s : Sub) → IsOwned owner l → l.line.subs c ≡ s → IsOwned owner (with_line (line_read_at c r s l.line) l)
+  own-reads l c r Off g e = g
+  own-reads l c r (Asked k since arrived) g e = own-put l c (Ready k (is_some since) r arrived) g (subst (OwnSub owner l.client.fresh c) e (g.subs c))
+  own-reads l c r (Ready k was x arrived) g e = g
+  own-reads l c r (On p mark) g e = g
+
+  own-hears_subscribe : (refused : Bool) (l : Link) (c : List ℕ) (k : ℕ) (from : Option Position) (ks : List Sent) (s : Sub)
+      → IsOwned owner l → IsOwn owner l.client.fresh c k → OwnUps owner l.client.fresh ks → IsOwned owner (hears_subscribe refused c k from ks s l)
+  own-hears_subscribe refused l c k from ks Off g h u =
+      by_test (λ (v : Line Note). IsOwned owner (record l { up = ks; heard = suc k; line = v })) (l.line.closed || refused) _ _
+      (λ e. record { modes = g.modes; notes = g.notes; ups = u; subs = g.subs })
+      (λ e. record { modes = g.modes; notes = g.notes; ups = u; subs = with-all (λ d s. OwnSub owner l.client.fresh d s) l.line.subs c (Asked k from []) h (λ d ne. g.subs d) })
+  own-hears_subscribe refused l c k from ks (Asked i since arrived) g h u = g
+  own-hears_subscribe refused l c k from ks (Ready i was r arrived) g h u = g
+  own-hears_subscribe refused l c k from ks (On q mark) g h u = record { modes = g.modes; notes = g.notes; subs = g.subs; ups = u }
+
+  own-hears_errand : (refused : Bool) (l : Link) (id : ℕ) (e : Errand) (ks : List Sent) → IsOwned owner l → IsOwn owner l.client.fresh (channel_of e) id → OwnUps owner l.client.fresh ks
+      → IsOwned owner (hears_errand refused id e ks l)
+  own-hears_errand refused l id (Subscribe c from) ks g h u = own-hears_subscribe refused l c id from ks (l.line.subs c) g h u
+  own-hears_errand refused l id (Unsubscribe c) ks g h u = record {
+    modes = g.modes;
+    notes = g.notes;
+    ups = u;
+    subs = with-all (λ d s. OwnSub owner l.client.fresh d s) l.line.subs c Off tt (λ d ne. g.subs d);
+  }
+  own-hears_errand refused l id (PublishErrand c body) ks g h u = record { modes = g.modes; notes = g.notes; subs = g.subs; ups = u }
+  own-hears_errand refused l id (History c limit) ks g h u = record { modes = g.modes; notes = g.notes; subs = g.subs; ups = u }
+
+  own-hears_first : (refused : Bool) (l : Link) (ks : List Sent) → IsOwned owner l → OwnUps owner l.client.fresh ks → IsOwned owner (hears_first refused ks l)
+  own-hears_first refused l [] g u = g
+  own-hears_first refused l (k ∷ ks) g u = own-hears_errand refused l k.id k.errand ks g u.0 u.1
+
+  pub own-hears : (refused : Bool) (l : Link) → IsOwned owner l → IsOwned owner (hears refused l)
+  own-hears refused l g = own-hears_first refused l l.up g g.ups
+
+  pub own-errs : (l : Link) (c : List ℕ) (k code : ℕ) → IsOwned owner l → IsOwn owner l.client.fresh c k → IsOwned owner (errs (wording lists) c k code l)
+  own-errs l c k code g h = by_test (IsOwned owner) (nat_lt k l.heard && not (is_waiting k (l.line.subs c))) _ _ (λ e. own-push l (Fails c k code) g h) (λ e. g)
+
+  pub own-says : (l : Link) (n : Note) → IsOwned owner l → IsOwned owner (says (wording lists) n l)
+  own-says l (Reply c id was r) g = g
+  own-says l (Pub c q) g = g
+  own-says l (End c) g = g
+  own-says l (Fails c id code) g = g
+  own-says l (PutDone id) g = own-push l (PutDone id) g tt
+  own-says l (Left id) g = own-push l (Left id) g tt
+  own-says l (Listed c id at low count) g = own-push l (Listed c id at low count) g tt
+  own-says l PingDue g = own-push l PingDue g tt
+  own-says l (Close code) g = g
+
+  own-idle : (fresh : ℕ) (c : List ℕ) (m : Mode) → OwnMode owner fresh c (idle m)
+  own-idle fresh c m = tt
+
+  pub own-breaks : (l : Link) → IsOwned owner (breaks l)
+  own-breaks l = record { modes = λ c. tt; notes = tt; subs = λ c. tt; ups = tt }
+
+  own-hold_first : (l : Link) (ns : List Note) → IsOwned owner l → l.line.notes ≡ ns → IsOwned owner (hold_first ns l)
+  own-hold_first l [] g e = g
+  own-hold_first l (n ∷ ns) g e =
+      let same : coming l ≡ (l.way ++ n ∷ []) ++ ns = rw e (sym (append_assoc l.way (n ∷ []) ns)) in
+      subst (λ xs. IsOwnedWith owner xs (hold_first (n ∷ ns) l)) same
+      (record { modes = g.modes; notes = g.notes; subs = g.subs; ups = g.ups })
+
+  pub own-holds : (l : Link) → IsOwned owner l → IsOwned owner (holds l)
+  own-holds l g = own-hold_first l l.line.notes g refl
+
+  own-taken : (l : Link) (n : Note) → IsOwnedWith owner (n ∷ coming l) l → IsOwned owner (record l { client = takes_note n l.client })
+  own-taken l n g = record { modes = λ c. own-takes owner l.client.fresh c (l.client.modes c) n (g.modes c); notes = g.notes.1; subs = g.subs; ups = g.ups }
+
+  own-gets : (l : Link) (n : Note) → IsOwnedWith owner (n ∷ coming l) l → IsOwned owner (gets n l)
+  own-gets l (Close code) g = own-breaks l
+  own-gets l (Reply d k was r) g = own-taken l (Reply d k was r) g
+  own-gets l (Pub d q) g = own-taken l (Pub d q) g
+  own-gets l (End d) g = own-taken l (End d) g
+  own-gets l (Fails d k code) g = own-taken l (Fails d k code) g
+  own-gets l (PutDone k) g = own-taken l (PutDone k) g
+  own-gets l (Left k) g = own-taken l (Left k) g
+  own-gets l (Listed d k at low count) g = own-taken l (Listed d k at low count) g
+  own-gets l PingDue g = own-taken l PingDue g
+
+  own-receive_first : (l : Link) (ns : List Note) → IsOwned owner l → l.way ≡ ns → IsOwned owner (receive_first ns l)
+  own-receive_first l [] g e = g
+  own-receive_first l (n ∷ ns) g e =
+      let h : IsOwnedWith owner (n ∷ (ns ++ l.line.notes)) l = subst (λ xs. IsOwnedWith owner (xs ++ l.line.notes) l) e g in
+      own-gets (record l { way = ns }) n (record { modes = h.modes; notes = h.notes; subs = h.subs; ups = h.ups })
+
+  pub own-receives : (l : Link) → IsOwned owner l → IsOwned owner (receives l)
+  own-receives l g = own-receive_first l l.way g refl
+
+-- ---- the fresh id is the channel's that is asked for
+
+abbrev pub owner_with : (ℕ → List ℕ) → ℕ → List ℕ → ℕ → List ℕ
+owner_with owner fresh c k = if k == fresh then c else owner k
+
+module _ (owner : ℕ → List ℕ) (fresh : ℕ) (x : List ℕ) where
+  still_own : (c : List ℕ) (k : ℕ) → IsOwn owner fresh c k → IsOwn (owner_with owner fresh x) (suc fresh) c k
+  still_own c k h =
+      let less : k < fresh = h.1 in (
+        elim (eqb_tells k fresh) [
+          | inl e ↦ let same : k ≡ fresh = e.1 in absurd (omega arith)
+          | inr e ↦ rw e.0 h.0
+        ],
+        omega arith,
+      )
+
+  pub own_fresh : IsOwn (owner_with owner fresh x) (suc fresh) x fresh
+  own_fresh = (elim (eqb_tells fresh fresh) [ inl e ↦ rw e.0 refl | inr e ↦ absurd (e.1 refl) ], omega arith)
+
+  still-mode : (c : List ℕ) (m : Mode) → OwnMode owner fresh c m → OwnMode (owner_with owner fresh x) (suc fresh) c m
+  still-mode c (Idle last) h = tt
+  still-mode c (Asking id from last) h = still_own c id h
+  still-mode c (Live p) h = tt
+
+  still-sub : (c : List ℕ) (s : Sub) → OwnSub owner fresh c s → OwnSub (owner_with owner fresh x) (suc fresh) c s
+  still-sub c Off h = tt
+  still-sub c (Asked k since arrived) h = still_own c k h
+  still-sub c (Ready k was r arrived) h = still_own c k h
+  still-sub c (On p mark) h = tt
+
+  still-note : (n : Note) → OwnNote owner fresh n → OwnNote (owner_with owner fresh x) (suc fresh) n
+  still-note (Reply d k was r) h = still_own d k h
+  still-note (Fails d k code) h = still_own d k h
+  still-note n h = tt
+
+  still-notes : (ns : List Note) → OwnNotes owner fresh ns → OwnNotes (owner_with owner fresh x) (suc fresh) ns
+  still-notes [] h = tt
+  still-notes (n ∷ ns) h = (still-note n h.0, still-notes ns h.1)
+
+  still-ups : (ks : List Sent) → OwnUps owner fresh ks → OwnUps (owner_with owner fresh x) (suc fresh) ks
+  still-ups [] h = tt
+  still-ups (k ∷ ks) h = (still_own (channel_of k.errand) k.id h.0, still-ups ks h.1)
+
+ups-more : (owner : ℕ → List ℕ) (fresh : ℕ) (ks : List Sent) (k : Sent) → OwnUps owner fresh ks → IsOwn owner fresh (channel_of k.errand) k.id → OwnUps owner fresh (ks ++ k ∷ [])
+ups-more owner fresh [] k h i = (i, tt)
+ups-more owner fresh (x ∷ ks) k h i = (h.0, ups-more owner fresh ks k h.1 i)
+
+pub own-sends : (owner : ℕ → List ℕ) (l : Link) (e : Errand) → IsOwned owner l → IsOwned (owner_with owner l.client.fresh (channel_of e)) (sends e l)
+own-sends owner l (Subscribe c from) g = record {
+  modes = with-all (λ d m. OwnMode (owner_with owner l.client.fresh c) (suc l.client.fresh) d m) l.client.modes c _ (own_fresh owner l.client.fresh c)
+      (λ d ne. still-mode owner l.client.fresh c d (l.client.modes d) (g.modes d));
+  notes = still-notes owner l.client.fresh c (coming l) g.notes;
+  subs = λ d. still-sub owner l.client.fresh c d (l.line.subs d) (g.subs d);
+  ups = ups-more _ (suc l.client.fresh) l.up (record { id = l.client.fresh; errand = Subscribe c from }) (still-ups owner l.client.fresh c l.up g.ups) (own_fresh owner l.client.fresh c);
+}
+own-sends owner l (Unsubscribe c) g = record {
+  modes = with-all (λ d m. OwnMode (owner_with owner l.client.fresh c) (suc l.client.fresh) d m) l.client.modes c (idle (l.client.modes c)) tt
+      (λ d ne. still-mode owner l.client.fresh c d (l.client.modes d) (g.modes d));
+  notes = still-notes owner l.client.fresh c (coming l) g.notes;
+  subs = λ d. still-sub owner l.client.fresh c d (l.line.subs d) (g.subs d);
+  ups = ups-more _ (suc l.client.fresh) l.up (record { id = l.client.fresh; errand = Unsubscribe c }) (still-ups owner l.client.fresh c l.up g.ups) (own_fresh owner l.client.fresh c);
+}
+own-sends owner l (PublishErrand c body) g = record {
+  modes = λ d. still-mode owner l.client.fresh c d (l.client.modes d) (g.modes d);
+  notes = still-notes owner l.client.fresh c (coming l) g.notes;
+  subs = λ d. still-sub owner l.client.fresh c d (l.line.subs d) (g.subs d);
+  ups = ups-more _ (suc l.client.fresh) l.up (record { id = l.client.fresh; errand = PublishErrand c body }) (still-ups owner l.client.fresh c l.up g.ups) (own_fresh owner l.client.fresh c);
+}
+own-sends owner l (History c limit) g = record {
+  modes = λ d. still-mode owner l.client.fresh c d (l.client.modes d) (g.modes d);
+  notes = still-notes owner l.client.fresh c (coming l) g.notes;
+  subs = λ d. still-sub owner l.client.fresh c d (l.line.subs d) (g.subs d);
+  ups = ups-more _ (suc l.client.fresh) l.up (record { id = l.client.fresh; errand = History c limit }) (still-ups owner l.client.fresh c l.up g.ups) (own_fresh owner l.client.fresh c);
+}
+
+-- what the invariant says of answers
+pub for_channel : (owner : ℕ → List ℕ) (fresh : ℕ) (c : List ℕ) (m : Mode) (ns : List Note) → OwnMode owner fresh c m → OwnNotes owner fresh ns → AreForChannel c m ns
+for_channel owner fresh c m [] h k = tt
+for_channel owner fresh c m (n ∷ ns) h k = (of_note m n h k.0, for_channel owner fresh c m ns h k.1)
+  where
+    of_note : (m : Mode) (n : Note) → OwnMode owner fresh c m → OwnNote owner fresh n → IsForChannel c m n
+    of_note (Asking id from last) (Reply d k was r) x y = λ e. sym y.0 ∙ subst (λ z. owner z ≡ c) (sym e) x.0
+    of_note (Asking id from last) (Fails d k code) x y = λ e. sym y.0 ∙ subst (λ z. owner z ≡ c) (sym e) x.0
+    of_note (Asking id from last) n x y = tt
+    of_note (Idle last) n x y = tt
+    of_note (Live p) n x y = tt
