@@ -29,3 +29,6 @@ pub use read::{read_commands, read_replies};
 pub use settings::Settings;
 pub use tokens::{Tokens, read_tokens};
 pub use write::{write_command, write_reply};
+
+#[cfg(test)]
+mod tests;
