@@ -12,6 +12,8 @@ use crate::read::members::Members;
 use cf_json::{Span, compact};
 use std::alloc::Global;
 
+/// Who published, from the members of an `info` object (Centrifugo's client protocol, ClientInfo). Bad where a member is of another kind;
+/// Memory where a growth was refused.
 pub fn read_info(alloc: Global, members: &Members<'_>) -> Result<Info, ReadFault>
     requires { (fs : Fields) × Reads members.now.text.now members.now.found.items fs }
     ensures { (fs : Fields) → Reads members.now.text.now members.now.found.items fs → Answers (λ w. w) result (info fs) }
