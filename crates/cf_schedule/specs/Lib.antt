@@ -25,3 +25,4 @@ pub mod Leading
 pub mod AnswersById
 pub mod Seen
 pub mod LineRead
+pub mod NotYet
