@@ -2,6 +2,7 @@
 #![tactic(auto)]
 
 mod body;
+mod broker;
 mod client;
 mod config;
 mod epochs;

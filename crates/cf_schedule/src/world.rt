@@ -1,28 +1,16 @@
 //! The world of a schedule: a broker's streams, nodes and clients, in one thread.
 
+use crate::broker::Broker;
 use crate::client::{AppEvent, Client, ClientFault};
 use crate::config::Config;
-use crate::epochs::WaitingEpochs;
 use crate::event::Event;
 use crate::halt::Halt;
 use crate::hub::{Hub, HubRefusal};
 use crate::session::{Action, on_text};
 use crate::trace::Entry;
-use cf_protocol::{Epoch, Namespaces, Outcome, Outgoing, Publication, write_reply};
-use cf_stream::{StreamRefusal, Streams};
+use cf_protocol::{Namespaces, Outcome, Outgoing, write_reply};
 use std::alloc::{AllocError, Global};
 use std::collections::BTreeMap;
-
-/// The moment of all that happens in a schedule, in seconds.
-const NOW: u64 = 0;
-
-/// A publication that was accepted, and where.
-#[derive(Drop)]
-struct Accepted {
-    channel: String,
-    epoch: Epoch,
-    publication: Publication,
-}
 
 /// A client that is connected, and its session.
 #[derive(Drop)]
@@ -36,9 +24,7 @@ struct Peer {
 #[derive(Drop)]
 pub(crate) struct World {
     namespaces: Namespaces,
-    epochs: WaitingEpochs,
-    streams: Streams,
-    accepted: Vec<Accepted>,
+    broker: Broker,
     hubs: Vec<Hub>,
     peers: BTreeMap<String, Peer>,
     alloc: Global,
@@ -53,9 +39,7 @@ impl World {
         }
         Ok(World {
             namespaces: config.namespaces.copied()?,
-            epochs: WaitingEpochs::new(alloc),
-            streams: Streams::new(alloc, &config.namespaces)?,
-            accepted: Vec::new(alloc),
+            broker: Broker::new(alloc, &config.namespaces)?,
             hubs,
             peers: BTreeMap::new(alloc),
             alloc,
@@ -65,12 +49,14 @@ impl World {
     /// Carries out an event, the one of number `at`, and gives what applications got by it.
     pub(crate) fn step(&mut self, at: usize, event: &Event) -> Result<Vec<Entry>, Halt> {
         match event {
-            Event::Epoch { epoch } => self.epochs.add(*epoch)?,
+            Event::Epoch { epoch } => self.broker.epoch(*epoch)?,
             Event::Connect { client, node } => self.connect(client.as_str(), *node)?,
             Event::Ask { client, channel } => self.ask(client.as_str(), channel.as_str())?,
             Event::Read { client, channel } => self.read(client.as_str(), channel.as_str())?,
             Event::Finish { client, channel } => self.finish(client.as_str(), channel.as_str())?,
-            Event::Publish { channel, body } => self.publish(channel.as_str(), body.as_str())?,
+            Event::Publish { channel, body } => self
+                .broker
+                .publish(channel.as_str(), body.as_str())?,
             Event::Deliver { node, publication } => self.deliver(*node, *publication)?,
             Event::Take { client } => return self.take(at, client.as_str()),
         }
@@ -136,17 +122,10 @@ impl World {
         let Some(since) = hub.asked(peer.session, channel) else {
             return Ok(());
         };
-        if !self.streams.is_set_up(channel) {
-            return Ok(());
+        if let Some(recovery) = self.broker.read(channel, since)? {
+            hub.read_done(peer.session, channel, recovery);
         }
-        match self.streams.read(&mut self.epochs, channel, since, NOW) {
-            Ok(recovery) => {
-                hub.read_done(peer.session, channel, recovery);
-                Ok(())
-            }
-            Err(StreamRefusal::Memory) => Err(Halt::Memory),
-            Err(_) => Ok(()),
-        }
+        Ok(())
     }
 
     fn finish(&mut self, name: &str, channel: &str) -> Result<(), Halt> {
@@ -160,39 +139,8 @@ impl World {
         Ok(())
     }
 
-    fn publish(&mut self, channel: &str, body: &str) -> Result<(), Halt> {
-        if !self.streams.is_set_up(channel) {
-            return Ok(());
-        }
-        let name = String::from_str(self.alloc, channel)?;
-        let kept = String::from_str(self.alloc, body)?;
-        let sent = String::from_str(self.alloc, body)?;
-        match self
-            .streams
-            .publish(&mut self.epochs, channel, sent, None, NOW)
-        {
-            Ok(position) => {
-                self.accepted.push(Accepted {
-                    channel: name,
-                    epoch: position.epoch,
-                    publication: Publication {
-                        offset: position.offset,
-                        body: kept,
-                        info: None,
-                    },
-                })?;
-                Ok(())
-            }
-            Err(StreamRefusal::Memory) => Err(Halt::Memory),
-            Err(_) => Ok(()),
-        }
-    }
-
     fn deliver(&mut self, node: u8, number: u64) -> Result<(), Halt> {
-        let Some(index) = number.checked_sub(1) else {
-            return Ok(());
-        };
-        let Some(accepted) = self.accepted.get(index as usize) else {
+        let Some(accepted) = self.broker.accepted(number) else {
             return Ok(());
         };
         let Some(hub) = self.hubs.get_mut(node as usize) else {
