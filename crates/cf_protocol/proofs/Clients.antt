@@ -53,7 +53,7 @@ unfolding IsStrictlySortedBy
 rising [] h = tt
 rising (u ∷ us) h = both_T (below_all (slice_cmp nat_cmp) (string_bytes u.0) (bytes_of us)) (is_sorted (slice_cmp nat_cmp) (bytes_of us)) (below u.0 us h.0) (rising us h.1)
 
-sorted_entries : (us : List (List ℕ × List ℕ)) → T (is_sorted (slice_cmp nat_cmp) us) → entries (from_entries {R = slice_cmp nat_cmp} us) ≡ us
+pub sorted_entries : (us : List (List ℕ × List ℕ)) → T (is_sorted (slice_cmp nat_cmp) us) → entries (from_entries {R = slice_cmp nat_cmp} us) ≡ us
 sorted_entries us h =
     ap entries (same_map nat_list_cmp_total (slice_cmp-IsAntisymmetric nat_cmp-IsAntisymmetric) (from_entries us) (from_sorted us) (λ q. get-from_entries nat_list_cmp_total us q ∙ sym (get-from_sorted (slice_cmp nat_cmp) us q h)))
     ∙ entries-from_sorted (slice_cmp nat_cmp) us h

@@ -1,7 +1,7 @@
 -- What is found in an object that was written.
 use Rattle.std.proofs.Common.{◌≡◌, ℕ, List, [], ◌∷◌, ◌++◌, Bool, true, false, cond, ◌&&◌, not, Option, Some, None, refl, sym, ap, ◌∙◌}
 use Rattle.std.proofs.lemmas.Bool.{and_parts, not-true, cases_Bool}
-use Rattle.std.specs.Prelude.{◌==◌, if◌then◌else◌, codes, option_map, option_to_list, option_and_then}
+use Rattle.std.specs.Prelude.{◌==◌, nat_le, if◌then◌else◌, codes, option_map, option_to_list, option_and_then}
 use Rattle.std.proofs.Common.{inl, inr}
 use Rattle.std.specs.Str.{bytes_eq}
 use Rattle.std.proofs.lemmas.Slice.Eq.{bytes_eq-Decides}
@@ -11,18 +11,14 @@ use Rattle.cf_json.specs.Characters.{characters, pieces, joined}
 use Rattle.cf_json.specs.Members.{Fields, put, members_onto}
 use Rattle.cf_protocol.specs.Fields.{object_as, look_up, unless_null, each_of}
 use Rattle.cf_protocol.specs.Written.{Member, parts_of, object_of}
+use Rattle.cf_protocol.proofs.Spellings.{is_plain}
 
 -- ---- keys
-
--- a text without a backslash
-abbrev pub is_plain : List ℕ → Bool
-is_plain [] = true
-is_plain (x ∷ xs) = not (x == 92) && is_plain xs
 
 pub plain_characters : (s : List ℕ) → is_plain s ≡ true → characters s ≡ Some s
 unfolding pieces joined
 plain_characters [] h = refl
-plain_characters (x ∷ xs) h = let p = and_parts (not (x == 92)) (is_plain xs) h in rw (not-true (x == 92) p.0, plain_characters xs p.1) refl
+plain_characters (x ∷ xs) h = let p = and_parts (not (x == 92)) (is_plain xs) (and_parts (nat_le 32 x && not (x == 34)) (not (x == 92) && is_plain xs) h).1 in rw (not-true (x == 92) p.0, plain_characters xs p.1) refl
 
 abbrev pub are_plain : List Member → Bool
 are_plain [] = true

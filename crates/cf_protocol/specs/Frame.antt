@@ -1,7 +1,9 @@
 -- What a frame holds: the commands of a client, or the replies and pushes to one.
 -- (Centrifugo's client protocol, JSON form: messages of one frame stand one behind another.)
-use Rattle.std.specs.Prelude.{List, [], ◌∷◌, Option, None, option_map, flat_map}
+use Rattle.std.specs.Prelude.{◌≡◌, ◌≤◌, ℕ, List, [], ◌∷◌, Option, Some, None, option_map, flat_map}
 use Rattle.cf_json.specs.Grammar.{Tree}
+use Rattle.cf_json.specs.Spans.{max_depth}
+use Rattle.cf_json.specs.Frame.{IsFrame, frame_depth}
 use Rattle.cf_protocol.specs.Request.{Command}
 use Rattle.cf_protocol.specs.Outgoing.{Outgoing}
 use Rattle.cf_protocol.specs.Fields.{read_all}
@@ -16,5 +18,18 @@ unless_empty f (t ∷ ts) = f (t ∷ ts)
 abbrev pub commands_of : List Tree → Option (List Command)
 commands_of = unless_empty (read_all command_of)
 
+-- the text is a frame, no value of which nests deeper than is read, and its values are read as these
+pub record FrameOf {A : Type 0} (read : List Tree → Option (List A)) (s : List ℕ) (xs : List A) : Type 0 where
+  pub values : List Tree
+  pub frame : IsFrame s values
+  pub shallow : frame_depth values ≤ max_depth
+  pub are : read values ≡ Some xs
+
+abbrev pub IsCommands : List ℕ → List Command → Type 0
+IsCommands = FrameOf commands_of
+
 abbrev pub replies_of : List Tree → Option (List Outgoing)
 replies_of = unless_empty (λ ts. option_map (flat_map (λ os. os)) (read_all reply_of ts))
+
+abbrev pub IsReplies : List ℕ → List Outgoing → Type 0
+IsReplies = FrameOf replies_of
