@@ -193,29 +193,47 @@ no_take nodes r lacks = λ e built h.
     let i = is_take nodes r e s.0 s.1 in
     lacks i.0 i.2
 
+pub no_trim : (nodes : ℕ) (r : List ℕ) → ((c : List ℕ) (k : ℕ) → Rest nodes r (Trim c k) → ⊥) → IsNone (Says nodes (codes "trim" ++ 32 ∷ r))
+no_trim nodes r lacks = λ e built h.
+    let s = splits nodes (codes "trim") r e (unspaced_word (codes "trim") refl) h in
+    let i = is_trim nodes r e s.0 s.1 in
+    lacks i.0 i.1 i.3
+
+pub no_forget : (nodes : ℕ) (r : List ℕ) → ((c : List ℕ) → Rest nodes r (Forget c) → ⊥) → IsNone (Says nodes (codes "forget" ++ 32 ∷ r))
+no_forget nodes r lacks = λ e built h.
+    let s = splits nodes (codes "forget") r e (unspaced_word (codes "forget") refl) h in
+    let i = is_forget nodes r e s.0 s.1 in
+    lacks i.0 i.2
+
 -- a line whose first word is none of those that are read today
-unknown : (w : List ℕ) → w ≢ codes "epoch" → w ≢ codes "connect" → w ≢ codes "ask" → w ≢ codes "read" → w ≢ codes "finish" → w ≢ codes "publish" → w ≢ codes "deliver" → w ≢ codes "take" → (e : Event) → IsTrue (is_built e) → w ≡ word_of e → ⊥
-unknown w n0 n1 n2 n3 n4 n5 n6 n7 (Epoch e) b h = n0 h
-unknown w n0 n1 n2 n3 n4 n5 n6 n7 (Connect x n) b h = n1 h
-unknown w n0 n1 n2 n3 n4 n5 n6 n7 (Ask x c) b h = n2 h
-unknown w n0 n1 n2 n3 n4 n5 n6 n7 (Read x c) b h = n3 h
-unknown w n0 n1 n2 n3 n4 n5 n6 n7 (Finish x c) b h = n4 h
-unknown w n0 n1 n2 n3 n4 n5 n6 n7 (Publish c body) b h = n5 h
-unknown w n0 n1 n2 n3 n4 n5 n6 n7 (Deliver n i) b h = n6 h
-unknown w n0 n1 n2 n3 n4 n5 n6 n7 (Take x) b h = n7 h
-unknown w n0 n1 n2 n3 n4 n5 n6 n7 e b h = absurd (false≢true b)
+unknown : (nodes : ℕ) (w r : List ℕ) → w ≢ codes "epoch" → w ≢ codes "connect" → w ≢ codes "ask" → w ≢ codes "read" → w ≢ codes "finish" → w ≢ codes "publish" → w ≢ codes "deliver" → w ≢ codes "take" → w ≢ codes "trim" → w ≢ codes "forget" → (e : Event) → IsTrue (is_built e) → w ≡ word_of e → Rest nodes r e → ⊥
+unknown nodes w r n0 n1 n2 n3 n4 n5 n6 n7 n8 n9 (Epoch e) b h rest = n0 h
+unknown nodes w r n0 n1 n2 n3 n4 n5 n6 n7 n8 n9 (Connect x n) b h rest = n1 h
+unknown nodes w r n0 n1 n2 n3 n4 n5 n6 n7 n8 n9 (Ask x c) b h rest = n2 h
+unknown nodes w r n0 n1 n2 n3 n4 n5 n6 n7 n8 n9 (Read x c) b h rest = n3 h
+unknown nodes w r n0 n1 n2 n3 n4 n5 n6 n7 n8 n9 (Finish x c) b h rest = n4 h
+unknown nodes w r n0 n1 n2 n3 n4 n5 n6 n7 n8 n9 (Publish c body) b h rest = n5 h
+unknown nodes w r n0 n1 n2 n3 n4 n5 n6 n7 n8 n9 (Deliver n i) b h rest = n6 h
+unknown nodes w r n0 n1 n2 n3 n4 n5 n6 n7 n8 n9 (Take x) b h rest = n7 h
+unknown nodes w r n0 n1 n2 n3 n4 n5 n6 n7 n8 n9 (Trim c k) b h rest = n8 h
+unknown nodes w r n0 n1 n2 n3 n4 n5 n6 n7 n8 n9 (Forget c) b h rest = n9 h
+unknown nodes w r n0 n1 n2 n3 n4 n5 n6 n7 n8 n9 BrokerRestart b h rest = rest
+unknown nodes w r n0 n1 n2 n3 n4 n5 n6 n7 n8 n9 e b h rest = absurd (false≢true b)
 
-pub no_word : (nodes : ℕ) (w r : List ℕ) → IsUnspaced w → w ≢ codes "epoch" → w ≢ codes "connect" → w ≢ codes "ask" → w ≢ codes "read" → w ≢ codes "finish" → w ≢ codes "publish" → w ≢ codes "deliver" → w ≢ codes "take" → IsNone (Says nodes (w ++ 32 ∷ r))
-no_word nodes w r u n0 n1 n2 n3 n4 n5 n6 n7 = λ e built h. let s = splits nodes w r e u h in unknown w n0 n1 n2 n3 n4 n5 n6 n7 e built s.0
+pub no_word : (nodes : ℕ) (w r : List ℕ) → IsUnspaced w → w ≢ codes "epoch" → w ≢ codes "connect" → w ≢ codes "ask" → w ≢ codes "read" → w ≢ codes "finish" → w ≢ codes "publish" → w ≢ codes "deliver" → w ≢ codes "take" → w ≢ codes "trim" → w ≢ codes "forget" → IsNone (Says nodes (w ++ 32 ∷ r))
+no_word nodes w r u n0 n1 n2 n3 n4 n5 n6 n7 n8 n9 = λ e built h. let s = splits nodes w r e u h in unknown nodes w r n0 n1 n2 n3 n4 n5 n6 n7 n8 n9 e built s.0 s.1
 
--- a line of one word is none that is read today
-pub no_space : (nodes : ℕ) (line : List ℕ) → IsUnspaced line → IsNone (Says nodes line)
-no_space nodes line u (Epoch e) b h = never_cut line (codes "epoch") e u h.1
-no_space nodes line u (Connect x n) b h = never_cut line (codes "connect") (spaced (x ∷ decimal n ∷ [])) u h.2
-no_space nodes line u (Ask x c) b h = never_cut line (codes "ask") (spaced (x ∷ c ∷ [])) u h.2
-no_space nodes line u (Read x c) b h = never_cut line (codes "read") (spaced (x ∷ c ∷ [])) u h.2
-no_space nodes line u (Finish x c) b h = never_cut line (codes "finish") (spaced (x ∷ c ∷ [])) u h.2
-no_space nodes line u (Publish c body) b h = never_cut line (codes "publish") (spaced (c ∷ h.1 ∷ [])) u h.3
-no_space nodes line u (Deliver n i) b h = never_cut line (codes "deliver") (spaced (decimal n ∷ decimal i ∷ [])) u h.2
-no_space nodes line u (Take x) b h = never_cut line (codes "take") x u h.1
-no_space nodes line u e b h = absurd (false≢true b)
+-- a line of one word is no event that is read today but one
+pub no_space : (nodes : ℕ) (line : List ℕ) → IsUnspaced line → line ≢ codes "brokerrestart" → IsNone (Says nodes line)
+no_space nodes line u differs (Epoch e) b h = never_cut line (codes "epoch") e u h.1
+no_space nodes line u differs (Connect x n) b h = never_cut line (codes "connect") (spaced (x ∷ decimal n ∷ [])) u h.2
+no_space nodes line u differs (Ask x c) b h = never_cut line (codes "ask") (spaced (x ∷ c ∷ [])) u h.2
+no_space nodes line u differs (Read x c) b h = never_cut line (codes "read") (spaced (x ∷ c ∷ [])) u h.2
+no_space nodes line u differs (Finish x c) b h = never_cut line (codes "finish") (spaced (x ∷ c ∷ [])) u h.2
+no_space nodes line u differs (Publish c body) b h = never_cut line (codes "publish") (spaced (c ∷ h.1 ∷ [])) u h.3
+no_space nodes line u differs (Deliver n i) b h = never_cut line (codes "deliver") (spaced (decimal n ∷ decimal i ∷ [])) u h.2
+no_space nodes line u differs (Take x) b h = never_cut line (codes "take") x u h.1
+no_space nodes line u differs (Trim c k) b h = never_cut line (codes "trim") (spaced (c ∷ decimal k ∷ [])) u h.2
+no_space nodes line u differs (Forget c) b h = never_cut line (codes "forget") c u h.1
+no_space nodes line u differs BrokerRestart b h = differs h
+no_space nodes line u differs e b h = absurd (false≢true b)

@@ -26,3 +26,4 @@ pub mod AnswersById
 pub mod Seen
 pub mod LineRead
 pub mod NotYet
+pub mod Shown

@@ -79,4 +79,7 @@ is_built (Finish x c) = true
 is_built (Publish c body) = true
 is_built (Deliver n i) = true
 is_built (Take x) = true
+is_built (Trim c k) = true
+is_built (Forget c) = true
+is_built BrokerRestart = true
 is_built e = false

@@ -1,5 +1,5 @@
 -- The program's events, as the definitions have them.
-use Rattle.cf_schedule.specs.Event.{Event, Epoch, Connect, Ask, Read, Finish, Publish, Deliver, Take}
+use Rattle.cf_schedule.specs.Event.{Event, Epoch, Connect, Ask, Read, Finish, Publish, Deliver, Take, Trim, Forget, BrokerRestart}
 use Rattle.cf_schedule.specs.declared.event.Event as declared
 use Rattle.cf_schedule.specs.declared.event.Event.TheVariants as variant
 
@@ -12,3 +12,6 @@ seen (variant.Finish x c) = Finish x c
 seen (variant.Publish c body) = Publish c body
 seen (variant.Deliver n i) = Deliver n i
 seen (variant.Take x) = Take x
+seen (variant.Trim c k) = Trim c k
+seen (variant.Forget c) = Forget c
+seen variant.BrokerRestart = BrokerRestart

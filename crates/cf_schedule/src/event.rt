@@ -3,7 +3,7 @@
 ghost use Rattle.std.specs.Prelude.{◌≡◌, ◌≢◌, ℕ, ◌<◌, List, [], ◌∷◌, ◌++◌, codes, IfOk, IfErr, MatchOption, IsTrue, ◌≤◌};
 ghost use Rattle.std.specs.Fmt.{decimal};
 ghost use Rattle.cf_schedule.specs.Word.{IsClientName, IsChannelName};
-ghost use Rattle.cf_schedule.specs.ScheduleLine.{Says, IsPassedOver, spaced, is_built, last_number};
+ghost use Rattle.cf_schedule.specs.ScheduleLine.{Says, IsPassedOver, spaced, is_built, last_number, most_left};
 ghost use Rattle.cf_schedule.specs.Event.{Event as SaidEvent};
 ghost use Rattle.cf_schedule.specs.Seen.{seen};
 ghost use Rattle.cf_schedule.specs.LineRead.{IsUnspaced, CutsAtSpace, Refused, IsNone, Answers, ReadAs};
@@ -15,6 +15,9 @@ use cf_json::one_value;
 use cf_protocol::Epoch;
 use std::alloc::{AllocError, Global};
 use thiserror::Error;
+
+/// The most publications that a trim leaves.
+const MOST_LEFT: u64 = 10_000;
 
 /// What a line of a schedule says. A client, a channel, an epoch and a datum are such as a line can name.
 #[derive(Debug, Drop)]
@@ -57,6 +60,17 @@ pub enum Event {
     Take {
         client: ClientName,
     },
+    /// The channel's stream holds no more than so many publications, the newest.
+    Trim {
+        channel: ChannelName,
+        count: usize,
+    },
+    /// The channel's stream is gone.
+    Forget {
+        channel: ChannelName,
+    },
+    /// All streams are gone.
+    BrokerRestart,
 }
 
 /// Why a line of a schedule was not read.
@@ -117,7 +131,7 @@ fn event_of(alloc: Global, line: &str, nodes: u8) -> Result<Event, EventFault>
     ensures { Answers (Says nodes line.now) result }
 {
     let Some((word, rest)) = cut(line) else {
-        return Err(EventFault::Unreadable);
+        return one_word(line);
     };
     match word {
         "epoch" => epoch(rest),
@@ -128,6 +142,8 @@ fn event_of(alloc: Global, line: &str, nodes: u8) -> Result<Event, EventFault>
         "publish" => publish(alloc, rest),
         "deliver" => deliver(rest, nodes),
         "take" => take(alloc, rest),
+        "trim" => trim(alloc, rest),
+        "forget" => forget(alloc, rest),
         _ => Err(EventFault::Unreadable),
     }
 }
@@ -149,6 +165,28 @@ fn node(text: &str, nodes: u8) -> Option<u8>
     } else {
         None
     }
+}
+
+// How many publications a trim may leave.
+fn count_left(text: &str) -> Option<usize>
+    ensures { MatchOption result ((k : ℕ) → k ≤ most_left → text.now ≢ decimal k) (λ k. (k ≤ most_left) × (text.now ≡ decimal k)) }
+{
+    let number = whole_number(text)?;
+    if number <= MOST_LEFT {
+        Some(number as usize)
+    } else {
+        None
+    }
+}
+
+// The event of a line without a space.
+fn one_word(line: &str) -> Result<Event, EventFault>
+    ensures { (nodes : ℕ) → IsUnspaced line.now → Answers (Says nodes line.now) result }
+{
+    if line == "brokerrestart" {
+        return Ok(Event::BrokerRestart);
+    }
+    Err(EventFault::Unreadable)
 }
 
 fn client_and_channel(alloc: Global, text: &str) -> Result<(ClientName, ChannelName), EventFault>
@@ -238,4 +276,24 @@ fn take(alloc: Global, text: &str) -> Result<Event, EventFault>
 {
     let client = ClientName::read(alloc, text)?;
     Ok(Event::Take { client })
+}
+
+fn trim(alloc: Global, text: &str) -> Result<Event, EventFault>
+    ensures { (nodes : ℕ) → Answers (Says nodes (codes "trim" ++ 32 ∷ text.now)) result }
+{
+    let Some((channel, number)) = cut(text) else {
+        return Err(EventFault::Unreadable);
+    };
+    let Some(count) = count_left(number) else {
+        return Err(EventFault::Unreadable);
+    };
+    let channel = ChannelName::read(alloc, channel)?;
+    Ok(Event::Trim { channel, count })
+}
+
+fn forget(alloc: Global, text: &str) -> Result<Event, EventFault>
+    ensures { (nodes : ℕ) → Answers (Says nodes (codes "forget" ++ 32 ∷ text.now)) result }
+{
+    let channel = ChannelName::read(alloc, text)?;
+    Ok(Event::Forget { channel })
 }

@@ -59,6 +59,9 @@ impl World {
                 .publish(channel.as_str(), body.as_str())?,
             Event::Deliver { node, publication } => self.deliver(*node, *publication)?,
             Event::Take { client } => return self.take(at, client.as_str()),
+            Event::Trim { channel, count } => self.broker.trim(channel.as_str(), *count),
+            Event::Forget { channel } => self.broker.forget(channel.as_str()),
+            Event::BrokerRestart => self.broker.forget_all(),
         }
         Ok(Vec::new(self.alloc))
     }

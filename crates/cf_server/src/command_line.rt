@@ -24,6 +24,9 @@ const SCHEDULE_NOTES: &str = "A schedule has a line for each event, its words pa
   publish C DATA  JSON data is published to C
   deliver N I     node N is given the publication I, counted from 1 over all channels
   take X          X takes the first text that waits for it
+  trim C K        C's stream holds the newest K publications and no more
+  forget C        C's stream is gone, and the next one has a new epoch
+  brokerrestart   all streams are gone
 A line that is empty or begins with # is passed over. An event that can't happen changes nothing.
 
 What is printed, each by the `take` that brings it:

@@ -62,6 +62,9 @@ fn schedule_faults(rt: HostRuntime) -> Result<(), Fail> {
         (" # no comment", 2, "line 1: unreadable"),
         ("break ann", 2, "line 1: unreadable"),
         ("deliver 0 18446744073709551616", 2, "line 1: unreadable"),
+        ("trim news 10001", 2, "line 1: unreadable"),
+        ("forget news 0", 2, "line 1: unreadable"),
+        ("brokerrestart\nbrokerrestart 0", 2, "line 2: unreadable"),
         ("publish news {\"t\":1", 2, "line 1: unreadable"),
     ];
     for (input, status, fault) in cases {
@@ -199,6 +202,67 @@ take ann
         "ann news sub aaaa 0 fresh\nann news pub aaaa 1 2\n"
     );
     assert_eq!(rt; status, 0);
+    Ok(())
+}
+
+// A stream that is trimmed goes on in its epoch. One that is forgotten is opened again in a new one, from offset 0.
+#[test]
+fn trim_and_forget(rt: HostRuntime) -> Result<(), Fail> {
+    let input = "trim news 0
+forget news
+epoch aaaa
+epoch bbbb
+publish news 1
+publish news 2
+trim news 1
+trim news 10000
+publish news 3
+connect ann 0
+ask ann news
+read ann news
+finish ann news
+take ann
+forget news
+publish news 4
+connect bob 0
+ask bob news
+read bob news
+finish bob news
+take bob
+";
+    let (written, status, fault) = ran(rt.alloc(), input.as_bytes())?;
+    assert_eq!(rt;
+        written.as_str(),
+        "ann news sub aaaa 3 fresh\nbob news sub bbbb 1 fresh\n"
+    );
+    assert_eq!(rt; status, 0);
+    assert_eq!(rt; fault.as_str(), "");
+    Ok(())
+}
+
+// Where the broker restarts, each stream opens anew with the next epoch that waits; publications keep their numbers.
+#[test]
+fn new_epoch_after_restart(rt: HostRuntime) -> Result<(), Fail> {
+    let input = "epoch aaaa
+publish news 1
+brokerrestart
+epoch bbbb
+connect ann 0
+ask ann news
+read ann news
+finish ann news
+take ann
+publish news 2
+deliver 0 2
+take ann
+";
+    let (written, status, fault) = ran(rt.alloc(), input.as_bytes())?;
+    assert_eq!(rt;
+        written.as_str(),
+        "ann news sub bbbb 0 fresh\nann news pub bbbb 1 2\n"
+    );
+    assert_eq!(rt; status, 0);
+    assert_eq!(rt; fault.as_str(), "");
     Ok(())
 }
 

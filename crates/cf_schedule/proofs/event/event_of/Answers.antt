@@ -21,8 +21,17 @@ returns-in-publish c = answers_at c.args.nodes c.args.line.now c.in-Some.word.no
 pub returns-in-take : goal.returns-in-take
 returns-in-take c = answers_at c.args.nodes c.args.line.now c.in-Some.word.now (codes "take") c.in-Some.rest.now c.take.result c.in-Some.ensures c.in-take.is (c.take.ensures c.args.nodes)
 
+pub returns-in-trim : goal.returns-in-trim
+returns-in-trim c = answers_at c.args.nodes c.args.line.now c.in-Some.word.now (codes "trim") c.in-Some.rest.now c.trim.result c.in-Some.ensures c.in-trim.is (c.trim.ensures c.args.nodes)
+
+pub returns-in-forget : goal.returns-in-forget
+returns-in-forget c = answers_at c.args.nodes c.args.line.now c.in-Some.word.now (codes "forget") c.in-Some.rest.now c.forget.result c.in-Some.ensures c.in-forget.is (c.forget.ensures c.args.nodes)
+
+pub returns-in_default : goal.returns-in_default
+returns-in_default c = c.one_word.ensures c.args.nodes c.in_default.ensures
+
 pub returns-in_default-word : goal.returns-in_default-word
 returns-in_default-word c =
     let d = c.in_default-word in
     none_at c.args.nodes c.args.line.now c.in-Some.word.now c.in-Some.rest.now c.in-Some.ensures
-    (no_word c.args.nodes c.in-Some.word.now c.in-Some.rest.now c.in-Some.ensures.word d.not-epoch d.not-connect d.not-ask d.not-read d.not-finish d.not-publish d.not-deliver d.not-take)
+    (no_word c.args.nodes c.in-Some.word.now c.in-Some.rest.now c.in-Some.ensures.word d.not-epoch d.not-connect d.not-ask d.not-read d.not-finish d.not-publish d.not-deliver d.not-take d.not-trim d.not-forget)

@@ -1,0 +1,23 @@
+use Rattle.std.proofs.Common.{sym, subst}
+use Rattle.std.specs.Fmt.{decimal}
+use Rattle.std.proofs.lemmas.Result.{err_from_is_err_and}
+use Rattle.cf_schedule.specs.Word.{IsChannelName}
+use Rattle.cf_schedule.proofs.Spacing.{never_cut, unspaced_channel}
+use Rattle.cf_schedule.proofs.Lines.{no_trim}
+use Rattle.cf_schedule.proofs.Refusals.{refused_name, same_cut}
+use Rattle.cf_schedule.proofs.event.trim.Goals as goal
+
+pub returns-in_default : goal.returns-in_default
+returns-in_default c = λ nodes. no_trim nodes c.args.text.now (λ d k h. never_cut c.args.text.now d (decimal k) c.in_default.ensures h.2)
+
+pub returns-in_default-count_left : goal.returns-in_default-count_left
+returns-in_default-count_left c = λ nodes. no_trim nodes c.args.text.now (λ d k h.
+    let cut = same_cut c.args.text.now c.in-Some.channel.now c.in-Some.number.now d (decimal k) c.in-Some.ensures (unspaced_channel d h.0) h.2 in
+    c.in_default-count_left.ensures k h.1 (sym cut.1))
+
+pub returns-in_err-channel : goal.returns-in_err-channel
+returns-in_err-channel c = λ nodes.
+    let p = err_from_is_err_and c.from_residual.result c.from_residual.ensures.1 in
+    rw (p.1, p.2) (refused_name _ _ _ c.in_err-channel.ensures.unreadable (λ not_name. no_trim nodes c.args.text.now (λ d k h.
+    let cut = same_cut c.args.text.now c.in-Some.channel.now c.in-Some.number.now d (decimal k) c.in-Some.ensures (unspaced_channel d h.0) h.2 in
+    not_name (subst IsChannelName cut.0 h.0))))
