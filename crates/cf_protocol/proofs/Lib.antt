@@ -4,6 +4,8 @@ pub mod Lengths
 pub mod Lookups
 pub mod Readings
 pub mod Standing
+pub mod Choices
+pub mod Frames
 pub mod Writings
 pub mod Outgoings
 pub mod Clients

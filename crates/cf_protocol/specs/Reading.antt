@@ -49,3 +49,9 @@ items_at k fs = read_or [] as_items (present_at k fs)
 
 abbrev pub Stand : List ℕ → List Span → List Tree → Type 0
 Stand text spans ts = AllZip (λ s t. IsAt text t s) spans ts
+
+-- one key of several that has a value, where it stands, and what it is read as; Bad where nothing is read
+abbrev pub Chooses : {K A : Type 0} → List ℕ → (K → Tree → Option A) → Result (K × Span) ReadFault → Option A → Type 0
+Chooses text read (Ok r) o = (t : Tree) × IsAt text t r.1 × (o ≡ read r.0 t)
+Chooses text read (Err Bad) o = o ≡ None
+Chooses text read (Err Memory) o = ⊥

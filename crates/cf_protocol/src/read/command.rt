@@ -3,10 +3,10 @@ ghost use Rattle.std.specs.Prelude.{◌≡◌, Some, codes};
 ghost use Rattle.cf_json.specs.Grammar.{Tree};
 ghost use Rattle.cf_json.specs.Spans.{IsAt};
 ghost use Rattle.cf_protocol.specs.Fields.{Fields, look_up};
-ghost use Rattle.cf_protocol.specs.Command.{connect, subscribe, publish, history, data_of};
+ghost use Rattle.cf_protocol.specs.Command.{command_of, command_from, named_command, needs_id, connect, subscribe, publish, history, data_of};
 ghost use Rattle.cf_protocol.specs.Methods.{request_as, served};
 ghost use Rattle.cf_protocol.specs.Reading.{Answers, Reads};
-ghost use Rattle.cf_protocol.specs.Shown.{shown_request, shown_data};
+ghost use Rattle.cf_protocol.specs.Shown.{shown_command, shown_request, shown_data};
 
 use crate::command::{Command, Data, Request};
 use crate::fault::ReadFault;
@@ -18,32 +18,49 @@ use std::alloc::Global;
 /// The deepest that the data of a publish may nest.
 const MAX_DATA_DEPTH: usize = 60;
 
-/// The command that a value is. An object without members is the pong.
+/// The command that a value is.
 pub fn read_command(alloc: Global, text: &str, span: Span) -> Result<Command, ReadFault>
     requires { (t : Tree) × IsAt text.now t span }
+    ensures { (t : Tree) → IsAt text.now t span → Answers shown_command result (command_of t) }
 {
     let members = Members::of(alloc, text, span)?;
+    let command = read_from(alloc, &members)?;
+    Ok(command)
+}
+
+/// The command that has these members. Without any it is the pong.
+fn read_from(alloc: Global, members: &Members<'_>) -> Result<Command, ReadFault>
+    requires { (fs : Fields) × Reads members.now.text.now members.now.found.items fs }
+    ensures { (fs : Fields) → Reads members.now.text.now members.now.found.items fs → Answers shown_command result (command_from fs) }
+{
     if members.found.is_empty() {
         return Ok(Command {
             id: 0,
             request: Request::Pong,
         });
     }
-    let command = read_named(alloc, &members)?;
-    Ok(command)
+    read_named(alloc, members)
 }
 
 /// The command that has these members, of which there are some.
 fn read_named(alloc: Global, members: &Members<'_>) -> Result<Command, ReadFault>
     requires { (fs : Fields) × Reads members.now.text.now members.now.found.items fs }
+    ensures { (fs : Fields) → Reads members.now.text.now members.now.found.items fs → Answers shown_command result (named_command fs) }
 {
     let id = members.whole("id", u64::from(u32::MAX))? as u32;
     let (method, value) = the_method(members)?;
     let request = read_request(alloc, members.text, method, value)?;
-    if id == 0 && method != Method::Send {
+    if id == 0 && needs_id(&request) {
         return Err(ReadFault::Bad);
     }
     Ok(Command { id, request })
+}
+
+/// Whether a command with this request has an id, by which it is answered.
+fn needs_id(request: &Request) -> bool
+    ensures { result ≡ needs_id (shown_request request.now) }
+{
+    !matches!(request, Request::Send)
 }
 
 /// The request of a method: its value is an object, but for those that aren't served.

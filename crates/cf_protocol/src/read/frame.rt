@@ -1,18 +1,41 @@
 //! Frames: what stands one behind another in a text.
+ghost use Rattle.std.specs.Prelude.{◌≡◌, IfOk, IfErr, List, map};
+ghost use Rattle.cf_json.specs.Grammar.{Tree};
+ghost use Rattle.cf_protocol.specs.Command.{command_of};
+ghost use Rattle.cf_protocol.specs.Fields.{read_all};
+ghost use Rattle.cf_protocol.specs.Frame.{IsCommands};
+ghost use Rattle.cf_protocol.specs.Reading.{Answers, Stand};
+ghost use Rattle.cf_protocol.specs.Request as request;
+ghost use Rattle.cf_protocol.specs.Shown.{shown_command};
+
 use crate::command::Command;
 use crate::fault::ReadFault;
 use crate::outgoing::Outgoing;
 use crate::read::command::read_command;
 use crate::read::outgoing::read_outgoing;
-use cf_json::split_frame;
+use cf_json::{Span, split_frame};
 use std::alloc::Global;
 
-/// The commands of a frame, in order. `Bad` is a text that is no frame, or in which a value is no command.
-pub fn read_commands(alloc: Global, text: &str) -> Result<Vec<Command>, ReadFault> {
+/// The commands of a frame, in order. `Bad` is a text that is no frame, or in which a value is no command or nests deeper than 64.
+pub fn read_commands(alloc: Global, text: &str) -> Result<Vec<Command>, ReadFault>
+    ensures found { IfOk result (λ cs. IsCommands text.now (map shown_command cs.items)) }
+    ensures only { IfOk result (λ cs. (ks : List request.Command) → IsCommands text.now ks → ks ≡ map shown_command cs.items) }
+    ensures bad { IfErr result (λ e. e ≡ ReadFault.Bad → (ks : List request.Command) → IsCommands text.now ks → ⊥) }
+{
     let spans = split_frame(alloc, text)?;
+    let commands = read_each_command(alloc, text, &spans)?;
+    Ok(commands)
+}
+
+/// The commands that stand at these places.
+fn read_each_command(alloc: Global, text: &str, spans: &[Span]) -> Result<Vec<Command>, ReadFault>
+    requires { (ts : List Tree) × Stand text.now spans.now ts }
+    ensures { (ts : List Tree) → Stand text.now spans.now ts → Answers (λ v. map shown_command v.items) result (read_all command_of ts) }
+{
     let mut commands = Vec::new(alloc);
-    for span in &spans {
-        commands.push(read_command(alloc, text, *span)?)?;
+    for span in spans {
+        let command = read_command(alloc, text, *span)?;
+        commands.push(command)?;
     }
     Ok(commands)
 }

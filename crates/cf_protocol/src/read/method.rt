@@ -1,10 +1,9 @@
 //! The methods of commands.
-ghost use Rattle.std.specs.Prelude.{◌≡◌, IfOk};
-ghost use Rattle.cf_json.specs.Grammar.{Tree};
-ghost use Rattle.cf_json.specs.Spans.{IsAt};
+ghost use Rattle.std.specs.Prelude.{◌≡◌};
 ghost use Rattle.cf_protocol.specs.Fields.{Fields};
-ghost use Rattle.cf_protocol.specs.Methods.{method_key};
-ghost use Rattle.cf_protocol.specs.Reading.{Reads};
+ghost use Rattle.cf_protocol.specs.Command.{request_of};
+ghost use Rattle.cf_protocol.specs.Methods.{method_key, request_as};
+ghost use Rattle.cf_protocol.specs.Reading.{Chooses, Reads};
 
 use crate::fault::ReadFault;
 use crate::read::members::Members;
@@ -66,16 +65,17 @@ impl Method {
 /// The one method of a command, and where its value stands.
 pub fn the_method(members: &Members<'_>) -> Result<(Method, Span), ReadFault>
     requires { (fs : Fields) × Reads members.now.text.now members.now.found.items fs }
-    ensures { IfOk result (λ r. (t : Tree) × IsAt members.now.text.now t r.1) }
+    ensures { (fs : Fields) → Reads members.now.text.now members.now.found.items fs → Chooses members.now.text.now request_as result (request_of fs) }
 {
     let mut only = None;
     for method in METHODS {
-        if let Some(span) = members.present(method.key()) {
-            if only.is_some() {
-                return Err(ReadFault::Bad);
-            }
-            only = Some((method, span));
+        let Some(span) = members.present(method.key()) else {
+            continue;
+        };
+        if only.is_some() {
+            return Err(ReadFault::Bad);
         }
+        only = Some((method, span));
     }
     match only {
         Some(found) => Ok(found),
