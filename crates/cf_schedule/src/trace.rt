@@ -1,4 +1,6 @@
 //! What the clients got in a run.
+ghost use Rattle.std.specs.Prelude.{◌≡◌};
+ghost use Rattle.cf_schedule.specs.TraceLine.{answer_word};
 
 use crate::client::AppEvent;
 use std::fmt;
@@ -20,7 +22,9 @@ pub struct Trace {
 }
 
 // How the subscription stands to what its client had.
-fn answer(was_recovering: bool, recovered: bool) -> &'static str {
+fn answer(was_recovering: bool, recovered: bool) -> &'static str
+    ensures { result.now ≡ answer_word was_recovering recovered }
+{
     if !was_recovering {
         "fresh"
     } else if recovered {
@@ -31,6 +35,12 @@ fn answer(was_recovering: bool, recovered: bool) -> &'static str {
 }
 
 impl fmt::Display for Entry {
+    ghost use Rattle.std.specs.Prelude.{Some};
+    ghost use Rattle.cf_schedule.specs.TraceLine.{line_of};
+    ghost use Rattle.cf_schedule.specs.Shown.{shown_entry};
+
+    ghost output = { λ e. Some (line_of (shown_entry e)) };
+
     fn fmt<W: fmt::Write>(&self, f: &mut fmt::Formatter<W>) -> fmt::Result {
         let client = self.client.as_str();
         match &self.item {
