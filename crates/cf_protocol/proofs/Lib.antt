@@ -6,6 +6,9 @@ pub mod Readings
 pub mod Standing
 pub mod Choices
 pub mod Frames
+pub mod ItemsRead
+pub mod Users
+pub mod Replies
 pub mod Writings
 pub mod Outgoings
 pub mod Clients

@@ -1,18 +1,15 @@
 -- Members and values where they stand in a text.
-use Rattle.std.proofs.Common.{◌≡◌, ℕ, suc, zero, ◌+◌, ◌<◌, Bool, true, false, cond, List, [], ◌∷◌, drop, get_or, length, Option, Some, None, MatchOption, Result, Ok, Err, option_map, refl, ap, sym, subst, ◌∙◌, arith, rules, add-one, string_bytes}
-use Rattle.std.specs.Option.{IsSomeAnd, option_and_then}
+use Rattle.std.proofs.Common.{◌≡◌, ℕ, suc, zero, ◌+◌, ◌<◌, false, List, [], ◌∷◌, drop, get_or, length, Option, Some, None, MatchOption, refl, ap, sym, subst, ◌∙◌, arith, add-one, string_bytes}
+use Rattle.std.specs.Option.{IsSomeAnd}
 use Rattle.std.specs.List.{AllZip}
 use Rattle.std.specs.Str.{bytes_eq}
 use Rattle.std.specs.declared.string.String.{String}
 use Rattle.std.specs.declared.alloc.Global.{Global}
-use Rattle.std.proofs.lemmas.Bool.{cond-true, cond-false}
+use Rattle.std.proofs.lemmas.Bool.{cond-false}
 use Rattle.std.proofs.Math.Seq.{drop-cons}
-use Rattle.cf_json.specs.Grammar.{Tree, null, boolean, number, text as string, array, object, Parts, no_parts, part}
-use Rattle.cf_json.specs.Spans.{Span, IsAt}
-use Rattle.cf_json.specs.Characters.{characters}
-use Rattle.cf_json.specs.Members as json
-use Rattle.cf_protocol.specs.Fields.{Fields, look_up, members_of, members_onto, items_of, as_object, as_items}
-use Rattle.cf_protocol.specs.Reading.{Tells, Answers, IsMember, Reads, Finds, Stand}
+use Rattle.cf_json.specs.Spans.{Span}
+use Rattle.cf_protocol.specs.Fields.{Fields, look_up}
+use Rattle.cf_protocol.specs.Reading.{Reads}
 
 -- the member at hand has another key
 passes_cons : (text k : List ℕ) (m : String Global × Span) (ms : List (String Global × Span)) (gs : Fields) → Reads text (m ∷ ms) gs → bytes_eq k (string_bytes m.0) ≡ false
@@ -45,3 +42,7 @@ pub some_object : {M F : Type 0} (R : M → F → Type 0) (o : Option (Option F)
 some_object R None r m e h = absurd h
 some_object {M} {F} R (Some None) r m e h = absurd (subst (λ q. MatchOption q (◌≡◌ {A = Option F} None None) (λ n. IsSomeAnd {T = F} None (R n))) e h)
 some_object {M} {F} R (Some (Some f)) r m e h = (f, refl, subst (λ q. MatchOption q (◌≡◌ {A = Option F} (Some f) None) (λ n. R n f)) e h)
+
+pub no_object : {M F : Type 0} (R : M → F → Type 0) (o : Option (Option F)) (r : Option M) → r ≡ None → IsSomeAnd o (λ x. MatchOption r (x ≡ None) (λ m. IsSomeAnd x (R m))) → o ≡ Some None
+no_object R None r e h = absurd h
+no_object {M} {F} R (Some x) r e h = ap Some (subst (λ q. MatchOption q (x ≡ None) (λ n. IsSomeAnd {T = F} x (R n))) e h)

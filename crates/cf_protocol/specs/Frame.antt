@@ -28,8 +28,12 @@ pub record FrameOf {A : Type 0} (read : List Tree → Option (List A)) (s : List
 abbrev pub IsCommands : List ℕ → List Command → Type 0
 IsCommands = FrameOf commands_of
 
+-- the replies and pushes of all of them, without what is passed over
+abbrev pub all_replies_of : List Tree → Option (List Outgoing)
+all_replies_of ts = option_map (flat_map (λ os. os)) (read_all reply_of ts)
+
 abbrev pub replies_of : List Tree → Option (List Outgoing)
-replies_of = unless_empty (λ ts. option_map (flat_map (λ os. os)) (read_all reply_of ts))
+replies_of = unless_empty all_replies_of
 
 abbrev pub IsReplies : List ℕ → List Outgoing → Type 0
 IsReplies = FrameOf replies_of

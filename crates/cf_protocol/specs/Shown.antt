@@ -1,5 +1,5 @@
 -- The values of the code as the definitions' values, texts by their bytes.
-use Rattle.std.specs.Prelude.{ℕ, List, map, Option}
+use Rattle.std.specs.Prelude.{ℕ, List, map, Option, option_map, option_to_list}
 use Rattle.std.specs.String.{string_bytes}
 use Rattle.std.specs.declared.string.String.{String}
 use Rattle.std.specs.declared.alloc.Global.{Global}
@@ -63,3 +63,7 @@ abbrev pub shown_outgoing : CodeOutgoing → outgoing.Outgoing
 shown_outgoing code_outgoing.Ping = outgoing.Ping
 shown_outgoing (code_outgoing.Answer id outcome) = outgoing.Answer id (shown_outcome outcome)
 shown_outgoing (code_outgoing.Push channel push) = outgoing.Push (string_bytes channel) (shown_pushed push)
+
+-- what a push that was read, or passed over, is to the application
+abbrev pub told : Option CodeOutgoing → List outgoing.Outgoing
+told o = option_to_list (option_map shown_outgoing o)

@@ -3,10 +3,11 @@ ghost use Rattle.std.specs.Prelude.{◌≡◌, IfOk, IfErr, List, map};
 ghost use Rattle.cf_json.specs.Grammar.{Tree};
 ghost use Rattle.cf_protocol.specs.Command.{command_of};
 ghost use Rattle.cf_protocol.specs.Fields.{read_all};
-ghost use Rattle.cf_protocol.specs.Frame.{IsCommands};
+ghost use Rattle.cf_protocol.specs.Frame.{IsCommands, IsReplies, all_replies_of};
+ghost use Rattle.cf_protocol.specs.Outgoing as outgoing;
 ghost use Rattle.cf_protocol.specs.Reading.{Answers, Stand};
 ghost use Rattle.cf_protocol.specs.Request as request;
-ghost use Rattle.cf_protocol.specs.Shown.{shown_command};
+ghost use Rattle.cf_protocol.specs.Shown.{shown_command, shown_outgoing};
 
 use crate::command::Command;
 use crate::fault::ReadFault;
@@ -41,12 +42,26 @@ fn read_each_command(alloc: Global, text: &str, spans: &[Span]) -> Result<Vec<Co
 }
 
 /// The replies and pushes of a frame, in order. Pushes of a kind that isn't known are passed over. `Bad` is a text that is no
-/// frame, or in which a value is neither.
-pub fn read_replies(alloc: Global, text: &str) -> Result<Vec<Outgoing>, ReadFault> {
+/// frame, or in which a value is neither or nests deeper than 64.
+pub fn read_replies(alloc: Global, text: &str) -> Result<Vec<Outgoing>, ReadFault>
+    ensures found { IfOk result (λ rs. IsReplies text.now (map shown_outgoing rs.items)) }
+    ensures only { IfOk result (λ rs. (os : List outgoing.Outgoing) → IsReplies text.now os → os ≡ map shown_outgoing rs.items) }
+    ensures bad { IfErr result (λ e. e ≡ ReadFault.Bad → (os : List outgoing.Outgoing) → IsReplies text.now os → ⊥) }
+{
     let spans = split_frame(alloc, text)?;
+    let replies = read_each_reply(alloc, text, &spans)?;
+    Ok(replies)
+}
+
+/// The replies and pushes that stand at these places.
+fn read_each_reply(alloc: Global, text: &str, spans: &[Span]) -> Result<Vec<Outgoing>, ReadFault>
+    requires { (ts : List Tree) × Stand text.now spans.now ts }
+    ensures { (ts : List Tree) → Stand text.now spans.now ts → Answers (λ v. map shown_outgoing v.items) result (all_replies_of ts) }
+{
     let mut replies = Vec::new(alloc);
-    for span in &spans {
-        if let Some(reply) = read_outgoing(alloc, text, *span)? {
+    for span in spans {
+        let read = read_outgoing(alloc, text, *span)?;
+        if let Some(reply) = read {
             replies.push(reply)?;
         }
     }

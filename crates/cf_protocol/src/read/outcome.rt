@@ -1,12 +1,13 @@
 //! The results of replies.
-ghost use Rattle.std.specs.Prelude.{◌≡◌, IfOk};
+ghost use Rattle.std.specs.FinMap.{from_entries};
+ghost use Rattle.std.specs.Prelude.{◌≡◌, Some, option_map};
 ghost use Rattle.cf_json.specs.Grammar.{Tree};
 ghost use Rattle.cf_json.specs.Spans.{IsAt};
-ghost use Rattle.cf_protocol.specs.Fields.{Fields};
+ghost use Rattle.cf_protocol.specs.Fields.{Fields, as_object, object_as, read_all};
 ghost use Rattle.cf_protocol.specs.Methods.{result_key, outcome_of};
-ghost use Rattle.cf_protocol.specs.Reading.{Answers, Reads};
-ghost use Rattle.cf_protocol.specs.Reply.{code_in, connected, counted};
-ghost use Rattle.cf_protocol.specs.Shown.{shown_outcome};
+ghost use Rattle.cf_protocol.specs.Reading.{Answers, Chooses, Reads};
+ghost use Rattle.cf_protocol.specs.Reply.{code_in, connected, counted, past, present_users, result_of, subscribed, user_at};
+ghost use Rattle.cf_protocol.specs.Shown.{shown_outcome, shown_users};
 
 use crate::fault::ReadFault;
 use crate::outgoing::Outcome;
@@ -63,16 +64,17 @@ impl ResultKey {
 /// The one result of a reply, and where its value stands.
 pub fn the_result(members: &Members<'_>) -> Result<(ResultKey, Span), ReadFault>
     requires { (fs : Fields) × Reads members.now.text.now members.now.found.items fs }
-    ensures { IfOk result (λ r. (t : Tree) × IsAt members.now.text.now t r.1) }
+    ensures { (fs : Fields) → Reads members.now.text.now members.now.found.items fs → Chooses members.now.text.now (λ key. object_as (outcome_of key)) result (result_of fs) }
 {
     let mut only = None;
     for key in RESULT_KEYS {
-        if let Some(span) = members.present(key.key()) {
-            if only.is_some() {
-                return Err(ReadFault::Bad);
-            }
-            only = Some((key, span));
+        let Some(span) = members.present(key.key()) else {
+            continue;
+        };
+        if only.is_some() {
+            return Err(ReadFault::Bad);
         }
+        only = Some((key, span));
     }
     match only {
         Some(found) => Ok(found),
@@ -88,6 +90,7 @@ pub fn read_result(
     span: Span,
 ) -> Result<Outcome, ReadFault>
     requires { (t : Tree) × IsAt text.now t span }
+    ensures { (t : Tree) → IsAt text.now t span → Answers shown_outcome result (object_as (outcome_of key) t) }
 {
     let members = Members::of(alloc, text, span)?;
     let outcome = read_outcome(alloc, key, &members)?;
@@ -97,6 +100,7 @@ pub fn read_result(
 /// The result of a key that has these members.
 fn read_outcome(alloc: Global, key: ResultKey, members: &Members<'_>) -> Result<Outcome, ReadFault>
     requires { (fs : Fields) × Reads members.now.text.now members.now.found.items fs }
+    ensures { (fs : Fields) → Reads members.now.text.now members.now.found.items fs → Answers shown_outcome result (outcome_of key fs) }
 {
     match key {
         ResultKey::Error => read_failed(members),
@@ -138,6 +142,7 @@ fn read_connected(alloc: Global, members: &Members<'_>) -> Result<Outcome, ReadF
 
 fn read_subscribed(alloc: Global, members: &Members<'_>) -> Result<Outcome, ReadFault>
     requires { (fs : Fields) × Reads members.now.text.now members.now.found.items fs }
+    ensures { (fs : Fields) → Reads members.now.text.now members.now.found.items fs → Answers shown_outcome result (subscribed fs) }
 {
     let position = members.position(alloc)?;
     let publications = read_publications(alloc, members)?;
@@ -153,6 +158,7 @@ fn read_subscribed(alloc: Global, members: &Members<'_>) -> Result<Outcome, Read
 
 fn read_past(alloc: Global, members: &Members<'_>) -> Result<Outcome, ReadFault>
     requires { (fs : Fields) × Reads members.now.text.now members.now.found.items fs }
+    ensures { (fs : Fields) → Reads members.now.text.now members.now.found.items fs → Answers shown_outcome result (past fs) }
 {
     let position = members.position(alloc)?;
     let publications = read_publications(alloc, members)?;
@@ -171,16 +177,33 @@ fn read_counted(members: &Members<'_>) -> Result<Outcome, ReadFault>
     Ok(Outcome::Counted { clients, users })
 }
 
-/// The clients that are there, each by its id, which is the key of its info.
+/// The clients that are there.
 fn read_present(alloc: Global, members: &Members<'_>) -> Result<Outcome, ReadFault>
     requires { (fs : Fields) × Reads members.now.text.now members.now.found.items fs }
+    ensures { (fs : Fields) → Reads members.now.text.now members.now.found.items fs → Answers shown_outcome result (present_users fs) }
 {
-    let mut users = BTreeMap::new(alloc);
-    if let Some(clients) = members.object(alloc, "presence")? {
-        for client in &clients.found {
-            let info = read_client(alloc, clients.text, client.1)?;
-            users.insert(client.0.clone()?, info.user)?;
+    match members.object(alloc, "presence")? {
+        Some(clients) => {
+            let users = read_users(alloc, &clients)?;
+            Ok(Outcome::Present { users })
+        }
+        None => {
+            let users = BTreeMap::new(alloc);
+            Ok(Outcome::Present { users })
         }
     }
-    Ok(Outcome::Present { users })
+}
+
+/// The user of each of these clients, by the client's id, which is the key of its info.
+fn read_users(alloc: Global, clients: &Members<'_>) -> Result<BTreeMap<String, String>, ReadFault>
+    requires { (fs : Fields) × Reads clients.now.text.now clients.now.found.items fs }
+    ensures { (t : Tree) (fs : Fields) → as_object t ≡ Some fs → Reads clients.now.text.now clients.now.found.items fs
+        → Answers shown_users result (option_map from_entries (read_all user_at fs)) }
+{
+    let mut users = BTreeMap::new(alloc);
+    for client in &clients.found {
+        let info = read_client(alloc, clients.text, client.1)?;
+        users.insert(client.0.clone()?, info.user)?;
+    }
+    Ok(users)
 }

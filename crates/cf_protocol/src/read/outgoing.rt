@@ -1,11 +1,11 @@
 //! Replies and pushes.
-ghost use Rattle.std.specs.Prelude.{◌≡◌, option_map, option_to_list};
+ghost use Rattle.std.specs.Prelude.{◌≡◌, [], ◌∷◌};
 ghost use Rattle.cf_json.specs.Grammar.{Tree};
 ghost use Rattle.cf_json.specs.Spans.{IsAt};
 ghost use Rattle.cf_protocol.specs.Fields.{Fields, object_or_none};
 ghost use Rattle.cf_protocol.specs.Reading.{Answers, Reads};
-ghost use Rattle.cf_protocol.specs.Reply.{push_from, publication, code_in};
-ghost use Rattle.cf_protocol.specs.Shown.{shown_outgoing};
+ghost use Rattle.cf_protocol.specs.Reply.{answer_from, code_in, publication, push_from, reply_from, reply_of};
+ghost use Rattle.cf_protocol.specs.Shown.{shown_outgoing, told};
 
 use crate::fault::ReadFault;
 use crate::outgoing::{Outgoing, Pushed};
@@ -19,8 +19,18 @@ use std::alloc::Global;
 /// The reply or push that a value is; none for a push of a kind that isn't known, which is passed over.
 pub fn read_outgoing(alloc: Global, text: &str, span: Span) -> Result<Option<Outgoing>, ReadFault>
     requires { (t : Tree) × IsAt text.now t span }
+    ensures { (t : Tree) → IsAt text.now t span → Answers told result (reply_of t) }
 {
     let members = Members::of(alloc, text, span)?;
+    let outgoing = read_from(alloc, &members)?;
+    Ok(outgoing)
+}
+
+/// The reply or push that has these members. An object without members is the ping.
+fn read_from(alloc: Global, members: &Members<'_>) -> Result<Option<Outgoing>, ReadFault>
+    requires { (fs : Fields) × Reads members.now.text.now members.now.found.items fs }
+    ensures { (fs : Fields) → Reads members.now.text.now members.now.found.items fs → Answers told result (reply_from fs) }
+{
     if members.found.is_empty() {
         return Ok(Some(Outgoing::Ping));
     }
@@ -30,7 +40,7 @@ pub fn read_outgoing(alloc: Global, text: &str, span: Span) -> Result<Option<Out
             Ok(found)
         }
         None => {
-            let answer = read_answer(alloc, &members)?;
+            let answer = read_answer(alloc, members)?;
             Ok(Some(answer))
         }
     }
@@ -64,9 +74,10 @@ fn read_end(alloc: Global, members: &Members<'_>) -> Result<Option<u32>, ReadFau
     }
 }
 
+/// The push that has these members; none where it is of a kind that isn't known.
 fn read_push(alloc: Global, members: &Members<'_>) -> Result<Option<Outgoing>, ReadFault>
     requires { (fs : Fields) × Reads members.now.text.now members.now.found.items fs }
-    ensures { (fs : Fields) → Reads members.now.text.now members.now.found.items fs → Answers (λ o. option_to_list (option_map shown_outgoing o)) result (push_from fs) }
+    ensures { (fs : Fields) → Reads members.now.text.now members.now.found.items fs → Answers told result (push_from fs) }
 {
     let channel = members.text(alloc, "channel")?;
     let publication = read_pushed(alloc, members)?;
@@ -85,8 +96,10 @@ fn read_push(alloc: Global, members: &Members<'_>) -> Result<Option<Outgoing>, R
     }
 }
 
+/// The reply that has these members.
 fn read_answer(alloc: Global, members: &Members<'_>) -> Result<Outgoing, ReadFault>
     requires { (fs : Fields) × Reads members.now.text.now members.now.found.items fs }
+    ensures { (fs : Fields) → Reads members.now.text.now members.now.found.items fs → Answers (λ o. shown_outgoing o ∷ []) result (answer_from fs) }
 {
     let id = members.positive("id", u64::from(u32::MAX))?;
     let (key, value) = the_result(members)?;

@@ -1,9 +1,9 @@
 //! Publications in replies and pushes.
-ghost use Rattle.std.specs.Prelude.{◌≡◌};
+ghost use Rattle.std.specs.Prelude.{◌≡◌, List};
 ghost use Rattle.cf_json.specs.Grammar.{Tree};
 ghost use Rattle.cf_json.specs.Spans.{IsAt};
-ghost use Rattle.cf_protocol.specs.Fields.{Fields, object_as, object_or_none};
-ghost use Rattle.cf_protocol.specs.Reading.{Answers, Reads};
+ghost use Rattle.cf_protocol.specs.Fields.{Fields, object_as, object_or_none, objects, read_all};
+ghost use Rattle.cf_protocol.specs.Reading.{Answers, Reads, Stand};
 ghost use Rattle.cf_protocol.specs.Reply.{info, publication};
 
 use crate::fault::ReadFault;
@@ -71,18 +71,32 @@ fn read_published(alloc: Global, text: &str, span: Span) -> Result<Publication, 
     Ok(publication)
 }
 
+/// The publications at these places.
+fn read_each_published(
+    alloc: Global,
+    text: &str,
+    spans: &[Span],
+) -> Result<Vec<Publication>, ReadFault>
+    requires { (ts : List Tree) × Stand text.now spans.now ts }
+    ensures { (ts : List Tree) → Stand text.now spans.now ts → Answers (λ v. v.items) result (read_all (object_as publication) ts) }
+{
+    let mut publications = Vec::new(alloc);
+    for span in spans {
+        let publication = read_published(alloc, text, *span)?;
+        publications.push(publication)?;
+    }
+    Ok(publications)
+}
+
 /// The publications of a result.
 pub fn read_publications(
     alloc: Global,
     members: &Members<'_>,
 ) -> Result<Vec<Publication>, ReadFault>
     requires { (fs : Fields) × Reads members.now.text.now members.now.found.items fs }
+    ensures { (fs : Fields) → Reads members.now.text.now members.now.found.items fs → Answers (λ v. v.items) result (objects publication fs "publications") }
 {
-    let mut publications = Vec::new(alloc);
     let spans = members.list(alloc, "publications")?;
-    for span in &spans {
-        let publication = read_published(alloc, members.text, *span)?;
-        publications.push(publication)?;
-    }
+    let publications = read_each_published(alloc, members.text, &spans)?;
     Ok(publications)
 }
