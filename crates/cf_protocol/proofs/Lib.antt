@@ -1,5 +1,9 @@
 pub mod Epochs
 pub mod Tables
+pub mod Cutting
+pub mod Flagging
+pub mod Entering
+pub mod Listing
 pub mod Lengths
 pub mod Lookups
 pub mod Readings

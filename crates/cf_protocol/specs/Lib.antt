@@ -1,6 +1,9 @@
 pub mod Datum
 pub mod Epoch
 pub mod Settings
+pub mod SettingsText
+pub mod SettingsRead
+pub mod Codes
 pub mod Position
 pub mod Names
 pub mod Request

@@ -36,6 +36,10 @@ settings_of table channel = entry_at table (namespace_of channel)
 abbrev pub TokenTable : Type 0
 TokenTable = List (List ℕ × List ℕ)
 
+-- entries by the bytes of both
+abbrev pub in_bytes : List (String Global × String Global) → TokenTable
+in_bytes es = map (λ e. (string_bytes e.0, string_bytes e.1)) es
+
 -- the user that a token connects: the empty token connects the empty user
 abbrev pub user_of : TokenTable → List ℕ → Option (List ℕ)
 user_of table [] = Some []

@@ -1,5 +1,6 @@
 //! The codes of errors, of unsubscribe pushes and of closes, and what they say.
 ghost use Rattle.std.specs.Prelude.{◌≡◌, ◌==◌};
+ghost use Rattle.cf_protocol.specs.Codes.{code_of, close_code_of, close_reason_of};
 ghost use Rattle.cf_protocol.specs.Written.{message_of as message_by, reason_of};
 
 /// Why a command is refused. (Centrifugo's client protocol, error codes.)
@@ -25,7 +26,9 @@ pub enum ErrorCode {
 
 impl ErrorCode {
     /// The code that the protocol carries.
-    pub fn code(self) -> u32 {
+    pub fn code(self) -> u32
+        ensures { result ≡ code_of self }
+    {
         match self {
             ErrorCode::Internal => 100,
             ErrorCode::UnknownChannel => 102,
@@ -96,7 +99,9 @@ pub enum CloseCode {
 
 impl CloseCode {
     /// The code of the WebSocket close frame.
-    pub fn code(self) -> u16 {
+    pub fn code(self) -> u16
+        ensures { result ≡ close_code_of self }
+    {
         match self {
             CloseCode::Shutdown => 3001,
             CloseCode::InternalError => 3004,
@@ -108,7 +113,9 @@ impl CloseCode {
     }
 
     /// The reason of the WebSocket close frame.
-    pub fn reason(self) -> &'static str {
+    pub fn reason(self) -> &'static str
+        ensures { result.now ≡ close_reason_of self }
+    {
         match self {
             CloseCode::Shutdown => "shutdown",
             CloseCode::InternalError => "internal server error",

@@ -1,11 +1,15 @@
 //! The namespaces that are set up.
-ghost use Rattle.std.specs.Prelude.{◌≡◌, ◌≤◌, IfSome, IfOk};
-ghost use Rattle.cf_protocol.specs.Settings.{settings_of, namespace_of, IsUsable};
+ghost use Rattle.std.specs.Prelude.{◌≡◌, ◌≤◌, ℕ, List, IfSome, IfOk, MatchOption};
+ghost use Rattle.std.specs.List.Sorted.{IsPermutation};
+ghost use Rattle.cf_protocol.specs.Settings.{NamespaceTable, settings_of, namespace_of, named, IsUsable};
+ghost use Rattle.cf_protocol.specs.SettingsText.{IsNamespaces, IsNamespace, IsSettings, IsReadAs, letters_of};
+ghost use Rattle.cf_protocol.specs.SettingsRead.{IsFoundBy, AddsLetter, HasMost, Adds};
+ghost use Rattle.cf_protocol.specs.declared.settings.Settings.{Settings as SettingsValue};
 
 use crate::fault::ReadFault;
 use crate::settings::Settings;
 use crate::table::value_of;
-use crate::words::{is_word, whole_at_most};
+use crate::words::{count_of, cut_name, cut_part, is_word};
 use std::alloc::{AllocError, Global};
 use std::marker::Model;
 
@@ -65,9 +69,30 @@ fn namespace_of(channel: &str) -> &str
     }
 }
 
-/// The flags of an entry: `p` (publish), `h` (history) and `s` (presence), each at most once, in any order.
+/// The settings with one flag more: `p` (publish), `h` (history) or `s` (presence), where it isn't set yet.
+fn with_flag(settings: Settings, flag: u8) -> Option<Settings>
+    ensures { MatchOption result (HasMost flag settings) (AddsLetter flag settings) }
+{
+    let mut settings = settings;
+    if flag == b'p' && !settings.publish {
+        settings.publish = true;
+        return Some(settings);
+    }
+    if flag == b'h' && !settings.history {
+        settings.history = true;
+        return Some(settings);
+    }
+    if flag == b's' && !settings.presence {
+        settings.presence = true;
+        return Some(settings);
+    }
+    None
+}
+
+/// The settings of this size and time with these flags, each at most once, in any order.
 fn read_flags(flags: &str, size: usize, seconds: u64) -> Option<Settings>
-    ensures { IfSome result (λ s. (s.size ≡ size) × (s.seconds ≡ seconds)) }
+    ensures { MatchOption result ((s : SettingsValue) → IsPermutation (letters_of s) flags.now → ⊥)
+        (λ s. (s.size ≡ size) × (s.seconds ≡ seconds) × IsPermutation (letters_of s) flags.now) }
 {
     let mut settings = Settings {
         size,
@@ -77,47 +102,65 @@ fn read_flags(flags: &str, size: usize, seconds: u64) -> Option<Settings>
         presence: false,
     };
     for flag in flags.as_bytes() {
-        match flag {
-            b'p' if !settings.publish => settings.publish = true,
-            b'h' if !settings.history => settings.history = true,
-            b's' if !settings.presence => settings.presence = true,
-            _ => return None,
-        }
+        let Some(with_this) = with_flag(settings, *flag) else {
+            return None;
+        };
+        settings = with_this;
     }
     Some(settings)
 }
 
 /// What stands behind the `=` of an entry: `SIZE,SECONDS,FLAGS`.
 fn read_settings(text: &str) -> Option<Settings>
-    ensures { IfSome result IsUsable }
+    ensures { IsFoundBy (IsSettings text.now) result }
 {
-    let (size, rest) = text.split_once(',')?;
-    let (seconds, flags) = rest.split_once(',')?;
-    let size = whole_at_most(size, MAX_SIZE)?;
-    let seconds = whole_at_most(seconds, MAX_SECONDS)?;
-    if size == 0 || seconds == 0 {
+    let (size_text, rest) = cut_part(text)?;
+    let (seconds_text, flags) = cut_part(rest)?;
+    let size = count_of(size_text, MAX_SIZE)?;
+    let seconds = count_of(seconds_text, MAX_SECONDS)?;
+    read_flags(flags, size as usize, seconds)
+}
+
+/// An entry: `NAME=SIZE,SECONDS,FLAGS`.
+fn read_entry(text: &str) -> Option<(&str, Settings)>
+    ensures { MatchOption result ((e : List ℕ × SettingsValue) → IsNamespace text.now e → ⊥)
+        (λ p. IsNamespace text.now (p.0.now, p.1)) }
+{
+    let (name, rest) = cut_name(text)?;
+    if !is_word(name, MAX_NAME) {
         return None;
     }
-    read_flags(flags, size as usize, seconds)
+    let settings = read_settings(rest)?;
+    Some((name, settings))
+}
+
+/// One entry more, behind the others. `Bad` where the text is no entry, or its name stands already.
+fn add(entries: &mut Vec<(String, Settings)>, alloc: Global, text: &str) -> Result<(), ReadFault>
+    ensures { Adds IsNamespace text.now (named entries.old.items) result (named entries.new.items) }
+{
+    let Some((name, settings)) = read_entry(text) else {
+        return Err(ReadFault::Bad);
+    };
+    if value_of(entries, name).is_some() {
+        return Err(ReadFault::Bad);
+    }
+    entries.push((String::from_str(alloc, name)?, settings))?;
+    Ok(())
 }
 
 /// The namespaces that a text sets up: entries parted by `;`, each `NAME=SIZE,SECONDS,FLAGS`. A name is at most 32 ASCII
 /// letters, digits, `-` or `_`, and none stands twice; SIZE is 1 to 1,000 and SECONDS 1 to 2,592,000, without leading zeros;
 /// FLAGS has each of `p` (clients may publish), `h` (they may ask for the history) and `s` (presence is kept) at most once.
 /// `Bad` is any other text, the empty one among them.
-pub fn read_namespaces(alloc: Global, text: &str) -> Result<Namespaces, ReadFault> {
+pub fn read_namespaces(alloc: Global, text: &str) -> Result<Namespaces, ReadFault>
+    // What is read is what the text spells.
+    ensures found { IfOk result (λ table. IsNamespaces text.now table) }
+    // A text that spells a table is read as it, unless memory is refused; so `Bad` is a text that spells none.
+    ensures only { (table : NamespaceTable) → IsNamespaces text.now table → IsReadAs table result }
+{
     let mut entries = Vec::new(alloc);
     for entry in text.split(';') {
-        let Some((name, settings)) = entry.split_once('=') else {
-            return Err(ReadFault::Bad);
-        };
-        let Some(settings) = read_settings(settings) else {
-            return Err(ReadFault::Bad);
-        };
-        if !is_word(name, MAX_NAME) || value_of(&entries, name).is_some() {
-            return Err(ReadFault::Bad);
-        }
-        entries.push((String::from_str(alloc, name)?, settings))?;
+        add(&mut entries, alloc, entry)?;
     }
     Ok(Namespaces { entries })
 }

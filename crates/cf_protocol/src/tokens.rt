@@ -1,10 +1,12 @@
 //! The users that may connect.
-ghost use Rattle.std.specs.Prelude.{◌≡◌, option_copied};
-ghost use Rattle.cf_protocol.specs.Settings.{user_of};
+ghost use Rattle.std.specs.Prelude.{◌≡◌, ◌≢◌, ℕ, List, [], map, option_copied, string_bytes, IfOk, MatchOption};
+ghost use Rattle.cf_protocol.specs.Settings.{TokenTable, user_of, in_bytes};
+ghost use Rattle.cf_protocol.specs.SettingsText.{IsTokens, IsToken, is_name, IsReadAs};
+ghost use Rattle.cf_protocol.specs.SettingsRead.{Adds};
 
 use crate::fault::ReadFault;
 use crate::table::value_of;
-use crate::words::is_word;
+use crate::words::{cut_name, is_word};
 use std::alloc::Global;
 use std::marker::Model;
 
@@ -18,13 +20,11 @@ pub struct Tokens {
 }
 
 impl Model for Tokens {
-    ghost use Rattle.std.specs.Prelude.{map};
-    ghost use Rattle.std.specs.String.{string_bytes};
-    ghost use Rattle.cf_protocol.specs.Settings.{TokenTable};
+    ghost use Rattle.cf_protocol.specs.Settings.{TokenTable, in_bytes};
 
     ghost Value = { TokenTable };
 
-    ghost view = { λ t. map (λ e. (string_bytes e.0, string_bytes e.1)) t.entries.items };
+    ghost view = { λ t. in_bytes t.entries.items };
 }
 
 impl Tokens {
@@ -42,29 +42,59 @@ impl Tokens {
     }
 }
 
+/// Whether these are 1 to 64 ASCII letters, digits, `-` or `_`.
+fn is_name(text: &str) -> bool
+    ensures { result ≡ is_name text.now }
+{
+    !text.is_empty() && is_word(text, MAX_WORD)
+}
+
+/// An entry: `TOKEN=USER`.
+fn read_entry(text: &str) -> Option<(&str, &str)>
+    ensures { MatchOption result ((e : List ℕ × List ℕ) → IsToken text.now e → ⊥)
+        (λ p. IsToken text.now (p.0.now, p.1.now)) }
+{
+    let (token, user) = cut_name(text)?;
+    if !is_name(token) {
+        return None;
+    }
+    if !is_name(user) {
+        return None;
+    }
+    Some((token, user))
+}
+
+/// One entry more, behind the others. `Bad` where the text is no entry, or its token stands already.
+fn add(entries: &mut Vec<(String, String)>, alloc: Global, text: &str) -> Result<(), ReadFault>
+    ensures { Adds IsToken text.now (in_bytes entries.old.items) result (in_bytes entries.new.items) }
+{
+    let Some((token, user)) = read_entry(text) else {
+        return Err(ReadFault::Bad);
+    };
+    if value_of(entries, token).is_some() {
+        return Err(ReadFault::Bad);
+    }
+    entries.push((
+        String::from_str(alloc, token)?,
+        String::from_str(alloc, user)?,
+    ))?;
+    Ok(())
+}
+
 /// The tokens that a text sets up: entries parted by `;`, each `TOKEN=USER`, both 1 to 64 ASCII letters, digits, `-` or `_`,
 /// no token twice. The empty text has no entry. `Bad` is any other text.
-pub fn read_tokens(alloc: Global, text: &str) -> Result<Tokens, ReadFault> {
+pub fn read_tokens(alloc: Global, text: &str) -> Result<Tokens, ReadFault>
+    // What is read is what the text spells.
+    ensures found { IfOk result (λ table. IsTokens text.now table) }
+    // A text that spells a table is read as it, unless memory is refused; so `Bad` is a text that spells none.
+    ensures only { (table : TokenTable) → IsTokens text.now table → IsReadAs table result }
+{
     let mut entries = Vec::new(alloc);
     if text.is_empty() {
         return Ok(Tokens { entries });
     }
     for entry in text.split(';') {
-        let Some((token, user)) = entry.split_once('=') else {
-            return Err(ReadFault::Bad);
-        };
-        let are_words = is_word(token, MAX_WORD) && is_word(user, MAX_WORD);
-        if !are_words
-            || token.is_empty()
-            || user.is_empty()
-            || value_of(&entries, token).is_some()
-        {
-            return Err(ReadFault::Bad);
-        }
-        entries.push((
-            String::from_str(alloc, token)?,
-            String::from_str(alloc, user)?,
-        ))?;
+        add(&mut entries, alloc, entry)?;
     }
     Ok(Tokens { entries })
 }

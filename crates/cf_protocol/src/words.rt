@@ -1,26 +1,59 @@
 //! The words that settings are written in.
-ghost use Rattle.std.specs.Prelude.{◌≤◌, IfSome};
+ghost use Rattle.std.specs.Prelude.{◌≡◌, ◌<◌};
+ghost use Rattle.std.specs.Char.{is_ascii_digit};
+ghost use Rattle.std.specs.List.{list_all};
+ghost use Rattle.std.specs.Option.{MatchOption};
+ghost use Rattle.cf_protocol.specs.SettingsText.{is_word, is_word_byte};
+ghost use Rattle.cf_protocol.specs.SettingsRead.{IsFoundBy, IsCut, IsCount, Lacks};
 
-/// Whether these are ASCII letters, digits, `-` or `_`, no more than so many.
-pub fn is_word(text: &str, most: usize) -> bool {
-    for byte in text.as_bytes() {
-        if !byte.is_ascii_alphanumeric() && *byte != b'-' && *byte != b'_' {
-            return false;
-        }
-    }
-    text.len() <= most
+fn has_word_bytes(text: &str) -> bool
+    ensures { result ≡ list_all is_word_byte text.now }
+{
+    text.bytes().all(|byte| byte.is_ascii_alphanumeric() || byte == b'-' || byte == b'_')
 }
 
-/// The whole number that the text is, where it is one of at most so much: digits without sign or leading zeros.
-pub fn whole_at_most(text: &str, most: u64) -> Option<u64>
-    ensures { IfSome result (λ n. n ≤ most) }
+/// Whether these are ASCII letters, digits, `-` or `_`, no more than so many.
+pub fn is_word(text: &str, most: usize) -> bool
+    ensures { result ≡ is_word most text.now }
 {
-    let (first, more) = text.as_bytes().split_first()?;
-    if !first.is_ascii_digit() || (*first == b'0' && !more.is_empty()) {
+    text.len() <= most && has_word_bytes(text)
+}
+
+fn has_digits_alone(text: &str) -> bool
+    ensures { result ≡ list_all is_ascii_digit text.now }
+{
+    text.bytes().all(|byte| byte.is_ascii_digit())
+}
+
+/// The whole number from 1 to so much that the text spells: digits without sign or leading zeros.
+pub fn count_of(text: &str, most: u64) -> Option<u64>
+    ensures { IsFoundBy (IsCount most text.now) result }
+{
+    if !has_digits_alone(text) {
         return None;
     }
-    match text.parse::<u64>() {
-        Ok(number) if number <= most => Some(number),
-        _ => None,
+    if text.starts_with('0') {
+        return None;
     }
+    let Ok(number) = text.parse::<u64>() else {
+        return None;
+    };
+    if number > most {
+        return None;
+    }
+    Some(number)
+}
+
+/// What stands before the first `=` of a text, and behind it.
+pub fn cut_name(text: &str) -> Option<(&str, &str)>
+    ensures { MatchOption result (Lacks 61 text.now) (λ p. IsCut 61 text.now p.0.now p.1.now) }
+{
+    text.split_once('=')
+}
+
+/// What stands before the first comma of a text, and behind it.
+pub fn cut_part(text: &str) -> Option<(&str, &str)>
+    ensures { MatchOption result (Lacks 44 text.now) (λ p. IsCut 44 text.now p.0.now p.1.now) }
+{
+    text.split_once(',')
 }
