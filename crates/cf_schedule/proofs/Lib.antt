@@ -26,3 +26,6 @@ pub mod Accounts
 pub mod Headline
 pub mod Owning
 pub mod OwnedRuns
+pub mod Sessions
+pub mod TextLines
+pub mod Hubs

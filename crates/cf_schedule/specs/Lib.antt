@@ -27,3 +27,6 @@ pub mod Seen
 pub mod LineRead
 pub mod NotYet
 pub mod Shown
+pub mod Subscription
+pub mod TextLine
+pub mod HubState

@@ -10,15 +10,18 @@ mod event;
 mod halt;
 mod hub;
 pub mod laws;
+mod line;
 mod name;
 mod number;
 mod queue;
 pub mod rows;
 mod session;
+mod subscription;
 #[cfg(test)]
 mod tests;
 mod trace;
 mod verdict;
+mod walk;
 mod whole;
 pub mod words;
 mod world;
