@@ -1,4 +1,6 @@
 //! Texts read and written, as vectors.
+mod hostile_commands;
+
 use crate::{
     CloseCode, Epoch, ErrorCode, Position, ReadFault, Request, read_commands, read_namespaces,
     read_replies, read_tokens, write_command, write_reply,
