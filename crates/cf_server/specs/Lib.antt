@@ -1,1 +1,4 @@
 pub mod Status
+pub mod ScheduleText
+pub mod ScheduleRead
+pub mod Simulation

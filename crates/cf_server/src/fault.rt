@@ -77,6 +77,10 @@ impl From<ReadFault> for Fault {
 }
 
 impl From<io::Error> for Fault {
+    ghost use Rattle.cf_server.specs.Simulation.{IsOutside};
+
+    ghost from_gives = { λ _ fault. IsOutside fault };
+
     fn from(error: io::Error) -> Fault {
         match error.kind() {
             io::ErrorKind::OutOfMemory => Fault::Memory,

@@ -10,6 +10,7 @@ mod tests;
 
 use cf_protocol::read_namespaces;
 use cf_schedule::Config;
+use command_line::Options;
 use fault::Fault;
 use simulate::simulate;
 use std::alloc::Global;
@@ -18,21 +19,25 @@ use std::process::ExitCode;
 use std::rt::Env;
 use std::{env, io};
 
-/// The namespaces that are set up unless another setting is given: one, for the channels without a prefix, which holds
-/// 100 publications for 300 seconds and allows all.
-const DEFAULT_NAMESPACES: &str = "=100,300,phs";
-
-// What `simulate` runs with where no option says otherwise.
-fn default_config(alloc: Global) -> Result<Config, Fault> {
+// The settings that the options name. A text that sets up no namespaces, and a number of nodes other than 1 to 8, is an
+// unusable setting.
+fn config_of(alloc: Global, options: Options<'_>) -> Result<Config, Fault> {
+    let nodes = options.nodes;
+    if nodes < 1 || nodes > 8 {
+        return Err(Fault::Setting);
+    }
     Ok(Config {
-        nodes: 1,
-        namespaces: read_namespaces(alloc, DEFAULT_NAMESPACES)?,
+        nodes,
+        namespaces: read_namespaces(alloc, options.namespaces)?,
     })
 }
 
-fn simulate_standard<R: Input + Print + AllocGlobal>(rt: &R) -> Result<(), Fault> {
+fn simulate_standard<R: Input + Print + AllocGlobal>(
+    rt: &R,
+    options: Options<'_>,
+) -> Result<(), Fault> {
     let alloc = rt.alloc();
-    let config = default_config(alloc)?;
+    let config = config_of(alloc, options)?;
     let mut reader = rt.reader();
     let mut writer = BufWriter::new(alloc, io::writer(rt))?;
     simulate(alloc, &mut reader, &mut writer, &config)
@@ -48,11 +53,13 @@ fn words<R: Env + AllocGlobal>(rt: &R) -> Result<Vec<String>, Fault> {
 
 fn program<R: Input + Print + Eprint + Env + AllocGlobal>(rt: &R) -> Result<ExitCode, Fault> {
     let words = words(rt)?;
-    if let Err(shown) = command_line::read(rt.alloc(), words.as_slice()) {
-        return command_line::show(rt, &shown);
+    match command_line::read(rt.alloc(), words.as_slice()) {
+        Ok(options) => {
+            simulate_standard(rt, options)?;
+            Ok(ExitCode::SUCCESS)
+        }
+        Err(shown) => command_line::show(rt, &shown),
     }
-    simulate_standard(rt)?;
-    Ok(ExitCode::SUCCESS)
 }
 
 fn main(rt: HostRuntime) -> ExitCode {

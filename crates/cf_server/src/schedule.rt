@@ -1,8 +1,13 @@
 //! A schedule, read from its lines.
+ghost use Rattle.std.specs.Prelude.{◌≡◌, ◌∷◌, ◌++◌, [], ℕ, List, map, IfOk, IfErr, OnOk};
+ghost use Rattle.cf_schedule.specs.ScheduleLine.{Says};
+ghost use Rattle.cf_schedule.specs.Seen.{seen};
+ghost use Rattle.cf_server.specs.ScheduleText.{lines_of, IsSchedule};
+ghost use Rattle.cf_server.specs.ScheduleRead.{IsReadTo, RefusesLine, RefusesText, NotesEpoch, RefusesEpoch};
 
 use crate::fault::Fault;
 use cf_schedule::{Event, EventFault};
-use std::alloc::Global;
+use std::alloc::{AllocError, Global};
 use std::collections::BTreeSet;
 
 /// The events of a schedule, and the line of each.
@@ -10,32 +15,63 @@ use std::collections::BTreeSet;
 pub struct Schedule {
     pub events: Vec<Event>,
     lines: Vec<usize>,
+    epochs: BTreeSet<String>,
 }
 
 impl Schedule {
     /// The events of a text's lines, for a schedule over `nodes` nodes. The first line that is unreadable, or that gives an
     /// epoch again, is refused.
-    pub fn read(alloc: Global, text: &str, nodes: u8) -> Result<Schedule, Fault> {
-        let mut schedule = Schedule {
-            events: Vec::new(alloc),
-            lines: Vec::new(alloc),
-        };
-        let mut epochs = BTreeSet::new(alloc);
-        let mut number = 0usize;
-        for line in text.split('\n') {
-            number = number.saturating_add(1);
-            match Event::read(alloc, line, nodes) {
-                Ok(None) => {}
-                Ok(Some(event)) => {
-                    refuse_repeat(alloc, &mut epochs, &event, number)?;
-                    schedule.lines.push(number)?;
-                    schedule.events.push(event)?;
-                }
-                Err(EventFault::Unreadable) => return Err(Fault::Unreadable { line: number }),
-                Err(EventFault::Memory) => return Err(Fault::Memory),
-            }
+    pub fn read(alloc: Global, text: &str, nodes: u8) -> Result<Schedule, Fault>
+        ensures ok { IfOk result (λ s. IsSchedule nodes text.now (map seen s.events.items)) }
+        ensures err { IfErr result (RefusesText nodes text.now) }
+    {
+        let lines = lines_of(alloc, text)?;
+        let mut schedule = Schedule::new(alloc);
+        for (before, line) in lines.iter().enumerate() {
+            schedule.read_line(alloc, before + 1, line, nodes)?;
         }
         Ok(schedule)
+    }
+
+    // The schedule of no line.
+    fn new(alloc: Global) -> Schedule
+        ensures { (nodes : ℕ) → IsReadTo nodes [] result }
+    {
+        Schedule {
+            events: Vec::new(alloc),
+            lines: Vec::new(alloc),
+            epochs: BTreeSet::new(alloc),
+        }
+    }
+
+    // Reads the line of this number, behind those that were read.
+    fn read_line(
+        &mut self,
+        alloc: Global,
+        number: usize,
+        line: &str,
+        nodes: u8,
+    ) -> Result<(), Fault>
+        ensures ok { OnOk result ((before : List (List ℕ)) → IsReadTo nodes before self.old → IsReadTo nodes (before ++ line.now ∷ []) self.new) }
+        ensures err { IfErr result (λ f. (before : List (List ℕ)) (read : IsReadTo nodes before self.old) → RefusesLine nodes line.now number read.given f) }
+    {
+        match Event::read(alloc, line, nodes) {
+            Ok(None) => Ok(()),
+            Ok(Some(event)) => self.add(alloc, number, event),
+            Err(EventFault::Unreadable) => Err(Fault::Unreadable { line: number }),
+            Err(EventFault::Memory) => Err(Fault::Memory),
+        }
+    }
+
+    // Adds the event of the line of this number.
+    fn add(&mut self, alloc: Global, number: usize, event: Event) -> Result<(), Fault>
+        ensures ok { OnOk result ((nodes : ℕ) (before : List (List ℕ)) (line : List ℕ) → Says nodes line (seen event) → IsReadTo nodes before self.old → IsReadTo nodes (before ++ line ∷ []) self.new) }
+        ensures err { IfErr result (λ f. (nodes : ℕ) (before : List (List ℕ)) (line : List ℕ) → Says nodes line (seen event) → (read : IsReadTo nodes before self.old) → RefusesLine nodes line number read.given f) }
+    {
+        note_epoch(alloc, &mut self.epochs, &event, number)?;
+        self.lines.push(number)?;
+        self.events.push(event)?;
+        Ok(())
     }
 
     /// The line of the event after the first `done`.
@@ -44,13 +80,23 @@ impl Schedule {
     }
 }
 
-// Notes the epoch that an event gives, and refuses it where an earlier event gave it.
-fn refuse_repeat(
+// The lines of a text.
+fn lines_of(alloc: Global, text: &str) -> Result<Vec<&str>, AllocError>
+    ensures { IfOk result (λ v. map (λ line. line.now) v.items ≡ lines_of text.now) }
+{
+    text.split('\n').collect(alloc)
+}
+
+// Notes the epoch that an event brings, and refuses it where an earlier event brought it.
+fn note_epoch(
     alloc: Global,
     epochs: &mut BTreeSet<String>,
     event: &Event,
     line: usize,
-) -> Result<(), Fault> {
+) -> Result<(), Fault>
+    ensures ok { OnOk result (NotesEpoch epochs.old (seen event.now) epochs.new) }
+    ensures err { IfErr result (RefusesEpoch epochs.old (seen event.now) line) }
+{
     let Event::Epoch { epoch } = event else {
         return Ok(());
     };

@@ -1,13 +1,28 @@
-use crate::default_config;
+use crate::command_line::{self, DEFAULT_NAMESPACES, Options};
+use crate::config_of;
 use crate::simulate::simulate;
 use std::alloc::Global;
 use std::io;
 use std::io::{Read, Write};
 use std::test::Fail;
 
-// What a schedule's run writes, its status, and what it says on standard error.
+const DEFAULTS: Options<'static> = Options {
+    nodes: 1,
+    namespaces: DEFAULT_NAMESPACES,
+};
+
+// What a schedule's run with the default options writes, its status, and what it says on standard error.
 fn ran(alloc: Global, input: &[u8]) -> Result<(String, u8, String), Fail> {
-    let config = default_config(alloc)?;
+    ran_with(alloc, DEFAULTS, input)
+}
+
+// The same with these options.
+fn ran_with(
+    alloc: Global,
+    options: Options<'_>,
+    input: &[u8],
+) -> Result<(String, u8, String), Fail> {
+    let config = config_of(alloc, options)?;
     let mut reader = input;
     let mut writer = Vec::new(alloc);
     let (status, fault) = match simulate(alloc, &mut reader, &mut writer, &config) {
@@ -266,6 +281,150 @@ take ann
     Ok(())
 }
 
+// The epochs run out: what would open one more stream changes nothing, and what was opened goes on.
+#[test]
+fn epochs_run_out(rt: HostRuntime) -> Result<(), Fail> {
+    let input = "epoch aaaa
+publish news 1
+publish sport 2
+publish news 3
+connect ann 0
+ask ann news
+read ann news
+finish ann news
+take ann
+deliver 0 2
+";
+    let (written, status, _) = ran(rt.alloc(), input.as_bytes())?;
+    assert_eq!(rt; written.as_str(), "ann news sub aaaa 2 fresh\n");
+    assert_eq!(rt; status, 0);
+    Ok(())
+}
+
+// A publish to a channel whose namespace isn't set up changes nothing, and has no number.
+#[test]
+fn namespaces(rt: HostRuntime) -> Result<(), Fail> {
+    let input = "epoch aaaa
+epoch bbbb
+publish chat:x 1
+publish news 2
+connect ann 0
+ask ann news
+read ann news
+finish ann news
+take ann
+publish chat:x 3
+publish news 4
+deliver 0 2
+deliver 0 3
+take ann
+";
+    let set_up = Options {
+        nodes: 1,
+        namespaces: "=100,300,phs;chat=2,300,",
+    };
+    let cases = [
+        (
+            DEFAULTS,
+            "ann news sub aaaa 1 fresh\nann news pub aaaa 2 4\n",
+        ),
+        (set_up, "ann news sub bbbb 1 fresh\n"),
+    ];
+    for (options, lines) in cases {
+        let (written, status, fault) = ran_with(rt.alloc(), options, input.as_bytes())?;
+        assert_eq!(rt; fault.as_str(), "");
+        assert_eq!(rt; status, 0);
+        assert_eq!(rt; written.as_str(), lines);
+    }
+    Ok(())
+}
+
+// Each client gets what its own node is given.
+#[test]
+fn two_nodes(rt: HostRuntime) -> Result<(), Fail> {
+    let input = "epoch aaaa
+connect ann 0
+connect bob 1
+ask ann news
+read ann news
+finish ann news
+ask bob news
+read bob news
+finish bob news
+take ann
+take bob
+publish news 1
+deliver 1 1
+take ann
+take bob
+";
+    let two = Options {
+        nodes: 2,
+        namespaces: DEFAULT_NAMESPACES,
+    };
+    let (written, status, _) = ran_with(rt.alloc(), two, input.as_bytes())?;
+    assert_eq!(rt;
+        written.as_str(),
+        "ann news sub aaaa 0 fresh\nbob news sub aaaa 0 fresh\nbob news pub aaaa 1 1\n"
+    );
+    assert_eq!(rt; status, 0);
+    let (_, _, fault) = ran(rt.alloc(), input.as_bytes())?;
+    assert_eq!(rt; fault.as_str(), "line 3: unreadable");
+    Ok(())
+}
+
+// The words of a line.
+fn words_of(alloc: Global, line: &str) -> Result<Vec<String>, Fail> {
+    let mut words = Vec::new(alloc);
+    for word in line.split(' ') {
+        words.push(String::from_str(alloc, word)?)?;
+    }
+    Ok(words)
+}
+
+// Words that can't be used, and settings that can't, end the program with status 2.
+#[test]
+fn options(rt: HostRuntime) -> Result<(), Fail> {
+    let alloc = rt.alloc();
+    let given = words_of(alloc, "cf_server simulate --ns chat=3,300,ph --nodes 8")?;
+    let Ok(options) = command_line::read(alloc, given.as_slice()) else {
+        return Err(Fail::from("these words can be used"));
+    };
+    assert_eq!(rt; options.nodes, 8);
+    assert_eq!(rt; options.namespaces, "chat=3,300,ph");
+    let given = words_of(alloc, "cf_server")?;
+    let Ok(options) = command_line::read(alloc, given.as_slice()) else {
+        return Err(Fail::from("no words are `simulate`"));
+    };
+    assert_eq!(rt; options.nodes, 1);
+    assert_eq!(rt; options.namespaces, DEFAULT_NAMESPACES);
+    for line in [
+        "cf_server simulate --nodes 9",
+        "cf_server simulate --nodes 0",
+        "cf_server --ns =1,1,",
+    ] {
+        let given = words_of(alloc, line)?;
+        assert!(rt;
+            command_line::read(alloc, given.as_slice()).is_err(),
+            "at {line}"
+        );
+    }
+    for namespaces in ["", "=0,300,phs", "chat=3,300,ph;"] {
+        let Err(fault) = config_of(
+            alloc,
+            Options {
+                nodes: 1,
+                namespaces,
+            },
+        ) else {
+            return Err(Fail::from("these namespaces can't be used"));
+        };
+        assert_eq!(rt; fault.status(), 2);
+        assert_eq!(rt; fault.to_string(alloc)?.as_str(), "unusable setting");
+    }
+    Ok(())
+}
+
 // Lines that are passed over count, and the trace up to the stop is written.
 #[test]
 fn stops_not_yet(rt: HostRuntime) -> Result<(), Fail> {
@@ -350,7 +509,7 @@ impl Write for Failing {
 #[test]
 fn failed_input_and_output(rt: HostRuntime) -> Result<(), Fail> {
     let alloc = rt.alloc();
-    let config = default_config(alloc)?;
+    let config = config_of(alloc, DEFAULTS)?;
     let mut writer = Vec::new(alloc);
     let Err(fault) = simulate(alloc, &mut Failing, &mut writer, &config) else {
         return Err(Fail::from("a failed read is no end of the input"));
