@@ -23,7 +23,9 @@ impl Model for Epoch {
 
     ghost view = { λ e. take e.len e.bytes };
 
-    ghost invariant = { λ e. (length (take e.len e.bytes) ≡ e.len) × IsEpoch (take e.len e.bytes) × (e.bytes ≡ padded (take e.len e.bytes)) };
+    ghost invariant = { λ e. (length (take e.len e.bytes) ≡ e.len)
+        × IsEpoch (take e.len e.bytes)
+        × (e.bytes ≡ padded (take e.len e.bytes)) };
 
     ghost inverse = { λ s. record { bytes = padded s; len = length s } };
 }

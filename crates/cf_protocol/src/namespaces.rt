@@ -136,7 +136,8 @@ fn read_entry(text: &str) -> Option<(&str, Settings)>
 
 /// One entry more, behind the others. `Bad` where the text is no entry, or its name stands already.
 fn add(entries: &mut Vec<(String, Settings)>, alloc: Global, text: &str) -> Result<(), ReadFault>
-    ensures { Adds IsNamespace text.now (named entries.old.items) result (named entries.new.items) }
+    ensures { Adds IsNamespace text.now (named entries.old.items) result
+        (named entries.new.items) }
 {
     let Some((name, settings)) = read_entry(text) else {
         return Err(ReadFault::Bad);

@@ -49,7 +49,10 @@ impl Model for Publication {
 
     ghost Value = { Placed };
 
-    ghost view = { λ p. record { offset = p.offset; datum = record { body = string_bytes p.body; info = p.info } } };
+    ghost view = { λ p. record {
+      offset = p.offset;
+      datum = record { body = string_bytes p.body; info = p.info };
+    } };
 }
 
 impl Publication {

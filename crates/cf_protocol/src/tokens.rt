@@ -66,7 +66,8 @@ fn read_entry(text: &str) -> Option<(&str, &str)>
 
 /// One entry more, behind the others. `Bad` where the text is no entry, or its token stands already.
 fn add(entries: &mut Vec<(String, String)>, alloc: Global, text: &str) -> Result<(), ReadFault>
-    ensures { Adds IsToken text.now (in_bytes entries.old.items) result (in_bytes entries.new.items) }
+    ensures { Adds IsToken text.now (in_bytes entries.old.items) result
+        (in_bytes entries.new.items) }
 {
     let Some((token, user)) = read_entry(text) else {
         return Err(ReadFault::Bad);

@@ -28,24 +28,19 @@ pub fn write_command(alloc: Global, command: &Command) -> Result<String, AllocEr
 
 /// The members of a command. Its request stands also where it is an empty object.
 fn write_members(writer: &mut Writer, id: u32, request: &Request) -> Result<(), AllocError>
-    ensures { IfOk result (λ _. Adds writer.old writer.new (command_members as_it_is id (shown_request request.now))) }
+    ensures { IfOk result (λ _. Adds writer.old writer.new
+        (command_members as_it_is id (shown_request request.now))) }
 {
     match request {
         Request::Pong => Ok(()),
-        Request::Connect { token } => {
-            write_connect(writer, token.as_str())?;
-            write_id(writer, id)?;
-            Ok(())
-        }
+        Request::Connect { token } => write_connect(writer, id, token.as_str()),
         Request::Subscribe { channel, since } => {
             write_id(writer, id)?;
             write_subscribe(writer, channel.as_str(), since)?;
             Ok(())
         }
         Request::Unsubscribe { channel } => {
-            write_id(writer, id)?;
-            write_channel(writer, "unsubscribe", channel.as_str())?;
-            Ok(())
+            write_on_channel(writer, id, "unsubscribe", channel.as_str())
         }
         Request::Publish { channel, body } => {
             write_id(writer, id)?;
@@ -53,14 +48,10 @@ fn write_members(writer: &mut Writer, id: u32, request: &Request) -> Result<(), 
             Ok(())
         }
         Request::Presence { channel } => {
-            write_id(writer, id)?;
-            write_channel(writer, "presence", channel.as_str())?;
-            Ok(())
+            write_on_channel(writer, id, "presence", channel.as_str())
         }
         Request::PresenceStats { channel } => {
-            write_id(writer, id)?;
-            write_channel(writer, "presence_stats", channel.as_str())?;
-            Ok(())
+            write_on_channel(writer, id, "presence_stats", channel.as_str())
         }
         Request::History {
             channel,
@@ -72,21 +63,9 @@ fn write_members(writer: &mut Writer, id: u32, request: &Request) -> Result<(), 
             write_id(writer, id)?;
             Ok(())
         }
-        Request::Ping => {
-            write_id(writer, id)?;
-            write_empty(writer, "ping")?;
-            Ok(())
-        }
-        Request::Send => {
-            write_id(writer, id)?;
-            write_empty(writer, "send")?;
-            Ok(())
-        }
-        Request::Other => {
-            write_id(writer, id)?;
-            write_empty(writer, "rpc")?;
-            Ok(())
-        }
+        Request::Ping => write_bare(writer, id, "ping"),
+        Request::Send => write_bare(writer, id, "send"),
+        Request::Other => write_bare(writer, id, "rpc"),
     }
 }
 
@@ -99,11 +78,21 @@ pub fn write_id(writer: &mut Writer, id: u32) -> Result<(), AllocError>
 }
 
 /// An object without members.
-pub fn write_empty(writer: &mut Writer, key: &str) -> Result<(), AllocError>
+fn write_empty(writer: &mut Writer, key: &str) -> Result<(), AllocError>
     ensures { IfOk result (λ _. Adds writer.old writer.new ((key.now, Some (object_of [])) ∷ [])) }
 {
     writer.open(key, "{")?;
     writer.value("}")?;
+    Ok(())
+}
+
+/// An id, and an object without members.
+pub fn write_bare(writer: &mut Writer, id: u32, key: &str) -> Result<(), AllocError>
+    ensures { IfOk result (λ _. Adds writer.old writer.new
+        (("id" ⇒ written.whole id) ∷ (key.now, Some (object_of [])) ∷ [])) }
+{
+    write_id(writer, id)?;
+    write_empty(writer, key)?;
     Ok(())
 }
 
@@ -116,8 +105,19 @@ pub fn write_position(writer: &mut Writer, position: &Position) -> Result<(), Al
     Ok(())
 }
 
-fn write_connect(writer: &mut Writer, token: &str) -> Result<(), AllocError>
-    ensures { IfOk result (λ _. Adds writer.old writer.new (("connect" ⇒ Some (object_of (("token" ⇒ written.text token.now) ∷ []))) ∷ [])) }
+fn write_connect(writer: &mut Writer, id: u32, token: &str) -> Result<(), AllocError>
+    ensures { IfOk result (λ _. Adds writer.old writer.new
+        (("connect" ⇒ Some (object_of (("token" ⇒ written.text token.now) ∷ [])))
+        ∷ ("id" ⇒ written.whole id) ∷ [])) }
+{
+    write_token(writer, token)?;
+    write_id(writer, id)?;
+    Ok(())
+}
+
+fn write_token(writer: &mut Writer, token: &str) -> Result<(), AllocError>
+    ensures { IfOk result (λ _. Adds writer.old writer.new
+        (("connect" ⇒ Some (object_of (("token" ⇒ written.text token.now) ∷ []))) ∷ [])) }
 {
     writer.open("connect", "{")?;
     writer.text_member("token", token)?;
@@ -127,11 +127,27 @@ fn write_connect(writer: &mut Writer, token: &str) -> Result<(), AllocError>
 
 /// A request that has a channel alone.
 fn write_channel(writer: &mut Writer, key: &str, channel: &str) -> Result<(), AllocError>
-    ensures { IfOk result (λ _. Adds writer.old writer.new ((key.now, Some (channel_alone channel.now)) ∷ [])) }
+    ensures { IfOk result (λ _. Adds writer.old writer.new
+        ((key.now, Some (channel_alone channel.now)) ∷ [])) }
 {
     writer.open(key, "{")?;
     writer.text_member("channel", channel)?;
     writer.value("}")?;
+    Ok(())
+}
+
+/// An id, and a request that has a channel alone.
+fn write_on_channel(
+    writer: &mut Writer,
+    id: u32,
+    key: &str,
+    channel: &str,
+) -> Result<(), AllocError>
+    ensures { IfOk result (λ _. Adds writer.old writer.new
+        (("id" ⇒ written.whole id) ∷ (key.now, Some (channel_alone channel.now)) ∷ [])) }
+{
+    write_id(writer, id)?;
+    write_channel(writer, key, channel)?;
     Ok(())
 }
 
@@ -140,7 +156,9 @@ fn write_subscribe(
     channel: &str,
     since: &Option<Position>,
 ) -> Result<(), AllocError>
-    ensures { IfOk result (λ _. Adds writer.old writer.new (("subscribe" ⇒ Some (object_of (("channel" ⇒ written.text channel.now) ∷ from since.now))) ∷ [])) }
+    ensures { IfOk result (λ _. Adds writer.old writer.new
+        (("subscribe" ⇒ Some (object_of
+        (("channel" ⇒ written.text channel.now) ∷ from since.now))) ∷ [])) }
 {
     writer.open("subscribe", "{")?;
     writer.text_member("channel", channel)?;
@@ -162,7 +180,9 @@ fn write_from(writer: &mut Writer, since: &Option<Position>) -> Result<(), Alloc
 }
 
 fn write_publish(writer: &mut Writer, channel: &str, body: &Data) -> Result<(), AllocError>
-    ensures { IfOk result (λ _. Adds writer.old writer.new (("publish" ⇒ Some (object_of (("channel" ⇒ written.text channel.now) ∷ ("data" ⇒ body_of as_it_is (shown_data body.now)) ∷ []))) ∷ [])) }
+    ensures { IfOk result (λ _. Adds writer.old writer.new
+        (("publish" ⇒ Some (object_of (("channel" ⇒ written.text channel.now)
+        ∷ ("data" ⇒ body_of as_it_is (shown_data body.now)) ∷ []))) ∷ [])) }
 {
     writer.open("publish", "{")?;
     writer.text_member("channel", channel)?;
@@ -172,7 +192,8 @@ fn write_publish(writer: &mut Writer, channel: &str, body: &Data) -> Result<(), 
 }
 
 fn write_data(writer: &mut Writer, body: &Data) -> Result<(), AllocError>
-    ensures { IfOk result (λ _. Adds writer.old writer.new (("data" ⇒ body_of as_it_is (shown_data body.now)) ∷ [])) }
+    ensures { IfOk result (λ _. Adds writer.old writer.new
+        (("data" ⇒ body_of as_it_is (shown_data body.now)) ∷ [])) }
 {
     match body {
         Data::Absent => Ok(()),
@@ -192,7 +213,10 @@ fn write_history(
     since: &Option<Position>,
     reverse: bool,
 ) -> Result<(), AllocError>
-    ensures { IfOk result (λ _. Adds writer.old writer.new (("history" ⇒ Some (object_of (("channel" ⇒ written.text channel.now) ∷ ("limit" ⇒ written.signed limit.now) ∷ ("reverse" ⇒ written.flag reverse) ∷ ("since" ⇒ since_of since.now) ∷ []))) ∷ [])) }
+    ensures { IfOk result (λ _. Adds writer.old writer.new
+        (("history" ⇒ Some (object_of (("channel" ⇒ written.text channel.now)
+        ∷ ("limit" ⇒ written.signed limit.now) ∷ ("reverse" ⇒ written.flag reverse)
+        ∷ ("since" ⇒ since_of since.now) ∷ []))) ∷ [])) }
 {
     writer.open("history", "{")?;
     writer.text_member("channel", channel)?;

@@ -11,7 +11,7 @@ use crate::codes::{is_temporary, message_of, unsubscribe_reason};
 use crate::outgoing::{Outcome, Outgoing, Pushed};
 use crate::position::Position;
 use crate::publication::{Info, Publication};
-use crate::write::command::{write_empty, write_id, write_position};
+use crate::write::command::{write_bare, write_id, write_position};
 use crate::write::writer::Writer;
 use std::alloc::{AllocError, Global};
 use std::collections::BTreeMap;
@@ -37,7 +37,8 @@ pub fn write_reply(alloc: Global, outgoing: &Outgoing) -> Result<String, AllocEr
 }
 
 fn write_members(writer: &mut Writer, outgoing: &Outgoing) -> Result<(), AllocError>
-    ensures { IfOk result (λ _. Adds writer.old writer.new (outgoing_members as_it_is (shown_outgoing outgoing.now))) }
+    ensures { IfOk result (λ _. Adds writer.old writer.new
+        (outgoing_members as_it_is (shown_outgoing outgoing.now))) }
 {
     match outgoing {
         Outgoing::Ping => Ok(()),
@@ -48,14 +49,11 @@ fn write_members(writer: &mut Writer, outgoing: &Outgoing) -> Result<(), AllocEr
 
 /// The members of a reply. Its result stands also where it is an empty object.
 fn write_answer(writer: &mut Writer, id: u32, outcome: &Outcome) -> Result<(), AllocError>
-    ensures { IfOk result (λ _. Adds writer.old writer.new (reply as_it_is id (shown_outcome outcome.now))) }
+    ensures { IfOk result (λ _. Adds writer.old writer.new
+        (reply as_it_is id (shown_outcome outcome.now))) }
 {
     match outcome {
-        Outcome::Connected { client } => {
-            write_connected(writer, client.as_str())?;
-            write_id(writer, id)?;
-            Ok(())
-        }
+        Outcome::Connected { client } => write_connected(writer, id, client.as_str()),
         Outcome::Subscribed {
             position,
             publications,
@@ -66,26 +64,14 @@ fn write_answer(writer: &mut Writer, id: u32, outcome: &Outcome) -> Result<(), A
             write_subscribed(writer, position, publications, *recovered, *was_recovering)?;
             Ok(())
         }
-        Outcome::Unsubscribed => {
-            write_id(writer, id)?;
-            write_empty(writer, "unsubscribe")?;
-            Ok(())
-        }
-        Outcome::Published => {
-            write_id(writer, id)?;
-            write_empty(writer, "publish")?;
-            Ok(())
-        }
+        Outcome::Unsubscribed => write_bare(writer, id, "unsubscribe"),
+        Outcome::Published => write_bare(writer, id, "publish"),
         Outcome::Present { users } => {
             write_id(writer, id)?;
             write_present(writer, users)?;
             Ok(())
         }
-        Outcome::Counted { clients, users } => {
-            write_id(writer, id)?;
-            write_counted(writer, *clients, *users)?;
-            Ok(())
-        }
+        Outcome::Counted { clients, users } => write_counted(writer, id, *clients, *users),
         Outcome::Past {
             position,
             publications,
@@ -94,11 +80,7 @@ fn write_answer(writer: &mut Writer, id: u32, outcome: &Outcome) -> Result<(), A
             write_id(writer, id)?;
             Ok(())
         }
-        Outcome::Pinged => {
-            write_id(writer, id)?;
-            write_empty(writer, "ping")?;
-            Ok(())
-        }
+        Outcome::Pinged => write_bare(writer, id, "ping"),
         Outcome::Failed { code } => {
             write_error(writer, *code)?;
             write_id(writer, id)?;
@@ -107,8 +89,19 @@ fn write_answer(writer: &mut Writer, id: u32, outcome: &Outcome) -> Result<(), A
     }
 }
 
-fn write_connected(writer: &mut Writer, client: &str) -> Result<(), AllocError>
-    ensures { IfOk result (λ _. Adds writer.old writer.new (("connect" ⇒ Some (object_of (connected client.now))) ∷ [])) }
+fn write_connected(writer: &mut Writer, id: u32, client: &str) -> Result<(), AllocError>
+    ensures { IfOk result (λ _. Adds writer.old writer.new
+        (("connect" ⇒ Some (object_of (connected client.now))) ∷ ("id" ⇒ written.whole id) ∷ [])) }
+{
+    write_welcome(writer, client)?;
+    write_id(writer, id)?;
+    Ok(())
+}
+
+/// What a client is told when it connects.
+fn write_welcome(writer: &mut Writer, client: &str) -> Result<(), AllocError>
+    ensures { IfOk result (λ _. Adds writer.old writer.new
+        (("connect" ⇒ Some (object_of (connected client.now))) ∷ [])) }
 {
     writer.open("connect", "{")?;
     writer.text_member("client", client)?;
@@ -126,7 +119,9 @@ fn write_subscribed(
     recovered: bool,
     was_recovering: bool,
 ) -> Result<(), AllocError>
-    ensures { IfOk result (λ _. Adds writer.old writer.new (("subscribe" ⇒ Some (object_of (subscribed as_it_is position.now publications.now.items recovered was_recovering))) ∷ [])) }
+    ensures { IfOk result (λ _. Adds writer.old writer.new
+        (("subscribe" ⇒ Some (object_of (subscribed as_it_is position.now
+        publications.now.items recovered was_recovering))) ∷ [])) }
 {
     writer.open("subscribe", "{")?;
     write_position(writer, position)?;
@@ -139,8 +134,20 @@ fn write_subscribed(
     Ok(())
 }
 
-fn write_counted(writer: &mut Writer, clients: u64, users: u64) -> Result<(), AllocError>
-    ensures { IfOk result (λ _. Adds writer.old writer.new (("presence_stats" ⇒ Some (object_of (counted clients users))) ∷ [])) }
+fn write_counted(writer: &mut Writer, id: u32, clients: u64, users: u64) -> Result<(), AllocError>
+    ensures { IfOk result (λ _. Adds writer.old writer.new
+        (("id" ⇒ written.whole id)
+        ∷ ("presence_stats" ⇒ Some (object_of (counted clients users))) ∷ [])) }
+{
+    write_id(writer, id)?;
+    write_stats(writer, clients, users)?;
+    Ok(())
+}
+
+/// How many clients and users are there.
+fn write_stats(writer: &mut Writer, clients: u64, users: u64) -> Result<(), AllocError>
+    ensures { IfOk result (λ _. Adds writer.old writer.new
+        (("presence_stats" ⇒ Some (object_of (counted clients users))) ∷ [])) }
 {
     writer.open("presence_stats", "{")?;
     writer.whole_member("num_clients", clients)?;
@@ -154,7 +161,8 @@ fn write_past(
     position: &Position,
     publications: &Vec<Publication>,
 ) -> Result<(), AllocError>
-    ensures { IfOk result (λ _. Adds writer.old writer.new (("history" ⇒ Some (object_of (past as_it_is position.now publications.now.items))) ∷ [])) }
+    ensures { IfOk result (λ _. Adds writer.old writer.new
+        (("history" ⇒ Some (object_of (past as_it_is position.now publications.now.items))) ∷ [])) }
 {
     writer.open("history", "{")?;
     write_position(writer, position)?;
@@ -165,7 +173,8 @@ fn write_past(
 
 /// The error of a command that is refused, left out where it has no code.
 fn write_error(writer: &mut Writer, code: u32) -> Result<(), AllocError>
-    ensures { IfOk result (λ _. Adds writer.old writer.new (("error" ⇒ inner (error_members code)) ∷ [])) }
+    ensures { IfOk result (λ _. Adds writer.old writer.new
+        (("error" ⇒ inner (error_members code)) ∷ [])) }
 {
     if code == 0 {
         return Ok(());
@@ -180,7 +189,8 @@ fn write_error(writer: &mut Writer, code: u32) -> Result<(), AllocError>
 
 /// The clients that are there.
 fn write_present(writer: &mut Writer, users: &BTreeMap<String, String>) -> Result<(), AllocError>
-    ensures { IfOk result (λ _. Adds writer.old writer.new (("presence" ⇒ Some (object_of (presence (shown_users users.now)))) ∷ [])) }
+    ensures { IfOk result (λ _. Adds writer.old writer.new
+        (("presence" ⇒ Some (object_of (presence (shown_users users.now)))) ∷ [])) }
 {
     writer.open("presence", "{")?;
     write_clients(writer, users)?;
@@ -203,7 +213,8 @@ fn write_clients(writer: &mut Writer, users: &BTreeMap<String, String>) -> Resul
 
 /// Each client under its id with its info.
 fn write_entries(writer: &mut Writer, users: &BTreeMap<String, String>) -> Result<(), AllocError>
-    ensures adds { IfOk result (λ _. Adds writer.old writer.new (map client_member (bytes_of users.now.entries))) }
+    ensures adds { IfOk result (λ _. Adds writer.old writer.new
+        (map client_member (bytes_of users.now.entries))) }
     ensures ordered { IfOk result (λ _. IsOrdered string_cmp users.now) }
 {
     for (client, user) in users {
@@ -214,7 +225,8 @@ fn write_entries(writer: &mut Writer, users: &BTreeMap<String, String>) -> Resul
 
 /// A client under its id with its info, which stands also where it is empty.
 fn write_client(writer: &mut Writer, client: &str, user: &str) -> Result<(), AllocError>
-    ensures { IfOk result (λ _. Adds writer.old writer.new (client_member (client.now, user.now) ∷ [])) }
+    ensures { IfOk result (λ _. Adds writer.old writer.new
+        (client_member (client.now, user.now) ∷ [])) }
 {
     writer.text_key(client)?;
     writer.begin("{")?;
@@ -225,7 +237,8 @@ fn write_client(writer: &mut Writer, client: &str, user: &str) -> Result<(), All
 
 /// The members of an info.
 fn write_info(writer: &mut Writer, client: &str, user: &str) -> Result<(), AllocError>
-    ensures { IfOk result (λ _. Adds writer.old writer.new (info_members (record { client = client.now; user = user.now }))) }
+    ensures { IfOk result (λ _. Adds writer.old writer.new
+        (info_members (record { client = client.now; user = user.now }))) }
 {
     writer.text_member("client", client)?;
     writer.text_member("user", user)?;
@@ -237,7 +250,8 @@ fn write_publications(
     writer: &mut Writer,
     publications: &Vec<Publication>,
 ) -> Result<(), AllocError>
-    ensures { IfOk result (λ _. Adds writer.old writer.new (("publications" ⇒ publications_list as_it_is publications.now.items) ∷ [])) }
+    ensures { IfOk result (λ _. Adds writer.old writer.new
+        (("publications" ⇒ publications_list as_it_is publications.now.items) ∷ [])) }
 {
     if publications.is_empty() {
         return Ok(());
@@ -250,7 +264,8 @@ fn write_publications(
 
 /// The items of a list of publications.
 fn write_items(writer: &mut Writer, publications: &Vec<Publication>) -> Result<(), AllocError>
-    ensures { IfOk result (λ _. AddsItems writer.old writer.new (map (publication_tree as_it_is) publications.now.items)) }
+    ensures { IfOk result (λ _. AddsItems writer.old writer.new
+        (map (publication_tree as_it_is) publications.now.items)) }
 {
     for publication in publications {
         writer.comma()?;
@@ -261,7 +276,8 @@ fn write_items(writer: &mut Writer, publications: &Vec<Publication>) -> Result<(
 
 /// A publication, whose data always stands.
 fn write_publication(writer: &mut Writer, publication: &Publication) -> Result<(), AllocError>
-    ensures { IfOk result (λ _. AddsValue writer.old writer.new (compact_text (publication_tree as_it_is publication.now))) }
+    ensures { IfOk result (λ _. AddsValue writer.old writer.new
+        (compact_text (publication_tree as_it_is publication.now))) }
 {
     writer.begin("{")?;
     writer.key("data")?;
@@ -274,7 +290,8 @@ fn write_publication(writer: &mut Writer, publication: &Publication) -> Result<(
 
 /// The info of a publication, left out where there is none.
 fn write_publisher(writer: &mut Writer, info: &Option<Info>) -> Result<(), AllocError>
-    ensures { IfOk result (λ _. Adds writer.old writer.new (("info" ⇒ info_or_none info.now) ∷ [])) }
+    ensures { IfOk result (λ _. Adds writer.old writer.new
+        (("info" ⇒ info_or_none info.now) ∷ [])) }
 {
     let Some(info) = info else {
         return Ok(());
@@ -285,7 +302,8 @@ fn write_publisher(writer: &mut Writer, info: &Option<Info>) -> Result<(), Alloc
 
 /// An info, left out where it is empty.
 fn write_info_member(writer: &mut Writer, client: &str, user: &str) -> Result<(), AllocError>
-    ensures { IfOk result (λ _. Adds writer.old writer.new (("info" ⇒ inner (info_members (record { client = client.now; user = user.now }))) ∷ [])) }
+    ensures { IfOk result (λ _. Adds writer.old writer.new
+        (("info" ⇒ inner (info_members (record { client = client.now; user = user.now }))) ∷ [])) }
 {
     if client.is_empty() && user.is_empty() {
         return Ok(());
@@ -298,7 +316,10 @@ fn write_info_member(writer: &mut Writer, client: &str, user: &str) -> Result<()
 
 /// The member of a push, left out where it would be an empty object.
 fn write_push(writer: &mut Writer, channel: &str, push: &Pushed) -> Result<(), AllocError>
-    ensures { IfOk result (λ _. Adds writer.old writer.new (("push" ⇒ inner (("channel" ⇒ written.text channel.now) ∷ pushed as_it_is (shown_pushed push.now) ∷ [])) ∷ [])) }
+    ensures { IfOk result (λ _. Adds writer.old writer.new
+        (("push" ⇒ inner
+        (("channel" ⇒ written.text channel.now)
+        ∷ pushed as_it_is (shown_pushed push.now) ∷ [])) ∷ [])) }
 {
     match push {
         Pushed::Publication(publication) => {
@@ -324,7 +345,8 @@ fn write_push(writer: &mut Writer, channel: &str, push: &Pushed) -> Result<(), A
 
 /// The end of a subscription, left out where it has no code.
 fn write_unsubscribe(writer: &mut Writer, code: u32) -> Result<(), AllocError>
-    ensures { IfOk result (λ _. Adds writer.old writer.new (("unsubscribe" ⇒ inner (unsubscribed code)) ∷ [])) }
+    ensures { IfOk result (λ _. Adds writer.old writer.new
+        (("unsubscribe" ⇒ inner (unsubscribed code)) ∷ [])) }
 {
     if code == 0 {
         return Ok(());

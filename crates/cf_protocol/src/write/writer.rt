@@ -57,7 +57,8 @@ impl Writer {
 
     /// The comma before a further member or item.
     pub fn comma(&mut self) -> Result<(), AllocError>
-        ensures text { IfOk result (λ _. string_bytes self.new.text ≡ string_bytes self.old.text ++ comma_after self.old.fresh) }
+        ensures text { IfOk result (λ _. string_bytes self.new.text
+            ≡ string_bytes self.old.text ++ comma_after self.old.fresh) }
         ensures fresh { IfOk result (λ _. self.new.fresh ≡ self.old.fresh) }
     {
         if !self.fresh {
@@ -106,7 +107,8 @@ impl Writer {
 
     /// A member that is left out where its text is empty.
     pub fn text_member(&mut self, key: &str, text: &str) -> Result<(), AllocError>
-        ensures { IfOk result (λ _. Adds self.old self.new ((key.now, written.text text.now) ∷ [])) }
+        ensures { IfOk result (λ _. Adds self.old self.new
+            ((key.now, written.text text.now) ∷ [])) }
     {
         if !text.is_empty() {
             self.key(key)?;
@@ -129,7 +131,8 @@ impl Writer {
 
     /// A member that is left out where its number is 0.
     pub fn signed_member(&mut self, key: &str, number: &i32) -> Result<(), AllocError>
-        ensures { IfOk result (λ _. Adds self.old self.new ((key.now, written.signed number.now) ∷ [])) }
+        ensures { IfOk result (λ _. Adds self.old self.new
+            ((key.now, written.signed number.now) ∷ [])) }
     {
         if *number != 0 {
             self.key(key)?;
