@@ -29,3 +29,7 @@ pub mod OwnedRuns
 pub mod Sessions
 pub mod TextLines
 pub mod Hubs
+pub mod Boards
+pub mod BoardLists
+pub mod BoardCalls
+pub mod BoardPublishes

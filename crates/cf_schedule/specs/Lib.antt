@@ -30,3 +30,4 @@ pub mod Shown
 pub mod Subscription
 pub mod TextLine
 pub mod HubState
+pub mod BrokerTie

@@ -1,10 +1,11 @@
 //! What is published.
 ghost use Rattle.std.specs.Prelude.{◌≡◌, IfOk, IfErr};
+ghost use Rattle.cf_protocol.specs.Regular.{IsBody};
 ghost use Rattle.cf_schedule.specs.ScheduleLine.{IsData};
 ghost use Rattle.cf_schedule.specs.LineRead.{Refused, IsNoData};
 
 use crate::event::EventFault;
-use cf_json::{compact, depth, scan};
+use cf_json::{compact, compact_reads_back, depth, scan};
 use std::alloc::Global;
 use std::marker::Model;
 
@@ -19,10 +20,13 @@ pub struct Body {
 
 impl Model for Body {
     ghost use Rattle.std.specs.Prelude.{ℕ, List, string_bytes};
+    ghost use Rattle.cf_protocol.specs.Regular.{IsBody};
 
     ghost Value = { List ℕ };
 
     ghost view = { λ b. string_bytes b.text };
+
+    ghost invariant = { λ b. IsBody (string_bytes b.text) };
 }
 
 impl Body {
@@ -38,6 +42,7 @@ impl Body {
         if depth(text, span) > MAX_BODY_DEPTH {
             return Err(EventFault::Unreadable);
         }
+        compact_reads_back();
         match compact(alloc, text, span) {
             Ok(text) => Ok(Body { text }),
             Err(_) => Err(EventFault::Memory),
@@ -46,7 +51,8 @@ impl Body {
 
     /// The compact text.
     pub fn as_str(&self) -> &str
-        ensures { result.now ≡ self.now }
+        ensures characters { result.now ≡ self.now }
+        ensures body { IsBody self.now }
     {
         self.text.as_str()
     }

@@ -54,9 +54,7 @@ impl World {
             Event::Ask { client, channel } => self.ask(client.as_str(), channel.as_str())?,
             Event::Read { client, channel } => self.read(client.as_str(), channel.as_str())?,
             Event::Finish { client, channel } => self.finish(client.as_str(), channel.as_str())?,
-            Event::Publish { channel, body } => self
-                .broker
-                .publish(channel.as_str(), body.as_str())?,
+            Event::Publish { channel, body } => self.broker.publish(channel.as_str(), body)?,
             Event::Deliver { node, publication } => self.deliver(*node, *publication)?,
             Event::Take { client } => return self.take(at, client.as_str()),
             Event::Trim { channel, count } => self.broker.trim(channel.as_str(), *count),
