@@ -1,5 +1,6 @@
 //! Texts read and written, as vectors.
 mod hostile_commands;
+mod hostile_replies;
 
 use crate::{
     CloseCode, Epoch, ErrorCode, Position, ReadFault, Request, read_commands, read_namespaces,
@@ -172,6 +173,11 @@ fn replies_of_a_server(rt: HostRuntime) -> Result<(), Fail> {
         "{\"error\":{\"code\":107,\"message\":\"bad request\"},\"id\":2}",
         "{\"error\":{\"code\":100,\"message\":\"internal server error\",\"temporary\":true},\"id\":8}",
         "{\"error\":{\"code\":4000},\"id\":8}",
+        "{\"id\":5,\"subscribe\":{\"epoch\":\"aaaa\",\"offset\":3,\"positioned\":true,\"recoverable\":true,\"was_recovering\":true}}",
+        "{\"error\":{\"code\":102,\"message\":\"unknown channel\"},\"id\":3}",
+        "{\"error\":{\"code\":105,\"message\":\"already subscribed\"},\"id\":6}",
+        "{\"error\":{\"code\":108,\"message\":\"not available\"},\"id\":4}",
+        "{\"error\":{\"code\":112,\"message\":\"unrecoverable position\"},\"id\":7}",
     ] {
         assert!(rt; says(replies_again(alloc, text), text), "{text}");
     }
