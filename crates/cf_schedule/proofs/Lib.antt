@@ -33,3 +33,5 @@ pub mod Boards
 pub mod BoardLists
 pub mod BoardCalls
 pub mod BoardPublishes
+pub mod ClientMoves
+pub mod SessionReads

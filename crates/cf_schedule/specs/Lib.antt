@@ -19,6 +19,8 @@ pub mod Refusals
 pub mod IntervalMachine
 pub mod LooseRun
 pub mod Told
+pub mod ClientCalls
+pub mod SessionCalls
 pub mod Marks
 pub mod StreamSafety
 pub mod Leading
