@@ -1,42 +1,31 @@
 -- The broker beside the machine's, after each of its calls.
-use Rattle.std.proofs.Common.{◌≡◌, ◌≢◌, ◌≤◌, ◌<◌, ℕ, ◌+◌, ◌-◌, ◌==◌, ◌||◌, min, Bool, true, false, not, cond, nat_lt, Option, Some, None, option_map, is_some, List, [], ◌∷◌, ◌++◌, length, slice_get, drop, length-append, arith, inl, inr, refl, sym, ap, subst, ◌∙◌}
-use Rattle.std.specs.List.{All, AllZip}
-use Rattle.std.specs.Option.{IsSome, IsSomeAnd}
-use Rattle.std.specs.Str.{bytes_eq}
-use Rattle.std.specs.String.{string_bytes}
+use Rattle.std.proofs.Common.{◌≡◌, ℕ, ◌-◌, true, false, Option, Some, None, option_map, is_some, List, length, refl, sym, ap, subst, ◌∙◌}
+use Rattle.std.specs.List.{AllZip}
 use Rattle.std.specs.BTreeSet.{contains_text}
-use Rattle.std.proofs.lemmas.Bool.{ltb-true, lt-ltb}
-use Rattle.std.proofs.lemmas.Bool.Decides.{nat_tests}
-use Rattle.cf_protocol.specs.Names.{with, is_among}
-use Rattle.cf_protocol.specs.Epoch.{IsEpoch}
-use Rattle.cf_protocol.specs.Datum.{Datum, Placed}
+use Rattle.cf_protocol.specs.Names.{with}
+use Rattle.cf_protocol.specs.Datum.{Datum}
 use Rattle.cf_protocol.specs.Note.{Lists, placed_from}
 use Rattle.cf_protocol.specs.Position.{Position}
-use Rattle.cf_protocol.specs.Regular.{IsPlaced, IsBody}
-use Rattle.cf_protocol.specs.declared.settings.Settings.{Settings}
-use Rattle.cf_protocol.specs.Settings.{NamespaceTable, settings_of}
-use Rattle.cf_stream.specs.Stream.{Shown}
-use Rattle.cf_stream.specs.StreamState.{StreamState, last_offset, with_one_more, with_at_most}
+use Rattle.cf_protocol.specs.Settings.{NamespaceTable}
+use Rattle.cf_stream.specs.StreamState.{StreamState, with_at_most}
 use Rattle.cf_stream.specs.StreamAnswer.{read_of}
-use Rattle.cf_stream.specs.Streams.{Kept, stream_of, stood_or, size_at, size_of as stream_size}
-use Rattle.cf_stream.specs.PublicationList.{Life, published, kept_newest, state_of, IsRead}
+use Rattle.cf_stream.specs.Streams.{Kept, stream_of}
+use Rattle.cf_stream.specs.PublicationList.{Life, kept_newest, state_of, IsRead}
 use Rattle.cf_stream.specs.ChannelLists.{AreShown, ChangesAt, ReadsAt, life_or}
-use Rattle.cf_stream.specs.FreshEpochs.{Draws, DrawsNone}
+use Rattle.cf_stream.specs.FreshEpochs.{Draws}
 use Rattle.cf_stream.specs.declared.answer.Recovery.{Recovery}
 use Rattle.cf_schedule.specs.BrokerTie.{IsAccepted, IsStanding, ShowsBroker, Brings, Finds, life_at}
 use Rattle.cf_schedule.specs.Config.{Config}
-use Rattle.cf_schedule.specs.Event.{Event, Publish, Trim, Forget}
+use Rattle.cf_schedule.specs.Event.{Event, Trim, Forget}
 use Rattle.cf_schedule.specs.FreshEpochs.{AreFresh}
-use Rattle.cf_schedule.specs.IntervalMachine.{allows, effect, happens, size_by, size_of}
-use Rattle.cf_schedule.specs.PublicationList.{Place, Broker, no_stream, opened, can_open, is_full, at_last_offset, list_with, add_at, publish, trim_at, trim, forget, forget_all, epoch_comes}
+use Rattle.cf_schedule.specs.IntervalMachine.{allows, effect, happens}
+use Rattle.cf_schedule.specs.PublicationList.{Broker, no_stream, opened, trim_at, forget, forget_all}
 use Rattle.cf_schedule.specs.World.{World}
-use Rattle.cf_schedule.specs.declared.broker.Accepted.{Accepted}
 use Rattle.cf_schedule.specs.declared.broker.Broker.{Broker as Code}
 use Rattle.cf_schedule.specs.declared.epochs.WaitingEpochs.{WaitingEpochs}
-use Rattle.cf_schedule.proofs.BoardLists.{grown-list_with, listed_here, all-accepted-later, all-zip-snoc, accepted-now}
 use Rattle.cf_schedule.proofs.Boards.{shown-changed, life_of, takes_front, Opened, draws_opened}
 use Rattle.cf_schedule.proofs.Brokering.{lists-opened}
-use Rattle.cf_schedule.proofs.Names.{by_test, with-all, with-both, with-same, with-other}
+use Rattle.cf_schedule.proofs.Names.{by_test, with-all, with-same, with-other}
 
 none_of : {A : Type 0} (o : Option A) → is_some o ≡ false → o ≡ None
 none_of None h = refl

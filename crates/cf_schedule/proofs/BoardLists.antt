@@ -1,9 +1,8 @@
 -- Lists that grow, and what was accepted into them.
-use Rattle.std.proofs.Common.{◌≡◌, ◌≢◌, ◌≤◌, ℕ, zero, suc, ◌+◌, Option, Some, None, List, [], ◌∷◌, ◌++◌, length, slice_get, append_assoc, add-one, arith, refl, sym, ap, subst, ◌∙◌}
+use Rattle.std.proofs.Common.{◌≡◌, ℕ, zero, suc, ◌+◌, Some, List, [], ◌∷◌, ◌++◌, length, slice_get, append_assoc, add-one, refl, sym, ap, subst, ◌∙◌}
 use Rattle.std.specs.List.{AllZip}
 use Rattle.std.specs.String.{string_bytes}
 use Rattle.std.proofs.lemmas.List.{append-nil}
-use Rattle.cf_protocol.specs.Position.{Position}
 use Rattle.cf_protocol.specs.Datum.{Datum, Placed}
 use Rattle.cf_protocol.specs.Note.{Lists, placed_at}
 use Rattle.cf_protocol.specs.Regular.{IsPlaced, IsBody}

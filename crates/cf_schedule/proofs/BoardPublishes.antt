@@ -1,31 +1,28 @@
 -- The broker beside the machine's, after a publish, and where none can be drawn.
-use Rattle.std.proofs.Common.{◌≡◌, ◌≢◌, ◌≤◌, ◌<◌, ℕ, ◌+◌, ◌==◌, ◌||◌, ◌&&◌, min, Bool, true, false, not, cond, nat_lt, Option, Some, None, option_map, is_some, List, [], ◌∷◌, ◌++◌, length, slice_get, drop, length-append, arith, refl, sym, ap, subst, ◌∙◌}
-use Rattle.std.specs.List.{All, AllZip}
+use Rattle.std.proofs.Common.{◌≡◌, ◌≢◌, ◌≤◌, ◌<◌, ℕ, ◌+◌, ◌&&◌, min, Bool, true, false, not, cond, nat_lt, Option, Some, None, option_map, is_some, List, [], ◌∷◌, ◌++◌, length, slice_get, drop, length-append, arith, refl, sym, ap, subst, ◌∙◌}
+use Rattle.std.specs.List.{AllZip}
 use Rattle.std.specs.Option.{IsSome, IsSomeAnd}
-use Rattle.std.specs.Str.{bytes_eq}
 use Rattle.std.specs.String.{string_bytes}
 use Rattle.std.specs.BTreeSet.{contains_text}
 use Rattle.std.proofs.lemmas.Bool.{lt-ltb}
-use Rattle.std.proofs.lemmas.List.Elements.{All-append, All-cons, All-nil}
 use Rattle.cf_protocol.specs.Names.{with, is_among}
 use Rattle.cf_protocol.specs.Epoch.{IsEpoch}
-use Rattle.cf_protocol.specs.Datum.{Datum, Placed}
-use Rattle.cf_protocol.specs.Note.{Lists}
+use Rattle.cf_protocol.specs.Datum.{Datum}
 use Rattle.cf_protocol.specs.Regular.{IsPlaced, IsBody, IsInfo}
 use Rattle.cf_protocol.specs.declared.settings.Settings.{Settings}
 use Rattle.cf_protocol.specs.Settings.{NamespaceTable, settings_of}
 use Rattle.cf_stream.specs.Stream.{Shown}
 use Rattle.cf_stream.specs.StreamState.{StreamState, last_offset, with_one_more}
-use Rattle.cf_stream.specs.Streams.{Kept, stream_of, stood_or, size_at, size_of as stream_size}
+use Rattle.cf_stream.specs.Streams.{stream_of, stood_or, size_at, size_of as stream_size}
 use Rattle.cf_stream.specs.PublicationList.{Life, Shows, published}
-use Rattle.cf_stream.specs.ChannelLists.{AreShown, ShowsAt, ChangesAt, life_or}
+use Rattle.cf_stream.specs.ChannelLists.{ChangesAt, life_or}
 use Rattle.cf_stream.specs.FreshEpochs.{Draws, DrawsNone, IsNoEpoch}
-use Rattle.cf_schedule.specs.BrokerTie.{IsAccepted, IsStanding, ShowsBroker, FindsNone, life_at}
+use Rattle.cf_schedule.specs.BrokerTie.{IsAccepted, ShowsBroker, FindsNone, life_at}
 use Rattle.cf_schedule.specs.Config.{Config}
-use Rattle.cf_schedule.specs.Event.{Event, Publish}
+use Rattle.cf_schedule.specs.Event.{Publish}
 use Rattle.cf_schedule.specs.FreshEpochs.{AreFresh}
 use Rattle.cf_schedule.specs.IntervalMachine.{allows, happens, size_by, size_of}
-use Rattle.cf_schedule.specs.PublicationList.{Place, Broker, opened, can_open, is_full, stands_or_opens, list_with, add_at, publish, epoch_comes}
+use Rattle.cf_schedule.specs.PublicationList.{Broker, opened, can_open, is_full, stands_or_opens, list_with, add_at}
 use Rattle.cf_schedule.specs.World.{World}
 use Rattle.cf_schedule.specs.declared.broker.Accepted.{Accepted}
 use Rattle.cf_schedule.specs.declared.broker.Broker.{Broker as Code}
@@ -33,7 +30,7 @@ use Rattle.cf_schedule.specs.declared.epochs.WaitingEpochs.{WaitingEpochs}
 use Rattle.cf_schedule.proofs.BoardLists.{grown-list_with, listed_here, all-accepted-later, all-zip-snoc, accepted-now}
 use Rattle.cf_schedule.proofs.Boards.{shown-changed, life_of, takes_front, Opened, draws_opened, shows_here}
 use Rattle.cf_schedule.proofs.BoardCalls.{shows-same, happens_is}
-use Rattle.cf_schedule.proofs.Names.{by_test, itself, with-both, with-same, with-other}
+use Rattle.cf_schedule.proofs.Names.{itself, with-both, with-same, with-other}
 
 -- what is said of a stream over its channel's lists
 abbrev Stood : (List ℕ → List Datum) → StreamState → Type 0

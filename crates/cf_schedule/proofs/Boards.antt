@@ -1,19 +1,17 @@
 -- The streams and epochs beside the machine's, after a call.
-use Rattle.std.proofs.Common.{◌≡◌, ◌≢◌, ◌≤◌, ◌<◌, ℕ, ◌+◌, min, Bool, true, false, not, cond, nat_lt, Option, Some, None, option_map, List, [], ◌∷◌, ◌++◌, length, slice_get, drop, length-append, arith, inl, inr, refl, sym, ap, subst, ◌∙◌}
+use Rattle.std.proofs.Common.{◌≡◌, ◌≢◌, ℕ, true, not, cond, nat_lt, Option, Some, None, option_map, List, [], ◌∷◌, length, slice_get, drop, arith, inl, inr, refl, sym, ap, subst, ◌∙◌}
 use Rattle.std.specs.List.{All, AllZip}
 use Rattle.std.specs.Str.{bytes_eq}
 use Rattle.std.specs.BTreeSet.{contains_text}
 use Rattle.std.proofs.lemmas.List.Elements.{All-tail, recursion_from_All}
-use Rattle.std.proofs.lemmas.Bool.{ltb-true, lt-ltb}
-use Rattle.cf_protocol.specs.Names.{with, is_among}
+use Rattle.cf_protocol.specs.Names.{is_among}
 use Rattle.cf_protocol.specs.Epoch.{IsEpoch}
 use Rattle.cf_protocol.specs.Datum.{Datum}
-use Rattle.cf_protocol.specs.Note.{Lists}
 use Rattle.cf_protocol.specs.Settings.{NamespaceTable}
 use Rattle.cf_stream.specs.Stream.{Shown}
-use Rattle.cf_stream.specs.StreamState.{StreamState, last_offset, opens_in, with_one_more}
+use Rattle.cf_stream.specs.StreamState.{StreamState, last_offset, opens_in}
 use Rattle.cf_stream.specs.Streams.{Kept, stream_of, stood_or, size_at}
-use Rattle.cf_stream.specs.PublicationList.{Life, Shows, published, opened as opened_life}
+use Rattle.cf_stream.specs.PublicationList.{Life, Shows, opened as opened_life}
 use Rattle.cf_stream.specs.ChannelLists.{ShowsAt, AreShown, ChangesAt, life_or}
 use Rattle.cf_stream.specs.FreshEpochs.{Draws}
 use Rattle.cf_schedule.specs.BrokerTie.{IsAccepted, IsStanding, ShowsBroker, life_at}

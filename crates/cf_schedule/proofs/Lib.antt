@@ -35,3 +35,14 @@ pub mod BoardCalls
 pub mod BoardPublishes
 pub mod ClientMoves
 pub mod SessionReads
+pub mod ManyHubs
+pub mod TieRuns
+pub mod TieGrown
+pub mod TieNotes
+pub mod TieCounts
+pub mod TieLinks
+pub mod TieHears
+pub mod TieMoves
+pub mod TieTakes
+pub mod TieJoins
+pub mod TieAsks

@@ -1,12 +1,12 @@
 -- The broker beside what the machine has for it.
-use Rattle.std.specs.Prelude.{◌≡◌, ◌≤◌, ◌-◌, ℕ, Bool, false, true, Option, Some, None, option_map, List, ⊤, ◌++◌, length}
+use Rattle.std.specs.Prelude.{◌≡◌, ◌≤◌, ◌-◌, ℕ, false, Option, Some, None, option_map, List, ⊤, ◌++◌, length}
 use Rattle.std.specs.List.{All, AllZip}
 use Rattle.std.specs.String.{string_bytes}
 use Rattle.std.specs.BTreeSet.{contains_text}
 use Rattle.cf_protocol.specs.Names.{is_among}
 use Rattle.cf_protocol.specs.Epoch.{IsEpoch}
 use Rattle.cf_protocol.specs.Datum.{Datum}
-use Rattle.cf_protocol.specs.Note.{Lists, Reading, placed_at, placed_from}
+use Rattle.cf_protocol.specs.Note.{Lists, placed_at, placed_from}
 use Rattle.cf_protocol.specs.Position.{Position}
 use Rattle.cf_protocol.specs.Regular.{IsPlaced, IsBody}
 use Rattle.cf_protocol.specs.Settings.{NamespaceTable}

@@ -33,3 +33,5 @@ pub mod Subscription
 pub mod TextLine
 pub mod HubState
 pub mod BrokerTie
+pub mod NodeState
+pub mod Tie

@@ -12,6 +12,7 @@ mod hub;
 pub mod laws;
 mod line;
 mod name;
+mod nodes;
 mod number;
 mod queue;
 pub mod rows;

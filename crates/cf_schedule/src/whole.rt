@@ -1,8 +1,16 @@
 //! A whole run of a schedule.
-ghost use Rattle.std.specs.Prelude.{◌≡◌, length, IfErr};
+ghost use Rattle.std.specs.Prelude.{◌≡◌, map, IfOk, IfErr};
 ghost use Rattle.std.specs.List.{list_any};
 ghost use Rattle.cf_schedule.specs.Fresh.{are_fresh, is_new, brings};
-ghost use Rattle.cf_schedule.specs.Stopping.{StopsWithin};
+ghost use Rattle.cf_schedule.specs.LooseRun.{lines};
+ghost use Rattle.cf_schedule.specs.NotYet.{NoneIsNotYet};
+ghost use Rattle.cf_schedule.specs.Seen.{seen};
+ghost use Rattle.cf_schedule.specs.Shown.{shown_trace};
+ghost use Rattle.cf_schedule.specs.Stopping.{Stops};
+ghost use Rattle.cf_schedule.specs.StreamSafety.{Safe};
+ghost use Rattle.cf_schedule.specs.Tie.{shown_config};
+ghost use Rattle.cf_schedule.specs.Told.{trace};
+ghost use Rattle.cf_schedule.specs.World.{start};
 
 use crate::config::Config;
 use crate::event::Event;
@@ -23,7 +31,10 @@ pub enum Stopped {
 
 /// What the applications get in a run of a schedule.
 pub fn run(alloc: Global, config: &Config, events: &[Event]) -> Result<Trace, Stopped>
-    ensures { IfErr result (StopsWithin (length events.now)) }
+    ensures whole { IfOk result (λ t. shown_trace t ≡ trace (shown_config config.now) 1 start (map seen events.now)) }
+    ensures built { IfOk result (λ t. NoneIsNotYet (shown_config config.now) start (map seen events.now)) }
+    ensures safe { IfOk result (λ t. Safe (shown_config config.now) (lines (map seen events.now)) (shown_trace t)) }
+    ensures stopped { IfErr result (Stops (shown_config config.now) (map seen events.now)) }
 {
     let mut trace = Trace {
         entries: Vec::new(alloc),

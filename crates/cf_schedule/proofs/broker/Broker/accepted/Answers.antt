@@ -1,4 +1,4 @@
-use Rattle.std.proofs.Common.{◌≡◌, ◌≤◌, ℕ, suc, Bool, true, false, Option, Some, None, List, length, get_or, slice_get, add-one, arith, refl, sym, ap, subst, ◌∙◌}
+use Rattle.std.proofs.Common.{◌≡◌, ℕ, suc, Option, Some, None, List, length, get_or, slice_get, arith, refl, sym, subst}
 use Rattle.std.specs.Borrow.{Bor}
 use Rattle.std.proofs.Math.Dec.{ltb}
 use Rattle.std.specs.Option.{option_copied, is_some, IfSome}
@@ -8,7 +8,6 @@ use Rattle.cf_schedule.specs.BrokerTie.{Stands}
 use Rattle.cf_schedule.specs.PublicationList.{publication}
 use Rattle.cf_schedule.specs.declared.broker.Accepted.{Accepted}
 use Rattle.cf_schedule.proofs.BoardLists.{stands-at}
-use Rattle.cf_schedule.proofs.Boards.{draws_opened}
 use Rattle.cf_schedule.proofs.broker.Broker.accepted.Goals as goal
 
 copied_get : {A : Type 0} (r : Option (Bor A)) (xs : List A) (i : ℕ) → is_some r ≡ ltb i (length xs) → IfSome r (λ x. x.now ≡ get_or xs i x.now) → slice_get xs i ≡ option_copied r

@@ -1,9 +1,8 @@
-use Rattle.std.proofs.Common.{◌≡◌, ℕ, ◌+◌, List, Some, None, Ok, rules, refl, ap, sym, subst, ◌∙◌}
+use Rattle.std.proofs.Common.{◌≡◌, ℕ, List, Some, None, Ok, rules, refl, ap, subst, ◌∙◌}
 use Rattle.std.specs.String.{string_bytes}
-use Rattle.cf_protocol.specs.Datum.{Datum, Placed}
 use Rattle.cf_protocol.specs.Position.{Position}
 use Rattle.cf_stream.specs.Streams.{Kept, size_at}
-use Rattle.cf_stream.specs.PublicationList.{Life, published}
+use Rattle.cf_stream.specs.PublicationList.{published}
 use Rattle.cf_stream.specs.ChannelLists.{ChangesAt, life_or}
 use Rattle.std.specs.Result.{IsErrOf}
 use Rattle.cf_stream.specs.declared.refusal.StreamRefusal.{StreamRefusal}
