@@ -46,10 +46,10 @@ leaves_all x bs = record { part = []; cut = refl; adds = none_added x }
 
 pub leaves_more : (a b c : Bytes) (bs rs ts : List ℕ) → Leaves a b bs rs → Leaves b c rs ts → Leaves a c bs ts
 leaves_more a b c bs rs ts h k = record {
-      part = h.part ++ k.part;
-      cut = h.cut ∙ ap (λ t. h.part ++ t) k.cut ∙ sym (append_assoc h.part k.part ts);
-      adds = adds_more a b c h.part k.part h.adds k.adds;
-    }
+  part = h.part ++ k.part;
+  cut = h.cut ∙ ap (λ t. h.part ++ t) k.cut ∙ sym (append_assoc h.part k.part ts);
+  adds = adds_more a b c h.part k.part h.adds k.adds;
+}
 
 pub leaves_none : (a b : Bytes) (bs rs : List ℕ) → Leaves a b bs rs → rs ≡ [] → Appends a b bs
 leaves_none a b bs rs h e = subst (Appends a b) (sym (h.cut ∙ ap (λ t. h.part ++ t) e ∙ append-nil h.part)) h.adds
@@ -65,11 +65,11 @@ all_part a b c bs h k = record { part = bs; rest = []; cut = sym (append-nil bs)
 
 pub further_part : (a b c : Bytes) (xs ys zs bs : List ℕ) → bs ≡ xs ++ (ys ++ zs) → Appends a b xs → AddsPart b c ys → AddsPart a c bs
 further_part a b c xs ys zs bs e h k = record {
-      part = xs ++ k.part;
-      rest = k.rest ++ zs;
-      cut = e ∙ ap (λ t. xs ++ (t ++ zs)) k.cut ∙ ap (λ t. xs ++ t) (append_assoc k.part k.rest zs) ∙ sym (append_assoc xs k.part (k.rest ++ zs));
-      adds = adds_more a b c xs k.part h k.adds;
-    }
+  part = xs ++ k.part;
+  rest = k.rest ++ zs;
+  cut = e ∙ ap (λ t. xs ++ (t ++ zs)) k.cut ∙ ap (λ t. xs ++ t) (append_assoc k.part k.rest zs) ∙ sym (append_assoc xs k.part (k.rest ++ zs));
+  adds = adds_more a b c xs k.part h k.adds;
+}
 
 pub on_err : {T E : Type 0} (P : Type 0) (r : Result T E) → P → OnErr r P
 on_err P (Ok x) h = tt
