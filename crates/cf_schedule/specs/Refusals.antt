@@ -1,6 +1,9 @@
 -- What a node makes of a command that it hears: the order of checks, and each refusal with its code.
 -- (Centrifugo's client protocol: error codes; the order and the limits are this project's own profile.)
 use Rattle.std.specs.Prelude.{ℕ, ◌==◌, nat_le, nat_lt, ◌||◌, not, Bool, false, if◌then◌else◌, Option, Some, None, List, length}
+use Rattle.cf_protocol.specs.Codes.{code_of, close_code_of}
+use Rattle.cf_protocol.specs.declared.codes.CloseCode.TheVariants as close
+use Rattle.cf_protocol.specs.declared.codes.ErrorCode.TheVariants as error
 use Rattle.cf_protocol.specs.declared.settings.Settings.{Settings}
 use Rattle.cf_protocol.specs.Settings.{settings_of}
 use Rattle.cf_hub.specs.Connection.{is_off, rows}
@@ -36,23 +39,23 @@ last_id = 4294967295
 
 -- error codes
 abbrev pub unknown_channel : ℕ
-unknown_channel = 102
+unknown_channel = code_of error.UnknownChannel
 
 abbrev pub permission_denied : ℕ
-permission_denied = 103
+permission_denied = code_of error.PermissionDenied
 
 abbrev pub already_subscribed : ℕ
-already_subscribed = 105
+already_subscribed = code_of error.AlreadySubscribed
 
 abbrev pub limit_exceeded : ℕ
-limit_exceeded = 106
+limit_exceeded = code_of error.LimitExceeded
 
 abbrev pub bad_request : ℕ
-bad_request = 107
+bad_request = code_of error.BadRequest
 
 -- the close code of a message that is too long
 abbrev pub bad_message : ℕ
-bad_message = 3501
+bad_message = close_code_of close.BadRequest
 
 -- what a node makes of a command
 pub data Judgement : Type 0 where

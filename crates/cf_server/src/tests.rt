@@ -4,6 +4,7 @@ use crate::simulate::simulate;
 use std::alloc::Global;
 use std::io;
 use std::io::{Read, Write};
+use std::process::Abort;
 use std::test::Fail;
 
 const DEFAULTS: Options<'static> = Options {
@@ -32,6 +33,15 @@ fn ran_with(
     Ok((String::from_utf8(writer)?, status, fault))
 }
 
+// A schedule runs to its end with the default options, and these are the lines that it writes.
+fn prints(rt: &impl Abort, alloc: Global, input: &str, lines: &str) -> Result<(), Fail> {
+    let (written, status, fault) = ran(alloc, input.as_bytes())?;
+    assert_eq!(rt; written.as_str(), lines);
+    assert_eq!(rt; status, 0);
+    assert_eq!(rt; fault.as_str(), "");
+    Ok(())
+}
+
 const FIRST_PUBLICATION: &str = "epoch aaaa
 connect ann 0
 ask ann news
@@ -45,14 +55,12 @@ take ann
 
 #[test]
 fn first_publication(rt: HostRuntime) -> Result<(), Fail> {
-    let (written, status, fault) = ran(rt.alloc(), FIRST_PUBLICATION.as_bytes())?;
-    assert_eq!(rt;
-        written.as_str(),
-        "ann news sub aaaa 0 fresh\nann news pub aaaa 1 {\"t\":1}\n"
-    );
-    assert_eq!(rt; status, 0);
-    assert_eq!(rt; fault.as_str(), "");
-    Ok(())
+    prints(
+        &rt,
+        rt.alloc(),
+        FIRST_PUBLICATION,
+        "ann news sub aaaa 0 fresh\nann news pub aaaa 1 {\"t\":1}\n",
+    )
 }
 
 #[test]
@@ -125,19 +133,17 @@ take bob
 take ann
 take ann
 ";
-    let (written, status, fault) = ran(rt.alloc(), input.as_bytes())?;
-    assert_eq!(rt;
-        written.as_str(),
+    prints(
+        &rt,
+        rt.alloc(),
+        input,
         "ann news sub bbbb 0 fresh
 bob sport sub aaaa 0 fresh
 bob sport pub aaaa 1 2
 ann news pub bbbb 1 1
 ann news pub bbbb 2 [3,4]
-"
-    );
-    assert_eq!(rt; status, 0);
-    assert_eq!(rt; fault.as_str(), "");
-    Ok(())
+",
+    )
 }
 
 // A client that subscribes late gets what is published from then on.
@@ -158,13 +164,12 @@ take ann
 take ann
 take ann
 ";
-    let (written, status, _) = ran(rt.alloc(), input.as_bytes())?;
-    assert_eq!(rt;
-        written.as_str(),
-        "ann news sub aaaa 2 fresh\nann news pub aaaa 3 3\n"
-    );
-    assert_eq!(rt; status, 0);
-    Ok(())
+    prints(
+        &rt,
+        rt.alloc(),
+        input,
+        "ann news sub aaaa 2 fresh\nann news pub aaaa 3 3\n",
+    )
 }
 
 // A delivery that comes twice is dropped the second time, and a take from an empty queue gives nothing.
@@ -186,13 +191,12 @@ take ann
 take ann
 take ann
 ";
-    let (written, status, _) = ran(rt.alloc(), input.as_bytes())?;
-    assert_eq!(rt;
-        written.as_str(),
-        "ann news sub aaaa 0 fresh\nann news pub aaaa 1 1\n"
-    );
-    assert_eq!(rt; status, 0);
-    Ok(())
+    prints(
+        &rt,
+        rt.alloc(),
+        input,
+        "ann news sub aaaa 0 fresh\nann news pub aaaa 1 1\n",
+    )
 }
 
 // Where no epoch waits, what would open a stream changes nothing.
@@ -211,13 +215,12 @@ deliver 0 1
 take ann
 take ann
 ";
-    let (written, status, _) = ran(rt.alloc(), input.as_bytes())?;
-    assert_eq!(rt;
-        written.as_str(),
-        "ann news sub aaaa 0 fresh\nann news pub aaaa 1 2\n"
-    );
-    assert_eq!(rt; status, 0);
-    Ok(())
+    prints(
+        &rt,
+        rt.alloc(),
+        input,
+        "ann news sub aaaa 0 fresh\nann news pub aaaa 1 2\n",
+    )
 }
 
 // A stream that is trimmed goes on in its epoch. One that is forgotten is opened again in a new one, from offset 0.
@@ -245,14 +248,12 @@ read bob news
 finish bob news
 take bob
 ";
-    let (written, status, fault) = ran(rt.alloc(), input.as_bytes())?;
-    assert_eq!(rt;
-        written.as_str(),
-        "ann news sub aaaa 3 fresh\nbob news sub bbbb 1 fresh\n"
-    );
-    assert_eq!(rt; status, 0);
-    assert_eq!(rt; fault.as_str(), "");
-    Ok(())
+    prints(
+        &rt,
+        rt.alloc(),
+        input,
+        "ann news sub aaaa 3 fresh\nbob news sub bbbb 1 fresh\n",
+    )
 }
 
 // Where the broker restarts, each stream opens anew with the next epoch that waits; publications keep their numbers.
@@ -271,14 +272,12 @@ publish news 2
 deliver 0 2
 take ann
 ";
-    let (written, status, fault) = ran(rt.alloc(), input.as_bytes())?;
-    assert_eq!(rt;
-        written.as_str(),
-        "ann news sub bbbb 0 fresh\nann news pub bbbb 1 2\n"
-    );
-    assert_eq!(rt; status, 0);
-    assert_eq!(rt; fault.as_str(), "");
-    Ok(())
+    prints(
+        &rt,
+        rt.alloc(),
+        input,
+        "ann news sub bbbb 0 fresh\nann news pub bbbb 1 2\n",
+    )
 }
 
 // The epochs run out: what would open one more stream changes nothing, and what was opened goes on.
@@ -295,10 +294,7 @@ finish ann news
 take ann
 deliver 0 2
 ";
-    let (written, status, _) = ran(rt.alloc(), input.as_bytes())?;
-    assert_eq!(rt; written.as_str(), "ann news sub aaaa 2 fresh\n");
-    assert_eq!(rt; status, 0);
-    Ok(())
+    prints(&rt, rt.alloc(), input, "ann news sub aaaa 2 fresh\n")
 }
 
 // A publish to a channel whose namespace isn't set up changes nothing, and has no number.
