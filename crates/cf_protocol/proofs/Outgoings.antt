@@ -7,7 +7,7 @@ use Rattle.cf_protocol.specs.Datum.{Who, Placed}
 use Rattle.cf_protocol.specs.Written.{Member, ◌⇒◌, object_of, inner, list, text, whole, flag, info, info_or_none, error, message_of, reason_of, unsubscribed, publication, publications, as_it_is}
 use Rattle.cf_protocol.specs.Writing.{Adds, AddsKey, AddsValue, Opens, OpensMember, AddsItems}
 use Rattle.cf_protocol.specs.declared.write.writer.Writer.{Writer}
-use Rattle.cf_protocol.proofs.Writings.{then, member, inside, stands, inner_stands, listed}
+use Rattle.cf_protocol.proofs.Writings.{then, member, inside, stands, inner_stands}
 
 -- an object with a member that stands
 pub inside_inner : {a b c d : Writer} {k : List ℕ} {ms : List Member} → stands ms ≡ true → OpensMember a b k (123 ∷ []) → Adds b c ms → AddsValue c d (125 ∷ []) → Adds a d ((k, inner ms) ∷ [])
@@ -42,10 +42,6 @@ pub map-take_more : {A B : Type 0} (f : A → B) (xs : List A) (i : ℕ) (x : A)
 map-take_more f [] i x h e = absurd (omega arith)
 map-take_more f (y ∷ xs) zero x h e = ap (λ z. f z ∷ []) (sym e)
 map-take_more f (y ∷ xs) (suc i) x h e = ap (λ s. f y ∷ s) (map-take_more f xs i x (omega arith) e)
-
-pub publications_listed : {a b c d : Writer} {k : List ℕ} (ps : List Placed) → 0 < length ps → OpensMember a b k (91 ∷ []) → AddsItems b c (map (publication as_it_is) ps) → AddsValue c d (93 ∷ []) → Adds a d ((k, publications as_it_is ps) ∷ [])
-publications_listed [] n f g h = absurd (omega arith)
-publications_listed (p ∷ ps) n f g h = listed f g h
 
 -- ---- members of which the code gives the parts
 

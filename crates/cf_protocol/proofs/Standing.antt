@@ -25,24 +25,11 @@ passes text k ms i m gs l is r e =
     let same : drop i ms ≡ m ∷ drop (i + 1) ms = drop-cons ms i m l ∙ ap (λ x. x ∷ drop (suc i) ms) (sym is) ∙ ap (λ l. m ∷ l) next in
     passes_cons text k m (drop (i + 1) ms) gs (subst (λ l. Reads text l gs) same r) e
 
--- what stands at a place of a list has its fellow
-pub fellow : {A B : Type 0} (R : A → B → Type 0) (xs : List A) (ys : List B) (i : ℕ) (x d : A) → AllZip R xs ys → i < length xs → x ≡ get_or xs i d → (y : B) × R x y
-fellow R [] ys i x d z l e = absurd (omega (arith, l))
-fellow R (w ∷ xs) [] i x d z l e = absurd z
-fellow R (w ∷ xs) (y ∷ ys) zero x d z l e = (y, subst (λ v. R v y) (sym e) z.0)
-fellow R (w ∷ xs) (y ∷ ys) (suc i) x d z l e = fellow R xs ys i x d z.1 (omega (arith, l)) e
-
 pub some_and : {A : Type 0} (o : Option A) (P : A → Type 0) → IsSomeAnd o P → (x : A) × (o ≡ Some x) × P x
 some_and None P h = absurd h
 some_and (Some x) P h = (x, refl, h)
 
--- an object that stands, of which one of two kinds of answer told
-pub some_object : {M F : Type 0} (R : M → F → Type 0) (o : Option (Option F)) (r : Option M) (m : M) → r ≡ Some m
-    → IsSomeAnd o (λ x. MatchOption r (x ≡ None) (λ m. IsSomeAnd x (R m))) → (f : F) × (o ≡ Some (Some f)) × R m f
-some_object R None r m e h = absurd h
-some_object {M} {F} R (Some None) r m e h = absurd (subst (λ q. MatchOption q (◌≡◌ {A = Option F} None None) (λ n. IsSomeAnd {T = F} None (R n))) e h)
-some_object {M} {F} R (Some (Some f)) r m e h = (f, refl, subst (λ q. MatchOption q (◌≡◌ {A = Option F} (Some f) None) (λ n. R n f)) e h)
-
+-- no object stands, of which one of two kinds of answer told
 pub no_object : {M F : Type 0} (R : M → F → Type 0) (o : Option (Option F)) (r : Option M) → r ≡ None → IsSomeAnd o (λ x. MatchOption r (x ≡ None) (λ m. IsSomeAnd x (R m))) → o ≡ Some None
 no_object R None r e h = absurd h
 no_object {M} {F} R (Some x) r e h = ap Some (subst (λ q. MatchOption q (x ≡ None) (λ n. IsSomeAnd {T = F} x (R n))) e h)

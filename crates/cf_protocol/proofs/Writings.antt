@@ -117,10 +117,6 @@ stays_false : (ts : List Tree) → fresh_items false ts ≡ false
 stays_false [] = refl
 stays_false (t ∷ ts) = refl
 
-none_items : (fresh : Bool) → items_text fresh [] ≡ []
-none_items true = refl
-none_items false = refl
-
 items_text-push : (fresh : Bool) (ts : List Tree) (t : Tree) → items_text fresh (ts ++ t ∷ []) ≡ items_text fresh ts ++ (comma (fresh_items fresh ts) ++ compact_text t)
 items_text-push true [] t = append_nil (compact_text t)
 items_text-push false [] t = ap (λ s. 44 ∷ s) (append_nil (compact_text t))
@@ -134,9 +130,6 @@ fresh_items-push : (fresh : Bool) (ts : List Tree) (t : Tree) → fresh_items fr
 fresh_items-push fresh [] t = refl
 fresh_items-push fresh (u ∷ ts) t = refl
 
-pub no_items : (a : Writer) → AddsItems a a []
-no_items a = record { text = sym (ap (λ s. string_bytes a.text ++ s) (none_items a.fresh) ∙ append_nil (string_bytes a.text)); fresh = refl }
-
 pub one_more : {a b c d : Writer} {ts : List Tree} (t : Tree) → AddsItems a b ts → string_bytes c.text ≡ string_bytes b.text ++ comma b.fresh → AddsValue c d (compact_text t) → AddsItems a d (ts ++ t ∷ [])
 one_more {a} {b} {c} {d} {ts} t f e g =
     record {
@@ -145,24 +138,6 @@ one_more {a} {b} {c} {d} {ts} t f e g =
           (join (string_bytes b.text) (string_bytes c.text) (string_bytes d.text) (comma b.fresh) (compact_text t) (comma b.fresh ++ compact_text t) e g.text refl)
           (ap (λ h. items_text a.fresh ts ++ (comma h ++ compact_text t)) f.fresh ∙ sym (items_text-push a.fresh ts t));
       fresh = g.fresh ∙ sym (fresh_items-push a.fresh ts t);
-    }
-
-array_text : (fresh : Bool) (k : List ℕ) (t : Tree) (ts : List Tree)
-    → (comma fresh ++ (key_text true k ++ 91 ∷ [])) ++ (first_text false (items_of (t ∷ ts)) ++ 93 ∷ []) ≡ members_text fresh ((k, list (t ∷ ts)) ∷ [])
-array_text fresh k t ts =
-    append_assoc (comma fresh) (key_text true k ++ 91 ∷ []) (first_text false (items_of (t ∷ ts)) ++ 93 ∷ [])
-    ∙ ap (λ s. comma fresh ++ s) (append_assoc (key_text true k) (91 ∷ []) (first_text false (items_of (t ∷ ts)) ++ 93 ∷ [])) ∙ one_text fresh k (array (items_of (t ∷ ts)))
-
-pub listed : {a b c d : Writer} {k : List ℕ} {t : Tree} {ts : List Tree} → OpensMember a b k (91 ∷ []) → AddsItems b c (t ∷ ts) → AddsValue c d (93 ∷ []) → Adds a d ((k, list (t ∷ ts)) ∷ [])
-listed {a} {b} {c} {d} {k} {t} {ts} f g h =
-    record {
-      text =
-          join (string_bytes a.text) (string_bytes b.text) (string_bytes d.text) (comma a.fresh ++ (key_text true k ++ 91 ∷ [])) (first_text false (items_of (t ∷ ts)) ++ 93 ∷ [])
-          (members_text a.fresh ((k, list (t ∷ ts)) ∷ [])) f.text
-          (join (string_bytes b.text) (string_bytes c.text) (string_bytes d.text) (items_text b.fresh (t ∷ ts)) (93 ∷ []) (first_text false (items_of (t ∷ ts)) ++ 93 ∷ []) g.text h.text
-          (ap (λ e. items_text e (t ∷ ts) ++ 93 ∷ []) f.fresh))
-          (array_text a.fresh k t ts);
-      fresh = h.fresh;
     }
 
 pub as_value : {a b c d : Writer} {ms : List Member} → Opens a b (123 ∷ []) → Adds b c ms → AddsValue c d (125 ∷ []) → AddsValue a d (compact_text (object_of ms))
