@@ -10,7 +10,7 @@ use crate::read::members::Members;
 use cf_json::Span;
 
 /// The keys of which a command has exactly one.
-#[derive(Clone, Copy, PartialEq, Eq, Debug)]
+#[derive(Clone, Copy)]
 pub enum Method {
     Connect,
     Subscribe,

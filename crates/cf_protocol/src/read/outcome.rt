@@ -18,7 +18,7 @@ use std::alloc::Global;
 use std::collections::BTreeMap;
 
 /// The keys of which a reply has exactly one.
-#[derive(Clone, Copy, PartialEq, Eq, Debug)]
+#[derive(Clone, Copy)]
 pub enum ResultKey {
     Error,
     Connect,
