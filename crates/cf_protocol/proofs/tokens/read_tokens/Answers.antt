@@ -23,7 +23,9 @@ loop-entry-preserved c =
 
 pub returns-in_err-add-clause-only : goal.returns-in_err-add-clause-only
 returns-in_err-add-clause-only c =
-    let road = YieldsList-from_str_split {s = c.into_iter-entry-iterator.result} 59 c.args.text.now (lit< tt) (cc) (cc) (cc) in
+    let is_split = c.into_iter-entry-iterator.ensures.into_iter_gives in
+    let split = c.split-entry-items.ensures in
+    let road = YieldsList-from_str_split {s = c.into_iter-entry-iterator.result} 59 c.args.text.now (lit< tt) (rw is_split split.text) (rw is_split split.has_more) (rw is_split split.pattern) in
     let turn = YieldsList-turn road c.loop-entry.yielded _ c.loop-entry.yielded_by _ _ c.in-Some.entry c.in-Some.is c.next.ensures.steps in
     let so_far = YieldsList-so_far road c.loop-entry.yielded _ c.loop-entry.yielded_by in
     let p = err_from_is_err_and c.from_residual.result c.from_residual.ensures.1 in
@@ -33,14 +35,18 @@ returns-in_err-add-clause-only c =
 
 pub returns-clause-found : goal.returns-clause-found
 returns-clause-found c =
-    let road = YieldsList-from_str_split {s = c.into_iter-entry-iterator.result} 59 c.args.text.now (lit< tt) (cc) (cc) (cc) in
+    let is_split = c.into_iter-entry-iterator.ensures.into_iter_gives in
+    let split = c.split-entry-items.ensures in
+    let road = YieldsList-from_str_split {s = c.into_iter-entry-iterator.result} 59 c.args.text.now (lit< tt) (rw is_split split.text) (rw is_split split.has_more) (rw is_split split.pattern) in
     let whole = YieldsList-end road c.loop-entry.yielded _ c.loop-entry.yielded_by _ _ c.in-None.is c.next.ensures.steps in
     let each = subst (λ es. AllZip IsToken es (in_bytes c.loop-entry.entries.items)) whole.0 c.loop-entry.invariant.each in
     table_of_parts c.args.text.now (in_bytes c.loop-entry.entries.items) each c.loop-entry.invariant.apart
 
 pub returns-clause-only : goal.returns-clause-only
 returns-clause-only c =
-    let road = YieldsList-from_str_split {s = c.into_iter-entry-iterator.result} 59 c.args.text.now (lit< tt) (cc) (cc) (cc) in
+    let is_split = c.into_iter-entry-iterator.ensures.into_iter_gives in
+    let split = c.split-entry-items.ensures in
+    let road = YieldsList-from_str_split {s = c.into_iter-entry-iterator.result} 59 c.args.text.now (lit< tt) (rw is_split split.text) (rw is_split split.has_more) (rw is_split split.pattern) in
     let whole = YieldsList-end road c.loop-entry.yielded _ c.loop-entry.yielded_by _ _ c.in-None.is c.next.ensures.steps in
     let each = subst (λ es. AllZip IsToken es (in_bytes c.loop-entry.entries.items)) whole.0 c.loop-entry.invariant.each in
     λ table h. same_table tokens c.args.text.now (in_bytes c.loop-entry.entries.items) table each h (some_tokens c.args.text.now table (sym c.is_empty.ensures ∙ c.if-is_empty.false) h)
