@@ -1,8 +1,5 @@
 -- Frames and their values.
-use Rattle.std.proofs.Common.{◌≡◌, ◌≢◌, ℕ, suc, ◌+◌, ◌<◌, ◌≤◌, List, [], ◌∷◌, ◌++◌, drop, get_or, length, Option, Some, None, option_map, Err, refl, ap, sym, subst, ◌∙◌, arith, add-one, append-nil, append_assoc}
-use Rattle.std.specs.List.{AllZip}
-use Rattle.std.proofs.Math.Seq.{drop-cons}
-use Rattle.std.proofs.lemmas.List.{drop_all}
+use Rattle.std.proofs.Common.{◌≡◌, ◌≢◌, ℕ, ◌<◌, ◌≤◌, List, [], ◌∷◌, Option, Some, None, Err, refl, sym, ◌∙◌, arith}
 use Rattle.cf_json.specs.Grammar.{Tree, depth}
 use Rattle.cf_json.specs.Spans.{Span, max_depth}
 use Rattle.cf_json.specs.Frame.{IsFrame, RefusesFrame, frame_depth}
@@ -11,7 +8,6 @@ use Rattle.cf_json.specs.declared.fault.Fault.TheVariants.{NotJson, TooDeep}
 use Rattle.cf_json.specs.declared.fault.Fault.TheVariants as json
 use Rattle.cf_protocol.specs.Frame.{FrameOf, unless_empty}
 use Rattle.cf_protocol.specs.Unreadable.{fault_of}
-use Rattle.cf_protocol.specs.Fields.{both, read_all}
 use Rattle.cf_protocol.specs.Reading.{Answers, Stand}
 use Rattle.cf_protocol.specs.declared.fault.ReadFault.{ReadFault}
 use Rattle.cf_protocol.specs.declared.fault.ReadFault.TheVariants.{Bad, Memory}

@@ -1,13 +1,13 @@
 -- What goes out, written step by step.
-use Rattle.std.proofs.Common.{◌≡◌, ℕ, zero, suc, ◌+◌, ◌<◌, List, [], ◌∷◌, ◌++◌, map, length, take, get_or, Bool, true, false, ◌==◌, Option, Some, None, refl, sym, ap, subst, ◌∙◌, arith, ne_eqb}
+use Rattle.std.proofs.Common.{◌≡◌, ℕ, zero, suc, ◌+◌, ◌<◌, List, [], ◌∷◌, ◌++◌, map, length, take, get_or, Bool, true, false, ◌==◌, Some, refl, sym, ap, subst, ◌∙◌, arith, ne_eqb}
 use Rattle.std.proofs.lemmas.Bool.{false≢true}
-use Rattle.std.specs.Prelude.{codes, is_some, ◌||◌}
+use Rattle.std.specs.Prelude.{codes}
 use Rattle.cf_json.specs.Grammar.{Tree}
-use Rattle.cf_protocol.specs.Datum.{Who, Placed}
-use Rattle.cf_protocol.specs.Written.{Member, ◌⇒◌, object_of, inner, list, text, whole, flag, info, info_or_none, error, message_of, reason_of, unsubscribed, publication, publications, as_it_is}
-use Rattle.cf_protocol.specs.Writing.{Adds, AddsKey, AddsValue, Opens, OpensMember, AddsItems}
+use Rattle.cf_protocol.specs.Datum.{Who}
+use Rattle.cf_protocol.specs.Written.{Member, ◌⇒◌, inner, text, whole, flag, info, error, message_of, reason_of, unsubscribed}
+use Rattle.cf_protocol.specs.Writing.{Adds, AddsValue, OpensMember}
 use Rattle.cf_protocol.specs.declared.write.writer.Writer.{Writer}
-use Rattle.cf_protocol.proofs.Writings.{then, member, inside, stands, inner_stands}
+use Rattle.cf_protocol.proofs.Writings.{then, inside, stands, inner_stands}
 
 -- an object with a member that stands
 pub inside_inner : {a b c d : Writer} {k : List ℕ} {ms : List Member} → stands ms ≡ true → OpensMember a b k (123 ∷ []) → Adds b c ms → AddsValue c d (125 ∷ []) → Adds a d ((k, inner ms) ∷ [])

@@ -1,7 +1,6 @@
 -- Members and values where they stand in a text.
-use Rattle.std.proofs.Common.{◌≡◌, ℕ, suc, zero, ◌+◌, ◌<◌, false, List, [], ◌∷◌, drop, get_or, length, Option, Some, None, MatchOption, refl, ap, sym, subst, ◌∙◌, arith, add-one, string_bytes}
+use Rattle.std.proofs.Common.{◌≡◌, ℕ, suc, ◌+◌, ◌<◌, false, List, [], ◌∷◌, drop, get_or, length, Option, Some, None, MatchOption, refl, ap, sym, subst, ◌∙◌, add-one, string_bytes}
 use Rattle.std.specs.Option.{IsSomeAnd}
-use Rattle.std.specs.List.{AllZip}
 use Rattle.std.specs.Str.{bytes_eq}
 use Rattle.std.specs.declared.string.String.{String}
 use Rattle.std.specs.declared.alloc.Global.{Global}

@@ -1,10 +1,10 @@
 -- One step of writing after another.
-use Rattle.std.proofs.Common.{◌≡◌, ℕ, List, [], ◌∷◌, ◌++◌, Bool, true, false, Option, Some, None, refl, sym, ap, ◌∙◌, append_assoc}
+use Rattle.std.proofs.Common.{◌≡◌, ℕ, List, [], ◌∷◌, ◌++◌, Bool, true, false, Some, None, refl, sym, ap, ◌∙◌, append_assoc}
 use Rattle.std.specs.Prelude.{string_bytes, is_some, ◌||◌}
 use Rattle.std.proofs.lemmas.Bool.{false≢true}
-use Rattle.cf_json.specs.Grammar.{Tree, object, array}
-use Rattle.cf_json.specs.Compact.{compact_text, key_text, first_text, more_text}
-use Rattle.cf_protocol.specs.Written.{Member, parts_of, object_of, items_of, inner, list}
+use Rattle.cf_json.specs.Grammar.{Tree}
+use Rattle.cf_json.specs.Compact.{compact_text, key_text, first_text}
+use Rattle.cf_protocol.specs.Written.{Member, parts_of, object_of, inner}
 use Rattle.cf_protocol.specs.Writing.{Adds, AddsKey, AddsValue, Opens, OpensMember, AddsItems, comma, members_text, items_text, fresh_with, fresh_after, fresh_items}
 use Rattle.cf_protocol.specs.declared.write.writer.Writer.{Writer}
 

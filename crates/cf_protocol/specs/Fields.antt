@@ -1,9 +1,9 @@
 -- Reading the members of an object by their keys.
 -- (RFC 8259, section 4. What an absent member counts as, and the ranges, are this project's own profile.)
-use Rattle.std.specs.Prelude.{ℕ, nat_le, ◌==◌, ℤ, pos, negsuc, neg_ℤ, int_le, List, [], ◌∷◌, ◌++◌, not, filter, Bool, false, ◌&&◌, if◌then◌else◌, Option, Some, None, option_map, option_to_list, option_and_then, codes}
+use Rattle.std.specs.Prelude.{ℕ, nat_le, ℤ, pos, negsuc, int_le, List, [], ◌∷◌, ◌++◌, Bool, false, ◌&&◌, if◌then◌else◌, Option, Some, None, option_map, option_to_list, option_and_then, codes}
 use Rattle.std.specs.Str.{bytes_eq}
 use Prim.Native.String.{String as Name}
-use Rattle.cf_json.specs.Grammar.{Tree, null, boolean, number, text as string, array, object, Parts, no_parts, part}
+use Rattle.cf_json.specs.Grammar.{Tree, null, boolean, number, text as string, array, object}
 use Rattle.cf_json.specs.Characters.{characters}
 use Rattle.cf_json.specs.Integers.{whole_of, signed_of}
 pub use Rattle.cf_json.specs.Members.{Fields, members_onto, members_of, items_of}

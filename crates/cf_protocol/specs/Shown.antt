@@ -1,5 +1,5 @@
 -- The values of the code as the definitions' values, texts by their bytes.
-use Rattle.std.specs.Prelude.{ℕ, List, map, Option, option_map, option_to_list}
+use Rattle.std.specs.Prelude.{List, map, Option, option_map, option_to_list}
 use Rattle.std.specs.String.{string_bytes}
 use Rattle.std.specs.declared.string.String.{String}
 use Rattle.std.specs.declared.alloc.Global.{Global}

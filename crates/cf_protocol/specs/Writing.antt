@@ -2,7 +2,7 @@
 use Rattle.std.specs.Prelude.{◌≡◌, ℕ, List, [], ◌∷◌, ◌++◌, Bool, true, false, Option, Some, None, map, String, string_bytes}
 use Rattle.std.specs.declared.alloc.Global.{Global}
 use Rattle.cf_json.specs.Grammar.{Tree}
-use Rattle.cf_json.specs.Compact.{compact_text, key_text, first_text, more_text}
+use Rattle.cf_json.specs.Compact.{key_text, first_text, more_text}
 use Rattle.cf_protocol.specs.Written.{Member, parts_of, items_of}
 use Rattle.cf_protocol.specs.declared.write.writer.Writer.{Writer}
 

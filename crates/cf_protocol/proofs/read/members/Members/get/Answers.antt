@@ -1,4 +1,4 @@
-use Rattle.std.proofs.Common.{◌∙◌, sym, ap, arith, rules}
+use Rattle.std.proofs.Common.{◌∙◌, sym, ap, rules}
 use Rattle.std.specs.Str.{bytes_eq}
 use Rattle.cf_protocol.proofs.Standing.{passes}
 use Rattle.cf_protocol.proofs.read.members.Members.get.Goals as goal
