@@ -276,7 +276,7 @@ const REFUSED: [&str; 108] = [
 ];
 
 #[test]
-fn commands(rt: HostRuntime) -> Result<(), Fail> {
+fn frames_of_commands(rt: HostRuntime) -> Result<(), Fail> {
     let alloc = rt.alloc();
     all_kept(&rt, alloc, Sender::Client, &KEPT);
     all_rewritten(&rt, alloc, Sender::Client, &REWRITTEN);

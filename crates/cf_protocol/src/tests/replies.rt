@@ -346,7 +346,7 @@ fn is_placeless(outgoing: &Outgoing) -> bool {
 }
 
 #[test]
-fn replies(rt: HostRuntime) -> Result<(), Fail> {
+fn frames_of_replies(rt: HostRuntime) -> Result<(), Fail> {
     let alloc = rt.alloc();
     all_kept(&rt, alloc, Sender::Server, &KEPT);
     all_rewritten(&rt, alloc, Sender::Server, &REWRITTEN);
