@@ -1,3 +1,4 @@
 pub mod Arrivals
+pub mod Meaning
 pub mod Release
 pub mod Verdict

@@ -1,4 +1,11 @@
 //! What a subscription does with deliveries: those that come before its reply, and those that come after.
+//!
+//! The rules are those of Centrifugo's document on history and recovery; the limit of what is kept is this project's own.
 #![tactic(auto)]
 
 pub mod laws;
+#[cfg(test)]
+mod tests;
+mod verdict;
+
+pub use verdict::{Verdict, check};
