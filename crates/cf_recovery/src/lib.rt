@@ -4,8 +4,11 @@
 #![tactic(auto)]
 
 pub mod laws;
+mod stored;
 #[cfg(test)]
 mod tests;
 mod verdict;
+mod waiting;
 
 pub use verdict::{Verdict, check};
+pub use waiting::{MOST_KEPT, Waiting};

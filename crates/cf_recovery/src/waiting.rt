@@ -1,0 +1,123 @@
+//! Publications that come while a subscription is being asked for.
+ghost use Rattle.std.specs.Prelude.{◌≡◌, ◌||◌, [], ◌∷◌, List, true, false, length, OnOk, OnErr};
+ghost use Rattle.cf_protocol.specs.Position.{Position};
+ghost use Rattle.cf_recovery.specs.Arrivals.{arrives, has, overfull};
+ghost use Rattle.cf_recovery.specs.Kept.{arrival, places, nothing_kept, given_up, with_arrival, TakesRoom, IsWithin, StandsFor};
+
+use crate::stored::find;
+use cf_protocol::{Epoch, Position, Publication};
+use std::alloc::{AllocError, Global};
+use std::marker::Model;
+
+/// The most publications that are kept.
+pub const MOST_KEPT: usize = 1000;
+
+/// The publications that came to a node for a channel since a subscription was asked for: each place once, as it came first, and at
+/// most 1,000. Where one more comes, or memory is refused, all are given up, and nothing is kept from then on.
+///
+/// Centrifugo, history and recovery: publications are buffered between subscribing and the reply. The limit is this project's own.
+#[derive(Drop)]
+pub struct Waiting {
+    epochs: Vec<Epoch>,
+    publications: Vec<Publication>,
+    overflow: bool,
+    short: bool,
+}
+
+impl Model for Waiting {
+    ghost use Rattle.cf_recovery.specs.Kept.{Kept};
+    ghost use Rattle.cf_recovery.specs.Stored.{kept_of, IsStored};
+
+    ghost Value = { Kept };
+
+    ghost view = { λ w. kept_of w.epochs.items w.publications.items w.overflow w.short };
+
+    ghost invariant = { λ w. IsStored w.epochs.items w.publications.items w.overflow w.short };
+}
+
+impl Waiting {
+    /// Nothing yet. It takes no memory.
+    pub fn new(alloc: Global) -> Waiting
+        ensures empty { result ≡ nothing_kept }
+        ensures stands { StandsFor result [] }
+    {
+        Waiting {
+            epochs: Vec::new(alloc),
+            publications: Vec::new(alloc),
+            overflow: false,
+            short: false,
+        }
+    }
+
+    /// Whether one of its calls met a refused request for memory. It takes no memory.
+    pub fn short(&self) -> bool
+        ensures short { result ≡ self.now.short }
+        ensures within { IsWithin self.now }
+    {
+        self.short // once set it stays so
+    }
+
+    /// Keeps a copy of a publication of this epoch, unless one of its place is kept already.
+    ///
+    /// At the 1,001st place, and where memory is refused, all that is kept is given up, and so is whatever comes later. `short` tells
+    /// the second from the first.
+    pub fn keep(&mut self, epoch: &Epoch, publication: &Publication)
+        ensures kept { self.new.short ≡ self.old.short → self.new ≡ with_arrival (arrival epoch.now publication.now) self.old }
+        ensures refused { self.old.short ≡ false → self.new.short ≡ true → TakesRoom (arrival epoch.now publication.now) self.old × (self.new ≡ given_up true) }
+        ensures sticky { self.old.short ≡ true → self.new ≡ self.old }
+        ensures stands { (arrived : List Position) → StandsFor self.old arrived → StandsFor self.new (arrives (record { epoch = epoch.now; offset = publication.now.offset }) arrived) }
+        ensures within { IsWithin self.new }
+    {
+        if self.overflow || self.has(epoch, publication.offset) {
+            return;
+        }
+        if self.is_full() {
+            self.give_up(self.short);
+            return;
+        }
+        if self.store(epoch, publication).is_err() {
+            self.give_up(true);
+        }
+    }
+
+    /// Whether a publication of this place is kept.
+    fn has(&self, epoch: &Epoch, offset: u64) -> bool
+        ensures { result ≡ has (places self.now.arrived) epoch.now offset }
+    {
+        let at = Position {
+            epoch: *epoch,
+            offset,
+        };
+        find(&self.epochs, &self.publications, 0, &at, 0).is_some()
+    }
+
+    /// Whether one more would be too many.
+    fn is_full(&self) -> bool
+        ensures { (q : Position) → result ≡ overfull (q ∷ places self.now.arrived) }
+    {
+        self.publications.len() >= MOST_KEPT
+    }
+
+    /// Keeps a copy. Where memory is refused nothing changes.
+    fn store(&mut self, epoch: &Epoch, publication: &Publication) -> Result<(), AllocError>
+        requires { TakesRoom (arrival epoch.now publication.now) self.old }
+        ensures ok { OnOk result (self.new ≡ record self.old { arrived = arrival epoch.now publication.now ∷ self.old.arrived }) }
+        ensures err { OnErr result (self.new ≡ self.old) }
+    {
+        let copy = publication.copied()?;
+        self.epochs.reserve(1)?;
+        self.publications.push(copy)?;
+        self.epochs.push(*epoch)?;
+        Ok(())
+    }
+
+    /// Gives up all that is kept.
+    fn give_up(&mut self, short: bool)
+        ensures { self.new ≡ given_up short }
+    {
+        self.epochs.clear();
+        self.publications.clear();
+        self.overflow = true;
+        self.short = short;
+    }
+}
