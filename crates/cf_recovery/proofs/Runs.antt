@@ -9,7 +9,7 @@ use Rattle.cf_recovery.specs.Arrivals.{has, arrives, overfull, highest, all_with
 use Rattle.cf_recovery.specs.Release.{unbroken, run_length, falls_short, Reaches, LiesWithin}
 
 -- which way a test of two names went
-text_tells : (a b : List ℕ) → ((bytes_eq a b ≡ true) × (a ≡ b)) ⊎ ((bytes_eq a b ≡ false) × (a ≢ b))
+pub text_tells : (a b : List ℕ) → ((bytes_eq a b ≡ true) × (a ≡ b)) ⊎ ((bytes_eq a b ≡ false) × (a ≢ b))
 text_tells a b = by_value (bytes_eq a b) (bytes_eq-Decides a b)
   where
     by_value : (v : Bool) → (v ≡ true → a ≡ b) × (a ≡ b → v ≡ true) → ((v ≡ true) × (a ≡ b)) ⊎ ((v ≡ false) × (a ≢ b))
@@ -45,7 +45,7 @@ once q ps h = by_test AreOnce (has ps q.epoch q.offset) _ _ (λ k. h) (λ k. (k,
 has-cases : (p : Position) (ps : List Position) (e : List ℕ) (o : ℕ) → has (p ∷ ps) e o ≡ true → ((p.epoch ≡ e) × (p.offset ≡ o)) ⊎ (has ps e o ≡ true)
 has-cases p ps e o k = grind (arith, nat_tests, text_tells)
 
-below-highest : (ps : List Position) (e : List ℕ) (o : ℕ) → has ps e o ≡ true → o ≤ highest ps
+pub below-highest : (ps : List Position) (e : List ℕ) (o : ℕ) → has ps e o ≡ true → o ≤ highest ps
 below-highest [] e o h = absurd (cc)
 below-highest (p ∷ ps) e o h =
     elim (has-cases p ps e o h) [
@@ -118,7 +118,7 @@ within-tail p ps e high h = grind (arith, nat_tests, text_tells)
 within-cons : (p : Position) (ps : List Position) (e : List ℕ) (high : ℕ) → p.epoch ≡ e → p.offset ≤ high → all_within ps e high ≡ true → all_within (p ∷ ps) e high ≡ true
 within-cons p ps e high h i k = grind (arith, nat_tests, text_tells)
 
-lies-within : (ps : List Position) (e : List ℕ) (high : ℕ) → all_within ps e high ≡ true → LiesWithin ps e high
+pub lies-within : (ps : List Position) (e : List ℕ) (high : ℕ) → all_within ps e high ≡ true → LiesWithin ps e high
 lies-within [] e high h f i k = absurd (cc)
 lies-within (p ∷ ps) e high h f i k =
     let w = within-tail p ps e high h in
@@ -133,7 +133,7 @@ has-head p ps = grind (arith, nat_tests, text_tells)
 has-tail : (p : Position) (ps : List Position) (e : List ℕ) (i : ℕ) → has ps e i ≡ true → has (p ∷ ps) e i ≡ true
 has-tail p ps e i h = grind (arith, nat_tests, text_tells)
 
-within-lies : (ps : List Position) (e : List ℕ) (high : ℕ) → LiesWithin ps e high → all_within ps e high ≡ true
+pub within-lies : (ps : List Position) (e : List ℕ) (high : ℕ) → LiesWithin ps e high → all_within ps e high ≡ true
 within-lies [] e high h = refl
 within-lies (p ∷ ps) e high h =
     let here = h p.epoch p.offset (has-head p ps) in

@@ -11,4 +11,4 @@ mod verdict;
 mod waiting;
 
 pub use verdict::{Verdict, check};
-pub use waiting::{MOST_KEPT, Waiting};
+pub use waiting::{MOST_KEPT, Released, Waiting};

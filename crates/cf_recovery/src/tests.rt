@@ -1,5 +1,8 @@
-use crate::{Verdict, check};
-use cf_protocol::{Epoch, Position};
+ghost use Rattle.std.specs.Prelude.{◌≤◌};
+
+use crate::{Released, Verdict, Waiting, check};
+use cf_protocol::{Epoch, Position, Publication};
+use std::alloc::{AllocError, Global};
 use std::test::Fail;
 
 fn at(epoch: &str, offset: u64) -> Position {
@@ -28,5 +31,35 @@ fn deliveries(rt: HostRuntime) -> Result<(), Fail> {
             verdict
         );
     }
+    Ok(())
+}
+
+/// What is released at offset 0 of aaaa after its offsets 1 to `last` came, in a shuffled order.
+fn released(alloc: Global, last: u64) -> Result<Released, AllocError>
+    requires { last ≤ 1001 }
+{
+    let mut waiting = Waiting::new(alloc);
+    for i in 0..last {
+        let publication = Publication {
+            offset: i * 619 % last + 1,
+            body: String::from_str(alloc, "1")?,
+            info: None,
+        };
+        waiting.keep(&Epoch::from_text("aaaa"), &publication);
+    }
+    Ok(waiting.release(&at("aaaa", 0)))
+}
+
+#[test]
+fn buffer_limit(rt: HostRuntime) -> Result<(), Fail> {
+    let all = released(rt.alloc(), 1000)?;
+    assert!(rt; !all.insufficient);
+    assert_eq!(rt; all.run.len(), 1000);
+    for (i, publication) in all.run.iter().enumerate() {
+        assert_eq!(rt; publication.offset, i as u64 + 1);
+    }
+    let too_many = released(rt.alloc(), 1001)?;
+    assert!(rt; too_many.insufficient);
+    assert_eq!(rt; too_many.run.len(), 0);
     Ok(())
 }

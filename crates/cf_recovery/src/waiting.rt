@@ -2,9 +2,10 @@
 ghost use Rattle.std.specs.Prelude.{◌≡◌, ◌||◌, [], ◌∷◌, List, true, false, length, OnOk, OnErr};
 ghost use Rattle.cf_protocol.specs.Position.{Position};
 ghost use Rattle.cf_recovery.specs.Arrivals.{arrives, has, overfull};
-ghost use Rattle.cf_recovery.specs.Kept.{arrival, places, nothing_kept, given_up, with_arrival, TakesRoom, IsWithin, StandsFor};
+ghost use Rattle.cf_recovery.specs.Kept.{arrival, places, nothing_kept, given_up, with_arrival, TakesRoom, IsWithin, StandsFor, IsRun, ended_at};
+ghost use Rattle.cf_recovery.specs.Release.{falls_short, run_length};
 
-use crate::stored::find;
+use crate::stored::{are_within, find, gather};
 use cf_protocol::{Epoch, Position, Publication};
 use std::alloc::{AllocError, Global};
 use std::marker::Model;
@@ -33,6 +34,16 @@ impl Model for Waiting {
     ghost view = { λ w. kept_of w.epochs.items w.publications.items w.overflow w.short };
 
     ghost invariant = { λ w. IsStored w.epochs.items w.publications.items w.overflow w.short };
+}
+
+/// What follows a reply to a subscribe.
+#[derive(Drop)]
+pub struct Released {
+    /// The publications at the offsets that follow the reply's without a gap, in order.
+    pub run: Vec<Publication>,
+    /// Whether something came that the run does not reach, or of another epoch, or more than is kept: the subscription then ends, and
+    /// its client asks again. (Centrifugo's client protocol: insufficient state, code 2500.)
+    pub insufficient: bool,
 }
 
 impl Waiting {
@@ -77,6 +88,30 @@ impl Waiting {
         }
         if self.store(epoch, publication).is_err() {
             self.give_up(true);
+        }
+    }
+
+    /// What is passed on after a reply that ends at a position: what is kept of its epoch from the next offset on, up to the first
+    /// that is missing. The publications are moved out. It takes no memory.
+    ///
+    /// Centrifugo, history and recovery: the buffered publications are merged with the reply's, and a gap is insufficient state.
+    pub fn release(self, at: &Position) -> Released
+        ensures run { IsRun self at.now result.run.items }
+        ensures insufficient { result.insufficient ≡ (self.overflow || falls_short (places self.arrived) (ended_at at.now)) }
+        ensures stands { (arrived : List Position) → StandsFor self arrived → self.short ≡ false → (length result.run.items ≡ run_length arrived (ended_at at.now)) × (result.insufficient ≡ falls_short arrived (ended_at at.now)) }
+    {
+        let Waiting {
+            mut epochs,
+            mut publications,
+            overflow,
+            ..
+        } = self;
+        let count = gather(&mut epochs, &mut publications, at);
+        let insufficient = overflow || !are_within(&epochs, &publications, at, count as u64);
+        publications.truncate(count);
+        Released {
+            run: publications,
+            insufficient,
         }
     }
 
