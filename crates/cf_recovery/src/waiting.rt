@@ -146,12 +146,13 @@ impl Waiting {
         Ok(())
     }
 
-    /// Gives up all that is kept.
+    /// Gives up all that is kept, and its memory.
     fn give_up(&mut self, short: bool)
         ensures { self.new ≡ given_up short }
     {
-        self.epochs.clear();
-        self.publications.clear();
+        let alloc = *self.epochs.allocator();
+        self.epochs = Vec::new(alloc);
+        self.publications = Vec::new(alloc);
         self.overflow = true;
         self.short = short;
     }
