@@ -1,4 +1,3 @@
-pub mod DeliveryVerdict
 pub mod Fresh
 pub mod Stopping
 pub mod Event

@@ -21,7 +21,6 @@ mod subscription;
 #[cfg(test)]
 mod tests;
 mod trace;
-mod verdict;
 mod walk;
 mod whole;
 pub mod words;

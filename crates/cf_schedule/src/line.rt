@@ -4,8 +4,8 @@ ghost use Rattle.std.specs.Prelude.{◌≡◌};
 use crate::halt::Halt;
 use crate::queue::{OutQueue, QUEUE_LIMIT};
 use crate::subscription::{Subscription, add, all_finished, replace, subscribed};
-use crate::verdict::{Verdict, check};
 use cf_protocol::{Outgoing, Position, write_reply};
+use cf_recovery::{Verdict, check};
 use cf_stream::Recovery;
 use std::alloc::{AllocError, Global};
 use std::collections::BTreeMap;
@@ -26,7 +26,7 @@ impl Session {
     ghost use Rattle.cf_protocol.specs.Written.{note_text};
     ghost use Rattle.cf_protocol.specs.Shown.{shown_outgoing};
     ghost use Rattle.cf_hub.specs.Connection.{Asked, On, rows, is_off, is_unfinished, opens, put_sub, begins, reads, comes, finishes, most_waiting};
-    ghost use Rattle.cf_schedule.specs.DeliveryVerdict.{meaning};
+    ghost use Rattle.cf_recovery.specs.Meaning.{meaning};
     ghost use Rattle.cf_schedule.specs.IntervalMachine.{is_asked, is_read};
     ghost use Rattle.cf_schedule.specs.Subscription.{reading_of};
     ghost use Rattle.cf_schedule.specs.NotYet.{is_beyond, is_slow};
