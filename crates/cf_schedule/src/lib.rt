@@ -18,8 +18,6 @@ mod queue;
 pub mod rows;
 mod session;
 mod subscription;
-#[cfg(test)]
-mod tests;
 mod trace;
 mod walk;
 mod whole;

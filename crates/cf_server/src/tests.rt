@@ -1,3 +1,6 @@
+//! Whole runs of the program, without its process.
+mod runs;
+
 use crate::command_line::{self, DEFAULT_NAMESPACES, Options};
 use crate::config_of;
 use crate::simulate::simulate;

@@ -1,5 +1,6 @@
-use crate::{Config, Entry, Event, Stopped, fresh, run};
+//! Runs of events, by the calls of `cf_schedule`.
 use cf_protocol::read_namespaces;
+use cf_schedule::{Config, Entry, Event, Stopped, fresh, run};
 use std::alloc::Global;
 use std::test::Fail;
 
