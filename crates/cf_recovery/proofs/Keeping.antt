@@ -78,9 +78,6 @@ stored_more es ps overflow short e p r h =
       within = rw (kept-push es ps overflow short e p h) (within-push (arrival e p) (kept_of es ps overflow short) r h.within);
     }
 
-pub IsStored-given_up : (short : Bool) → IsStored [] [] true short
-IsStored-given_up short = record { beside = refl; within = record { once = tt; few = refl; nothing = λ h. refl; cause = λ h. refl } }
-
 -- the same length, in whatever order
 pub length-kept : (es : List (List ℕ)) (ps : List Placed) → length es ≡ length ps → length (places (reverse (stored es ps))) ≡ length ps
 length-kept es ps h = length-map (reverse (stored es ps)) (λ (a : Arrival). a.at) ∙ length-reverse (stored es ps) ∙ length-stored es ps h
@@ -103,9 +100,6 @@ neither a b h k = grind arith
 right : (a b : Bool) → (a || b) ≡ true → a ≡ false → b ≡ true
 right a b h k = grind arith
 
-pub with_arrival-known : (a : Arrival) (k : Kept) → (k.overflow || has (places k.arrived) a.at.epoch a.at.offset) ≡ true → with_arrival a k ≡ k
-with_arrival-known a k h = rw h refl
-
 pub with_arrival-full : (a : Arrival) (k : Kept) → (k.overflow || has (places k.arrived) a.at.epoch a.at.offset) ≡ false → overfull (a.at ∷ places k.arrived) ≡ true → with_arrival a k ≡ given_up k.short
 with_arrival-full a k h i = rw (h, i) refl
 
@@ -114,9 +108,6 @@ with_arrival-kept a k r =
     let whole = r.whole in let first = r.first in let fits = r.fits in
     let h : (k.overflow || has (places k.arrived) a.at.epoch a.at.offset) ≡ false = grind arith in
     rw (h, fits) refl
-
-pub takes_room : (a : Arrival) (k : Kept) → (k.overflow || has (places k.arrived) a.at.epoch a.at.offset) ≡ false → overfull (a.at ∷ places k.arrived) ≡ false → TakesRoom a k
-takes_room a k h i = let e = both_false k.overflow (has (places k.arrived) a.at.epoch a.at.offset) h in record { whole = e.0; first = e.1; fits = i }
 
 arrives-known : (q : Position) (ps : List Position) → has ps q.epoch q.offset ≡ true → arrives q ps ≡ ps
 arrives-known q ps h = rw h refl
@@ -134,10 +125,6 @@ one_above m n h = grind (arith, nat_tests)
 -- more than are kept stays more
 overfull-more : (q : Position) (ps : List Position) → overfull ps ≡ true → overfull (arrives q ps) ≡ true
 overfull-more q ps h = chosen (λ v. overfull v ≡ true) (has ps q.epoch q.offset) ps (q ∷ ps) (λ x. h) (λ x. one_above most_kept (length ps) h)
-
--- what was given up for want of memory stands for anything
-pub stands-short : (arrived : List Position) → StandsFor (given_up true) arrived
-stands-short arrived = record { all = λ h. absurd (cc); more = λ h k. absurd (cc) }
 
 -- what is kept goes on standing for what arrived
 pub stands_more : (a : Arrival) (k : Kept) (arrived : List Position) → StandsFor k arrived → StandsFor (with_arrival a k) (arrives a.at arrived)

@@ -1,5 +1,5 @@
 -- Arrivals by their places in what is stored.
-use Rattle.std.proofs.Common.{◌≡◌, ℕ, zero, suc, ◌+◌, ◌≤◌, ◌<◌, ◌==◌, ◌&&◌, Bool, true, false, List, [], ◌∷◌, None, length, get_or, drop, refl, sym, ap, subst, arith, ◌≢◌, ◌∙◌, nat_le}
+use Rattle.std.proofs.Common.{◌≡◌, ℕ, zero, suc, ◌+◌, ◌≤◌, ◌<◌, ◌==◌, ◌&&◌, Bool, true, false, List, [], ◌∷◌, None, length, get_or, refl, sym, ap, subst, arith, ◌≢◌, ◌∙◌, nat_le}
 use Rattle.std.specs.Str.{bytes_eq}
 use Rattle.std.specs.List.{swap}
 use Rattle.std.specs.List.Sorted.{IsPermutation}
@@ -8,8 +8,7 @@ use Rattle.std.proofs.lemmas.Bool.Decides.{nat_tests}
 use Rattle.std.proofs.lemmas.List.Edits.{Swapped, swapped_from_swap, length-swap}
 use Rattle.std.proofs.lemmas.List.Sorted.{IsPermutation-swap, IsPermutation-trans}
 use Rattle.cf_protocol.specs.Datum.{Placed}
-use Rattle.cf_recovery.specs.Arrivals.{all_within}
-use Rattle.cf_recovery.specs.Kept.{Arrival, arrival, places}
+use Rattle.cf_recovery.specs.Kept.{Arrival, arrival}
 use Rattle.cf_recovery.specs.Stored.{stored, is_at}
 
 -- the test of a place
@@ -69,15 +68,6 @@ none_all xs e o from i none past j h = by_place (nat_le i j) refl
         let above : i ≤ j = grind (arith, nat_tests) in
         is_at-past xs e o j (omega arith)
     by_place false t = none j h (grind (arith, nat_tests))
-
-pub within_more : (es : List (List ℕ)) (ps : List Placed) (e : List ℕ) (h i : ℕ) (f : List ℕ) (p : Placed) → i < length es → i < length ps → f ≡ get_or es i f → p ≡ get_or ps i p → all_within (places (stored (drop i es) (drop i ps))) e h ≡ ((bytes_eq f e && nat_le p.offset h) && all_within (places (stored (drop (suc i) es) (drop (suc i) ps))) e h)
-within_more [] ps e h i f p l k x y = absurd (omega arith)
-within_more (g ∷ es) [] e h i f p l k x y = absurd (omega arith)
-within_more (g ∷ es) (q ∷ ps) e h zero f p l k x y =
-    let a : f ≡ g = x in let b : p ≡ q = y in
-    subst (λ z. ((bytes_eq g e && nat_le q.offset h) && all_within (places (stored es ps)) e h) ≡ ((bytes_eq z e && nat_le p.offset h) && all_within (places (stored es ps)) e h)) (sym a)
-    (subst (λ (z : Placed). ((bytes_eq g e && nat_le q.offset h) && all_within (places (stored es ps)) e h) ≡ ((bytes_eq g e && nat_le z.offset h) && all_within (places (stored es ps)) e h)) (sym b) refl)
-within_more (g ∷ es) (q ∷ ps) e h (suc i) f p l k x y = within_more es ps e h i f p (omega arith) (omega arith) x y
 
 -- ---- a swap
 
