@@ -1,1 +1,4 @@
 pub mod ClientState
+pub mod AppItem
+pub mod ClientCalls
+pub mod Shown

@@ -1,2 +1,14 @@
-//! What a client knows of its channels, and what its application is told.
+//! A client of a broadcast node in Centrifugo's client protocol, without its connection: what it sends, what it knows of its
+//! channels, and what its application gets.
 #![tactic(auto)]
+
+mod calls;
+mod channels;
+mod client;
+mod event;
+mod fault;
+mod text;
+
+pub use client::Client;
+pub use event::AppEvent;
+pub use fault::ClientFault;

@@ -1,0 +1,101 @@
+-- What a client takes, and what its application is told.
+use Rattle.std.proofs.Common.{◌≡◌, ◌∙◌, ℕ, Bool, true, if◌then◌else◌, Option, Some, None, List, [], ◌∷◌, ◌++◌, refl, sym, ap, subst, append_assoc, map, IsSome}
+use Rattle.std.proofs.lemmas.List.{append-nil, map-append}
+use Rattle.std.specs.BTreeMap.{get_by_text}
+use Rattle.std.specs.declared.string.String.{String}
+use Rattle.std.specs.declared.alloc.Global.{Global}
+use Rattle.cf_protocol.specs.Position.{Position}
+use Rattle.cf_protocol.specs.Datum.{Placed}
+use Rattle.cf_protocol.specs.Outgoing.{Outgoing}
+use Rattle.cf_client.specs.ClientState.{Mode, Idle, Asking, Live}
+use Rattle.cf_client.specs.ClientCalls.{State, asks_under, moves, asks_again, TakesPublication, TakesEnd, Takes, TakesAll}
+use Rattle.cf_client.specs.AppItem as item
+use Rattle.cf_client.specs.AppItem.{AppItem, published}
+use Rattle.cf_client.specs.Shown.{Channels, modes_of, mode_or_idle, shown_item, shown_mode, SetsMode}
+use Rattle.cf_client.specs.declared.channels.Mode.{Mode as CodeMode}
+use Rattle.cf_client.specs.declared.channels.Mode.TheVariants as code
+use Rattle.cf_client.specs.declared.event.AppEvent.{AppEvent}
+
+-- ---- what the application is told
+
+pub told_one : (before after : List AppEvent) (e : AppEvent) (i : AppItem)
+    → after ≡ before ++ e ∷ [] → shown_item e ≡ i → map shown_item after ≡ map shown_item before ++ i ∷ []
+told_one before after e i h k =
+    ap (map shown_item) h ∙ map-append shown_item before (e ∷ []) ∙ ap (λ (x : AppItem). map shown_item before ++ x ∷ []) k
+
+pub told_reply : (before mid after : List AppEvent) (i : AppItem) (is : List AppItem)
+    → map shown_item mid ≡ map shown_item before ++ i ∷ [] → map shown_item after ≡ map shown_item mid ++ is
+    → map shown_item after ≡ map shown_item before ++ i ∷ is
+told_reply before mid after i is h k = k ∙ ap (λ (xs : List AppItem). xs ++ is) h ∙ append_assoc (map shown_item before) (i ∷ []) is
+
+-- ---- modes that are set
+
+asks_is_there : (id : ℕ) (o : Option CodeMode) → asks_under id (mode_or_idle o) ≡ true → IsSome o
+asks_is_there id None h = absurd (cc)
+asks_is_there id (Some v) h = refl
+
+live_is_there : (p : Position) (o : Option CodeMode) → mode_or_idle o ≡ Live p → IsSome o
+live_is_there p None h = absurd (cc)
+live_is_there p (Some v) h = refl
+
+-- a channel that asks is there
+pub sets_asking : (old new : Channels) (b name : List ℕ) (id : ℕ) (m : Mode) → b ≡ name → asks_under id (modes_of old name) ≡ true
+    → (IsSome (get_by_text old b) → SetsMode old new b m) → SetsMode old new name m
+sets_asking old new b name id m same asks goes =
+    subst (λ (n : List ℕ). IsSome (get_by_text old n) → SetsMode old new n m) same goes (asks_is_there id (get_by_text old name) asks)
+
+-- and so is a live one
+pub sets_live : (old new : Channels) (b name : List ℕ) (p : Position) (m : Mode) → b ≡ name → modes_of old name ≡ Live p
+    → (IsSome (get_by_text old b) → SetsMode old new b m) → SetsMode old new name m
+sets_live old new b name p m same live goes =
+    subst (λ (n : List ℕ). IsSome (get_by_text old n) → SetsMode old new n m) same goes (live_is_there p (get_by_text old name) live)
+
+-- what was found at a name
+pub live_at : (found : CodeMode) (m : Mode) (p : Position) → shown_mode found ≡ m → found ≡ code.Live p → m ≡ Live p
+live_at found m p says is = sym says ∙ ap shown_mode is
+
+pub not_live : (found : CodeMode) (m : Mode) → shown_mode found ≡ m → ((p : Position) → found ≡ code.Live p → ⊥) → (p : Position) → m ≡ Live p → ⊥
+not_live (code.Idle last) m says never p e = absurd (cc)
+not_live (code.Asking id from last) m says never p e = absurd (cc)
+not_live (code.Live at) m says never p e = never at refl
+
+-- ---- pushes
+
+pub passes_publication : (c : List ℕ) (q : Placed) (m : Mode) (s : State) → ((p : Position) → m ≡ Live p → ⊥) → TakesPublication c q m s s []
+passes_publication c q (Idle last) s h = (refl, refl)
+passes_publication c q (Asking id from last) s h = (refl, refl)
+passes_publication c q (Live p) s h = absurd (h p refl)
+
+pub takes_publication : (c : List ℕ) (q : Placed) (m : Mode) (p : Position) (old new : State) → m ≡ Live p
+    → new ≡ moves c (Live (record { epoch = p.epoch; offset = q.offset })) old
+    → TakesPublication c q m old new (published c p.epoch q ∷ [])
+takes_publication c q m p old new e goes = subst (λ (x : Mode). TakesPublication c q x old new (published c p.epoch q ∷ [])) (sym e) (goes, refl)
+
+pub passes_end : (c : List ℕ) (k : ℕ) (m : Mode) (s : State) → ((p : Position) → m ≡ Live p → ⊥) → TakesEnd c k m s s []
+passes_end c k (Idle last) s h = (refl, refl)
+passes_end c k (Asking id from last) s h = (refl, refl)
+passes_end c k (Live p) s h = absurd (h p refl)
+
+pub takes_end : (c : List ℕ) (k : ℕ) (b : Bool) (m : Mode) (p : Position) (old new : State) → m ≡ Live p → asks_again k ≡ b
+    → new ≡ moves c (Idle (Some p)) old → TakesEnd c k m old new (if b then item.Resubscribing c k ∷ [] else [])
+takes_end c k b m p old new e says goes =
+    subst (λ (x : Mode). TakesEnd c k x old new (if b then item.Resubscribing c k ∷ [] else [])) (sym e)
+    (goes, ap (λ (t : Bool). if t then item.Resubscribing c k ∷ [] else []) (sym says))
+
+-- ---- a whole text
+
+-- one more is taken
+pub takes_more : (os : List Outgoing) (o : Outgoing) (a b c : State) (told more : List AppItem)
+    → TakesAll os a b told → Takes o b c more → TakesAll (os ++ o ∷ []) a c (told ++ more)
+takes_more [] o a b c told more h t =
+    (c, more, [], subst (λ (x : State). Takes o x c more) h.0 t, (refl, refl), subst (λ (xs : List AppItem). xs ++ more ≡ more ++ []) (sym h.1) (sym (append-nil more)))
+takes_more (p ∷ os) o a b c told more (mid, first, rest, one, all, tells) t =
+    (mid, first, rest ++ more, one, takes_more os o mid b c rest more all t, ap (λ (xs : List AppItem). xs ++ more) tells ∙ append_assoc first rest more)
+
+-- ---- what a search found
+
+pub found_none : (A : Option (String Global) → Type 0) (o : Option (String Global)) → A o → o ≡ None → A None
+found_none A o h e = subst A e h
+
+pub found_some : (A : Option (String Global) → Type 0) (o : Option (String Global)) (s : String Global) → A o → o ≡ Some s → A (Some s)
+found_some A o s h e = subst A e h

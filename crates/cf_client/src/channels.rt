@@ -1,0 +1,138 @@
+//! What a client is doing on each of its channels.
+ghost use Rattle.std.specs.Prelude.{◌≡◌, List, ℕ, false, true, IsSome, IfOk, IfSome, IfNone, string_bytes};
+ghost use Rattle.std.specs.BTreeMap.{get_by_text};
+ghost use Rattle.cf_client.specs.ClientState.{idle, is_idle, last_of};
+ghost use Rattle.cf_client.specs.ClientCalls.{asks_under};
+ghost use Rattle.cf_client.specs.declared.channels.Mode.TheVariants as code;
+ghost use Rattle.cf_client.specs.Shown.{modes_of, shown_mode, SetsMode};
+
+use cf_protocol::Position;
+use std::alloc::AllocError;
+use std::collections::BTreeMap;
+
+/// What a client is doing on a channel.
+#[derive(Clone, Copy)]
+pub(crate) enum Mode {
+    /// It isn't subscribed. Perhaps it has a last position there.
+    Idle {
+        last: Option<Position>,
+    },
+    /// It has no answer yet to its command of this id, which asked from a position, or from none.
+    Asking {
+        id: u32,
+        from: Option<Position>,
+        last: Option<Position>,
+    },
+    /// It is subscribed, and this far.
+    Live {
+        at: Position,
+    },
+}
+
+impl Mode {
+    /// The last position.
+    pub(crate) fn last(&self) -> Option<Position>
+        ensures { result ≡ last_of (shown_mode self.now) }
+    {
+        match self {
+            Mode::Idle { last } => *last,
+            Mode::Asking { last, .. } => *last,
+            Mode::Live { at } => Some(*at),
+        }
+    }
+
+    /// The mode after the subscription ended.
+    pub(crate) fn idle(&self) -> Mode
+        ensures { result ≡ code.Idle (last_of (shown_mode self.now)) }
+    {
+        Mode::Idle { last: self.last() }
+    }
+
+    /// The mode after a command of this id asked for the channel.
+    pub(crate) fn asking(&self, id: u32, from: &Option<Position>) -> Mode
+        ensures { result ≡ code.Asking id from.now (last_of (shown_mode self.now)) }
+    {
+        Mode::Asking {
+            id,
+            from: *from,
+            last: self.last(),
+        }
+    }
+
+    pub(crate) fn is_idle(&self) -> bool
+        ensures { result ≡ is_idle (shown_mode self.now) }
+    {
+        match self {
+            Mode::Idle { .. } => true,
+            Mode::Asking { .. } => false,
+            Mode::Live { .. } => false,
+        }
+    }
+
+    /// Whether it waits for the answer to the command of this id.
+    fn is_asking(&self, id: u32) -> bool
+        ensures { result ≡ asks_under id (shown_mode self.now) }
+    {
+        match self {
+            Mode::Idle { .. } => false,
+            Mode::Asking { id: asked, .. } => id == *asked,
+            Mode::Live { .. } => false,
+        }
+    }
+}
+
+/// What the client is doing on a channel. One that it never asked for is idle.
+pub(crate) fn mode_at(channels: &BTreeMap<String, Mode>, channel: &str) -> Mode
+    ensures { shown_mode result ≡ modes_of channels.now channel.now }
+{
+    match channels.get(channel) {
+        None => Mode::Idle { last: None },
+        Some(mode) => *mode,
+    }
+}
+
+/// Changes the mode of a channel that the client asked for. Another stays as it is.
+pub(crate) fn set_mode(channels: &mut BTreeMap<String, Mode>, channel: &str, mode: Mode)
+    ensures { IsSome (get_by_text channels.old channel.now) → SetsMode channels.old channels.new channel.now (shown_mode mode) }
+{
+    if let Some(place) = channels.get_mut(channel) {
+        *place = mode;
+    }
+}
+
+/// Makes every channel idle.
+pub(crate) fn make_idle(channels: &mut BTreeMap<String, Mode>)
+    ensures { (c : List ℕ) → modes_of channels.new c ≡ idle (modes_of channels.old c) }
+{
+    channels.retain(|_channel, mode| {
+        *mode = mode.idle();
+        true
+    });
+}
+
+/// The channel that waits for the answer to the command of this id.
+pub(crate) fn channel_asking(
+    channels: &BTreeMap<String, Mode>,
+    id: u32,
+) -> Result<Option<String>, AllocError>
+    ensures some { IfOk result (λ found. IfSome found (λ s. asks_under id (modes_of channels.now (string_bytes s)) ≡ true)) }
+    ensures none { IfOk result (λ found. IfNone found ((c : List ℕ) → asks_under id (modes_of channels.now c) ≡ false)) }
+{
+    for (channel, mode) in channels {
+        if mode.is_asking(id) {
+            let channel = channel.clone()?;
+            return Ok(Some(channel));
+        }
+    }
+    Ok(None)
+}
+
+/// A copy, unless memory is refused.
+pub(crate) fn copied_channels(
+    channels: &BTreeMap<String, Mode>,
+) -> Result<BTreeMap<String, Mode>, AllocError>
+    ensures { IfOk result (λ copy. (c : List ℕ) → modes_of copy c ≡ modes_of channels.now c) }
+{
+    let copy = channels.clone()?;
+    Ok(copy)
+}

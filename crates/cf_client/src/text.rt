@@ -1,0 +1,68 @@
+//! The texts of a client's commands.
+ghost use Rattle.std.specs.Prelude.{◌≡◌, None, false, IfOk, string_bytes};
+ghost use Rattle.cf_protocol.specs.Request as request;
+ghost use Rattle.cf_protocol.specs.Written.{command_text};
+
+use cf_protocol::{Command, Data, Position, Request, write_command};
+use std::alloc::{AllocError, Global};
+
+pub(crate) fn connect_text(alloc: Global, token: &str) -> Result<String, AllocError>
+    ensures { IfOk result (λ t. string_bytes t ≡ command_text (record { id = 1; request = request.Connect token.now })) }
+{
+    let token = String::from_str(alloc, token)?;
+    let request = Request::Connect { token };
+    write_command(alloc, &Command { id: 1, request })
+}
+
+pub(crate) fn subscribe_text(
+    alloc: Global,
+    id: u32,
+    channel: &str,
+    since: Option<Position>,
+) -> Result<String, AllocError>
+    ensures { IfOk result (λ t. string_bytes t ≡ command_text (record { id = id; request = request.Subscribe channel.now since })) }
+{
+    let channel = String::from_str(alloc, channel)?;
+    let request = Request::Subscribe { channel, since };
+    write_command(alloc, &Command { id, request })
+}
+
+pub(crate) fn unsubscribe_text(alloc: Global, id: u32, channel: &str) -> Result<String, AllocError>
+    ensures { IfOk result (λ t. string_bytes t ≡ command_text (record { id = id; request = request.Unsubscribe channel.now })) }
+{
+    let channel = String::from_str(alloc, channel)?;
+    let request = Request::Unsubscribe { channel };
+    write_command(alloc, &Command { id, request })
+}
+
+pub(crate) fn publish_text(
+    alloc: Global,
+    id: u32,
+    channel: &str,
+    body: &str,
+) -> Result<String, AllocError>
+    ensures { IfOk result (λ t. string_bytes t ≡ command_text (record { id = id; request = request.Publish channel.now (request.Body body.now) })) }
+{
+    let channel = String::from_str(alloc, channel)?;
+    let body = Data::Body(String::from_str(alloc, body)?);
+    let request = Request::Publish { channel, body };
+    write_command(alloc, &Command { id, request })
+}
+
+pub(crate) fn history_text(
+    alloc: Global,
+    id: u32,
+    channel: &str,
+    limit: i32,
+) -> Result<String, AllocError>
+    ensures { IfOk result (λ t. string_bytes t ≡ command_text (record { id = id; request = request.History channel.now limit None false })) }
+{
+    let channel = String::from_str(alloc, channel)?;
+    let request = Request::History {
+        channel,
+        limit,
+        since: None,
+        reverse: false,
+    };
+    write_command(alloc, &Command { id, request })
+}
