@@ -25,7 +25,7 @@ use Rattle.cf_client.specs.declared.channels.Mode.TheVariants as code
 -- ---- names
 
 -- which way a test of two names went
-text_tells : (a b : List ℕ) → ((bytes_eq a b ≡ true) × (a ≡ b)) ⊎ ((bytes_eq a b ≡ false) × (a ≢ b))
+pub text_tells : (a b : List ℕ) → ((bytes_eq a b ≡ true) × (a ≡ b)) ⊎ ((bytes_eq a b ≡ false) × (a ≢ b))
 text_tells a b = by_value (bytes_eq a b) (bytes_eq-Decides a b)
   where
     by_value : (v : Bool) → (v ≡ true → a ≡ b) × (a ≡ b → v ≡ true) → ((v ≡ true) × (a ≡ b)) ⊎ ((v ≡ false) × (a ≢ b))

@@ -2,3 +2,4 @@ pub mod ClientState
 pub mod AppItem
 pub mod ClientCalls
 pub mod Shown
+pub mod OneAnswer

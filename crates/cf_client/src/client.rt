@@ -54,7 +54,7 @@ impl Client {
     ///
     /// # Errors
     ///
-    /// `NotNow` while connected, which is from `connect` to `reconnect`.
+    /// `NotNow` while connected, which is from `connect` to `reconnect`; `Memory`.
     pub fn connect(&mut self, token: &str) -> Result<String, ClientFault>
         ensures text { IfOk result (λ t. string_bytes t ≡ command_text (record { id = 1; request = request.Connect token.now })) }
         ensures ok { OnOk result (state_of self.new ≡ connected (state_of self.old)) }
@@ -76,7 +76,7 @@ impl Client {
         mode_at(&self.channels, channel).is_idle()
     }
 
-    /// The last position that the client had on a channel.
+    /// The last position that the client had on a channel: that of its last subscribe reply or publication there.
     pub fn position(&self, channel: &str) -> Option<Position>
         ensures { result ≡ last_of ((state_of self.now).client.modes channel.now) }
     {
@@ -87,7 +87,7 @@ impl Client {
     ///
     /// # Errors
     ///
-    /// `NotNow` while not connected, and where the channel isn't idle.
+    /// `NotNow` while not connected, and where the channel isn't idle; `AtLastId` where no id is left; `Memory`.
     pub fn ask(&mut self, channel: &str) -> Result<String, ClientFault>
         ensures text { IfOk result (λ t. string_bytes t ≡ command_text (record { id = (state_of self.old).client.fresh; request = request.Subscribe channel.now None })) }
         ensures ok { OnOk result (state_of self.new ≡ asked channel.now None (state_of self.old)) }
@@ -101,7 +101,7 @@ impl Client {
     ///
     /// # Errors
     ///
-    /// `NotNow` while not connected, and where the channel isn't idle.
+    /// `NotNow` while not connected, and where the channel isn't idle; `AtLastId` where no id is left; `Memory`.
     pub fn ask_from(&mut self, channel: &str) -> Result<String, ClientFault>
         ensures text { IfOk result (λ t. string_bytes t ≡ command_text (record { id = (state_of self.old).client.fresh; request = request.Subscribe channel.now (last_of ((state_of self.old).client.modes channel.now)) })) }
         ensures ok { OnOk result (state_of self.new ≡ asked channel.now (last_of ((state_of self.old).client.modes channel.now)) (state_of self.old)) }
@@ -151,7 +151,7 @@ impl Client {
     ///
     /// # Errors
     ///
-    /// `NotNow` while not connected, and where the channel is idle.
+    /// `NotNow` while not connected, and where the channel is idle; `AtLastId` where no id is left; `Memory`.
     pub fn leave(&mut self, channel: &str) -> Result<String, ClientFault>
         ensures text { IfOk result (λ t. string_bytes t ≡ command_text (record { id = (state_of self.old).client.fresh; request = request.Unsubscribe channel.now })) }
         ensures ok { OnOk result (state_of self.new ≡ left channel.now (state_of self.old)) }
@@ -174,7 +174,7 @@ impl Client {
     ///
     /// # Errors
     ///
-    /// `NotNow` while not connected.
+    /// `NotNow` while not connected; `AtLastId` where no id is left; `Memory`.
     pub fn put(&mut self, channel: &str, body: &str) -> Result<String, ClientFault>
         ensures text { IfOk result (λ t. string_bytes t ≡ command_text (record { id = (state_of self.old).client.fresh; request = request.Publish channel.now (request.Body body.now) })) }
         ensures ok { OnOk result (state_of self.new ≡ called channel.now (state_of self.old)) }
@@ -187,11 +187,12 @@ impl Client {
         Ok(text)
     }
 
-    /// The text of a history command, for at most `limit` publications of a channel; a negative limit asks for all.
+    /// The text of a history command, for at most `limit` publications of a channel; a negative limit asks for as many as the
+    /// node gives at once.
     ///
     /// # Errors
     ///
-    /// `NotNow` while not connected.
+    /// `NotNow` while not connected; `AtLastId` where no id is left; `Memory`.
     pub fn list(&mut self, channel: &str, limit: i32) -> Result<String, ClientFault>
         ensures text { IfOk result (λ t. string_bytes t ≡ command_text (record { id = (state_of self.old).client.fresh; request = request.History channel.now limit None false })) }
         ensures ok { OnOk result (state_of self.new ≡ called channel.now (state_of self.old)) }
@@ -232,7 +233,8 @@ impl Client {
     ///
     /// # Errors
     ///
-    /// `Bad` where the text is no frame of replies and pushes; `NotNow` while not connected.
+    /// `Bad` where the text is no frame of replies and pushes; `NotNow` while not connected; `Memory`, which leaves the client
+    /// as it was too, since it works on a copy.
     pub fn on_text(&mut self, text: &str) -> Result<Vec<AppEvent>, ClientFault>
         ensures takes { IfOk result (λ es. (os : List sent.Outgoing) → IsReplies text.now os → TakesAll os (state_of self.old) (state_of self.new) (map shown_item es.items)) }
         ensures read { OnOk result ((os : List sent.Outgoing) × IsReplies text.now os) }

@@ -7,6 +7,9 @@ mod channels;
 mod client;
 mod event;
 mod fault;
+pub mod laws;
+#[cfg(test)]
+mod tests;
 mod text;
 
 pub use client::Client;
