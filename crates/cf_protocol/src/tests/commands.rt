@@ -5,7 +5,7 @@ use std::alloc::Global;
 use std::test::Fail;
 
 /// Frames that are written again as they were read.
-const KEPT: [&str; 22] = [
+const KEPT: [&str; 27] = [
     // what clients send
     "{\"connect\":{},\"id\":1}",
     "{\"connect\":{\"token\":\"t9\"},\"id\":1}",
@@ -23,6 +23,11 @@ const KEPT: [&str; 22] = [
     "{\"id\":4,\"rpc\":{}}",
     "{\"send\":{}}",
     "{}",
+    "{\"id\":2,\"subscribe\":{\"channel\":\"news\"}}",
+    "{\"id\":3,\"subscribe\":{\"channel\":\"chat:x\"}}",
+    "{\"id\":5,\"subscribe\":{\"channel\":\"a\"}}",
+    "{\"id\":8,\"subscribe\":{\"channel\":\"b\"}}",
+    "{\"id\":9,\"unsubscribe\":{\"channel\":\"news\"}}",
     // numbers at their limits; an epoch has at most 32 letters or digits
     "{\"id\":1,\"ping\":{}}",
     "{\"id\":7,\"send\":{}}",
@@ -35,7 +40,35 @@ const KEPT: [&str; 22] = [
 ];
 
 /// Frames, and what is written again of each.
-const REWRITTEN: [(&str, &str); 33] = [
+const REWRITTEN: [(&str, &str); 42] = [
+    // what clients send, with keys and white space as they like
+    ("{\"id\":1,\"connect\":{}}", "{\"connect\":{},\"id\":1}"),
+    ("{\"id\":9,\"connect\":{}}", "{\"connect\":{},\"id\":9}"),
+    (
+        "{\"id\":1,\"connect\":{\"token\":\"t9\"}}",
+        "{\"connect\":{\"token\":\"t9\"},\"id\":1}",
+    ),
+    (
+        "{\"id\":3,\"publish\":{\"channel\":\"news\",\"data\":{ \"t\" : 1.50 }}}",
+        "{\"id\":3,\"publish\":{\"channel\":\"news\",\"data\":{\"t\":1.50}}}",
+    ),
+    (
+        "{\"id\":4,\"history\":{\"channel\":\"news\",\"limit\":-1}}",
+        "{\"history\":{\"channel\":\"news\",\"limit\":-1},\"id\":4}",
+    ),
+    (
+        "{\"id\":5,\"history\":{\"channel\":\"news\"}}",
+        "{\"history\":{\"channel\":\"news\"},\"id\":5}",
+    ),
+    (
+        "{\"id\":7,\"history\":{\"channel\":\"a\",\"since\":{\"epoch\":\"zzzz\",\"offset\":0}}}",
+        "{\"history\":{\"channel\":\"a\",\"since\":{\"epoch\":\"zzzz\"}},\"id\":7}",
+    ),
+    (
+        "{\"id\":2,\"publish\":{\"channel\":\"\",\"data\":1}}",
+        "{\"id\":2,\"publish\":{\"data\":1}}",
+    ),
+    ("{\"id\":8,\"ping\":{}} {}", "{\"id\":8,\"ping\":{}}{}"),
     // what is not served, passed over, escaped, or left out when it is written again
     (
         "{\"id\":1,\"ping\":{},\"rpc\":null,\"x\":7}",

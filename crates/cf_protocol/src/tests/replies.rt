@@ -6,8 +6,9 @@ use std::process::Abort;
 use std::test::Fail;
 
 /// Frames that are written again as they were read.
-const KEPT: [&str; 31] = [
+const KEPT: [&str; 32] = [
     // what the server sends
+    "{\"id\":6,\"presence\":{\"presence\":{\"0-1-1\":{\"client\":\"0-1-1\"}}}}",
     "{}",
     "{\"connect\":{\"client\":\"0-1-1\",\"ping\":25,\"pong\":true,\"version\":\"1.0.0\"},\"id\":1}",
     "{\"id\":2,\"subscribe\":{\"epoch\":\"aaaa\",\"positioned\":true,\"recoverable\":true}}",
