@@ -1,0 +1,6 @@
+//! A session's output: the texts that wait for a client, within a limit of bytes, and then at most one close.
+#![tactic(auto)]
+
+mod queue;
+
+pub use queue::OutQueue;
