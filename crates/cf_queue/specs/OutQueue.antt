@@ -1,7 +1,7 @@
 -- A session's output: texts in order, whose lengths add up to at most a limit, and then at most one close.
 -- (Centrifugo's client protocol: a server may close a connection with a code; the limit, and that texts that wait are still
 -- given before the close, are this project's own profile.)
-use Rattle.std.specs.Prelude.{◌≡◌, ℕ, ◌+◌, ◌<◌, ◌≤◌, Bool, true, false, if◌then◌else◌, Option, Some, None, List, [], ◌∷◌, ◌++◌, sum_by, length, drop}
+use Rattle.std.specs.Prelude.{◌≡◌, ℕ, ◌+◌, ◌<◌, ◌≤◌, Bool, true, false, if◌then◌else◌, Option, Some, None, option_to_list, List, [], ◌∷◌, ◌++◌, map, sum_by, length, drop}
 
 -- texts as their bytes, the front first; how many bytes they may be together; and the code of the close that waits behind them
 pub record OutQueue : Type 0 where
@@ -50,19 +50,15 @@ pub data Item : Type 0 where
   Text : List ℕ → Item
   Close : ℕ → Item
 
-abbrev pub front_of : List (List ℕ) → Option ℕ → Option Item
-front_of (text ∷ rest) close = Some (Text text)
-front_of [] (Some code) = Some (Close code)
-front_of [] None = None
+-- all that waits, in the order in which it is taken
+abbrev pub waiting : OutQueue → List Item
+waiting q = map Text q.texts ++ map Close (option_to_list q.close)
 
-abbrev pub front : OutQueue → Option Item
-front q = front_of q.texts q.close
-
--- the close that waits still after the front is taken
+-- the close that waits still, after the front was taken
 abbrev pub close_left : List (List ℕ) → Option ℕ → Option ℕ
 close_left (text ∷ rest) close = close
 close_left [] close = None
 
--- what is left after the front is taken; a closed queue stays closed
+-- after the front was taken; a closed queue stays closed
 abbrev pub taken : OutQueue → OutQueue
 taken q = record q { texts = drop 1 q.texts; close = close_left q.texts q.close }

@@ -2,5 +2,7 @@
 #![tactic(auto)]
 
 mod queue;
+mod refusal;
 
 pub use queue::OutQueue;
+pub use refusal::QueueRefusal;

@@ -1,7 +1,8 @@
 //! The texts that wait for a client, and the close behind them.
-ghost use Rattle.std.specs.Prelude.{◌≡◌};
-ghost use Rattle.cf_queue.specs.OutQueue.{empty, weight, IsWithin};
+ghost use Rattle.std.specs.Prelude.{◌≡◌, ◌+◌, ◌≤◌, ◌↔◌, IsTrue, true, string_bytes, IfErr, IsErrAnd, OnOk, OnErr};
+ghost use Rattle.cf_queue.specs.OutQueue.{empty, weight, IsWithin, HasRoom, IsSlow, pushed};
 
+use crate::QueueRefusal;
 use std::alloc::Global;
 use std::collections::VecDeque;
 use std::marker::Model;
@@ -56,5 +57,43 @@ impl OutQueue {
         ensures { result ≡ self.now.closed }
     {
         self.closed
+    }
+
+    /// Adds a text behind those that wait. It takes memory; a text that is refused is given back.
+    ///
+    /// `Closed` exactly where the queue was closed; `Slow` exactly where it is open and the bytes that wait would pass the limit;
+    /// `Memory` where memory for it was refused.
+    pub fn push(&mut self, text: String) -> Result<(), (QueueRefusal, String)>
+        ensures ok { OnOk result (self.new ≡ pushed (string_bytes text) self.old) }
+        ensures room { OnOk result (HasRoom (string_bytes text) self.old) }
+        ensures within { IsWithin self.new }
+
+        ensures closed { IsErrAnd result (λ e. e.0 ≡ QueueRefusal.Closed) ↔ (self.old.closed ≡ true) }
+        ensures slow { IsErrAnd result (λ e. e.0 ≡ QueueRefusal.Slow) ↔ IsSlow (string_bytes text) self.old }
+        ensures memory { IsErrAnd result (λ e. e.0 ≡ QueueRefusal.Memory) → HasRoom (string_bytes text) self.old }
+        ensures err { OnErr result (self.new ≡ self.old) }
+        ensures back { IfErr result (λ e. e.1 ≡ text) }
+    {
+        if self.closed {
+            return Err((QueueRefusal::Closed, text));
+        }
+        if !self.has_room(text.len()) {
+            return Err((QueueRefusal::Slow, text));
+        }
+        let len = text.len();
+        match self.texts.push_back(text) {
+            Ok(()) => {
+                self.bytes += len;
+                Ok(())
+            }
+            Err(refused) => Err((QueueRefusal::Memory, refused.value)),
+        }
+    }
+
+    /// Whether a text of this many bytes would keep within the limit.
+    fn has_room(&self, len: usize) -> bool
+        ensures { IsTrue result ↔ (weight self.now + len ≤ self.now.limit) }
+    {
+        len <= self.limit - self.bytes
     }
 }
