@@ -1,11 +1,21 @@
 //! The texts that wait for a client, and the close behind them.
-ghost use Rattle.std.specs.Prelude.{◌≡◌, ◌+◌, ◌≤◌, ◌↔◌, IsTrue, true, string_bytes, IfErr, IsErrAnd, OnOk, OnErr};
-ghost use Rattle.cf_queue.specs.OutQueue.{empty, weight, IsWithin, HasRoom, IsSlow, pushed};
+ghost use Rattle.std.specs.Prelude.{◌≡◌, ◌+◌, ◌≤◌, ◌↔◌, IsTrue, true, string_bytes, IfErr, IsErrAnd, OnOk, OnErr, option_map, slice_get};
+ghost use Rattle.cf_queue.specs.Meaning.{meaning};
+ghost use Rattle.cf_queue.specs.OutQueue.{empty, weight, IsWithin, HasRoom, IsSlow, pushed, waiting, taken};
 
 use crate::QueueRefusal;
 use std::alloc::Global;
 use std::collections::VecDeque;
 use std::marker::Model;
+
+/// What is taken from a session's output.
+#[derive(Debug, PartialEq, Eq, Drop)]
+pub enum Out {
+    /// A text for the client.
+    Text(String),
+    /// The connection is to be closed with this code.
+    Close(u16),
+}
 
 /// A session's output: texts in order, whose bytes add up to at most a limit, and behind them at most one close.
 ///
@@ -88,6 +98,20 @@ impl OutQueue {
             }
             Err(refused) => Err((QueueRefusal::Memory, refused.value)),
         }
+    }
+
+    /// Takes what is next: the texts in their order, and once they are taken the close, once. It takes no memory.
+    pub fn take(&mut self) -> Option<Out>
+        ensures front { option_map meaning result ≡ slice_get (waiting self.old) 0 }
+        ensures rest { self.new ≡ taken self.old }
+        ensures within { IsWithin self.new }
+    {
+        if let Some(text) = self.texts.pop_front() {
+            self.bytes -= text.len();
+            return Some(Out::Text(text));
+        }
+        let code = self.close.take()?;
+        Some(Out::Close(code))
     }
 
     /// Whether a text of this many bytes would keep within the limit.
