@@ -1,7 +1,7 @@
 //! The texts that wait for a client, and the close behind them.
 ghost use Rattle.std.specs.Prelude.{◌≡◌, ◌+◌, ◌≤◌, ◌↔◌, IsTrue, true, string_bytes, IfErr, IsErrAnd, OnOk, OnErr, option_map, slice_get};
 ghost use Rattle.cf_queue.specs.Meaning.{meaning};
-ghost use Rattle.cf_queue.specs.OutQueue.{empty, weight, IsWithin, HasRoom, IsSlow, pushed, waiting, taken};
+ghost use Rattle.cf_queue.specs.OutQueue.{empty, weight, IsWithin, HasRoom, IsSlow, pushed, closed_by, waiting, taken};
 
 use crate::QueueRefusal;
 use std::alloc::Global;
@@ -112,6 +112,18 @@ impl OutQueue {
         }
         let code = self.close.take()?;
         Some(Out::Close(code))
+    }
+
+    /// Closes the queue: no text is added from now on, and behind those that wait stands the close with this code. Of a queue
+    /// that was closed before nothing changes, so the first code is kept. It takes no memory.
+    pub fn close(&mut self, code: u16)
+        ensures closed { self.new ≡ closed_by code self.old }
+        ensures within { IsWithin self.new }
+    {
+        if !self.closed {
+            self.closed = true;
+            self.close = Some(code);
+        }
     }
 
     /// Whether a text of this many bytes would keep within the limit.
