@@ -1,0 +1,126 @@
+//! The table of rows.
+ghost use Rattle.std.specs.Prelude.{◌≡◌, ◌↔◌, [], length, false, OnOk, OnErr, IsErrOf};
+ghost use Rattle.cf_subs.specs.Rows.{AreRows, channels_of, follows, is_of, most_rows, sessions_of, with_row, without_row, without_session};
+
+use crate::channel_walk::ChannelWalk;
+use crate::refusal::SubRefusal;
+use crate::walk::Walk;
+use std::alloc::Global;
+use std::marker::Model;
+
+/// How many rows a table has at most.
+pub const MOST_ROWS: usize = 65_536;
+
+/// A session that follows a channel, both by their numbers.
+#[derive(Clone, Copy, Debug, PartialEq, Eq, Drop)]
+pub struct Row {
+    /// The number of the channel.
+    pub channel: u32,
+    /// The number of the session.
+    pub session: u32,
+}
+
+impl Row {
+    /// Whether it is the row of this channel and this session.
+    fn is_of(&self, channel: u32, session: u32) -> bool
+        ensures { result ≡ is_of channel session self.now }
+    {
+        self.channel == channel && self.session == session
+    }
+}
+
+/// The rows of one node, in order of adding: each at most once, and at most 65,536.
+#[derive(Drop)]
+pub struct SubTable {
+    rows: Vec<Row>,
+}
+
+impl Model for SubTable {
+    ghost use Rattle.std.specs.Prelude.{List};
+    ghost use Rattle.cf_subs.specs.declared.table.Row.{Row};
+
+    ghost Value = { List Row };
+
+    ghost use Rattle.cf_subs.specs.Rows.{AreRows};
+
+    ghost view = { λ t. t.rows.items };
+
+    ghost invariant = { λ t. AreRows t.rows.items };
+}
+
+impl SubTable {
+    /// A table without rows. It takes no memory.
+    pub fn new(alloc: Global) -> SubTable
+        ensures { result ≡ [] }
+    {
+        SubTable {
+            rows: Vec::new(alloc),
+        }
+    }
+
+    /// Adds the row of a session that doesn't follow the channel yet, behind all others.
+    ///
+    /// It is refused with `Full` exactly where the table has 65,536 rows, and with `Memory` where memory is refused.
+    pub fn add(&mut self, channel: u32, session: u32) -> Result<(), SubRefusal>
+        requires absent { follows self.old channel session ≡ false }
+        ensures ok { OnOk result (self.new ≡ with_row self.old channel session) }
+        ensures full { IsErrOf result SubRefusal.Full ↔ (length self.old ≡ most_rows) }
+        ensures err { OnErr result (self.new ≡ self.old) }
+        ensures rows { AreRows self.new }
+    {
+        if self.rows.len() >= MOST_ROWS {
+            return Err(SubRefusal::Full);
+        }
+        self.rows.push(Row { channel, session })?;
+        Ok(())
+    }
+
+    /// Whether a session follows a channel. It takes no memory.
+    pub fn has(&self, channel: u32, session: u32) -> bool
+        ensures { result ≡ follows self.now channel session }
+    {
+        self.rows.iter().any(|row| row.is_of(channel, session))
+    }
+
+    /// Removes the row of a channel and a session, and says whether there was one. It takes no memory.
+    pub fn remove(&mut self, channel: u32, session: u32) -> bool
+        ensures removed { self.new ≡ without_row self.old channel session }
+        ensures found { result ≡ follows self.old channel session }
+    {
+        let count = self.rows.len();
+        self.rows.retain(|row| !row.is_of(channel, session));
+        self.rows.len() < count
+    }
+
+    /// Removes all rows of a session, and says how many they were. It takes no memory.
+    pub fn detach(&mut self, session: u32) -> usize
+        ensures removed { self.new ≡ without_session self.old session }
+        ensures counted { result ≡ length (channels_of self.old session) }
+    {
+        let count = self.rows.len();
+        self.rows.retain(|row| row.session != session);
+        count - self.rows.len()
+    }
+
+    /// The sessions that follow a channel, in order of adding. It takes no memory.
+    pub fn walk(&self, channel: u32) -> Walk<'_>
+        ensures sessions { result ≡ sessions_of self.now channel }
+        ensures rows { AreRows self.now }
+    {
+        Walk {
+            rest: self.rows.iter(),
+            channel,
+        }
+    }
+
+    /// The channels that a session follows, in order of adding. It takes no memory.
+    pub fn walk_session(&self, session: u32) -> ChannelWalk<'_>
+        ensures channels { result ≡ channels_of self.now session }
+        ensures rows { AreRows self.now }
+    {
+        ChannelWalk {
+            rest: self.rows.iter(),
+            session,
+        }
+    }
+}
