@@ -1,0 +1,4 @@
+pub mod Texts
+pub mod Rooms
+pub mod Ticks
+pub mod Lists

@@ -1,0 +1,17 @@
+use Rattle.std.proofs.Common.{rules, ◌∙◌, ap}
+use Rattle.std.specs.Prelude.{not}
+use Rattle.std.specs.FinMap as fin
+use Rattle.std.proofs.lemmas.Map.Made.{filter_same_pairs}
+use Rattle.cf_presence.specs.Presence.{stays}
+use Rattle.cf_presence.proofs.Rooms.{is_empty-by_text}
+use Rattle.cf_presence.proofs.Ticks.{still-by_text}
+use Rattle.cf_presence.proofs.clients.ChannelClients.outlasts.Goals as goal
+
+pub returns-clause-left : goal.returns-clause-left
+returns-clause-left c =
+    rw (← c.self.view_is)
+    (still-by_text c.args.now c.self.inside.map c.retain.new.self c.retain.ensures.was_ordered
+    (filter_same_pairs _ (λ e. stays c.args.now e.1) _ (λ k v b w f' t. search rules) _ _ c.retain.ensures.filtered))
+
+pub returns-clause-any : goal.returns-clause-any
+returns-clause-any c = rw (← returns-clause-left c) (ap not (is_empty-by_text c.retain.new.self c.is_empty.result c.is_empty.ensures))

@@ -1,0 +1,12 @@
+//! Who is there in each channel: for each client its user, and the moment at which it entered last.
+//!
+//! The rules are those of Centrifugo's document on presence; that an entry goes after 60 seconds is this project's own.
+#![tactic(auto)]
+
+mod clients;
+mod presence;
+mod refusal;
+
+pub use clients::ENTRY_SECONDS;
+pub use presence::{Presence, Stats};
+pub use refusal::PresenceRefusal;

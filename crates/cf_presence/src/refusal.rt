@@ -1,0 +1,30 @@
+//! Why a call on presence is refused.
+ghost use Rattle.std.specs.Prelude.{◌≡◌};
+ghost use Rattle.cf_presence.specs.declared.refusal.PresenceRefusal.TheVariants.{Memory};
+
+use std::alloc::{AllocError, AllocFailed};
+use thiserror::Error;
+
+/// Why a call is refused. A refused call changes nothing.
+#[derive(Debug, Drop, Error)]
+pub enum PresenceRefusal {
+    /// Memory was refused.
+    #[error("out of memory")]
+    Memory,
+}
+
+impl From<AllocError> for PresenceRefusal {
+    ghost from_gives = { λ _ e. e ≡ Memory };
+
+    fn from(_error: AllocError) -> PresenceRefusal {
+        PresenceRefusal::Memory
+    }
+}
+
+impl<T: Drop> From<AllocFailed<T>> for PresenceRefusal {
+    ghost from_gives = { λ _ e. e ≡ Memory };
+
+    fn from(_error: AllocFailed<T>) -> PresenceRefusal {
+        PresenceRefusal::Memory
+    }
+}
