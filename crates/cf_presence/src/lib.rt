@@ -6,6 +6,8 @@
 mod clients;
 mod presence;
 mod refusal;
+#[cfg(test)]
+mod tests;
 
 pub use clients::ENTRY_SECONDS;
 pub use presence::{Presence, Stats};
