@@ -1,7 +1,7 @@
 #!/usr/bin/env python3
 """Time and memory of `cf_server simulate`: one client takes each of many publications.
 
-    cd crates/cf_server && rt run && cd ../.. && bench/simulate.py [LINES ..]
+    cd crates/cf_server && rt run < stdin && cd ../.. && bench/simulate.py [LINES ..]
 
 For each number of lines (50,000 and 100,000 by default) a schedule of that many is made, in which `publish`, `deliver` and
 `take` come in turn, and the proved program runs it; the best of five runs is printed.
