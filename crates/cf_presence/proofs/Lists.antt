@@ -3,7 +3,7 @@ use Rattle.std.proofs.Common.{◌≡◌, ℕ, List, [], ◌∷◌, Bool, true, f
 use Rattle.std.specs.Prelude.{◌||◌, if◌then◌else◌}
 use Rattle.std.specs.Option.{option_map}
 use Rattle.std.specs.Map.{lookup, keys_of, values_of, update_all, update}
-use Rattle.std.specs.List.{IsDistinct, list_any}
+use Rattle.std.specs.List.{list_any}
 use Rattle.std.specs.Set.{distinct_count, is_member, unique_keys}
 use Rattle.std.specs.Str.{bytes_eq}
 use Rattle.std.specs.Ordering.{nat_cmp, is_eq, eq_by_cmp}
@@ -14,7 +14,7 @@ use Rattle.std.specs.BTreeMap.{get_by_text, is_at, IsOrdered}
 use Rattle.std.specs.FinMap as fin
 use Rattle.std.proofs.lemmas.Map.Made.{update_all_none}
 use Rattle.cf_protocol.specs.Shown.{shown_users}
-use Rattle.cf_presence.specs.Presence.{Clients, Seen, users_of, user_count}
+use Rattle.cf_presence.specs.Presence.{Seen, users_of, user_count}
 use Rattle.cf_presence.specs.Maps.{by_text, SetsAt}
 use Rattle.cf_presence.proofs.Texts.{by_bytes, same_key, same_map, entries-by_text, entries-empty}
 use Rattle.cf_presence.proofs.Ticks.{distinct}

@@ -1,6 +1,6 @@
 -- A channel's clients, of whom there may be none.
-use Rattle.std.proofs.Common.{◌≡◌, ℕ, List, [], ◌∷◌, Bool, true, false, cond, Some, None, Option, refl, sym, ap, ◌∙◌, subst, map, length, suc, arith, BTreeMap, String, Global, string_bytes}
-use Rattle.std.specs.Prelude.{◌==◌, ◌↔◌, IsTrue, ◌≢◌, if◌then◌else◌, unwrap_or}
+use Rattle.std.proofs.Common.{◌≡◌, ℕ, List, [], ◌∷◌, Bool, true, false, cond, Some, None, Option, refl, sym, ap, ◌∙◌, length, suc, arith, BTreeMap, String, Global, string_bytes}
+use Rattle.std.specs.Prelude.{◌==◌, ◌↔◌, IsTrue, if◌then◌else◌, unwrap_or}
 use Rattle.std.specs.Ordering.{nat_cmp}
 use Rattle.std.specs.Cmp.Lexicographic.{slice_cmp, nat_list_cmp_total}
 use Rattle.std.specs.Ordering.{is_eq}
@@ -10,7 +10,7 @@ use Rattle.std.specs.BTreeMap.{IsOrdered, get_by_text}
 use Rattle.std.specs.Str.{bytes_eq}
 use Rattle.std.specs.FinMap as fin
 use Rattle.std.proofs.lemmas.Slice.Eq.{bytes_eq-Decides}
-use Rattle.cf_presence.specs.Presence.{Clients, Channels, clients_of, put_at}
+use Rattle.cf_presence.specs.Presence.{Clients, put_at}
 use Rattle.cf_presence.specs.Maps.{by_text, SetsAt, if_any}
 use Rattle.cf_presence.proofs.Texts.{by_bytes, sets, removes, entries-by_text}
 

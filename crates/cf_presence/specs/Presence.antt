@@ -1,6 +1,6 @@
 -- Who is there: for each channel, a map from client id to the client's user and the moment of its last enter.
 -- Source: Centrifugo, presence; that an entry goes after 60 seconds is this project's own profile.
-use Rattle.std.specs.Prelude.{◌≡◌, ℕ, ◌+◌, ◌==◌, List, map, filter, length, Bool, not, nat_le, refl, if◌then◌else◌, unwrap_or}
+use Rattle.std.specs.Prelude.{ℕ, ◌+◌, ◌==◌, List, map, filter, Bool, not, nat_le, refl, if◌then◌else◌, unwrap_or}
 use Rattle.std.specs.Coded.{Coded, code_by, coded×, coded_list, coded_ℕ}
 use Rattle.std.specs.Ordering.{nat_cmp}
 use Rattle.std.specs.Cmp.Lexicographic.{slice_cmp}

@@ -1,4 +1,4 @@
-use Rattle.std.proofs.Common.{rules, arith, not}
+use Rattle.std.proofs.Common.{rules, not}
 use Rattle.std.specs.Prelude.{◌==◌}
 use Rattle.std.specs.FinMap as fin
 use Rattle.cf_presence.specs.Presence.{still}

@@ -1,4 +1,4 @@
-use Rattle.std.proofs.Common.{arith, ◌∙◌}
+use Rattle.std.proofs.Common.{arith}
 use Rattle.std.proofs.lemmas.Map.Text.{text_keys}
 use Rattle.cf_presence.proofs.Texts.{sets}
 use Rattle.cf_presence.proofs.clients.ChannelClients.enter.Goals as goal

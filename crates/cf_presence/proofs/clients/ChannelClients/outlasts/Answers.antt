@@ -1,6 +1,5 @@
-use Rattle.std.proofs.Common.{rules, ◌∙◌, ap}
+use Rattle.std.proofs.Common.{rules, ap}
 use Rattle.std.specs.Prelude.{not}
-use Rattle.std.specs.FinMap as fin
 use Rattle.std.proofs.lemmas.Map.Made.{filter_same_pairs}
 use Rattle.cf_presence.specs.Presence.{stays}
 use Rattle.cf_presence.proofs.Rooms.{is_empty-by_text}

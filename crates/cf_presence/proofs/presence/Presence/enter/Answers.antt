@@ -1,4 +1,3 @@
-use Rattle.std.specs.BTreeMap.{get_by_text}
 use Rattle.std.proofs.lemmas.Result.{on_ok_weaker, on_err_weaker}
 use Rattle.cf_presence.proofs.Texts.{get-by_text, sets, keeps}
 use Rattle.cf_presence.proofs.presence.Presence.enter.Goals as goal
