@@ -1,16 +1,18 @@
 -- The lists behind the streams after a call at one channel.
-use Rattle.std.proofs.Common.{◌≡◌, ℕ, List, Bool, true, false, cond, Option, Some, None, refl, sym, subst}
-use Rattle.std.specs.Prelude.{ℤ}
-use Rattle.std.specs.Option.{option_map}
+use Rattle.std.proofs.Common.{◌≡◌, ℕ, List, Bool, true, false, cond, Option, Some, None, refl, sym, ap, ◌∙◌, subst, BTreeMap, String, Global}
+use Rattle.std.specs.Prelude.{ℤ, Result, Ok, Err, IfOk}
+use Rattle.std.specs.Option.{option_map, option_and_then}
 use Rattle.std.specs.Str.{bytes_eq}
 use Rattle.std.proofs.lemmas.Slice.Eq.{bytes_eq-Decides}
 use Rattle.cf_protocol.specs.declared.position.Position.{Position}
 use Rattle.cf_protocol.specs.Datum.{Datum, Placed}
-use Rattle.cf_stream.specs.Stream.{Shown, pushed, used_at, trimmed, IsRecovery, IsHistory}
-use Rattle.cf_stream.specs.Streams.{Kept, stream_of, put_at, stood_or, stood_or_opened, size_at}
+use Rattle.cf_stream.specs.Stream.{Shown, pushed, used_at, trimmed, position_of, newest_of, IsRecovery, IsHistory}
+use Rattle.std.specs.BTreeMap.{get_by_text}
+use Rattle.cf_protocol.specs.Settings.{NamespaceTable}
+use Rattle.cf_stream.specs.Streams.{Kept, SetsAt, by_channel, stream_of, put_at, stood_or, stood_or_opened, size_at}
 use Rattle.cf_stream.specs.PublicationList.{Life, Shows, published, kept_newest}
-use Rattle.cf_stream.specs.ChannelLists.{ShowsAt, life_or, ChangesAt, ReadsAt, ListsAt}
-use Rattle.cf_stream.proofs.Channels.{stream_of-put_at}
+use Rattle.cf_stream.specs.ChannelLists.{ShowsAt, life_or, stands_at, StandsAt, ChangesAt, ReadsAt, ListsAt}
+use Rattle.cf_stream.proofs.Channels.{stream_of-put_at, get-by_channel}
 use Rattle.cf_stream.proofs.PublicationLists.{Shows-started, Shows-pushed, Shows-used, Shows-trimmed, IsRead-Shows, IsListed-Shows}
 
 -- another stream at one channel, which shows the changed list
@@ -76,3 +78,30 @@ ListsAt-from k c since limit position items r = record {
       let stood = stood_shows (size_at k.namespaces c) (stream_of k c) (lives c) position.epoch (h.at c) in
       IsListed-Shows (stood_or_opened k c position.epoch) (life_or (lives c) position.epoch) since limit position items stood.0 r;
 }
+
+-- where a channel's stream stands, its list stands too
+stands_alike : (size : ℕ) (o : Option Shown) (l : Option Life) → ShowsAt size o l → option_map position_of o ≡ option_map stands_at l
+stands_alike size None None h = refl
+stands_alike size None (Some l) h = absurd h
+stands_alike size (Some s) None h = absurd h
+stands_alike size (Some s) (Some l) h = λ i. Some (record { epoch = h.0.epoch i; offset = h.0.top i })
+
+pub StandsAt-from : (k : Kept) (c : List ℕ) (position : Option Position) → position ≡ option_map position_of (stream_of k c) → StandsAt k c position
+StandsAt-from k c position is = record { off = λ lives h. is ∙ stands_alike (size_at k.namespaces c) (stream_of k c) (lives c) (h.at c) }
+
+pub IfOk-both : {X Y : Type 0} (r : Result X Y) (P Q R : X → Type 0) → ((x : X) → P x → Q x → R x) → IfOk r P → IfOk r Q → IfOk r R
+IfOk-both (Ok x) P Q R f p q = f x p q
+IfOk-both (Err e) P Q R f p q = tt
+
+-- the newest publication, and the position, of a stream that was set
+set_here : (t : NamespaceTable) (m n : BTreeMap (String Global) Shown) (c : List ℕ) (s : Shown) → SetsAt m n c (Some s) → stream_of (record { namespaces = t; streams = by_channel n }) c ≡ Some s
+set_here t m n c s is = get-by_channel n c ∙ is c ∙ ap (λ b. cond b (Some s) (get_by_text m c)) ((bytes_eq-Decides c c).1 refl)
+
+pub newest_set : (t : NamespaceTable) (m n : BTreeMap (String Global) Shown) (c : List ℕ) (s : Shown) (x : Placed) → SetsAt m n c (Some s) → newest_of s ≡ Some x
+    → option_and_then newest_of (stream_of (record { namespaces = t; streams = by_channel n }) c) ≡ Some x
+newest_set t m n c s x is at = ap (option_and_then newest_of) (set_here t m n c s is) ∙ at
+
+pub stands_set : (t : NamespaceTable) (m n : BTreeMap (String Global) Shown) (c : List ℕ) (s : Shown) (p : Position) → SetsAt m n c (Some s) → p ≡ position_of s
+    → StandsAt (record { namespaces = t; streams = by_channel n }) c (Some p)
+stands_set t m n c s p is at =
+    StandsAt-from (record { namespaces = t; streams = by_channel n }) c (Some p) (ap Some at ∙ sym (ap (option_map position_of) (set_here t m n c s is)))

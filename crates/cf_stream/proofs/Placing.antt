@@ -1,12 +1,12 @@
 -- Lemmas on data at their offsets.
 use Rattle.std.proofs.Common.{◌≡◌, ℕ, ◌+◌, ◌-◌, ◌<◌, ◌≤◌, zero, suc, min, max, Some, List, [], ◌∷◌, ◌++◌, length, take, drop, map, refl, sym, ap, ◌∙◌, arith, length-append, length-drop, inl, inr}
-use Rattle.std.proofs.lemmas.List.{length-map, drop-map, map-append, drop_all}
+use Rattle.std.proofs.lemmas.List.{length-map, drop-map, map-append, drop_all, drop-append-le}
 use Rattle.std.specs.Prelude.{slice_get, SomeIff, is_some, unwrap_or, Option, None, if◌then◌else◌}
 use Rattle.std.proofs.lemmas.Option.{slice_get_within, get_or_from_slice_get}
 use Rattle.std.proofs.lemmas.List.{take_more, get_or-drop, take_all}
 use Rattle.cf_protocol.specs.Datum.{Datum, Placed, numbered}
 use Rattle.cf_stream.specs.Ring.{IsPlaced, IsRing}
-use Rattle.cf_stream.specs.Stream.{Shown, newest, after, RecoversFrom, missed_from, run_from, start_of}
+use Rattle.cf_stream.specs.Stream.{Shown, newest, newest_of, pushed, after, RecoversFrom, missed_from, run_from, start_of}
 use Rattle.cf_protocol.specs.declared.position.Position.{Position}
 use Rattle.circular_buffer.proofs.Places.{below_or_not}
 
@@ -149,3 +149,34 @@ newer_some s p n below e = elim (below_or_not s.top p.offset) [
       ∙ sym (ap (numbered (max p.offset (s.top - length s.held))) (newest_none (s.top - max p.offset (s.top - length s.held)) s.held there))
   | inr not_past ↦ ap (after s) (let at : s.top - n ≡ max p.offset (s.top - length s.held) = omega arith in at)
 ]
+
+-- ---- the last publication
+
+newest_more : (n : ℕ) (xs : List Datum) (d : Datum) → 1 ≤ n → newest n (xs ++ d ∷ []) ≡ newest (n - 1) xs ++ d ∷ []
+newest_more n xs d some =
+    let long : length (xs ++ d ∷ []) ≡ length xs + 1 = length-append xs (d ∷ []) in
+    ap (λ k. drop k (xs ++ d ∷ [])) (let at : length (xs ++ d ∷ []) - n ≡ length xs - (n - 1) = omega arith in at)
+    ∙ drop-append-le (length xs - (n - 1)) xs (d ∷ []) (omega arith)
+
+last_numbered : (o : ℕ) (ys : List Datum) (d : Datum) → slice_get (numbered o (ys ++ d ∷ [])) (length ys) ≡ Some (record { offset = o + length ys + 1; datum = d })
+last_numbered o [] d = ap (λ (n : ℕ). Some (record { offset = n; datum = d })) (let e : o + 1 ≡ o + 0 + 1 = omega arith in e)
+last_numbered o (y ∷ ys) d = last_numbered (o + 1) ys d ∙ ap (λ (n : ℕ). Some (record { offset = n; datum = d })) (let e : o + 1 + length ys + 1 ≡ o + length (y ∷ ys) + 1 = omega arith in e)
+
+last_held : (top : ℕ) (ys : List Datum) (d : Datum) → length ys ≤ top
+    → slice_get (numbered (top + 1 - length (ys ++ d ∷ [])) (newest (top + 1 - (top + 1 - length (ys ++ d ∷ []))) (ys ++ d ∷ []))) (length (ys ++ d ∷ []) - 1) ≡ Some (record { offset = top + 1; datum = d })
+last_held top ys d below =
+    let long : length (ys ++ d ∷ []) ≡ length ys + 1 = length-append ys (d ∷ []) in
+    ap (λ k. slice_get (numbered (top + 1 - length (ys ++ d ∷ [])) (drop k (ys ++ d ∷ []))) (length (ys ++ d ∷ []) - 1)) (let none : length (ys ++ d ∷ []) - (top + 1 - (top + 1 - length (ys ++ d ∷ []))) ≡ 0 = omega arith in none)
+    ∙ ap (slice_get (numbered (top + 1 - length (ys ++ d ∷ [])) (ys ++ d ∷ []))) (let at : length (ys ++ d ∷ []) - 1 ≡ length ys = omega arith in at)
+    ∙ last_numbered (top + 1 - length (ys ++ d ∷ [])) ys d
+    ∙ ap (λ (n : ℕ). Some (record { offset = n; datum = d })) (let e : top + 1 - length (ys ++ d ∷ []) + length ys + 1 ≡ top + 1 = omega arith in e)
+
+-- after a publish its publication is the newest one held
+pub newest_pushed : (s : Shown) (d : Datum) (now : ℕ) → 1 ≤ s.size → length s.held ≤ s.top → newest_of (pushed s d now) ≡ Some (record { offset = s.top + 1; datum = d })
+newest_pushed s d now some below =
+    let less = length-newest (s.size - 1) s.held in
+    ap (λ (h : List Datum). slice_get (numbered (s.top + 1 - length h) (newest (s.top + 1 - (s.top + 1 - length h)) h)) (length h - 1)) (newest_more s.size s.held d some)
+    ∙ last_held s.top (newest (s.size - 1) s.held) d (omega arith)
+
+pub newest_after : (s new : Shown) (d : Datum) (now : ℕ) → new ≡ pushed s d now → 1 ≤ s.size → length s.held ≤ s.top → newest_of new ≡ Some (record { offset = s.top + 1; datum = d })
+newest_after s new d now is some below = ap newest_of is ∙ newest_pushed s d now some below

@@ -1,5 +1,6 @@
 -- The endless lists behind the streams of all channels. (Centrifugo, history and recovery.)
-use Rattle.std.specs.Prelude.{◌≡◌, ℕ, List, Option, Some, None, Bool, ℤ, if◌then◌else◌}
+use Rattle.std.specs.Prelude.{◌≡◌, ℕ, List, Option, Some, None, Bool, ℤ, if◌then◌else◌, length}
+use Rattle.std.specs.Option.{option_map}
 use Rattle.std.specs.Str.{bytes_eq}
 use Rattle.cf_protocol.specs.declared.position.Position.{Position}
 use Rattle.cf_protocol.specs.Datum.{Placed}
@@ -26,6 +27,14 @@ life_or (Some l) e = l
 -- whatever lists stand behind the one streams, behind the others stand the same, but for this change at one channel
 pub record ChangesAt (old new : Kept) (c : List ℕ) (change : Option Life → Option Life) : Type 0 where
   pub shows : (lives : List ℕ → Option Life) → AreShown old lives → AreShown new (λ q. if bytes_eq c q then change (lives q) else lives q)
+
+-- where a list's stream stands
+abbrev pub stands_at : Life → Position
+stands_at l = record { epoch = l.epoch; offset = length l.list }
+
+-- whatever lists stand behind the streams, this is where a channel's stream stands
+pub record StandsAt (k : Kept) (c : List ℕ) (position : Option Position) : Type 0 where
+  pub off : (lives : List ℕ → Option Life) → AreShown k lives → position ≡ option_map stands_at (lives c)
 
 -- whatever lists stand behind the streams, this is the answer to a read of a channel
 pub record ReadsAt (k : Kept) (c : List ℕ) (since : Option Position) (position : Position) (recovered : Bool) (publications : List Placed) : Type 0 where

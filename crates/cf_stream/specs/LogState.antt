@@ -74,12 +74,12 @@ pub record Adds (old new : Kept) (entries : List Entry) : Type 0 where
   pub state : (log : List Entry) → IsState old log → IsState new (log ++ entries)
 
 -- the entries of a call that opens a stream where there is none
-abbrev pub opening : Option Shown → List ℕ → List ℕ → List Entry → List Entry
+abbrev pub opening : {X : Type 0} → Option X → List ℕ → List ℕ → List Entry → List Entry
 opening None c e es = Open c e ∷ es
 opening (Some s) c e es = es
 
 -- the one entry of a call on a stream that stands
-abbrev pub if_stands : Option Shown → Entry → List Entry
+abbrev pub if_stands : {X : Type 0} → Option X → Entry → List Entry
 if_stands None x = []
 if_stands (Some s) x = x ∷ []
 

@@ -3,7 +3,7 @@ ghost use Rattle.std.specs.Prelude.{◌≡◌, ◌≢◌, ◌≤◌, IfOk, IfErr
 ghost use Rattle.std.specs.Option.{option_map};
 ghost use Rattle.std.specs.BTreeMap.{get_by_text};
 ghost use Rattle.std.specs.String.{string_bytes};
-ghost use Rattle.cf_stream.specs.Stream.{started, pushed, used_at, in_epoch};
+ghost use Rattle.cf_stream.specs.Stream.{started, pushed, used_at, in_epoch, newest_of};
 ghost use Rattle.cf_stream.specs.Streams.{SetsAt};
 ghost use Rattle.cf_stream.specs.FreshEpochs.{DrawsNone, DrawsEpoch};
 
@@ -73,6 +73,7 @@ pub(crate) fn publish_new<E: Epochs>(
     requires sized { (1 ≤ size) × (size ≤ LARGEST_SIZE) }
     ensures ok { IfOk result (λ p. SetsAt map.old map.new channel.now (Some (pushed (started p.epoch size 0) (record { body = string_bytes body; info = info }) now))) }
     ensures position { IfOk result (λ p. p.offset ≡ 1) }
+    ensures newest { IfOk result (λ p. newest_of (pushed (started p.epoch size 0) (record { body = string_bytes body; info = info }) now) ≡ Some (record { offset = 1; datum = record { body = string_bytes body; info = info } })) }
     ensures drawn { IfOk result (λ p. DrawsEpoch E.draws p.epoch epochs.old epochs.new) }
     ensures no_epoch { result ≡ Err StreamRefusal.NoEpoch → DrawsNone E.draws epochs.old epochs.new }
     ensures memory { IfErr result (λ e. e ≢ StreamRefusal.NoEpoch → (e ≡ StreamRefusal.Memory) × (epochs.new ≡ epochs.old)) }

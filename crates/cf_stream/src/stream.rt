@@ -138,6 +138,7 @@ impl Stream {
         ensures refusals { IfErr result (λ e. e ≢ StreamRefusal.AtLastOffset → e ≡ StreamRefusal.Memory) }
         ensures err { OnErr result (self.new ≡ self.old) }
         ensures within { IsWithin self.new }
+        ensures newest { IfOk result (λ p. newest_of self.new ≡ Some (record { offset = p.offset; datum = record { body = string_bytes body; info = info } })) }
         ensures list { OnOk result (GoesOn self.old self.new (published self.old.size (record { body = string_bytes body; info = info }))) }
     {
         if self.top == LAST_OFFSET {

@@ -8,7 +8,7 @@ ghost use Rattle.cf_protocol.specs.Settings.{settings_of};
 ghost use Rattle.cf_stream.specs.Stream.{pushed, used_at, trimmed, position_of, IsRecovery, IsHistory, stays, ticked, newest_of};
 ghost use Rattle.cf_stream.specs.Streams.{stream_of, put_at, stood_or, stood_or_opened, IsOfAnother, SetsAt, after_tick, due_at, due_to, due_channels, IsSetUp, size_at, seconds_at};
 ghost use Rattle.cf_stream.specs.PublicationList.{published, kept_newest};
-ghost use Rattle.cf_stream.specs.ChannelLists.{AreShown, ChangesAt, ReadsAt, ListsAt, life_or};
+ghost use Rattle.cf_stream.specs.ChannelLists.{AreShown, ChangesAt, ReadsAt, ListsAt, StandsAt, life_or};
 ghost use Rattle.cf_stream.specs.LogState.{IsState, Adds, opening, if_stands, due_entries};
 ghost use Rattle.cf_protocol.specs.LogEntry.Entry.{Publish, Trim, Forget};
 ghost use Rattle.cf_stream.specs.FreshEpochs.{DrawsNone, Draws};
@@ -81,6 +81,8 @@ impl Streams {
         ensures err { OnErr result (self.new ≡ self.old) }
         ensures namespaces { self.new.namespaces ≡ self.old.namespaces }
         ensures log { IfOk result (λ p. Adds self.old self.new (opening (stream_of self.old channel.now) channel.now p.epoch (Publish channel.now (record { body = string_bytes body; info = info }) ∷ []))) }
+        ensures newest { IfOk result (λ p. option_and_then newest_of (stream_of self.new channel.now) ≡ Some (record { offset = p.offset; datum = record { body = string_bytes body; info = info } })) }
+        ensures list_answer { IfOk result (λ p. StandsAt self.new channel.now (Some p)) }
         ensures lists { IfOk result (λ p. ChangesAt self.old self.new channel.now (λ l. Some (published (size_at self.old.namespaces channel.now) (record { body = string_bytes body; info = info }) (life_or l p.epoch)))) }
     {
         let size = size_for(&self.namespaces, channel);
@@ -206,7 +208,8 @@ impl Streams {
 
     /// The position of a channel's stream, if it has one. It takes no memory and opens nothing.
     pub fn position(&self, channel: &str) -> Option<Position>
-        ensures { result ≡ option_map position_of (stream_of self.now channel.now) }
+        ensures position { result ≡ option_map position_of (stream_of self.now channel.now) }
+        ensures list_answer { StandsAt self.now channel.now result }
     {
         match self.map.get(channel) {
             None => None,
@@ -262,6 +265,7 @@ fn publish_in<E: Epochs>(
     requires { (1 ≤ size) × (size ≤ LARGEST_SIZE) }
     ensures ok { IfOk result (λ p. SetsAt map.old map.new channel.now (Some (pushed (stood_or (get_by_text map.old channel.now) p.epoch size) (record { body = string_bytes body; info = info }) now))) }
     ensures position { IfOk result (λ p. p ≡ position_of (pushed (stood_or (get_by_text map.old channel.now) p.epoch size) (record { body = string_bytes body; info = info }) now)) }
+    ensures newest { IfOk result (λ p. newest_of (pushed (stood_or (get_by_text map.old channel.now) p.epoch size) (record { body = string_bytes body; info = info }) now) ≡ Some (record { offset = p.offset; datum = record { body = string_bytes body; info = info } })) }
     ensures drawn { IfOk result (λ p. Draws E.draws (get_by_text map.old channel.now) p.epoch epochs.old epochs.new) }
     ensures last { IsErrOf result StreamRefusal.AtLastOffset ↔ IsSomeAnd (get_by_text map.old channel.now) (λ s. s.top ≡ LAST_OFFSET) }
     ensures no_epoch { IsErrOf result StreamRefusal.NoEpoch → (get_by_text map.old channel.now ≡ None) × DrawsNone E.draws epochs.old epochs.new }

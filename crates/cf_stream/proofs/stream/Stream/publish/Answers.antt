@@ -1,6 +1,7 @@
-use Rattle.std.proofs.Common.{arith}
-use Rattle.std.proofs.lemmas.List.{map-append}
-use Rattle.cf_stream.proofs.Placing.{IsRing-pushed, data-newest}
+use Rattle.std.proofs.Common.{◌≤◌, length, arith}
+use Rattle.std.proofs.lemmas.List.{map-append, length-map}
+use Rattle.cf_protocol.specs.Datum.{Placed}
+use Rattle.cf_stream.proofs.Placing.{IsRing-pushed, data-newest, newest_after, data_of}
 use Rattle.cf_stream.proofs.PublicationLists.{GoesOn-pushed}
 use Rattle.cf_stream.proofs.stream.Stream.publish.Goals as goal
 
@@ -12,3 +13,10 @@ returns-clause-ok c = rw (← c.self.view_is, c.in_ok-put.ensures.ok, data-newes
 
 pub returns-clause-list : goal.returns-clause-list
 returns-clause-list c = rw (returns-clause-ok c) (GoesOn-pushed c.args.self.now _ c.args.now)
+
+pub returns-clause-newest : goal.returns-clause-newest
+returns-clause-newest c =
+    let ok = rw (← c.self.view_is) at (returns-clause-ok c) in
+    let below = c.self.invariant.placed.below in
+    let few : length (data_of c.self.inside.ring.items) ≤ c.self.inside.top = omega (arith, length-map c.self.inside.ring.items (λ (p : Placed). p.datum)) in
+    newest_after (record { epoch = c.self.inside.epoch; size = c.self.inside.size; top = c.self.inside.top; held = data_of c.self.inside.ring.items; published = c.self.inside.published; used = c.self.inside.used }) _ _ c.args.now ok c.self.invariant.sized.0 few

@@ -1,7 +1,7 @@
 use Rattle.std.proofs.lemmas.Result.{IfOk-weaker, on_err_weaker}
 use Rattle.cf_protocol.specs.declared.position.Position.{Position}
 use Rattle.cf_stream.proofs.Channels.{get-by_channel, kept_by, kept_same}
-use Rattle.cf_stream.proofs.ChannelChanges.{ChangesAt-publish}
+use Rattle.cf_stream.proofs.ChannelChanges.{ChangesAt-publish, newest_set, stands_set, IfOk-both}
 use Rattle.cf_stream.proofs.LogSteps.{Adds-publish}
 use Rattle.cf_stream.proofs.streams.Streams.publish.Goals as goal
 
@@ -32,3 +32,11 @@ returns-clause-log g c = IfOk-weaker c.publish_in.result _ _ (λ (p : Position) 
 
 pub returns-clause-lists : goal.returns-clause-lists
 returns-clause-lists g c = IfOk-weaker c.publish_in.result _ _ (λ (p : Position) h. rw h (ChangesAt-publish c.args.self.now c.args.channel.now p.epoch _ c.args.now)) (returns-clause-ok g c)
+
+pub returns-clause-newest : goal.returns-clause-newest
+returns-clause-newest g c =
+    IfOk-both c.publish_in.result _ _ _ (λ (p : Position) h n. newest_set c.self.inside.namespaces c.self.inside.map c.publish_in.new.map c.args.channel.now _ _ h n) c.publish_in.ensures.ok c.publish_in.ensures.newest
+
+pub returns-clause-list_answer : goal.returns-clause-list_answer
+returns-clause-list_answer g c =
+    IfOk-both c.publish_in.result _ _ _ (λ (p : Position) h n. stands_set c.self.inside.namespaces c.self.inside.map c.publish_in.new.map c.args.channel.now _ p h n) c.publish_in.ensures.ok c.publish_in.ensures.position
