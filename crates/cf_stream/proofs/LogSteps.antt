@@ -3,6 +3,7 @@ use Rattle.std.proofs.Common.{◌≡◌, ℕ, List, [], ◌∷◌, ◌++◌, Boo
 use Rattle.std.specs.Prelude.{fold}
 use Rattle.std.specs.BTreeMap.{is_at}
 use Rattle.std.specs.Cmp.Lexicographic.{slice_cmp}
+use Rattle.std.specs.FinMap as fin
 use Rattle.std.specs.Map.{lookup}
 use Rattle.std.specs.Option.{option_map}
 use Rattle.std.specs.Ordering.{nat_cmp}
@@ -128,8 +129,12 @@ Adds-forget k c = record {
       cases (stream_of k c) refl;
 }
 
+-- a map without entries has no stream
+pub empty_has_none : (m : BTreeMap (String Global) Shown) → m.entries ≡ [] → (q : List ℕ) → fin.get (by_channel m) q ≡ None
+empty_has_none m e q = get-by_channel m q ∙ ap (lookup (is_at (λ k. slice_cmp nat_cmp q (string_bytes k)))) e
+
 -- no streams, and no lists
 pub AreShown-empty : (t : NamespaceTable) (m : BTreeMap (String Global) Shown) → m.entries ≡ [] → AreShown (record { namespaces = t; streams = by_channel m }) (λ _. None)
 AreShown-empty t m e = record {
-  at = λ q. subst (λ x. ShowsAt (size_at t q) x None) (sym (get-by_channel m q ∙ ap (lookup (is_at (λ k. slice_cmp nat_cmp q (string_bytes k)))) e)) tt;
+  at = λ q. subst (λ x. ShowsAt (size_at t q) x None) (sym (empty_has_none m e q)) tt;
 }

@@ -1,4 +1,4 @@
--- A tick is a list of trims and forgets.
+-- A tick is a list of trims and forgets, and an end of all streams a list of forgets.
 use Rattle.std.proofs.Common.{◌≡◌, ℕ, List, [], ◌∷◌, ◌++◌, Bool, true, false, not, cond, Option, Some, None, refl, sym, ap, ◌∙◌, subst, map, length, arith, T, Ordering}
 use Rattle.std.specs.Prelude.{fold, ◌==◌, ◌&&◌, ◌↔◌}
 use Rattle.std.specs.declared.cmp.Ordering.TheVariants.{Less, Equal, Greater}
@@ -22,7 +22,7 @@ use Rattle.cf_stream.specs.Stream.{Shown, stays, is_over}
 use Rattle.cf_stream.specs.Streams.{Kept, Channels, stream_of, size_at, seconds_at, after_tick, due_of, due_at, due_to, due_channels}
 use Rattle.cf_stream.specs.PublicationList.{Life, Shows, kept_newest}
 use Rattle.cf_stream.specs.ChannelLists.{ShowsAt}
-use Rattle.cf_stream.specs.LogState.{Adds, life_in, due_entry, due_entries}
+use Rattle.cf_stream.specs.LogState.{Adds, life_in, ending, due_entry, due_entries}
 use Rattle.cf_stream.proofs.Channels.{same_key}
 use Rattle.cf_stream.proofs.PublicationLists.{Shows-emptied}
 use Rattle.cf_stream.proofs.LogStates.{changed, life_in-append}
@@ -134,6 +134,47 @@ Adds-tick k m now is = record {
         ∙ ap (λ r. due_change (due_at now seconds r) life) (sym (fin.get-entries k.streams q)) in
         subst (λ x. ShowsAt (sizes q) x (life_in sizes (log ++ es) q)) (sym (is q))
         (subst (ShowsAt (sizes q) (after_tick now seconds (stream_of k q))) (sym seen) (tick_shown (sizes q) now seconds (stream_of k q) life (h.at q)));
+  };
+}
+
+-- ---- all streams end
+
+-- what has no stream keeps none
+stays_none : (size : ℕ) (q : List ℕ) (es : List (List ℕ × Shown)) → fold (changed size q) None (ending es) ≡ None
+stays_none size q [] = refl
+stays_none size q (e ∷ es) =
+    ap (λ o. fold (changed size q) o (ending es)) (elim (bytes_eq e.0 q) as (λ b. cond {A = Option Life} b None None ≡ None) [ true ↦ refl | false ↦ refl ])
+    ∙ stays_none size q es
+
+no_list : (size : ℕ) (o : Option Life) → ShowsAt size None o → o ≡ None
+no_list size None h = refl
+no_list size (Some l) h = absurd h
+
+-- the entries of an end of all, seen by one channel
+ending_seen : (size : ℕ) (q : List ℕ) (es : List (List ℕ × Shown)) (o : Option Life) → ShowsAt size (fin.find (slice_cmp nat_cmp) q es) o
+    → fold (changed size q) o (ending es) ≡ None
+ending_seen size q [] o h = no_list size o h
+ending_seen size q (e ∷ es) o h =
+    let rest : Option Shown = fin.find (slice_cmp nat_cmp) q es in
+    let cases : (b : Bool) → ShowsAt size (cond b (Some e.1) rest) o → fold (changed size q) (cond b None o) (ending es) ≡ None =
+    λ b. elim b as (λ b. ShowsAt size (cond b (Some e.1) rest) o → fold (changed size q) (cond b None o) (ending es) ≡ None) [
+      | true ↦ λ h. stays_none size q es
+      | false ↦ λ h. ending_seen size q es o h
+    ] in
+    cases (bytes_eq e.0 q) (subst (λ b. ShowsAt size (cond b (Some e.1) rest) o) (sym (same_key e.0 q)) h)
+
+pub Adds-ending : (k : Kept) (m : Channels) → ((q : List ℕ) → fin.get m q ≡ None)
+    → Adds k (record { namespaces = k.namespaces; streams = m }) (ending (fin.entries k.streams))
+Adds-ending k m gone = record {
+  state = λ log h. record {
+    at = λ q.
+        let sizes : List ℕ → ℕ = size_at k.namespaces in
+        let es : List Entry = ending (fin.entries k.streams) in
+        let none : life_in sizes (log ++ es) q ≡ None =
+        life_in-append sizes q es log
+        ∙ ending_seen (sizes q) q (fin.entries k.streams) (life_in sizes log q)
+        (subst (λ x. ShowsAt (sizes q) x (life_in sizes log q)) (fin.get-entries k.streams q) (h.at q)) in
+        subst (λ x. ShowsAt (sizes q) x (life_in sizes (log ++ es) q)) (sym (gone q)) (subst (ShowsAt (sizes q) None) (sym none) tt);
   };
 }
 

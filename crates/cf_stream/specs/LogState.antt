@@ -83,6 +83,10 @@ abbrev pub if_stands : {X : Type 0} → Option X → Entry → List Entry
 if_stands None x = []
 if_stands (Some s) x = x ∷ []
 
+-- the entries of a call that ends all streams
+abbrev pub ending : List (List ℕ × Shown) → List Entry
+ending es = map (λ e. Forget e.0) es
+
 -- the entry of what is due to a channel
 abbrev pub due_entry : List ℕ → Due → Entry
 due_entry c ToForget = Forget c

@@ -9,7 +9,7 @@ ghost use Rattle.cf_stream.specs.Stream.{pushed, used_at, trimmed, position_of, 
 ghost use Rattle.cf_stream.specs.Streams.{stream_of, put_at, stood_or, stood_or_opened, IsOfAnother, SetsAt, after_tick, due_at, due_to, due_channels, IsSetUp, size_at, seconds_at};
 ghost use Rattle.cf_stream.specs.PublicationList.{published, kept_newest};
 ghost use Rattle.cf_stream.specs.ChannelLists.{AreShown, ChangesAt, ReadsAt, ListsAt, StandsAt, life_or};
-ghost use Rattle.cf_stream.specs.LogState.{IsState, Adds, opening, if_stands, due_entries};
+ghost use Rattle.cf_stream.specs.LogState.{IsState, Adds, opening, if_stands, ending, due_entries};
 ghost use Rattle.cf_protocol.specs.LogEntry.Entry.{Publish, Trim, Forget};
 ghost use Rattle.cf_stream.specs.FreshEpochs.{DrawsNone, Draws};
 
@@ -178,7 +178,8 @@ impl Streams {
     /// Ends all streams. It takes no memory.
     pub fn forget_all(&mut self)
         ensures forgotten { self.new ≡ record self.old { streams = fin.empty } }
-        ensures log { IsState self.new [] }
+        ensures log { Adds self.old self.new (ending (fin.entries self.old.streams)) }
+        ensures fresh { IsState self.new [] }
         ensures lists { AreShown self.new (λ _. None) }
     {
         self.map.clear();
