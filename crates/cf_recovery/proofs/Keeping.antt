@@ -1,5 +1,5 @@
 -- What is kept, as it is stored.
-use Rattle.std.proofs.Common.{◌≡◌, ℕ, zero, suc, ◌+◌, ◌≤◌, ◌<◌, ◌||◌, ◌++◌, Bool, true, false, List, [], ◌∷◌, Option, Some, None, IfSome, IfNone, is_some, Result, Ok, Err, is_err, OnOk, length, reverse, refl, sym, ap, subst, arith, ◌∙◌, nat_le, nat_lt, if◌then◌else◌}
+use Rattle.std.proofs.Common.{◌≡◌, ℕ, zero, suc, ◌+◌, ◌≤◌, ◌<◌, ◌||◌, ◌++◌, Bool, true, false, List, [], ◌∷◌, Option, Some, None, IfSome, IfNone, is_some, Result, Ok, Err, is_err, OnOk, length, reverse, refl, sym, ap, subst, arith, ◌∙◌, nat_le, nat_lt, max, if◌then◌else◌}
 use Rattle.std.specs.List.{list_any}
 use Rattle.std.specs.List.Sorted.{IsPermutation}
 use Rattle.std.proofs.lemmas.Bool.Decides.{nat_tests}
@@ -7,9 +7,10 @@ use Rattle.std.proofs.lemmas.List.{reverse-append, length-reverse, length-map, l
 use Rattle.std.proofs.lemmas.List.Sorted.{list_any-IsPermutation, IsPermutation-reverse}
 use Rattle.cf_protocol.specs.Datum.{Placed}
 use Rattle.cf_protocol.specs.Position.{Position}
-use Rattle.cf_recovery.specs.Arrivals.{has, arrives, overfull, most_kept}
+use Rattle.cf_recovery.specs.Arrivals.{has, highest, arrives, overfull, most_kept}
 use Rattle.cf_recovery.specs.Kept.{Arrival, arrival, places, Kept, TakesRoom, IsWithin, StandsFor, with_arrival, given_up}
 use Rattle.cf_recovery.specs.Stored.{stored, is_at, kept_of, IsStored}
+use Rattle.cf_recovery.proofs.Runs.{below-highest}
 use Rattle.cf_recovery.proofs.Storing.{is_of, length-stored}
 
 -- ---- the places that are there
@@ -45,6 +46,14 @@ has-found xs e o n (Some i) h k =
     let zero_more : o + 0 ≡ o = omega arith in
     sym (has-reverse xs e o ∙ has-at xs e o i (subst (λ p. is_at xs e p i ≡ true) zero_more h.2))
 
+-- what is above the highest isn't there
+pub has-above : (xs : List Arrival) (e : List ℕ) (o : ℕ) → highest (places xs) < o → false ≡ has (places xs) e o
+has-above xs e o h = by_value (has (places xs) e o) refl
+  where
+    by_value : (b : Bool) → has (places xs) e o ≡ b → false ≡ b
+    by_value true t = let below = below-highest (places xs) e o t in absurd (omega arith)
+    by_value false t = refl
+
 -- ---- one more
 
 stored-push : (es : List (List ℕ)) (ps : List Placed) (e : List ℕ) (p : Placed) → length es ≡ length ps → stored (es ++ e ∷ []) (ps ++ p ∷ []) ≡ stored es ps ++ arrival e p ∷ []
@@ -56,8 +65,8 @@ stored-push (f ∷ es) (q ∷ ps) e p h = ap (λ v. arrival f q ∷ v) (stored-p
 pub newest-push : (es : List (List ℕ)) (ps : List Placed) (e : List ℕ) (p : Placed) → length es ≡ length ps → reverse (stored (es ++ e ∷ []) (ps ++ p ∷ [])) ≡ arrival e p ∷ reverse (stored es ps)
 newest-push es ps e p h = ap (λ v. reverse v) (stored-push es ps e p h) ∙ reverse-append (stored es ps) (arrival e p ∷ [])
 
-pub kept-push : (es : List (List ℕ)) (ps : List Placed) (overflow short : Bool) (e : List ℕ) (p : Placed) → IsStored es ps overflow short → kept_of (es ++ e ∷ []) (ps ++ p ∷ []) overflow short ≡ record (kept_of es ps overflow short) { arrived = arrival e p ∷ reverse (stored es ps) }
-kept-push es ps overflow short e p h = let n = newest-push es ps e p h.beside in cc
+pub kept-push : (es : List (List ℕ)) (ps : List Placed) (top : ℕ) (overflow short : Bool) (e : List ℕ) (p : Placed) → IsStored es ps top overflow short → kept_of (es ++ e ∷ []) (ps ++ p ∷ []) overflow short ≡ record (kept_of es ps overflow short) { arrived = arrival e p ∷ reverse (stored es ps) }
+kept-push es ps top overflow short e p h = let n = newest-push es ps e p h.beside in cc
 
 pub within-push : (a : Arrival) (k : Kept) → TakesRoom a k → IsWithin k → IsWithin (record k { arrived = a ∷ k.arrived })
 within-push a k r w =
@@ -68,14 +77,15 @@ within-push a k r w =
       cause = w.cause;
     }
 
-pub stored_more : (es : List (List ℕ)) (ps : List Placed) (overflow short : Bool) (e : List ℕ) (p : Placed) → TakesRoom (arrival e p) (kept_of es ps overflow short) → IsStored es ps overflow short → IsStored (es ++ e ∷ []) (ps ++ p ∷ []) overflow short
-stored_more es ps overflow short e p r h =
+pub stored_more : (es : List (List ℕ)) (ps : List Placed) (top more : ℕ) (overflow short : Bool) (e : List ℕ) (p : Placed) → TakesRoom (arrival e p) (kept_of es ps overflow short) → IsStored es ps top overflow short → more ≡ max p.offset top → IsStored (es ++ e ∷ []) (ps ++ p ∷ []) more overflow short
+stored_more es ps top more overflow short e p r h is =
     let beside = h.beside in
     let a = length-append es (e ∷ []) in
     let b = length-append ps (p ∷ []) in
     record {
       beside = omega arith;
-      within = rw (kept-push es ps overflow short e p h) (within-push (arrival e p) (kept_of es ps overflow short) r h.within);
+      highest_is = is ∙ ap (max p.offset) h.highest_is ∙ sym (ap (λ xs. highest (places xs)) (newest-push es ps e p h.beside));
+      within = rw (kept-push es ps top overflow short e p h) (within-push (arrival e p) (kept_of es ps overflow short) r h.within);
     }
 
 -- the same length, in whatever order

@@ -5,7 +5,8 @@ use Rattle.std.specs.List.{All, Contains}
 use Rattle.std.specs.List.Sorted.{IsPermutation}
 use Rattle.std.proofs.lemmas.Bool.Decides.{nat_tests}
 use Rattle.std.proofs.lemmas.List.Elements.{All-nil, All-cons, Contains-append_right}
-use Rattle.std.proofs.lemmas.List.Sorted.{Contains-permutation, IsPermutation-reverse, IsPermutation-sym}
+use Rattle.std.proofs.lemmas.List.{length-reverse}
+use Rattle.std.proofs.lemmas.List.Sorted.{length_permutation, Contains-permutation, IsPermutation-reverse, IsPermutation-sym}
 use Rattle.cf_protocol.specs.Datum.{Placed, numbered}
 use Rattle.cf_protocol.specs.Position.{Position}
 use Rattle.cf_recovery.specs.Arrivals.{has, highest, overfull, all_within}
@@ -13,6 +14,7 @@ use Rattle.cf_recovery.specs.Release.{unbroken, run_length, falls_short}
 use Rattle.cf_recovery.specs.Kept.{Arrival, arrival, places, Kept, IsWithin, IsRun, StandsFor, ended_at}
 use Rattle.cf_recovery.specs.Stored.{stored, is_at}
 use Rattle.cf_recovery.proofs.Keeping.{has-permutation, has-reverse, has-at, has-none}
+use Rattle.cf_recovery.proofs.Storing.{length-stored}
 use Rattle.cf_recovery.proofs.Runs.{below-highest, lies-within, within-lies, text_tells}
 
 -- the same places are kept and stored
@@ -109,6 +111,15 @@ run_is old overflow short es ps p n counted moved within front =
       at_offsets = front_numbered es ps p.epoch p.offset n front;
       kept = front_in es ps p.epoch p.offset n (reverse old) (λ a h. Contains-permutation old (reverse old) a (IsPermutation-reverse old) (Contains-permutation (stored es ps) old a (IsPermutation-sym old (stored es ps) moved) h)) front;
     }
+
+-- what is passed on was kept
+pub run_few : (es fs : List (List ℕ)) (ps qs : List Placed) (n : ℕ) → length fs ≡ length qs → IsPermutation (stored es ps) (stored fs qs) → n ≤ length qs → length (take n qs) ≤ length (reverse (stored es ps))
+run_few es fs ps qs n beside moved within =
+    omega (arith, length-take-le n qs within, length-reverse (stored es ps), length_permutation (stored es ps) (stored fs qs) moved, length-stored fs qs beside)
+
+pub none_kept : {X Y : Type 0} (run : List X) (kept : List Y) → kept ≡ [] → length run ≤ length kept → run ≡ []
+none_kept [] kept h few = refl
+none_kept (x ∷ run) kept h few = let none = ap (λ ys. length ys) h in absurd (omega arith)
 
 -- ---- of all that arrived
 

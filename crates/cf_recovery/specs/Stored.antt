@@ -2,7 +2,8 @@
 use Rattle.std.specs.Prelude.{◌≡◌, ℕ, zero, suc, ◌==◌, ◌&&◌, Bool, false, List, [], ◌∷◌, length, reverse}
 use Rattle.std.specs.Str.{bytes_eq}
 use Rattle.cf_protocol.specs.Datum.{Placed}
-use Rattle.cf_recovery.specs.Kept.{Arrival, arrival, Kept, IsWithin}
+use Rattle.cf_recovery.specs.Arrivals.{highest}
+use Rattle.cf_recovery.specs.Kept.{Arrival, arrival, places, Kept, IsWithin}
 
 -- publications and, beside them, their epochs, in order of arrival
 abbrev pub stored : List (List ℕ) → List Placed → List Arrival
@@ -13,8 +14,10 @@ stored (e ∷ es) (p ∷ ps) = arrival e p ∷ stored es ps
 abbrev pub kept_of : List (List ℕ) → List Placed → Bool → Bool → Kept
 kept_of es ps overflow short = record { arrived = reverse (stored es ps); overflow = overflow; short = short }
 
-pub record IsStored (es : List (List ℕ)) (ps : List Placed) (overflow short : Bool) : Type 0 where
+-- as many epochs as publications, the highest of their offsets, and what always holds of what is kept
+pub record IsStored (es : List (List ℕ)) (ps : List Placed) (top : ℕ) (overflow short : Bool) : Type 0 where
   pub beside : length es ≡ length ps
+  pub highest_is : top ≡ highest (places (reverse (stored es ps)))
   pub within : IsWithin (kept_of es ps overflow short)
 
 -- whether the i-th is the one of this place

@@ -1,5 +1,5 @@
 //! Publications that come while a subscription is being asked for.
-ghost use Rattle.std.specs.Prelude.{◌≡◌, ◌||◌, [], ◌∷◌, List, true, false, length, OnOk, OnErr};
+ghost use Rattle.std.specs.Prelude.{◌≡◌, ◌≤◌, ◌||◌, [], ◌∷◌, List, true, false, length, OnOk, OnErr};
 ghost use Rattle.cf_protocol.specs.Position.{Position};
 ghost use Rattle.cf_recovery.specs.Arrivals.{arrives, has, overfull};
 ghost use Rattle.cf_recovery.specs.Kept.{arrival, places, nothing_kept, given_up, with_arrival, TakesRoom, IsWithin, StandsFor, IsRun, ended_at};
@@ -21,6 +21,8 @@ pub const MOST_KEPT: usize = 1000;
 pub struct Waiting {
     epochs: Vec<Epoch>,
     publications: Vec<Publication>,
+    // the highest offset that is kept, or 0
+    highest: u64,
     overflow: bool,
     short: bool,
 }
@@ -33,7 +35,7 @@ impl Model for Waiting {
 
     ghost view = { λ w. kept_of w.epochs.items w.publications.items w.overflow w.short };
 
-    ghost invariant = { λ w. IsStored w.epochs.items w.publications.items w.overflow w.short };
+    ghost invariant = { λ w. IsStored w.epochs.items w.publications.items w.highest w.overflow w.short };
 }
 
 /// What follows a reply to a subscribe.
@@ -55,6 +57,7 @@ impl Waiting {
         Waiting {
             epochs: Vec::new(alloc),
             publications: Vec::new(alloc),
+            highest: 0,
             overflow: false,
             short: false,
         }
@@ -97,6 +100,9 @@ impl Waiting {
     /// Centrifugo, history and recovery: the buffered publications are merged with the reply's, and a gap is insufficient state.
     pub fn release(self, at: &Position) -> Released
         ensures run { IsRun self at.now result.run.items }
+        ensures buffered { length result.run.items ≤ length self.arrived }
+        ensures given_up { self.overflow ≡ true → result.run.items ≡ [] }
+        ensures within { IsWithin self }
         ensures insufficient { result.insufficient ≡ (self.overflow || falls_short (places self.arrived) (ended_at at.now)) }
         ensures stands { (arrived : List Position) → StandsFor self arrived → self.short ≡ false → (length result.run.items ≡ run_length arrived (ended_at at.now)) × (result.insufficient ≡ falls_short arrived (ended_at at.now)) }
     {
@@ -119,6 +125,9 @@ impl Waiting {
     fn has(&self, epoch: &Epoch, offset: u64) -> bool
         ensures { result ≡ has (places self.now.arrived) epoch.now offset }
     {
+        if self.highest < offset {
+            return false; // so it is where publications come in order
+        }
         let at = Position {
             epoch: *epoch,
             offset,
@@ -143,6 +152,7 @@ impl Waiting {
         self.epochs.reserve(1)?;
         self.publications.push(copy)?;
         self.epochs.push(*epoch)?;
+        self.highest = self.highest.max(publication.offset);
         Ok(())
     }
 
@@ -153,6 +163,7 @@ impl Waiting {
         let alloc = *self.epochs.allocator();
         self.epochs = Vec::new(alloc);
         self.publications = Vec::new(alloc);
+        self.highest = 0;
         self.overflow = true;
         self.short = short;
     }

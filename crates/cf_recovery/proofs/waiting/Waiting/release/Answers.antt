@@ -1,6 +1,6 @@
 use Rattle.std.proofs.Common.{◌∙◌, ap, not}
 use Rattle.cf_recovery.specs.Stored.{stored}
-use Rattle.cf_recovery.proofs.Releasing.{run_counted, left_over, run_is, stands_released, either_way, by_the_rest}
+use Rattle.cf_recovery.proofs.Releasing.{run_few, none_kept, run_counted, left_over, run_is, stands_released, either_way, by_the_rest}
 use Rattle.cf_recovery.proofs.waiting.Waiting.release.Goals as goal
 use Rattle.cf_recovery.proofs.waiting.Waiting.release.Goals.{then-overflow, else-overflow}
 
@@ -9,6 +9,16 @@ returns-clause-run c =
     let counted = run_counted (stored c.self.inside.epochs.items c.self.inside.publications.items) (stored c.gather-count.new.epochs.items c.gather-count.new.publications.items) c.args.at.now c.gather-count.result c.self.invariant.within.few c.gather-count.ensures.moved c.gather-count.ensures.front c.gather-count.ensures.gap in
     rw (c.truncate.ensures.items, ← c.self.view_is)
     (run_is (stored c.self.inside.epochs.items c.self.inside.publications.items) c.self.inside.overflow c.self.inside.short c.gather-count.new.epochs.items c.gather-count.new.publications.items c.args.at.now c.gather-count.result counted c.gather-count.ensures.moved c.gather-count.ensures.counted c.gather-count.ensures.front)
+
+pub returns-clause-buffered : goal.returns-clause-buffered
+returns-clause-buffered c =
+    rw (c.truncate.ensures.items, ← c.self.view_is)
+    (run_few c.self.inside.epochs.items c.gather-count.new.epochs.items c.self.inside.publications.items c.gather-count.new.publications.items c.gather-count.result c.gather-count.ensures.beside c.gather-count.ensures.moved c.gather-count.ensures.counted)
+
+pub returns-clause-given_up : goal.returns-clause-given_up
+returns-clause-given_up c whole =
+    let within = rw c.self.view_is at c.self.invariant.within in
+    none_kept _ _ (within.nothing whole) (returns-clause-buffered c)
 
 pub returns-clause-insufficient : goal.returns-clause-insufficient
 returns-clause-insufficient c =
