@@ -69,6 +69,10 @@ reconnects x = record { fresh = first_id; modes = λ c. idle (x.modes c); calls 
 
 -- ---- what it takes
 
+-- A push names an offset and no epoch: the client keeps the epoch that it has.
+abbrev pub moved_on : Position → Position → Position
+moved_on p q = record { epoch = p.epoch; offset = q.offset }
+
 -- What a note makes of channel c. A reply counts where it answers the ask that is out, a push while the channel is live.
 abbrev pub takes : List ℕ → Mode → Note → Mode
 takes c (Idle last) n = Idle last
@@ -76,7 +80,7 @@ takes c (Asking id from last) (Reply d k was r) = if bytes_eq d c && (k == id) t
 takes c (Asking id from last) (Fails d k code) = if bytes_eq d c && (k == id) then Idle last else Asking id from last
 takes c (Asking id from last) (Close code) = Idle last
 takes c (Asking id from last) n = Asking id from last
-takes c (Live p) (Pub d q) = if bytes_eq d c then Live q else Live p
+takes c (Live p) (Pub d q) = if bytes_eq d c then Live (moved_on p q) else Live p
 takes c (Live p) (End d) = if bytes_eq d c then Idle (Some p) else Live p
 takes c (Live p) (Close code) = Idle (Some p)
 takes c (Live p) n = Live p
