@@ -203,3 +203,10 @@ text_or_none (Some o) = outgoing_text o
 -- the text of a note, whose data are those of the lists; that of a close is empty
 abbrev pub note_text : Lists → Note → List ℕ
 note_text lists n = text_or_none (outgoing_of lists n)
+
+-- the texts of the two pushes, by their parts
+abbrev pub publication_text : List ℕ → Placed → List ℕ
+publication_text channel p = outgoing_text (Push channel (Publication p))
+
+abbrev pub unsubscribe_text : List ℕ → ℕ → List ℕ
+unsubscribe_text channel code = outgoing_text (Push channel (Unsubscribe code))

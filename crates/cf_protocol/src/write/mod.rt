@@ -3,7 +3,10 @@
 
 mod command;
 mod outgoing;
+mod publication;
+mod push;
 mod writer;
 
 pub use command::write_command;
 pub use outgoing::write_reply;
+pub use push::{write_publication, write_unsubscribe};

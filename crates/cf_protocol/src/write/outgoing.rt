@@ -1,17 +1,18 @@
 //! The texts of replies and pushes.
 ghost use Rattle.std.specs.Prelude.{◌≡◌, ◌∷◌, [], ℕ, List, map, Some, IfOk, string_bytes, string_cmp};
-ghost use Rattle.cf_json.specs.Compact.{compact_text};
 ghost use Rattle.cf_protocol.specs.Shown.{shown_outgoing, shown_outcome, shown_pushed, shown_users};
 ghost use Rattle.cf_protocol.specs.Written as written;
-ghost use Rattle.cf_protocol.specs.Written.{◌⇒◌, as_it_is, object_of, inner, info as info_members, info_or_none, publication as publication_tree, publications as publications_list, connected, error as error_members, subscribed, counted, past, presence, unsubscribed, pushed, client as client_member, reply, outgoing as outgoing_members, outgoing_text};
-ghost use Rattle.cf_protocol.specs.Writing.{Adds, AddsValue, AddsItems, bytes_of};
+ghost use Rattle.cf_protocol.specs.Written.{◌⇒◌, as_it_is, object_of, inner, publication as publication_tree, publications as publications_list, connected, error as error_members, subscribed, counted, past, presence, pushed, client as client_member, reply, outgoing as outgoing_members, outgoing_text};
+ghost use Rattle.cf_protocol.specs.Writing.{Adds, AddsItems, bytes_of};
 ghost use Rattle.std.specs.BTreeMap.{IsOrdered};
 
-use crate::codes::{is_temporary, message_of, unsubscribe_reason};
+use crate::codes::{is_temporary, message_of};
 use crate::outgoing::{Outcome, Outgoing, Pushed};
 use crate::position::Position;
-use crate::publication::{Info, Publication};
+use crate::publication::Publication;
 use crate::write::command::{write_bare, write_id, write_position};
+use crate::write::publication::{write_info, write_placed};
+use crate::write::push::{add_publication, add_unsubscribe};
 use crate::write::writer::Writer;
 use std::alloc::{AllocError, Global};
 use std::collections::BTreeMap;
@@ -235,16 +236,6 @@ fn write_client(writer: &mut Writer, client: &str, user: &str) -> Result<(), All
     Ok(())
 }
 
-/// The members of an info.
-fn write_info(writer: &mut Writer, client: &str, user: &str) -> Result<(), AllocError>
-    ensures { IfOk result (λ _. Adds writer.old writer.new
-        (info_members (record { client = client.now; user = user.now }))) }
-{
-    writer.text_member("client", client)?;
-    writer.text_member("user", user)?;
-    Ok(())
-}
-
 /// The publications of a result, left out where there are none.
 fn write_publications(
     writer: &mut Writer,
@@ -269,48 +260,8 @@ fn write_items(writer: &mut Writer, publications: &Vec<Publication>) -> Result<(
 {
     for publication in publications {
         writer.comma()?;
-        write_publication(writer, publication)?;
+        write_placed(writer, publication)?;
     }
-    Ok(())
-}
-
-/// A publication, whose data always stands.
-fn write_publication(writer: &mut Writer, publication: &Publication) -> Result<(), AllocError>
-    ensures { IfOk result (λ _. AddsValue writer.old writer.new
-        (compact_text (publication_tree as_it_is publication.now))) }
-{
-    writer.begin("{")?;
-    writer.key("data")?;
-    writer.value(publication.body.as_str())?;
-    write_publisher(writer, &publication.info)?;
-    writer.whole_member("offset", publication.offset)?;
-    writer.value("}")?;
-    Ok(())
-}
-
-/// The info of a publication, left out where there is none.
-fn write_publisher(writer: &mut Writer, info: &Option<Info>) -> Result<(), AllocError>
-    ensures { IfOk result (λ _. Adds writer.old writer.new
-        (("info" ⇒ info_or_none info.now) ∷ [])) }
-{
-    let Some(info) = info else {
-        return Ok(());
-    };
-    write_info_member(writer, info.client.as_str(), info.user.as_str())?;
-    Ok(())
-}
-
-/// An info, left out where it is empty.
-fn write_info_member(writer: &mut Writer, client: &str, user: &str) -> Result<(), AllocError>
-    ensures { IfOk result (λ _. Adds writer.old writer.new
-        (("info" ⇒ inner (info_members (record { client = client.now; user = user.now }))) ∷ [])) }
-{
-    if client.is_empty() && user.is_empty() {
-        return Ok(());
-    }
-    writer.open("info", "{")?;
-    write_info(writer, client, user)?;
-    writer.value("}")?;
     Ok(())
 }
 
@@ -322,38 +273,7 @@ fn write_push(writer: &mut Writer, channel: &str, push: &Pushed) -> Result<(), A
         ∷ pushed as_it_is (shown_pushed push.now) ∷ [])) ∷ [])) }
 {
     match push {
-        Pushed::Publication(publication) => {
-            writer.open("push", "{")?;
-            writer.text_member("channel", channel)?;
-            writer.key("pub")?;
-            write_publication(writer, publication)?;
-            writer.value("}")?;
-            Ok(())
-        }
-        Pushed::Unsubscribe { code } => {
-            if *code == 0 && channel.is_empty() {
-                return Ok(());
-            }
-            writer.open("push", "{")?;
-            writer.text_member("channel", channel)?;
-            write_unsubscribe(writer, *code)?;
-            writer.value("}")?;
-            Ok(())
-        }
+        Pushed::Publication(publication) => add_publication(writer, channel, publication),
+        Pushed::Unsubscribe { code } => add_unsubscribe(writer, channel, *code),
     }
-}
-
-/// The end of a subscription, left out where it has no code.
-fn write_unsubscribe(writer: &mut Writer, code: u32) -> Result<(), AllocError>
-    ensures { IfOk result (λ _. Adds writer.old writer.new
-        (("unsubscribe" ⇒ inner (unsubscribed code)) ∷ [])) }
-{
-    if code == 0 {
-        return Ok(());
-    }
-    writer.open("unsubscribe", "{")?;
-    writer.whole_member("code", u64::from(code))?;
-    writer.text_member("reason", unsubscribe_reason(code))?;
-    writer.value("}")?;
-    Ok(())
 }

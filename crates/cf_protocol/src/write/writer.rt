@@ -29,6 +29,19 @@ impl Writer {
         }
     }
 
+    /// An empty text that has room for so many bytes.
+    pub fn with_room(alloc: Global, bytes: usize) -> Result<Writer, AllocError>
+        ensures text { IfOk result (λ w. string_bytes w.text ≡ []) }
+        ensures fresh { IfOk result (λ w. w.fresh ≡ true) }
+    {
+        let text = String::with_capacity(alloc, bytes)?;
+        Ok(Writer {
+            text,
+            fresh: true,
+            alloc,
+        })
+    }
+
     /// What was written.
     pub fn into_text(self) -> String
         ensures { string_bytes result ≡ string_bytes self.text }
@@ -123,8 +136,8 @@ impl Writer {
     {
         if number != 0 {
             self.key(key)?;
-            let digits = number.to_string(self.alloc)?;
-            self.value(digits.as_str())?;
+            write!(self.text, "{number}")?;
+            self.fresh = false;
         }
         Ok(())
     }
@@ -136,8 +149,8 @@ impl Writer {
     {
         if *number != 0 {
             self.key(key)?;
-            let digits = number.to_string(self.alloc)?;
-            self.value(digits.as_str())?;
+            write!(self.text, "{number}")?;
+            self.fresh = false;
         }
         Ok(())
     }

@@ -1,7 +1,7 @@
 use Rattle.std.proofs.Common.{◌<◌, ◌+◌, length, arith}
 use Rattle.cf_protocol.proofs.Outgoings.{inside_inner, info_stands, nonzero}
-use Rattle.cf_protocol.proofs.write.outgoing.write_info_member.Goals.{else-is_empty-via-then-is_empty+else-is_empty-2, else-is_empty-via-else-is_empty}
-use Rattle.cf_protocol.proofs.write.outgoing.write_info_member.Goals as goal
+use Rattle.cf_protocol.proofs.write.publication.write_info_member.Goals.{else-is_empty-via-then-is_empty+else-is_empty-2, else-is_empty-via-else-is_empty}
+use Rattle.cf_protocol.proofs.write.publication.write_info_member.Goals as goal
 
 pub returns : goal.returns
 returns c =
