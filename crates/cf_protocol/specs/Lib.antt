@@ -11,6 +11,7 @@ pub mod Outgoing
 pub mod Note
 pub mod Fields
 pub mod Command
+pub mod Checks
 pub mod Reply
 pub mod Frame
 pub mod Written
