@@ -1,6 +1,8 @@
 //! The table of rows.
-ghost use Rattle.std.specs.Prelude.{◌≡◌, ◌↔◌, [], length, false, OnOk, OnErr, IsErrOf};
-ghost use Rattle.cf_subs.specs.Rows.{AreRows, channels_of, follows, is_of, most_rows, sessions_of, with_row, without_row, without_session};
+ghost use Rattle.std.specs.Prelude.{◌≡◌, ◌≢◌, ◌≤◌, ◌↔◌, ℕ, [], length, slice_get, false, OnOk, OnErr, IsErrOf};
+ghost use Rattle.cf_subs.specs.Rows.{AreRows, HasEachOnce, OnlyDetaches, OnlyJoins, OnlyLeaves, after_in, channels_of, follows};
+ghost use Rattle.cf_subs.specs.Rows.{has_channel, is_among, is_of, most_rows, sessions_of, with_row, without, without_row};
+ghost use Rattle.cf_subs.specs.Rows.{without_session};
 
 use crate::channel_walk::ChannelWalk;
 use crate::refusal::SubRefusal;
@@ -66,6 +68,8 @@ impl SubTable {
         ensures ok { OnOk result (self.new ≡ with_row self.old channel session) }
         ensures full { IsErrOf result SubRefusal.Full ↔ (length self.old ≡ most_rows) }
         ensures err { OnErr result (self.new ≡ self.old) }
+        ensures members { OnOk result (OnlyJoins self.old self.new channel session) }
+        ensures back { OnOk result (without_row self.new channel session ≡ self.old) }
         ensures rows { AreRows self.new }
     {
         if self.rows.len() >= MOST_ROWS {
@@ -77,6 +81,15 @@ impl SubTable {
 
     /// Whether a session follows a channel. It takes no memory.
     pub fn has(&self, channel: u32, session: u32) -> bool
+        ensures followed { result ≡ follows self.now channel session }
+        ensures in_channel { result ≡ is_among session (sessions_of self.now channel) }
+        ensures in_session { result ≡ is_among channel (channels_of self.now session) }
+    {
+        self.finds(channel, session)
+    }
+
+    /// Whether this row is there.
+    fn finds(&self, channel: u32, session: u32) -> bool
         ensures { result ≡ follows self.now channel session }
     {
         self.rows.iter().any(|row| row.is_of(channel, session))
@@ -86,6 +99,10 @@ impl SubTable {
     pub fn remove(&mut self, channel: u32, session: u32) -> bool
         ensures removed { self.new ≡ without_row self.old channel session }
         ensures found { result ≡ follows self.old channel session }
+        ensures members { OnlyLeaves self.old self.new channel session }
+        ensures walked { sessions_of self.new channel ≡ without session (sessions_of self.old channel) }
+        ensures others { (c : ℕ) → c ≢ channel → sessions_of self.new c ≡ sessions_of self.old c }
+        ensures rows { AreRows self.new }
     {
         let count = self.rows.len();
         self.rows.retain(|row| !row.is_of(channel, session));
@@ -96,6 +113,9 @@ impl SubTable {
     pub fn detach(&mut self, session: u32) -> usize
         ensures removed { self.new ≡ without_session self.old session }
         ensures counted { result ≡ length (channels_of self.old session) }
+        ensures members { OnlyDetaches self.old self.new session }
+        ensures walked { (c : ℕ) → sessions_of self.new c ≡ without session (sessions_of self.old c) }
+        ensures rows { AreRows self.new }
     {
         let count = self.rows.len();
         self.rows.retain(|row| row.session != session);
@@ -105,6 +125,7 @@ impl SubTable {
     /// The sessions that follow a channel, in order of adding. It takes no memory.
     pub fn walk(&self, channel: u32) -> Walk<'_>
         ensures sessions { result ≡ sessions_of self.now channel }
+        ensures each { HasEachOnce (sessions_of self.now channel) (follows self.now channel) }
         ensures rows { AreRows self.now }
     {
         Walk {
@@ -113,9 +134,60 @@ impl SubTable {
         }
     }
 
+    /// The first session that follows a channel, if one does. It takes no memory.
+    pub fn first(&self, channel: u32) -> Option<u32>
+        ensures first { result ≡ slice_get (sessions_of self.now channel) 0 }
+        ensures each { HasEachOnce (sessions_of self.now channel) (follows self.now channel) }
+        ensures rows { AreRows self.now }
+    {
+        self.walk(channel).next()
+    }
+
+    /// The session that comes next after this one in the walk of a channel that this one follows; no session where it is the
+    /// last or doesn't follow the channel. It takes no memory.
+    ///
+    /// With `first` it goes over a channel's sessions while rows go: take the next session before this one's row is removed.
+    pub fn after(&self, channel: u32, session: u32) -> Option<u32>
+        ensures next { result ≡ after_in session (sessions_of self.now channel) }
+        ensures rows { AreRows self.now }
+    {
+        let mut walk = self.walk(channel);
+        while let Some(follower) = walk.next() {
+            if follower == session {
+                return walk.next();
+            }
+        }
+        None
+    }
+
+    /// Whether any session follows a channel. It takes no memory.
+    pub fn has_channel(&self, channel: u32) -> bool
+        ensures followed { result ≡ has_channel self.now channel }
+        ensures none { (result ≡ false) ↔ (sessions_of self.now channel ≡ []) }
+        ensures members { result ≡ false → (s : ℕ) → follows self.now channel s ≡ false }
+    {
+        self.first(channel).is_some()
+    }
+
+    /// How many channels a session follows. It takes no memory.
+    pub fn channel_count(&self, session: u32) -> usize
+        ensures { result ≡ length (channels_of self.now session) }
+    {
+        self.walk_session(session).count()
+    }
+
+    /// How many rows there are. It takes no memory.
+    pub fn len(&self) -> usize
+        ensures counted { result ≡ length self.now }
+        ensures most { length self.now ≤ most_rows }
+    {
+        self.rows.len()
+    }
+
     /// The channels that a session follows, in order of adding. It takes no memory.
     pub fn walk_session(&self, session: u32) -> ChannelWalk<'_>
         ensures channels { result ≡ channels_of self.now session }
+        ensures each { HasEachOnce (channels_of self.now session) (λ c. follows self.now c session) }
         ensures rows { AreRows self.now }
     {
         ChannelWalk {
