@@ -3,7 +3,7 @@
 use crate::fault::Fault;
 use clap::error::ErrorKind;
 use clap::{Arg, ArgMatches, Command, Error, value_parser};
-use std::alloc::Global;
+use std::alloc::{AllocError, Global};
 use std::process::ExitCode;
 
 const ABOUT: &str = "Broadcast nodes that speak Centrifugo's client protocol, proved in Rattle.";
@@ -44,30 +44,44 @@ pub struct Options<'a> {
     pub namespaces: &'a str,
 }
 
-/// Reads the program's words. With none but the program's name they ask for `simulate`. An error is what is to be shown:
-/// the help that was asked for, or why the words can't be used.
-pub fn read<'a>(alloc: Global, words: &'a [String]) -> Result<Options<'a>, Error> {
-    let nodes = Arg::new(alloc, "nodes")
+// How many nodes there are.
+fn nodes_option<'a>(alloc: Global) -> Arg<'a> {
+    Arg::new(alloc, "nodes")
         .long("nodes")
         .value_name("N")
         .help("How many nodes there are, 1 to 8")
         .value_parser(value_parser!(u8).range(1..=8))
-        .default_value("1");
-    let namespaces = Arg::new(alloc, "ns")
+        .default_value("1")
+}
+
+// Which namespaces are set up.
+fn namespaces_option<'a>(alloc: Global) -> Arg<'a> {
+    Arg::new(alloc, "ns")
         .long("ns")
         .value_name("SPEC")
         .help("The namespaces that are set up, as NAME=SIZE,SECONDS,FLAGS parted by `;`")
-        .default_value(DEFAULT_NAMESPACES);
-    let simulate = Command::new(alloc, "simulate")
+        .default_value(DEFAULT_NAMESPACES)
+}
+
+fn simulate_command<'a>(alloc: Global) -> Result<Command<'a>, AllocError> {
+    let command = Command::new(alloc, "simulate")
         .about(SIMULATE)
-        .after_help(SCHEDULE_NOTES)
-        .arg(nodes)?
-        .arg(namespaces)?;
+        .after_help(SCHEDULE_NOTES);
+    let command = command.arg(nodes_option(alloc))?;
+    command.arg(namespaces_option(alloc))
+}
+
+fn program<'a>(alloc: Global) -> Result<Command<'a>, AllocError> {
     let program = Command::new(alloc, "cf_server")
         .about(ABOUT)
-        .after_help(PROGRAM_NOTES)
-        .subcommand(simulate)?;
-    let matches = program.try_get_matches_from(words)?;
+        .after_help(PROGRAM_NOTES);
+    program.subcommand(simulate_command(alloc)?)
+}
+
+/// Reads the program's words. With none but the program's name they ask for `simulate`. An error is what is to be shown:
+/// the help that was asked for, or why the words can't be used.
+pub fn read<'a>(alloc: Global, words: &'a [String]) -> Result<Options<'a>, Error> {
+    let matches = program(alloc)?.try_get_matches_from(words)?;
     Ok(match matches.subcommand() {
         Some((_, found)) => options_of(found),
         None => options_of(&matches),

@@ -43,9 +43,15 @@ fn simulate_standard<R: Input + Print + AllocGlobal>(
     simulate(alloc, &mut reader, &mut writer, &config)
 }
 
+// The program's words. One that isn't UTF-8 is unusable.
 fn words<R: Env + AllocGlobal>(rt: &R) -> Result<Vec<String>, Fault> {
+    let given = match env::args(rt) {
+        Ok(given) => given,
+        Err(error) if error.kind() == io::ErrorKind::InvalidData => return Err(Fault::NotUtf8),
+        Err(error) => return Err(Fault::from(error)),
+    };
     let mut words = Vec::new(rt.alloc());
-    for word in env::args(rt)? {
+    for word in given {
         words.push(word)?;
     }
     Ok(words)
