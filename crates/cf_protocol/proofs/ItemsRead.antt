@@ -11,7 +11,7 @@ AreRead f ts i xs = read_all f ts ≡ option_map (λ ys. xs ++ ys) (read_all f (
 abbrev pub GoesOn : {A : Type 0} → List A → ℕ → A → Type 0
 GoesOn ts i t = drop i ts ≡ t ∷ drop (suc i) ts
 
-one_first : {B : Type 0} (xs : List B) (x : B) (o : Option (List B)) → option_map (λ ys. xs ++ ys) (option_map (λ ys. x ∷ ys) o) ≡ option_map (λ ys. (xs ++ x ∷ []) ++ ys) o
+pub one_first : {B : Type 0} (xs : List B) (x : B) (o : Option (List B)) → option_map (λ ys. xs ++ ys) (option_map (λ ys. x ∷ ys) o) ≡ option_map (λ ys. (xs ++ x ∷ []) ++ ys) o
 one_first xs x None = refl
 one_first xs x (Some ys) = ap Some (joins xs)
   where
@@ -30,13 +30,13 @@ read_goes_on f ts i xs t x r g e =
 pub read_stops : {A B : Type 0} (f : A → Option B) (ts : List A) (i : ℕ) (xs : List B) (t : A) → AreRead f ts i xs → GoesOn ts i t → f t ≡ None → read_all f ts ≡ None
 read_stops f ts i xs t r g e = r ∙ ap (λ us. option_map (λ ys. xs ++ ys) (read_all f us)) g ∙ ap (λ o. option_map (λ ys. xs ++ ys) (both o (read_all f (drop (suc i) ts)))) e
 
-all_dropped : {A : Type 0} (ts : List A) (i : ℕ) → length ts ≤ i → drop i ts ≡ []
+pub all_dropped : {A : Type 0} (ts : List A) (i : ℕ) → length ts ≤ i → drop i ts ≡ []
 all_dropped [] zero h = refl
 all_dropped [] (suc i) h = refl
 all_dropped (t ∷ ts) zero h = absurd (omega arith)
 all_dropped (t ∷ ts) (suc i) h = all_dropped ts i (omega arith)
 
-nothing_last : {B : Type 0} (xs : List B) → xs ++ [] ≡ xs
+pub nothing_last : {B : Type 0} (xs : List B) → xs ++ [] ≡ xs
 nothing_last [] = refl
 nothing_last (x ∷ xs) = ap (λ s. x ∷ s) (nothing_last xs)
 

@@ -16,7 +16,7 @@ use Rattle.cf_protocol.specs.Datum.{Who}
 use Rattle.cf_protocol.specs.Outgoing.{Users, Present}
 use Rattle.cf_protocol.specs.Fields.{◌>>=◌, read_all, look_up, object_as}
 use Rattle.cf_protocol.specs.Reply as reading
-use Rattle.cf_protocol.specs.Reply.{user_at, present_users}
+use Rattle.cf_protocol.specs.Reply.{is_there, user_at, users_of, present_users}
 use Rattle.cf_protocol.specs.Written.{object_of, parts_of, inner, client, info, presence}
 use Rattle.cf_protocol.proofs.JsonLaws.{JsonLaws}
 use Rattle.cf_protocol.proofs.Lookups.{slot, read_object}
@@ -96,8 +96,12 @@ none_known (u ∷ us) = (tt, none_known us)
 
 -- ---- the users
 
-read_listed : JsonLaws → (us : List User) → T (is_sorted (slice_cmp nat_cmp) us) → object_as (read_all user_at) (object_of (map client us)) ≡ Some us
-read_listed j us s = reads _ (users_onto j [] us s (none_known us)) (read_users j us)
+all_there : (us : List User) → filter is_there (map member_of us) ≡ map member_of us
+all_there [] = refl
+all_there (u ∷ us) = ap (λ fs. member_of u ∷ fs) (all_there us)
+
+read_listed : JsonLaws → (us : List User) → T (is_sorted (slice_cmp nat_cmp) us) → object_as users_of (object_of (map client us)) ≡ Some us
+read_listed j us s = reads _ (users_onto j [] us s (none_known us)) (ap (read_all user_at) (all_there us) ∙ read_users j us)
 
 same_users : (users : Users) → from_entries (entries users) ≡ users
 same_users users = same_entries_map (from_entries (entries users)) users (sorted_entries (entries users) (entries_sorted users))

@@ -19,11 +19,11 @@ use Rattle.cf_json.specs.Grammar.{Tree, null, boolean, number, text as string, a
 use Rattle.cf_json.specs.Characters.{characters}
 use Rattle.cf_json.specs.Members as json
 use Rattle.cf_protocol.specs.Datum.{Who}
-use Rattle.cf_protocol.specs.Fields.{Fields, members_onto, as_object, object_as, read_all}
-use Rattle.cf_protocol.specs.Reply.{info, user_at}
+use Rattle.cf_protocol.specs.Fields.{Fields, both, members_onto, as_object, object_as, read_all}
+use Rattle.cf_protocol.specs.Reply.{info, is_there, user_at, users_of}
 use Rattle.cf_protocol.specs.Shown.{shown_users}
 use Rattle.cf_protocol.specs.Writing.{bytes_of}
-use Rattle.cf_protocol.proofs.ItemsRead.{AreRead, GoesOn, read_goes_on, read_stops, read_ends}
+use Rattle.cf_protocol.proofs.ItemsRead.{GoesOn, one_first, all_dropped, nothing_last}
 
 abbrev Entry : Type 0
 Entry = List ℕ × List ℕ
@@ -140,8 +140,8 @@ put_is_insert us k v =
 -- the users of the first i clients are read and in the map
 pub record Gathered (fs : Fields) (i : ℕ) (users : BTreeMap (String Global) (String Global)) : Type 0 where
   pub read : List Entry
-  pub are : AreRead user_at fs i read
-  pub keys : keys_of read ++ keys_of (drop i fs) ≡ keys_of fs
+  pub are : users_of fs ≡ option_map (λ ys. read ++ ys) (users_of (drop i fs))
+  pub keys : Differ (keys_of read ++ keys_of (drop i fs))
   pub shown : shown_users users ≡ from_entries read
 
 joins : (ks : List (List ℕ)) (k : List ℕ) (bs : List (List ℕ)) → ks ++ k ∷ bs ≡ (ks ++ k ∷ []) ++ bs
@@ -151,6 +151,14 @@ joins (a ∷ ks) k bs = ap (λ ls. a ∷ ls) (joins ks k bs)
 keys_push : (us : List Entry) (k v : List ℕ) → keys_of (us ++ (k, v) ∷ []) ≡ keys_of us ++ k ∷ []
 keys_push [] k v = refl
 keys_push (u ∷ us) k v = ap (λ ks. u.0 ∷ ks) (keys_push us k v)
+
+all_without : (P : List ℕ → Type 0) (ks : List (List ℕ)) (k : List ℕ) (bs : List (List ℕ)) → AllByRecursion P (ks ++ k ∷ bs) → AllByRecursion P (ks ++ bs)
+all_without P [] k bs h = h.1
+all_without P (a ∷ ks) k bs h = (h.0, all_without P ks k bs h.1)
+
+differ_without : (ks : List (List ℕ)) (k : List ℕ) (bs : List (List ℕ)) → Differ (ks ++ k ∷ bs) → Differ (ks ++ bs)
+differ_without [] k bs h = h.1
+differ_without (a ∷ ks) k bs h = (all_without (λ l. a ≢ l) ks k bs h.0, differ_without ks k bs h.1)
 
 user_is : (f : List ℕ × Tree) (who : Who) → object_as info f.1 ≡ Some who → user_at f ≡ Some (f.0, who.user)
 user_is f who e =
@@ -168,18 +176,46 @@ no_user f e =
       | Some r ↦ λ n. ap (option_and_then entry) n
     ] e
 
-pub gathered_one : (t : Tree) (fs : Fields) (i : ℕ) (users more : BTreeMap (String Global) (String Global)) (f : List ℕ × Tree) (who : Who) (k v : String Global)
-    → as_object t ≡ Some fs → Gathered fs i users → GoesOn fs i f → string_bytes k ≡ f.0 → object_as info f.1 ≡ Some who → string_bytes v ≡ who.user
+-- the client at hand, by whether it is there
+users_by : (fs : Fields) (i : ℕ) (f : List ℕ × Tree) → GoesOn fs i f → users_of (drop i fs) ≡ read_all user_at (cond (is_there f) (f ∷ filter is_there (drop (suc i) fs)) (filter is_there (drop (suc i) fs)))
+users_by fs i f goes = ap users_of goes
+
+users_with : (fs : Fields) (i : ℕ) (f : List ℕ × Tree) → GoesOn fs i f → is_there f ≡ true → users_of (drop i fs) ≡ both (user_at f) (users_of (drop (suc i) fs))
+users_with fs i f goes e =
+    users_by fs i f goes ∙ ap (λ b. read_all user_at (cond b (f ∷ filter is_there (drop (suc i) fs)) (filter is_there (drop (suc i) fs)))) e
+
+users_without : (fs : Fields) (i : ℕ) (f : List ℕ × Tree) → GoesOn fs i f → is_there f ≡ false → users_of (drop i fs) ≡ users_of (drop (suc i) fs)
+users_without fs i f goes e =
+    users_by fs i f goes ∙ ap (λ b. read_all user_at (cond b (f ∷ filter is_there (drop (suc i) fs)) (filter is_there (drop (suc i) fs)))) e
+
+-- the keys at hand and behind
+keys_by : (fs : Fields) (i : ℕ) (us : List Entry) (f : List ℕ × Tree) → GoesOn fs i f → Differ (keys_of us ++ keys_of (drop i fs)) → Differ (keys_of us ++ f.0 ∷ keys_of (drop (suc i) fs))
+keys_by fs i us f goes h = subst (λ gs. Differ (keys_of us ++ keys_of gs)) goes h
+
+as_it_is : {A : Type 0} (o : Option (List A)) → o ≡ option_map (λ ys. ys) o
+as_it_is None = refl
+as_it_is (Some ys) = refl
+
+pub gathered_none : (t : Tree) (fs : Fields) (users : BTreeMap (String Global) (String Global)) → as_object t ≡ Some fs → users.entries ≡ [] → Gathered fs 0 users
+gathered_none t fs users is_object empty =
+    record { read = []; are = as_it_is (users_of fs); keys = fields_differ t fs is_object; shown = ap (λ us. from_entries {R = by_bytes} (bytes_of us)) empty }
+
+pub gathered_one : (fs : Fields) (i : ℕ) (users more : BTreeMap (String Global) (String Global)) (f : List ℕ × Tree) (who : Who) (k v : String Global)
+    → Gathered fs i users → GoesOn fs i f → is_there f ≡ true → string_bytes k ≡ f.0 → object_as info f.1 ≡ Some who → string_bytes v ≡ who.user
     → more.entries ≡ insert_entry string_cmp users.entries k v → Gathered fs (i + 1) more
-gathered_one t fs i users more f who k v is_object g goes is_key is_info is_user puts =
-    let keys_go : keys_of (drop i fs) ≡ f.0 ∷ keys_of (drop (suc i) fs) = ap keys_of goes in
-    let split : keys_of g.read ++ f.0 ∷ keys_of (drop (suc i) fs) ≡ keys_of fs = ap (λ ks. keys_of g.read ++ ks) (sym keys_go) ∙ g.keys in
-    let is_new = new (keys_of g.read) f.0 (keys_of (drop (suc i) fs)) (subst Differ (sym split) (fields_differ t fs is_object)) in
+gathered_one fs i users more f who k v g goes there is_key is_info is_user puts =
+    let differ = keys_by fs i g.read f goes g.keys in
+    let is_new = new (keys_of g.read) f.0 (keys_of (drop (suc i) fs)) differ in
     let none = none_found f.0 g.read is_new in
+    let rest = users_of (drop (suc i) fs) in
     record {
       read = g.read ++ (f.0, who.user) ∷ [];
-      are = read_goes_on user_at fs i g.read f (f.0, who.user) g.are goes (user_is f who is_info);
-      keys = subst (λ n. keys_of (g.read ++ (f.0, who.user) ∷ []) ++ keys_of (drop n fs) ≡ keys_of fs) (sym (add-one i)) (ap (λ ks. ks ++ keys_of (drop (suc i) fs)) (keys_push g.read f.0 who.user) ∙ sym (joins (keys_of g.read) f.0 (keys_of (drop (suc i) fs))) ∙ split);
+      are =
+          subst (λ n. users_of fs ≡ option_map (λ ys. (g.read ++ (f.0, who.user) ∷ []) ++ ys) (users_of (drop n fs))) (sym (add-one i)) (
+          g.are ∙ ap (option_map (λ ys. g.read ++ ys)) (users_with fs i f goes there ∙ ap (λ o. both o rest) (user_is f who is_info)) ∙ one_first g.read (f.0, who.user) rest);
+      keys =
+          subst (λ n. Differ (keys_of (g.read ++ (f.0, who.user) ∷ []) ++ keys_of (drop n fs))) (sym (add-one i)) (
+          subst Differ (joins (keys_of g.read) f.0 (keys_of (drop (suc i) fs)) ∙ ap (λ ks. ks ++ keys_of (drop (suc i) fs)) (sym (keys_push g.read f.0 who.user))) differ);
       shown =
           ap (λ us. from_entries {R = by_bytes} (bytes_of us)) puts ∙ ap (λ us. from_entries {R = by_bytes} us) (bytes_put users.entries k v)
           ∙ put_is_insert (bytes_of users.entries) (string_bytes k) (string_bytes v)
@@ -189,8 +225,20 @@ gathered_one t fs i users more f who k v is_object g goes is_key is_info is_user
           ∙ sym (from_entries_push nat_list_cmp_total only_equal g.read f.0 who.user none);
     }
 
-pub gathered_stops : (fs : Fields) (i : ℕ) (users : BTreeMap (String Global) (String Global)) (f : List ℕ × Tree) → Gathered fs i users → GoesOn fs i f → object_as info f.1 ≡ None → read_all user_at fs ≡ None
-gathered_stops fs i users f g goes e = read_stops user_at fs i g.read f g.are goes (no_user f e)
+pub gathered_past : (fs : Fields) (i : ℕ) (users : BTreeMap (String Global) (String Global)) (f : List ℕ × Tree) → Gathered fs i users → GoesOn fs i f → is_there f ≡ false → Gathered fs (i + 1) users
+gathered_past fs i users f g goes there =
+    record {
+      read = g.read;
+      are = subst (λ n. users_of fs ≡ option_map (λ ys. g.read ++ ys) (users_of (drop n fs))) (sym (add-one i)) (g.are ∙ ap (option_map (λ ys. g.read ++ ys)) (users_without fs i f goes there));
+      keys =
+          subst (λ n. Differ (keys_of g.read ++ keys_of (drop n fs))) (sym (add-one i)) (differ_without (keys_of g.read) f.0 (keys_of (drop (suc i) fs)) (keys_by fs i g.read f goes g.keys));
+      shown = g.shown;
+    }
 
-pub gathered_all : (fs : Fields) (i : ℕ) (users : BTreeMap (String Global) (String Global)) → Gathered fs i users → length fs ≤ i → option_map from_entries (read_all user_at fs) ≡ Some (shown_users users)
-gathered_all fs i users g h = ap (option_map from_entries) (read_ends user_at fs i g.read g.are h) ∙ ap Some (sym g.shown)
+pub gathered_stops : (fs : Fields) (i : ℕ) (users : BTreeMap (String Global) (String Global)) (f : List ℕ × Tree) → Gathered fs i users → GoesOn fs i f → is_there f ≡ true → object_as info f.1 ≡ None → users_of fs ≡ None
+gathered_stops fs i users f g goes there e =
+    g.are ∙ ap (option_map (λ ys. g.read ++ ys)) (users_with fs i f goes there ∙ ap (λ o. both o (users_of (drop (suc i) fs))) (no_user f e))
+
+pub gathered_all : (fs : Fields) (i : ℕ) (users : BTreeMap (String Global) (String Global)) → Gathered fs i users → length fs ≤ i → option_map from_entries (users_of fs) ≡ Some (shown_users users)
+gathered_all fs i users g h =
+    ap (option_map from_entries) (g.are ∙ ap (λ gs. option_map (λ ys. g.read ++ ys) (users_of gs)) (all_dropped fs i h) ∙ ap Some (nothing_last g.read)) ∙ ap Some (sym g.shown)

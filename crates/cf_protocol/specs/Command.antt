@@ -41,8 +41,9 @@ abbrev pub history : Fields → Option Request
 history r =
     text r "channel" >>= λ channel. limit r "limit" >>= λ most. object_or_none position r "since" >>= λ since. flag r "reverse" >>= λ reverse. Some (History channel most since reverse)
 
-abbrev pub without_members : Request → Fields → Option Request
-without_members request r = Some request
+-- whatever members it has, or whatever value it is
+abbrev pub always : {A : Type 0} → Request → A → Option Request
+always request x = Some request
 
 -- ---- commands
 
@@ -51,8 +52,8 @@ abbrev pub requests : List (Name × (Tree → Option Request))
 requests =
     ("connect", object_as connect) ∷ ("subscribe", object_as subscribe) ∷ ("unsubscribe", object_as unsubscribe) ∷ ("publish", object_as publish)
     ∷ ("presence", object_as presence) ∷ ("presence_stats", object_as presence_stats) ∷ ("history", object_as history)
-    ∷ ("ping", object_as (without_members Ping)) ∷ ("send", object_as (without_members Send))
-    ∷ ("rpc", λ t. Some Other) ∷ ("refresh", λ t. Some Other) ∷ ("sub_refresh", λ t. Some Other) ∷ []
+    ∷ ("ping", always Ping) ∷ ("send", always Send)
+    ∷ ("rpc", always Other) ∷ ("refresh", always Other) ∷ ("sub_refresh", always Other) ∷ []
 
 abbrev pub needs_id : Request → Bool
 needs_id Send = false

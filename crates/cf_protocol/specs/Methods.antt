@@ -34,11 +34,11 @@ served method.Publish = command.publish
 served method.Presence = command.presence
 served method.PresenceStats = command.presence_stats
 served method.History = command.history
-served method.Ping = command.without_members request.Ping
-served method.Send = command.without_members request.Send
-served method.Rpc = command.without_members request.Other
-served method.Refresh = command.without_members request.Other
-served method.SubRefresh = command.without_members request.Other
+served method.Ping = command.always request.Ping
+served method.Send = command.always request.Send
+served method.Rpc = command.always request.Other
+served method.Refresh = command.always request.Other
+served method.SubRefresh = command.always request.Other
 
 -- what the value of a method is read as
 abbrev pub request_as : Method → Tree → Option request.Request
@@ -49,11 +49,11 @@ request_as method.Publish = object_as command.publish
 request_as method.Presence = object_as command.presence
 request_as method.PresenceStats = object_as command.presence_stats
 request_as method.History = object_as command.history
-request_as method.Ping = object_as (command.without_members request.Ping)
-request_as method.Send = object_as (command.without_members request.Send)
-request_as method.Rpc = λ t. Some request.Other
-request_as method.Refresh = λ t. Some request.Other
-request_as method.SubRefresh = λ t. Some request.Other
+request_as method.Ping = command.always request.Ping
+request_as method.Send = command.always request.Send
+request_as method.Rpc = command.always request.Other
+request_as method.Refresh = command.always request.Other
+request_as method.SubRefresh = command.always request.Other
 
 abbrev pub result_key : ResultKey → List ℕ
 result_key key.Error = codes "error"

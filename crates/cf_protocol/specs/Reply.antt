@@ -1,5 +1,5 @@
 -- The reply or push that a value is. (Centrifugo's client protocol, JSON form: `Reply`, its results, and `Push`.)
-use Rattle.std.specs.Prelude.{ℕ, List, [], ◌∷◌, map, Option, Some, None, option_map}
+use Rattle.std.specs.Prelude.{ℕ, List, [], ◌∷◌, map, filter, Bool, is_some, Option, Some, None, option_map}
 use Rattle.std.specs.FinMap.{from_entries}
 use Prim.Native.String.{String as Name}
 use Rattle.cf_json.specs.Grammar.{Tree}
@@ -7,7 +7,7 @@ use Rattle.cf_json.specs.Compact.{compact_text}
 use Rattle.cf_json.specs.Members.{Fields}
 use Rattle.cf_protocol.specs.Datum.{Who, Placed}
 use Rattle.cf_protocol.specs.Outgoing.{Outcome, Connected, Subscribed, Unsubscribed, Published, Present, Counted, Past, Pinged, Failed, Pushed, Publication, Unsubscribe, Outgoing, Ping, Answer, Push}
-use Rattle.cf_protocol.specs.Fields.{◌>>=◌, read_all, read_or, as_object, object_as, as_whole, member, present, text, flag, whole, position, objects, object_or_none, each_of, the_only, max_u32, max_u64}
+use Rattle.cf_protocol.specs.Fields.{◌>>=◌, read_all, read_or, as_object, object_as, as_whole, unless_null, member, present, text, flag, whole, position, objects, object_or_none, each_of, the_only, max_u32, max_u64}
 
 -- ---- results by their members
 
@@ -30,8 +30,15 @@ subscribed r =
 abbrev pub user_at : List ℕ × Tree → Option (List ℕ × List ℕ)
 user_at f = as_object f.1 >>= λ r. info r >>= λ who. Some (f.0, who.user)
 
+-- a client whose info is `null` counts as absent
+abbrev pub is_there : List ℕ × Tree → Bool
+is_there f = is_some (unless_null f.1)
+
+abbrev pub users_of : Fields → Option (List (List ℕ × List ℕ))
+users_of r = read_all user_at (filter is_there r)
+
 abbrev pub present_users : Fields → Option Outcome
-present_users r = read_or [] (λ t. as_object t >>= read_all user_at) (present r "presence") >>= λ users. Some (Present (from_entries users))
+present_users r = read_or [] (object_as users_of) (present r "presence") >>= λ users. Some (Present (from_entries users))
 
 abbrev pub counted : Fields → Option Outcome
 counted r = whole max_u64 r "num_clients" >>= λ clients. whole max_u64 r "num_users" >>= λ users. Some (Counted clients users)

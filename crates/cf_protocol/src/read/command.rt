@@ -63,7 +63,7 @@ fn needs_id(request: &Request) -> bool
     !matches!(request, Request::Send)
 }
 
-/// The request of a method: its value is an object, but for those that aren't served.
+/// The request of a method. The value is an object, but for those of which nothing is read: there it may be any.
 fn read_request(
     alloc: Global,
     text: &str,
@@ -74,6 +74,8 @@ fn read_request(
     ensures { (t : Tree) → IsAt text.now t value → Answers shown_request result (request_as method t) }
 {
     match method {
+        Method::Ping => Ok(Request::Ping),
+        Method::Send => Ok(Request::Send),
         Method::Rpc | Method::Refresh | Method::SubRefresh => Ok(Request::Other),
         _ => {
             let members = Members::of(alloc, text, value)?;

@@ -1,9 +1,9 @@
 //! The members of an object, read by their keys.
-ghost use Rattle.std.specs.Prelude.{option_and_then, ◌≡◌, ℕ, List, [], false, pos, Option, Some, None, MatchOption, IfOk, ◌≤◌, string_bytes};
+ghost use Rattle.std.specs.Prelude.{option_and_then, ◌≡◌, ℕ, List, [], false, pos, Option, Some, None, MatchOption, IfOk, ◌≤◌, is_some, string_bytes};
 ghost use Rattle.std.specs.Option.{IsSomeAnd};
 ghost use Rattle.cf_json.specs.Grammar.{Tree};
 ghost use Rattle.cf_json.specs.Spans.{IsAt};
-ghost use Rattle.cf_protocol.specs.Fields.{Fields, look_up, read_or, as_object, as_text, as_flag, as_whole, as_limit, position, object_or_none};
+ghost use Rattle.cf_protocol.specs.Fields.{Fields, look_up, unless_null, read_or, as_object, as_text, as_flag, as_whole, as_limit, position, object_or_none};
 ghost use Rattle.cf_protocol.specs.Reading.{Tells, Answers, Reads, Finds, Stand, present_at, object_at, items_at};
 
 use crate::epoch::Epoch;
@@ -19,6 +19,14 @@ pub struct Members<'a> {
     pub text: &'a str,
     /// Their keys, and where their values stand.
     pub found: Vec<(String, Span)>,
+}
+
+/// Whether a value counts as present: it is not `null`.
+pub fn is_present(text: &str, span: Span) -> bool
+    requires { (t : Tree) × IsAt text.now t span }
+    ensures { (t : Tree) → IsAt text.now t span → result ≡ is_some (unless_null t) }
+{
+    kind(text, span) != Kind::Null
 }
 
 impl<'a> Members<'a> {

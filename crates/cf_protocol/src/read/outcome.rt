@@ -3,15 +3,15 @@ ghost use Rattle.std.specs.FinMap.{from_entries};
 ghost use Rattle.std.specs.Prelude.{◌≡◌, Some, option_map};
 ghost use Rattle.cf_json.specs.Grammar.{Tree};
 ghost use Rattle.cf_json.specs.Spans.{IsAt};
-ghost use Rattle.cf_protocol.specs.Fields.{Fields, as_object, object_as, read_all};
+ghost use Rattle.cf_protocol.specs.Fields.{Fields, as_object, object_as};
 ghost use Rattle.cf_protocol.specs.Methods.{result_key, outcome_of};
 ghost use Rattle.cf_protocol.specs.Reading.{Answers, Chooses, Reads};
-ghost use Rattle.cf_protocol.specs.Reply.{code_in, connected, counted, past, present_users, result_of, subscribed, user_at};
+ghost use Rattle.cf_protocol.specs.Reply.{code_in, connected, counted, past, present_users, result_of, subscribed, users_of};
 ghost use Rattle.cf_protocol.specs.Shown.{shown_outcome, shown_users};
 
 use crate::fault::ReadFault;
 use crate::outgoing::Outcome;
-use crate::read::members::Members;
+use crate::read::members::{Members, is_present};
 use crate::read::publication::{read_client, read_publications};
 use cf_json::Span;
 use std::alloc::Global;
@@ -194,14 +194,17 @@ fn read_present(alloc: Global, members: &Members<'_>) -> Result<Outcome, ReadFau
     }
 }
 
-/// The user of each of these clients, by the client's id, which is the key of its info.
+/// The user of each of these clients, by the client's id, which is the key of its info. One whose info is `null` counts as absent.
 fn read_users(alloc: Global, clients: &Members<'_>) -> Result<BTreeMap<String, String>, ReadFault>
     requires { (fs : Fields) × Reads clients.now.text.now clients.now.found.items fs }
     ensures { (t : Tree) (fs : Fields) → as_object t ≡ Some fs → Reads clients.now.text.now clients.now.found.items fs
-        → Answers shown_users result (option_map from_entries (read_all user_at fs)) }
+        → Answers shown_users result (option_map from_entries (users_of fs)) }
 {
     let mut users = BTreeMap::new(alloc);
     for client in &clients.found {
+        if !is_present(clients.text, client.1) {
+            continue;
+        }
         let info = read_client(alloc, clients.text, client.1)?;
         users.insert(client.0.clone()?, info.user)?;
     }

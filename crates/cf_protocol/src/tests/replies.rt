@@ -45,7 +45,7 @@ const KEPT: [&str; 32] = [
 ];
 
 /// Frames, and what is written again of each.
-const REWRITTEN: [(&str, &str); 28] = [
+const REWRITTEN: [(&str, &str); 30] = [
     // several in a frame; a push of a kind that is not known is passed over
     (" {}{ }\r\n\t{} ", "{}{}{}"),
     (
@@ -72,6 +72,14 @@ const REWRITTEN: [(&str, &str); 28] = [
     (
         "{\"id\":1,\"presence\":{\"presence\":{\"a\":{\"client\":null,\"user\":null}}}}",
         "{\"id\":1,\"presence\":{\"presence\":{\"a\":{\"client\":\"a\"}}}}",
+    ),
+    (
+        "{\"id\":1,\"presence\":{\"presence\":{\"a\":null}}}",
+        "{\"id\":1,\"presence\":{}}",
+    ),
+    (
+        "{\"id\":1,\"presence\":{\"presence\":{\"a\":{},\"b\":null,\"c\":{\"user\":\"u\"},\"a\":null}}}",
+        "{\"id\":1,\"presence\":{\"presence\":{\"c\":{\"client\":\"c\",\"user\":\"u\"}}}}",
     ),
     (
         "{\"id\":1,\"presence_stats\":{\"num_clients\":null,\"num_users\":null}}",
@@ -160,7 +168,7 @@ const REWRITTEN: [(&str, &str); 28] = [
 ];
 
 /// Frames that are unreadable.
-const REFUSED: [&str; 87] = [
+const REFUSED: [&str; 86] = [
     // no reply
     "{\"push\":null}",
     "{\"push\":{\"channel\":\"a\",\"pub\":{\"data\":1},\"unsubscribe\":{\"code\":1}}}",
@@ -208,7 +216,6 @@ const REFUSED: [&str; 87] = [
     "{\"id\":1,\"presence_stats\":{\"num_clients\":18446744073709551616}}",
     "{\"id\":1,\"presence_stats\":{\"num_users\":-1}}",
     // null counts as absent
-    "{\"id\":1,\"presence\":{\"presence\":{\"a\":null}}}",
     "{\"history\":{\"publications\":[null]},\"id\":1}",
     // members of another kind
     "{\"id\":1,\"connect\":{\"client\":1}}",
