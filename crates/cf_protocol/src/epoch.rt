@@ -1,5 +1,6 @@
 //! The epoch of a stream.
-ghost use Rattle.std.specs.Prelude.{◌≡◌, ◌==◌, length, []};
+ghost use Rattle.std.specs.Prelude.{◌≡◌, ◌==◌, ◌↔◌, IsTrue, length, []};
+ghost use Rattle.std.specs.Str.{bytes_eq};
 ghost use Rattle.cf_protocol.specs.Epoch.{IsEpoch, epoch_of, is_epoch};
 
 use std::marker::Model;
@@ -9,7 +10,7 @@ use std::{fmt, str};
 const MAX_LEN: usize = 32;
 
 /// An epoch of a stream: at most 32 ASCII letters or digits. The empty one stands for none.
-#[derive(Clone, Copy, PartialEq, Eq, Debug)]
+#[derive(Clone, Copy, Debug)]
 pub struct Epoch {
     bytes: [u8; MAX_LEN],
     len: u8,
@@ -76,16 +77,48 @@ impl Epoch {
         self.len == 0
     }
 
+    /// Its characters, as bytes.
+    fn as_bytes(&self) -> &[u8]
+        ensures characters { result.now ≡ self.now }
+        ensures letters_or_digits { IsEpoch self.now }
+    {
+        &self.bytes[..self.len as usize]
+    }
+
     /// Its characters.
     pub fn as_str(&self) -> &str
         ensures characters { result.now ≡ self.now }
         ensures letters_or_digits { IsEpoch self.now }
     {
-        match str::from_utf8(&self.bytes[..self.len as usize]) {
+        match str::from_utf8(self.as_bytes()) {
             Ok(text) => text,
             Err(_) => unreachable!(),
         }
     }
+}
+
+/// Two epochs are equal where their characters are.
+impl PartialEq for Epoch {
+    ghost use Rattle.std.specs.Str.{bytes_eq};
+    ghost use Rattle.std.specs.Cmp.{partial_equiv_from_equiv};
+    ghost use Rattle.std.specs.Cmp.Lexicographic.{nat_list_eq_equiv};
+
+    ghost eq = { bytes_eq };
+
+    ghost laws = { partial_equiv_from_equiv nat_list_eq_equiv };
+
+    fn eq(&self, other: &Epoch) -> bool
+        ensures answers { result ≡ bytes_eq self.now other.now }
+        ensures same { IsTrue result ↔ (self.now ≡ other.now) }
+    {
+        self.as_bytes() == other.as_bytes()
+    }
+}
+
+impl Eq for Epoch {
+    ghost use Rattle.std.specs.Cmp.Lexicographic.{nat_list_eq_equiv};
+
+    ghost laws = { nat_list_eq_equiv };
 }
 
 impl fmt::Display for Epoch {
