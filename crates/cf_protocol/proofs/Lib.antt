@@ -14,6 +14,7 @@ pub mod ItemsRead
 pub mod Users
 pub mod Replies
 pub mod Writings
+pub mod Plain
 pub mod Outgoings
 pub mod Clients
 pub mod JsonLaws

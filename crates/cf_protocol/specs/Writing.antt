@@ -1,10 +1,14 @@
 -- A text that is being written, and what each step adds to it.
-use Rattle.std.specs.Prelude.{◌≡◌, ℕ, List, [], ◌∷◌, ◌++◌, Bool, true, false, Option, Some, None, map, String, string_bytes}
+use Rattle.std.specs.Prelude.{◌≡◌, ℕ, ◌==◌, ◌&&◌, nat_le, not, List, [], ◌∷◌, ◌++◌, Bool, true, false, Option, Some, None, map, String, string_bytes}
 use Rattle.std.specs.declared.alloc.Global.{Global}
 use Rattle.cf_json.specs.Grammar.{Tree}
 use Rattle.cf_json.specs.Compact.{key_text, first_text, more_text}
 use Rattle.cf_protocol.specs.Written.{Member, parts_of, items_of}
 use Rattle.cf_protocol.specs.declared.write.writer.Writer.{Writer}
+
+-- a byte that stands for itself in a string
+abbrev pub is_plain : ℕ → Bool
+is_plain x = nat_le 32 x && not (x == 34) && not (x == 92)
 
 -- what parts a member or item from what stands before it, by whether nothing does
 abbrev pub comma : Bool → List ℕ

@@ -1,11 +1,20 @@
 //! JSON text, written piece by piece.
 ghost use Rattle.std.specs.Prelude.{◌≡◌, ◌++◌, ◌∷◌, [], Some, IfOk, string_bytes, true};
+ghost use Rattle.std.specs.List.{list_all};
 ghost use Rattle.cf_json.specs.Quoting.{quoted, escaped};
 ghost use Rattle.cf_protocol.specs.Written as written;
-ghost use Rattle.cf_protocol.specs.Writing.{Adds, AddsKey, AddsValue, Opens, OpensMember, comma as comma_after};
+ghost use Rattle.cf_protocol.specs.Writing.{Adds, AddsKey, AddsValue, Opens, OpensMember, comma as comma_after, is_plain};
 
 use cf_json::quote;
 use std::alloc::{AllocError, Global};
+
+/// Whether no byte of a text has to be escaped in a string.
+fn is_plain(text: &str) -> bool
+    ensures { result ≡ list_all is_plain text.now }
+{
+    text.bytes()
+        .all(|byte| byte >= 32 && byte != b'"' && byte != b'\\')
+}
 
 /// A compact text that is being written. Members and items that follow one another are parted by commas.
 #[derive(Drop)]
@@ -84,8 +93,26 @@ impl Writer {
     pub fn text(&mut self, text: &str) -> Result<(), AllocError>
         ensures { IfOk result (λ _. AddsValue self.old self.new (quoted text.now)) }
     {
+        self.quoted(text)?;
+        self.fresh = false;
+        Ok(())
+    }
+
+    /// A text between quotation marks. Where no byte of it has to be escaped, it is copied as it is.
+    fn quoted(&mut self, text: &str) -> Result<(), AllocError>
+        ensures text { IfOk result (λ _. string_bytes self.new.text
+            ≡ string_bytes self.old.text ++ quoted text.now) }
+        ensures fresh { IfOk result (λ _. self.new.fresh ≡ self.old.fresh) }
+    {
+        if is_plain(text) {
+            self.text.push_str("\"")?;
+            self.text.push_str(text)?;
+            self.text.push_str("\"")?;
+            return Ok(());
+        }
         let quoted = quote(self.alloc, text)?;
-        self.value(quoted.as_str())
+        self.text.push_str(quoted.as_str())?;
+        Ok(())
     }
 
     /// The key of a member, whose value follows. It has nothing that is escaped.
@@ -104,8 +131,7 @@ impl Writer {
         ensures { IfOk result (λ _. AddsKey self.old self.new (escaped key.now)) }
     {
         self.comma()?;
-        let quoted = quote(self.alloc, key)?;
-        self.text.push_str(quoted.as_str())?;
+        self.quoted(key)?;
         self.text.push_str(":")?;
         Ok(())
     }
