@@ -1,17 +1,19 @@
 -- The account that a trace gives is what befell: the entries of each event are those that it wrote.
-use Rattle.std.proofs.Common.{◌≡◌, ℕ, suc, ◌≤◌, ◌<◌, ◌==◌, Bool, true, false, List, [], ◌∷◌, ◌++◌, refl, sym, ap, subst, arith, append_assoc, ◌≢◌, if◌then◌else◌}
+use Rattle.std.proofs.Common.{◌≡◌, ℕ, suc, ◌+◌, ◌≤◌, ◌<◌, ◌==◌, Bool, true, false, List, [], ◌∷◌, ◌++◌, length, refl, sym, ap, subst, arith, append_assoc, ◌≢◌, if◌then◌else◌}
 use Rattle.std.proofs.lemmas.List.{append-nil}
 use Rattle.std.proofs.lemmas.Bool.Decides.{nat_tests}
 use Rattle.cf_schedule.specs.Config.{Config}
 use Rattle.cf_schedule.specs.Event.{Event, Take}
 use Rattle.cf_schedule.specs.World.{World, start}
-use Rattle.cf_schedule.specs.LooseRun.{Happening, Line, Receive, loosely_allows, befalls}
+use Rattle.cf_schedule.specs.LooseRun.{Happening, Line, Receive, loosely_allows, befalls, loose_run}
 use Rattle.cf_schedule.specs.Trace.{Item, Entry}
 use Rattle.cf_schedule.specs.Told.{entries, tells, loosely_tells, loosely_writes, loose_trace}
 use Rattle.cf_schedule.specs.Marks.{Mark, entry_marks, allowed_marks, numbered, account}
-use Rattle.cf_schedule.specs.StreamSafety.{IsSafe, nothing_seen, SafeAccounts, Safe}
+use Rattle.cf_schedule.specs.StreamSafety.{AreNumbered, befell, Safe}
+use Rattle.cf_schedule.proofs.Automaton.{IsSafe, nothing_seen}
+use Rattle.cf_schedule.proofs.Sentences.{one_datum_of, unbroken_of, recovered_of, honest_of}
 use Rattle.cf_schedule.proofs.Tales.{tale, safe_tale}
-use Rattle.cf_schedule.proofs.Tracing.{one_datum}
+use Rattle.cf_schedule.proofs.Tracing.{true_when_told, true_ever_after}
 
 abbrev AreBelow : ℕ → List Entry → Type 0
 AreBelow n [] = Unit {0}
@@ -105,9 +107,35 @@ account-tale cfg x c (h ∷ hs) n w before b =
     (subst (λ (t : List Entry). account cfg x c t (suc n) (befalls cfg w h) hs ≡ tale cfg x c (suc n) (befalls cfg w h) hs)
     (append_assoc before (loosely_writes cfg n w h) (loose_trace cfg (suc n) (befalls cfg w h) hs)) later))
 
-pub safe_accounts : (cfg : Config) (hs : List Happening) → SafeAccounts cfg hs (loose_trace cfg 1 start hs)
-safe_accounts cfg hs x c = subst (λ (m : List (List Mark)). IsSafe nothing_seen m) (sym (account-tale cfg x c hs 1 start [] tt)) (safe_tale cfg hs x c)
+safe-account : (cfg : Config) (hs : List Happening) (x c : List ℕ) → IsSafe nothing_seen (befell cfg hs (loose_trace cfg 1 start hs) x c)
+safe-account cfg hs x c = subst (λ (m : List (List Mark)). IsSafe nothing_seen m) (sym (account-tale cfg x c hs 1 start [] tt)) (safe_tale cfg hs x c)
+
+-- numbers never fall
+numbered-at : (low n high : ℕ) (xs ys : List Entry) → low ≤ n → n ≤ high → AreAt n xs → AreNumbered n high ys → AreNumbered low high (xs ++ ys)
+numbered-at low n high [] [] l h a y = tt
+numbered-at low n high [] (e ∷ es) l h a y = (let i : n ≤ e.at = y.0 in omega arith, y.1, y.2)
+numbered-at low n high (x ∷ xs) ys l h a y =
+    let i : x.at ≡ n = a.0 in
+    (omega arith, omega arith, numbered-at x.at n high xs ys (omega arith) h a.1 y)
+
+numbered-from : (cfg : Config) (hs : List Happening) (n : ℕ) (w : World) (high : ℕ) → n + length hs ≡ suc high → AreNumbered n high (loose_trace cfg n w hs)
+numbered-from cfg [] n w high e = tt
+numbered-from cfg (h ∷ hs) n w high e =
+    let next : suc n + length hs ≡ suc high = omega arith in
+    numbered-at n n high (loosely_writes cfg n w h) _ (omega arith) (omega arith) (at-writes cfg n w h)
+    (lower n (suc n) high _ (omega arith) (numbered-from cfg hs (suc n) (befalls cfg w h) high next))
+  where
+    lower : (a b high : ℕ) (es : List Entry) → a ≤ b → AreNumbered b high es → AreNumbered a high es
+    lower a b high [] i h = tt
+    lower a b high (e ∷ es) i h = (let j : b ≤ e.at = h.0 in omega arith, h.1, h.2)
 
 -- THE HEADLINE, of every loose run
 pub safe_loose : (cfg : Config) (hs : List Happening) → Safe cfg hs (loose_trace cfg 1 start hs)
-safe_loose cfg hs = (one_datum cfg hs, safe_accounts cfg hs)
+safe_loose cfg hs = record {
+  numbered = numbered-from cfg hs 1 start (length hs) (omega arith);
+  true_to = true_when_told cfg hs;
+  one_datum = one_datum_of (loose_run cfg start hs).broker.lists (loose_trace cfg 1 start hs) (true_ever_after cfg hs);
+  unbroken = λ x c. unbroken_of (befell cfg hs (loose_trace cfg 1 start hs) x c) (safe-account cfg hs x c);
+  recovered_run = λ x c. recovered_of (befell cfg hs (loose_trace cfg 1 start hs) x c) (safe-account cfg hs x c);
+  honest_recovery = λ x c. honest_of (befell cfg hs (loose_trace cfg 1 start hs) x c) (safe-account cfg hs x c);
+}

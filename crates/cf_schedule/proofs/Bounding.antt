@@ -14,10 +14,11 @@ use Rattle.cf_hub.specs.Connection.{Sub, Off, Asked, Ready, On, Line, closes, pu
 use Rattle.cf_client.specs.ClientState.{Mode, Idle, Asking, Live, last_of, takes, read_to, hears as takes_note}
 use Rattle.cf_schedule.specs.Errand.{Errand, Sent, Subscribe, Unsubscribe, Publish, History}
 use Rattle.cf_schedule.specs.Weights.{wording}
-use Rattle.cf_schedule.specs.Link.{Link, with_line, sends, hears_subscribe, hears_errand, hears_first, hears, is_waiting, errs, says, fail_at, fails, over_at, finishes_over, closes_with, breaks, gets, hold_first, holds, receive_first, receives}
+use Rattle.cf_schedule.specs.Link.{Link, with_line, sends, hears_subscribe, hears_errand, hears_first, hears, is_waiting, errs, says, fail_at, fails, over_at, finishes_over, closes_with, breaks, gets, hold_first, holds, receive_first}
 use Rattle.cf_schedule.specs.Leading.{coming}
 use Rattle.cf_schedule.proofs.Within.{IsWithin, LastWithin, AreWithin, ModeWithin, SubWithin, NoteWithin, NotesWithin, ErrandWithin, UpsWithin, IsBoundedWith, IsBounded}
 use Rattle.cf_schedule.proofs.Names.{text_tells, by_two, by_test, with-all, with-same}
+use Rattle.cf_schedule.proofs.Leading.{IsNext, own-epoch}
 use Rattle.cf_schedule.proofs.Keeping.{by_verdict_lem}
 
 pub within-last_of : (top : List ℕ → ℕ) (m : Mode) → ModeWithin top m → LastWithin top (last_of m)
@@ -25,24 +26,24 @@ within-last_of top (Idle last) h = h
 within-last_of top (Asking id from last) h = h.1
 within-last_of top (Live p) h = h
 
-within-takes : (tops : List ℕ → List ℕ → ℕ) (c : List ℕ) (m : Mode) (n : Note) → ModeWithin (tops c) m → NoteWithin tops n → ModeWithin (tops c) (takes c m n)
-within-takes tops c (Idle last) n h k = h
-within-takes tops c (Asking id from last) (Reply d i was r) h k =
+within-takes : (tops : List ℕ → List ℕ → ℕ) (c : List ℕ) (m : Mode) (n : Note) → ModeWithin (tops c) m → NoteWithin tops n → IsNext c m n → ModeWithin (tops c) (takes c m n)
+within-takes tops c (Idle last) n h k f = h
+within-takes tops c (Asking id from last) (Reply d i was r) h k f =
     elim (by_two d c i id) [
       | inl e ↦ rw e.0 (subst (λ x. IsWithin (tops x) (read_to r)) e.1 k)
       | inr e ↦ rw e h
     ]
-within-takes tops c (Asking id from last) (Fails d i code) h k = by_test (ModeWithin (tops c)) (bytes_eq d c && (i == id)) _ _ (λ e. h.1) (λ e. h)
-within-takes tops c (Asking id from last) (Close code) h k = h.1
-within-takes tops c (Asking id from last) n h k = h
-within-takes tops c (Live p) (Pub d q) h k =
+within-takes tops c (Asking id from last) (Fails d i code) h k f = by_test (ModeWithin (tops c)) (bytes_eq d c && (i == id)) _ _ (λ e. h.1) (λ e. h)
+within-takes tops c (Asking id from last) (Close code) h k f = h.1
+within-takes tops c (Asking id from last) n h k f = h
+within-takes tops c (Live p) (Pub d q) h k f =
     elim (text_tells d c) [
-      | inl e ↦ rw e.0 (subst (λ x. IsWithin (tops x) q) e.1 k)
+      | inl e ↦ rw e.0 (subst (IsWithin (tops c)) (sym (own-epoch p q (f e.1))) (subst (λ x. IsWithin (tops x) q) e.1 k))
       | inr e ↦ rw e.0 h
     ]
-within-takes tops c (Live p) (End d) h k = by_test (ModeWithin (tops c)) (bytes_eq d c) _ _ (λ e. h) (λ e. h)
-within-takes tops c (Live p) (Close code) h k = h
-within-takes tops c (Live p) n h k = h
+within-takes tops c (Live p) (End d) h k f = by_test (ModeWithin (tops c)) (bytes_eq d c) _ _ (λ e. h) (λ e. h)
+within-takes tops c (Live p) (Close code) h k f = h
+within-takes tops c (Live p) n h k f = h
 
 NotesWithin-more : (tops : List ℕ → List ℕ → ℕ) (ns : List Note) (n : Note) → NotesWithin tops ns → NoteWithin tops n → NotesWithin tops (ns ++ n ∷ [])
 NotesWithin-more tops [] n h k = (k, tt)
@@ -298,28 +299,24 @@ module _ (tops : List ℕ → List ℕ → ℕ) (lists : Lists) where
   pub bounded-holds : (l : Link) → IsBounded tops l → IsBounded tops (holds l)
   bounded-holds l g = bounded-hold_first l l.line.notes g refl
 
-  bounded-taken : (l : Link) (n : Note) → IsBoundedWith tops (n ∷ coming l) l → IsBounded tops (record l { client = takes_note n l.client })
-  bounded-taken l n g = record { modes = λ c. within-takes tops c (l.client.modes c) n (g.modes c) g.notes.0; notes = g.notes.1; subs = g.subs; ups = g.ups }
+  bounded-taken : (l : Link) (n : Note) → IsBoundedWith tops (n ∷ coming l) l → ((c : List ℕ) → IsNext c (l.client.modes c) n) → IsBounded tops (record l { client = takes_note n l.client })
+  bounded-taken l n g f = record { modes = λ c. within-takes tops c (l.client.modes c) n (g.modes c) g.notes.0 (f c); notes = g.notes.1; subs = g.subs; ups = g.ups }
 
-  bounded-gets : (l : Link) (n : Note) → IsBoundedWith tops (n ∷ coming l) l → IsBounded tops (gets n l)
-  bounded-gets l (Close code) g = record { modes = λ c. within-last_of (tops c) (l.client.modes c) (g.modes c); notes = tt; subs = λ c. tt; ups = tt }
-  bounded-gets l (Reply d k was r) g = bounded-taken l (Reply d k was r) g
-  bounded-gets l (Pub d q) g = bounded-taken l (Pub d q) g
-  bounded-gets l (End d) g = bounded-taken l (End d) g
-  bounded-gets l (Fails d k code) g = bounded-taken l (Fails d k code) g
-  bounded-gets l (Accepted k) g = bounded-taken l (Accepted k) g
-  bounded-gets l (Left k) g = bounded-taken l (Left k) g
-  bounded-gets l (Listed d k at low count) g = bounded-taken l (Listed d k at low count) g
-  bounded-gets l PingDue g = bounded-taken l PingDue g
+  bounded-gets : (l : Link) (n : Note) → IsBoundedWith tops (n ∷ coming l) l → ((c : List ℕ) → IsNext c (l.client.modes c) n) → IsBounded tops (gets n l)
+  bounded-gets l (Close code) g f = record { modes = λ c. within-last_of (tops c) (l.client.modes c) (g.modes c); notes = tt; subs = λ c. tt; ups = tt }
+  bounded-gets l (Reply d k was r) g f = bounded-taken l (Reply d k was r) g f
+  bounded-gets l (Pub d q) g f = bounded-taken l (Pub d q) g f
+  bounded-gets l (End d) g f = bounded-taken l (End d) g f
+  bounded-gets l (Fails d k code) g f = bounded-taken l (Fails d k code) g f
+  bounded-gets l (Accepted k) g f = bounded-taken l (Accepted k) g f
+  bounded-gets l (Left k) g f = bounded-taken l (Left k) g f
+  bounded-gets l (Listed d k at low count) g f = bounded-taken l (Listed d k at low count) g f
+  bounded-gets l PingDue g f = bounded-taken l PingDue g f
 
-  pub bounded-receive_first : (l : Link) (ns : List Note) → IsBounded tops l → l.way ≡ ns → IsBounded tops (receive_first ns l)
-  bounded-receive_first l [] g e = g
-  bounded-receive_first l (n ∷ ns) g e =
+  pub bounded-receive_first : (l : Link) (n : Note) (ns : List Note) → IsBounded tops l → l.way ≡ n ∷ ns → ((c : List ℕ) → IsNext c (l.client.modes c) n) → IsBounded tops (receive_first (n ∷ ns) l)
+  bounded-receive_first l n ns g e f =
       let h : IsBoundedWith tops (n ∷ (ns ++ l.line.notes)) l = subst (λ xs. IsBoundedWith tops (xs ++ l.line.notes) l) e g in
-      bounded-gets (record l { way = ns }) n (record { modes = h.modes; notes = h.notes; subs = h.subs; ups = h.ups })
-
-  pub bounded-receives : (l : Link) → IsBounded tops l → IsBounded tops (receives l)
-  bounded-receives l g = bounded-receive_first l l.way g refl
+      bounded-gets (record l { way = ns }) n (record { modes = h.modes; notes = h.notes; subs = h.subs; ups = h.ups }) f
 
   bounded-by_check : (l : Link) (c : List ℕ) (p : Position) (x : Checked) → IsBounded tops l → IsWithin (tops c) p → IsBounded tops (with_line (by_check (wording lists) c p x l.line) l)
   bounded-by_check l c p Fine g h = bounded-put l c (On p None) g h

@@ -6,7 +6,7 @@ use Rattle.cf_protocol.specs.Position.{Position}
 use Rattle.cf_protocol.specs.Note.{Note, Reply, Pub, End, Fails, Put as PutDone, Left, Listed, PingDue, Close}
 use Rattle.cf_stream.specs.StreamState.{StreamState}
 use Rattle.cf_hub.specs.Connection.{Sub, Off, Asked, Ready, On}
-use Rattle.cf_client.specs.ClientState.{Mode, Idle, Asking, Live, last_of}
+use Rattle.cf_client.specs.ClientState.{Mode, Idle, Asking, Live, last_of, moved_on}
 use Rattle.cf_schedule.specs.Config.{Config}
 use Rattle.cf_schedule.specs.Event.{Event}
 use Rattle.cf_schedule.specs.Errand.{Errand, Sent, Subscribe, Unsubscribe, Publish, History}
@@ -16,21 +16,22 @@ use Rattle.cf_schedule.specs.World.{World, start}
 use Rattle.cf_schedule.specs.IntervalMachine.{run}
 use Rattle.cf_schedule.specs.LooseRun.{Happening, loose_run, lines}
 use Rattle.cf_schedule.specs.Trace.{Entry}
-use Rattle.cf_schedule.specs.Told.{trace, loose_trace}
-use Rattle.cf_schedule.specs.Marks.{account}
-use Rattle.cf_schedule.specs.StreamSafety.{AreTrueTo, OneDatum, Unbroken, RecoveredRun, HonestRecovery, Safe, nothing_seen}
+use Rattle.cf_schedule.specs.Told.{trace}
+use Rattle.cf_schedule.specs.StreamSafety.{AreTrueTo, Safe}
+use Rattle.cf_schedule.proofs.Automaton.{nothing_seen}
 use Rattle.cf_schedule.specs.Leading.{coming, Lead, LeadsOn, IsListed}
 use Rattle.cf_schedule.proofs.Names.{text_tells}
 use Rattle.cf_schedule.proofs.Standing.{Leads, Awaits, Stands, due}
+use Rattle.cf_schedule.proofs.Leading.{own-epoch}
 use Rattle.cf_schedule.proofs.Within.{LastWithin, IsApart, IsSteady}
 use Rattle.cf_schedule.proofs.Bounding.{within-last_of}
 use Rattle.cf_schedule.proofs.Steps.{fine-run, fine-start}
 use Rattle.cf_schedule.proofs.Schedules.{run_of_lines, trace_of_lines}
 use Rattle.cf_schedule.proofs.Accounts.{safe_loose}
-use Rattle.cf_schedule.proofs.Sentences.{one_datum_of, unbroken_of, recovered_of, honest_of}
+use Rattle.cf_schedule.proofs.Tracing.{true_ever_after}
 
 -- what leads, in the words of the law
-lead-from : (read : StreamState) (c : List ℕ) (p : Position) (ns : List Note) (s : Sub) → Leads read c (Live p) ns s → Lead c p ns s
+lead-from : (read : Option StreamState) (c : List ℕ) (p : Position) (ns : List Note) (s : Sub) → Leads read c (Live p) ns s → Lead c p ns s
 lead-from read c p [] Off h = h
 lead-from read c p [] (Asked k since arrived) h = h
 lead-from read c p [] (Ready k was r arrived) h = h
@@ -38,7 +39,7 @@ lead-from read c p [] (On q mark) h = h
 lead-from read c p (Reply d k was r ∷ ns) s h = lead-from read c p ns s h.1
 lead-from read c p (Pub d q ∷ ns) s h =
     elim (text_tells d c) [
-      | inl e ↦ rw e.0 (h.0 e.1, lead-from read c q ns s (rw e.0 at h.1))
+      | inl e ↦ rw e.0 (h.0 e.1, subst (λ (x : Position). Lead c x ns s) (own-epoch p q (h.0 e.1)) (lead-from read c (moved_on p q) ns s (rw e.0 at h.1)))
       | inr e ↦ rw e.0 (lead-from read c p ns s (rw e.0 at h.1))
     ]
 lead-from read c p (End d ∷ ns) s h =
@@ -53,7 +54,7 @@ lead-from read c p (Listed d k at low count ∷ ns) s h = lead-from read c p ns 
 lead-from read c p (PingDue ∷ ns) s h = lead-from read c p ns s h.1
 lead-from read c p (Close code ∷ ns) s h = tt
 
-leads-on : (read : StreamState) (c : List ℕ) (m : Mode) (ns : List Note) (s : Sub) (o : Option Sent) → Stands read c m ns s o → LeadsOn c m ns s
+leads-on : (read : Option StreamState) (c : List ℕ) (m : Mode) (ns : List Note) (s : Sub) (o : Option Sent) → Stands read c m ns s o → LeadsOn c m ns s
 leads-on read c (Idle last) ns s o h = tt
 leads-on read c (Asking id from last) ns s o h = tt
 leads-on read c (Live p) ns s None h = lead-from read c p ns s h
@@ -99,33 +100,10 @@ positions_listed cfg es = subst ListedIn (run_of_lines cfg es start) (loose_list
 pub safe_run : (cfg : Config) (es : List Event) → Safe cfg (lines es) (trace cfg 1 start es)
 safe_run cfg es = subst (λ (t : List Entry). Safe cfg (lines es) t) (trace_of_lines cfg es 1 start) (safe_loose cfg (lines es))
 
-pub true_run : (cfg : Config) (es : List Event) → AreTrueTo (run cfg start es).broker.lists (trace cfg 1 start es)
-true_run cfg es = subst (λ (w : World). AreTrueTo w.broker.lists (trace cfg 1 start es)) (run_of_lines cfg es start) (safe_run cfg es).0
-
-pub one_datum_run : (cfg : Config) (es : List Event) → OneDatum (trace cfg 1 start es)
-one_datum_run cfg es = one_datum_of (run cfg start es).broker.lists (trace cfg 1 start es) (true_run cfg es)
-
-pub unbroken_run : (cfg : Config) (es : List Event) (x c : List ℕ) → Unbroken (account cfg x c (trace cfg 1 start es) 1 start (lines es))
-unbroken_run cfg es x c = unbroken_of (account cfg x c (trace cfg 1 start es) 1 start (lines es)) ((safe_run cfg es).1 x c)
-
-pub recovered_run : (cfg : Config) (es : List Event) (x c : List ℕ) → RecoveredRun (account cfg x c (trace cfg 1 start es) 1 start (lines es))
-recovered_run cfg es x c = recovered_of (account cfg x c (trace cfg 1 start es) 1 start (lines es)) ((safe_run cfg es).1 x c)
-
-pub honest_run : (cfg : Config) (es : List Event) (x c : List ℕ) → HonestRecovery (account cfg x c (trace cfg 1 start es) 1 start (lines es))
-honest_run cfg es x c = honest_of (account cfg x c (trace cfg 1 start es) 1 start (lines es)) ((safe_run cfg es).1 x c)
-
--- the same of a loose run
-pub loose_one_datum : (cfg : Config) (hs : List Happening) → OneDatum (loose_trace cfg 1 start hs)
-loose_one_datum cfg hs = one_datum_of (loose_run cfg start hs).broker.lists (loose_trace cfg 1 start hs) (safe_loose cfg hs).0
-
-pub loose_unbroken : (cfg : Config) (hs : List Happening) (x c : List ℕ) → Unbroken (account cfg x c (loose_trace cfg 1 start hs) 1 start hs)
-loose_unbroken cfg hs x c = unbroken_of (account cfg x c (loose_trace cfg 1 start hs) 1 start hs) ((safe_loose cfg hs).1 x c)
-
-pub loose_recovered : (cfg : Config) (hs : List Happening) (x c : List ℕ) → RecoveredRun (account cfg x c (loose_trace cfg 1 start hs) 1 start hs)
-loose_recovered cfg hs x c = recovered_of (account cfg x c (loose_trace cfg 1 start hs) 1 start hs) ((safe_loose cfg hs).1 x c)
-
-pub loose_honest : (cfg : Config) (hs : List Happening) (x c : List ℕ) → HonestRecovery (account cfg x c (loose_trace cfg 1 start hs) 1 start hs)
-loose_honest cfg hs x c = honest_of (account cfg x c (loose_trace cfg 1 start hs) 1 start hs) ((safe_loose cfg hs).1 x c)
+pub true_run : (cfg : Config) (es : List Event) → AreTrueTo (λ n. (run cfg start es).broker.lists) (trace cfg 1 start es)
+true_run cfg es =
+    subst (λ (w : World). AreTrueTo (λ n. w.broker.lists) (trace cfg 1 start es)) (run_of_lines cfg es start)
+    (subst (λ (t : List Entry). AreTrueTo (λ n. (loose_run cfg start (lines es)).broker.lists) t) (trace_of_lines cfg es 1 start) (true_ever_after cfg (lines es)))
 
 -- FRESH EPOCHS
 false-true : (b : Bool) → b ≡ true → b ≡ false → ⊥

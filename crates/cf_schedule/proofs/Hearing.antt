@@ -1,5 +1,5 @@
 -- The other moves of a link keep its invariant: a command is heard, an error or another answer enters, notes travel.
-use Rattle.std.proofs.Common.{◌≡◌, ℕ, suc, ◌+◌, ◌≤◌, ◌<◌, ◌&&◌, ◌||◌, ◌∙◌, Bool, true, false, Option, Some, None, List, [], ◌∷◌, ◌++◌, refl, sym, subst, arith, append_assoc, ◌≢◌, inl, inr, nat_lt, nat_le, sum_by, not, is_some}
+use Rattle.std.proofs.Common.{◌≡◌, ℕ, suc, ◌+◌, ◌≤◌, ◌<◌, ◌&&◌, ◌||◌, ◌∙◌, Bool, true, false, Option, Some, None, List, [], ◌∷◌, ◌++◌, refl, sym, subst, arith, append_assoc, ◌≢◌, ◌⊎◌, inl, inr, nat_lt, nat_le, sum_by, not, is_some}
 use Rattle.std.proofs.lemmas.Bool.Decides.{nat_tests}
 use Rattle.cf_protocol.specs.Names.{with}
 use Rattle.cf_protocol.specs.Position.{Position}
@@ -15,10 +15,10 @@ use Rattle.cf_schedule.specs.Link.{Link, with_line, hears_subscribe, hears_erran
 use Rattle.cf_schedule.specs.Leading.{coming}
 use Rattle.cf_schedule.proofs.Standing.{Below, Agrees, or_else, bears, due, AsksFor, IsIdle, IsOld, AreOld, Rises, IsNoClose, IsOpen, Leads, Awaits, Stands, IsSubOld, IsGoodWith, IsGood}
 use Rattle.cf_schedule.proofs.Names.{text_tells, itself, not_this, by_test, with-all, with-both}
-use Rattle.cf_schedule.proofs.Leading.{Leads-idle, Leads-ask, Leads-ask_off, Leads-read, IsElsewhere, Leads-elsewhere, IsQuiet, Leads-fail, Leads-fail_ready, Leads-error, stands-on, IdFrom, due-bound, takes_waiting}
+use Rattle.cf_schedule.proofs.Leading.{Leads-idle, Leads-ask, Leads-ask_off, Leads-read, IsElsewhere, Leads-elsewhere, IsQuiet, Leads-fail, Leads-fail_ready, Leads-error, stands-on, IsFree, asks-still, IdFrom, due-bound, takes_waiting}
 use Rattle.cf_schedule.proofs.Keeping.{AreOld-more, AreOld-le, IsOpen-more, IsSubOld-le, IsSome_sub, still_open, good-more, good-closes, good-put, good-end_on, good-arrives}
 
-module _ (found : List ℕ → StreamState) (lists : Lists) where
+module _ (found : List ℕ → Option StreamState) (lists : Lists) where
   -- what stands once the last command for c was heard
   heard-last : (l : Link) (c : List ℕ) (t : Sub) (x : Sent) (o : Option Sent)
       → (Awaits (l.client.modes c) x.id x.errand → Leads (found c) c (l.client.modes c) (coming l) t)
@@ -220,14 +220,23 @@ module _ (found : List ℕ → StreamState) (lists : Lists) where
   pub good-fails : (l : Link) (c : List ℕ) → IsGood found l → IsGood found (fails c l)
   good-fails l c g = good-fail_at l c (l.line.subs c) g refl
 
-  -- the stream is read
-  pub good-reads : (l : Link) (c : List ℕ) (k : ℕ) (since : Option Position) (arrived : List Position) (s : StreamState)
-      → IsGood found l → l.line.subs c ≡ Asked k since arrived → Below since s
-      → IsGood (with found c s) (with_line (put_sub c (Ready k (is_some since) (read_of since s) arrived) l.line) l)
-  good-reads l c k since arrived s g e b = record {
-    stands = with-both (λ d f t. Stands f d (l.client.modes d) (coming l) t (due d l.up)) found l.line.subs c s _
-        (stands-on (found c) s c (l.client.modes c) (coming l) (coming l) (l.line.subs c) (Ready k (is_some since) (read_of since s) arrived) (due c l.up)
-        (λ h. Leads-read (found c) s c (l.client.modes c) (coming l) k since (is_some since) arrived (subst (λ t. Leads (found c) c (l.client.modes c) (coming l) t) e h) b) (g.stands c))
+  -- what stands once the stream was read, where no later command for c is on its way
+  stands-read : (o : Option StreamState) (s : StreamState) (c : List ℕ) (m : Mode) (ns : List Note) (k : ℕ) (since : Option Position) (arrived : List Position) (d : Option Sent)
+      → Below since s → (IsFree m d ⊎ (o ≡ Some s)) → Stands (found c) c m ns (Asked k since arrived) d → Stands o c m ns (Ready k (is_some since) (read_of since s) arrived) d
+  stands-read o s c m ns k since arrived (Some x) b out h = h
+  stands-read o s c m ns k since arrived None b (inl free) h = absurd (asks-still (found c) c m ns k since arrived h free)
+  stands-read o s c m ns k since arrived None b (inr is) h =
+      subst (λ (r : Option StreamState). Leads r c m ns (Ready k (is_some since) (read_of since s) arrived)) (sym is)
+      (Leads-read (found c) s c m ns k since (is_some since) arrived h b)
+
+  -- the stream is read, and where the ask is still out this is what was found for it
+  pub good-reads : (l : Link) (c : List ℕ) (k : ℕ) (since : Option Position) (arrived : List Position) (s : StreamState) (o : Option StreamState)
+      → IsGood found l → l.line.subs c ≡ Asked k since arrived → Below since s → (IsFree (l.client.modes c) (due c l.up) ⊎ (o ≡ Some s))
+      → IsGood (with found c o) (with_line (put_sub c (Ready k (is_some since) (read_of since s) arrived) l.line) l)
+  good-reads l c k since arrived s o g e b out = record {
+    stands = with-both (λ d f t. Stands f d (l.client.modes d) (coming l) t (due d l.up)) found l.line.subs c o _
+        (stands-read o s c (l.client.modes c) (coming l) k since arrived (due c l.up) b out
+        (subst (λ t. Stands (found c) c (l.client.modes c) (coming l) t (due c l.up)) e (g.stands c)))
         (λ d ne. g.stands d);
     rises = g.rises;
     old = g.old;

@@ -48,7 +48,7 @@ IsSome_sub (Ready k was r arrived) = Unit {0}
 IsSome_sub (On p mark) = Unit {0}
 
 -- a link that has a subscription is not closed
-pub still_open : (found : List ℕ → StreamState) (l : Link) (c : List ℕ) → IsGood found l → IsSome_sub (l.line.subs c) → l.line.closed ≡ false
+pub still_open : (found : List ℕ → Option StreamState) (l : Link) (c : List ℕ) → IsGood found l → IsSome_sub (l.line.subs c) → l.line.closed ≡ false
 still_open found l c g h = not_true l.line.closed (λ e. subst (λ s. IsSome_sub s) (g.shut e c) h)
   where
     not_true : (b : Bool) → (b ≡ true → ⊥) → b ≡ false
@@ -70,7 +70,7 @@ by_verdict_lem P w c p q mark v drop pass end =
     (λ h. by_test (λ (x : Verdict). P (by_verdict w c q mark x v)) (bytes_eq q.epoch p.epoch && (q.offset == p.offset + 1)) _ _
     (λ i. pass (is-next p q i)) (λ i. end))
 
-module _ (found : List ℕ → StreamState) (lists : Lists) where
+module _ (found : List ℕ → Option StreamState) (lists : Lists) where
   -- one note more
   pub good-more : (l : Link) (v : Line Note) (n : Note) → v.notes ≡ l.line.notes ++ n ∷ []
       → IsGoodWith found (coming l ++ n ∷ []) (with_line v l) → IsGood found (with_line v l)

@@ -8,14 +8,14 @@ use Rattle.cf_stream.specs.StreamState.{StreamState}
 use Rattle.cf_stream.specs.StreamAnswer.{read_of}
 use Rattle.cf_recovery.specs.Verdict.{next}
 use Rattle.cf_hub.specs.Connection.{Sub, Off, Asked, Ready, On}
-use Rattle.cf_client.specs.ClientState.{Mode, Idle, Asking, Live, takes, read_to}
+use Rattle.cf_client.specs.ClientState.{Mode, Idle, Asking, Live, takes, moved_on, read_to}
 use Rattle.cf_schedule.specs.Errand.{Errand, Sent, Subscribe, Unsubscribe, Publish, History}
 use Rattle.cf_schedule.specs.Link.{is_waiting}
 use Rattle.cf_schedule.proofs.Standing.{Below, Agrees, Fits, or_else, bears_as, bears, due, IsOld, AreOld, Rises, IsNoClose, IsOpen, Leads, Awaits, Stands}
 use Rattle.cf_schedule.proofs.Names.{text_tells, older, this_one, itself, not_this}
 
 -- a note put at the end
-pub Leads-more : (read : StreamState) (c : List ℕ) (m : Mode) (ns : List Note) (n : Note) (s t : Sub)
+pub Leads-more : (read : Option StreamState) (c : List ℕ) (m : Mode) (ns : List Note) (n : Note) (s t : Sub)
     → Leads read c m ns s
     → ((v : Mode) → Agrees read v s → Fits read c v n × Agrees read (takes c v n) t)
     → Leads read c m (ns ++ n ∷ []) t
@@ -23,7 +23,7 @@ Leads-more read c m [] n s t h k = k m h
 Leads-more read c m (x ∷ ns) n s t h k = (h.0, Leads-more read c (takes c m x) ns n s t h.1 k)
 
 -- the subscription alone changes
-pub Leads-turn : (read : StreamState) (c : List ℕ) (m : Mode) (ns : List Note) (s t : Sub)
+pub Leads-turn : (read : Option StreamState) (c : List ℕ) (m : Mode) (ns : List Note) (s t : Sub)
     → Leads read c m ns s
     → ((v : Mode) → Agrees read v s → Agrees read v t)
     → Leads read c m ns t
@@ -37,25 +37,25 @@ IsQuiet (Asked k since arrived) = ⊥
 IsQuiet (Ready k was r arrived) = ⊥
 IsQuiet (On p mark) = Unit {0}
 
-agrees-idle : (read : StreamState) (last : Option Position) (s : Sub) → IsQuiet s → Agrees read (Idle last) s
+agrees-idle : (read : Option StreamState) (last : Option Position) (s : Sub) → IsQuiet s → Agrees read (Idle last) s
 agrees-idle read last Off q = tt
 agrees-idle read last (Asked k since arrived) q = q
 agrees-idle read last (Ready k was r arrived) q = q
 agrees-idle read last (On p mark) q = tt
 
-agrees-asking : (read : StreamState) (id : ℕ) (from last : Option Position) (s : Sub) → IsQuiet s → Agrees read (Asking id from last) s
+agrees-asking : (read : Option StreamState) (id : ℕ) (from last : Option Position) (s : Sub) → IsQuiet s → Agrees read (Asking id from last) s
 agrees-asking read id from last Off q = tt
 agrees-asking read id from last (Asked k since arrived) q = absurd q
 agrees-asking read id from last (Ready k was r arrived) q = absurd q
 agrees-asking read id from last (On p mark) q = tt
 
 -- to an idle client nothing on its way matters
-pub Leads-idle : (read : StreamState) (c : List ℕ) (last : Option Position) (ns : List Note) (s : Sub) → IsQuiet s → Leads read c (Idle last) ns s
+pub Leads-idle : (read : Option StreamState) (c : List ℕ) (last : Option Position) (ns : List Note) (s : Sub) → IsQuiet s → Leads read c (Idle last) ns s
 Leads-idle read c last [] s q = agrees-idle read last s q
 Leads-idle read c last (n ∷ ns) s q = (tt, Leads-idle read c last ns s q)
 
 -- a new ask, whose id no answer on its way has
-pub Leads-ask : (read : StreamState) (c : List ℕ) (id : ℕ) (from last : Option Position) (ns : List Note)
+pub Leads-ask : (read : Option StreamState) (c : List ℕ) (id : ℕ) (from last : Option Position) (ns : List Note)
     → AreOld id ns → IsOpen ns
     → Leads read c (Asking id from last) ns (Asked id from [])
 Leads-ask read c id from last [] old unclosed = (refl, refl)
@@ -69,7 +69,7 @@ Leads-ask read c id from last (Close code ∷ ns) old unclosed = absurd unclosed
 Leads-ask read c id from last (n ∷ ns) old unclosed = (tt, Leads-ask read c id from last ns old.1 unclosed.1)
 
 -- an ask without effect on the node, as after a close or where it is refused
-pub Leads-ask_off : (read : StreamState) (c : List ℕ) (id : ℕ) (from last : Option Position) (ns : List Note) (s : Sub)
+pub Leads-ask_off : (read : Option StreamState) (c : List ℕ) (id : ℕ) (from last : Option Position) (ns : List Note) (s : Sub)
     → AreOld id ns → IsQuiet s
     → Leads read c (Asking id from last) ns s
 Leads-ask_off read c id from last [] s old q = agrees-asking read id from last s q
@@ -83,7 +83,7 @@ Leads-ask_off read c id from last (Close code ∷ ns) s old q = (tt, Leads-idle 
 Leads-ask_off read c id from last (n ∷ ns) s old q = (tt, Leads-ask_off read c id from last ns s old.1 q)
 
 -- a client that is not asking
-abbrev IsSettled : Mode → Type 0
+abbrev pub IsSettled : Mode → Type 0
 IsSettled (Idle last) = Unit {0}
 IsSettled (Asking id from last) = ⊥
 IsSettled (Live p) = Unit {0}
@@ -92,26 +92,61 @@ settled-if : (b : Bool) (m n : Mode) → IsSettled m → IsSettled n → IsSettl
 settled-if true m n h k = h
 settled-if false m n h k = k
 
-settled-takes : (c : List ℕ) (m : Mode) (n : Note) → IsSettled m → IsSettled (takes c m n)
+pub settled-takes : (c : List ℕ) (m : Mode) (n : Note) → IsSettled m → IsSettled (takes c m n)
 settled-takes c (Idle last) n h = tt
 settled-takes c (Asking id from last) n h = absurd h
-settled-takes c (Live p) (Pub d q) h = settled-if (bytes_eq d c) (Live q) (Live p) tt tt
+settled-takes c (Live p) (Pub d q) h = settled-if (bytes_eq d c) (Live (moved_on p q)) (Live p) tt tt
 settled-takes c (Live p) (End d) h = settled-if (bytes_eq d c) (Idle (Some p)) (Live p) tt tt
 settled-takes c (Live p) n h = tt
 
 -- while the node has an unread ask, the client is asking
-asks-still : (read : StreamState) (c : List ℕ) (m : Mode) (ns : List Note) (k : ℕ) (since : Option Position) (arrived : List Position)
+pub asks-still : (read : Option StreamState) (c : List ℕ) (m : Mode) (ns : List Note) (k : ℕ) (since : Option Position) (arrived : List Position)
     → Leads read c m ns (Asked k since arrived) → IsSettled m → ⊥
 asks-still read c (Idle last) [] k since arrived h i = h
 asks-still read c (Asking id from last) [] k since arrived h i = i
 asks-still read c (Live p) [] k since arrived h i = h
 asks-still read c m (n ∷ ns) k since arrived h i = asks-still read c (takes c m n) ns k since arrived h.1 (settled-takes c m n i)
 
+-- to a client that is not asking it matters nothing what was read
+agrees-settled : (read other : Option StreamState) (m : Mode) (s : Sub) → IsSettled m → Agrees read m s → Agrees other m s
+agrees-settled read other (Idle last) Off i h = h
+agrees-settled read other (Idle last) (Asked k since arrived) i h = h
+agrees-settled read other (Idle last) (Ready k was r arrived) i h = h
+agrees-settled read other (Idle last) (On q mark) i h = h
+agrees-settled read other (Asking id from last) s i h = absurd i
+agrees-settled read other (Live p) Off i h = h
+agrees-settled read other (Live p) (Asked k since arrived) i h = h
+agrees-settled read other (Live p) (Ready k was r arrived) i h = h
+agrees-settled read other (Live p) (On q mark) i h = h
+
+fits-settled : (read other : Option StreamState) (c : List ℕ) (m : Mode) (n : Note) → IsSettled m → Fits read c m n → Fits other c m n
+fits-settled read other c (Idle last) n i h = tt
+fits-settled read other c (Asking id from last) n i h = absurd i
+fits-settled read other c (Live p) (Pub d q) i h = h
+fits-settled read other c (Live p) n i h = tt
+
+leads-settled : (read other : Option StreamState) (c : List ℕ) (m : Mode) (ns : List Note) (s : Sub) → IsSettled m → Leads read c m ns s → Leads other c m ns s
+leads-settled read other c m [] s i h = agrees-settled read other m s i h
+leads-settled read other c m (n ∷ ns) s i h = (fits-settled read other c m n i h.0, leads-settled read other c (takes c m n) ns s (settled-takes c m n i) h.1)
+
+-- nor to one whose command is still on its way
+abbrev pub IsFree : Mode → Option Sent → Type 0
+IsFree m None = IsSettled m
+IsFree m (Some k) = Unit {0}
+
+pub settled-free : (m : Mode) (o : Option Sent) → IsSettled m → IsFree m o
+settled-free m None i = i
+settled-free m (Some k) i = tt
+
+pub stands-free : (read other : Option StreamState) (c : List ℕ) (m : Mode) (ns : List Note) (s : Sub) (o : Option Sent) → IsFree m o → Stands read c m ns s o → Stands other c m ns s o
+stands-free read other c m ns s None i h = leads-settled read other c m ns s i h
+stands-free read other c m ns s (Some k) i h = h
+
 -- the stream is read
-pub Leads-read : (read found : StreamState) (c : List ℕ) (m : Mode) (ns : List Note) (k : ℕ) (since : Option Position) (was : Bool) (arrived : List Position)
+pub Leads-read : (read : Option StreamState) (found : StreamState) (c : List ℕ) (m : Mode) (ns : List Note) (k : ℕ) (since : Option Position) (was : Bool) (arrived : List Position)
     → Leads read c m ns (Asked k since arrived)
     → Below since found
-    → Leads found c m ns (Ready k was (read_of since found) arrived)
+    → Leads (Some found) c m ns (Ready k was (read_of since found) arrived)
 Leads-read read found c (Idle last) [] k since was arrived h b = absurd h
 Leads-read read found c (Asking id from last) [] k since was arrived h b =
     (h.0, (ap (λ x. read_of x found) h.1, subst (λ x. Below x found) h.1 b))
@@ -129,7 +164,7 @@ Leads-read read found c (Asking id from last) (Close code ∷ ns) k since was ar
 Leads-read read found c (Asking id from last) (n ∷ ns) k since was arrived h b = (tt, Leads-read read found c (Asking id from last) ns k since was arrived h.1 b)
 
 -- the next place is passed on
-pub Leads-pub : (read : StreamState) (c : List ℕ) (m : Mode) (ns : List Note) (p : Position) (mark after : Option ℕ)
+pub Leads-pub : (read : Option StreamState) (c : List ℕ) (m : Mode) (ns : List Note) (p : Position) (mark after : Option ℕ)
     → Leads read c m ns (On p mark)
     → Leads read c m (ns ++ Pub c (next p) ∷ []) (On (next p) after)
 Leads-pub read c m ns p mark after h = Leads-more read c m ns (Pub c (next p)) (On p mark) (On (next p) after) h pub_step
@@ -137,10 +172,10 @@ Leads-pub read c m ns p mark after h = Leads-more read c m ns (Pub c (next p)) (
     pub_step : (v : Mode) → Agrees read v (On p mark) → Fits read c v (Pub c (next p)) × Agrees read (takes c v (Pub c (next p))) (On (next p) after)
     pub_step (Idle last) g = (tt, tt)
     pub_step (Asking id from last) g = (tt, tt)
-    pub_step (Live q) g = (λ e. ap next (sym g), rw (itself c) refl)
+    pub_step (Live q) g = (λ e. ap next (sym g), rw (itself c) (ap (λ (x : Position). moved_on x (next p)) g))
 
 -- the subscription ends
-pub Leads-end : (read : StreamState) (c : List ℕ) (m : Mode) (ns : List Note) (p : Position) (mark : Option ℕ)
+pub Leads-end : (read : Option StreamState) (c : List ℕ) (m : Mode) (ns : List Note) (p : Position) (mark : Option ℕ)
     → Leads read c m ns (On p mark)
     → Leads read c m (ns ++ End c ∷ []) Off
 Leads-end read c m ns p mark h = Leads-more read c m ns (End c) (On p mark) Off h end_step
@@ -151,7 +186,7 @@ Leads-end read c m ns p mark h = Leads-more read c m ns (End c) (On p mark) Off 
     end_step (Live q) g = (tt, rw (itself c) tt)
 
 -- the reply is given
-pub Leads-reply : (read : StreamState) (c : List ℕ) (m : Mode) (ns : List Note) (k : ℕ) (was : Bool) (r : Reading) (arrived : List Position) (mark : Option ℕ)
+pub Leads-reply : (read : Option StreamState) (c : List ℕ) (m : Mode) (ns : List Note) (k : ℕ) (was : Bool) (r : Reading) (arrived : List Position) (mark : Option ℕ)
     → Leads read c m ns (Ready k was r arrived)
     → Leads read c m (ns ++ Reply c k was r ∷ []) (On (read_to r) mark)
 Leads-reply read c m ns k was r arrived mark h = Leads-more read c m ns (Reply c k was r) (Ready k was r arrived) (On (read_to r) mark) h reply_step
@@ -162,7 +197,7 @@ Leads-reply read c m ns k was r arrived mark h = Leads-more read c m ns (Reply c
     reply_step (Live q) g = absurd g
 
 -- a session is closed
-pub Leads-close : (read : StreamState) (c : List ℕ) (m : Mode) (ns : List Note) (code : ℕ) (s : Sub)
+pub Leads-close : (read : Option StreamState) (c : List ℕ) (m : Mode) (ns : List Note) (code : ℕ) (s : Sub)
     → Leads read c m ns s
     → Leads read c m (ns ++ Close code ∷ []) Off
 Leads-close read c m ns code s h = Leads-more read c m ns (Close code) s Off h close_step
@@ -182,7 +217,7 @@ IsElsewhere c (Close code) = ⊥
 IsElsewhere c n = Unit {0}
 
 -- a note of another channel, or one that tells the client nothing
-pub Leads-elsewhere : (read : StreamState) (c : List ℕ) (m : Mode) (ns : List Note) (n : Note) (s : Sub)
+pub Leads-elsewhere : (read : Option StreamState) (c : List ℕ) (m : Mode) (ns : List Note) (n : Note) (s : Sub)
     → Leads read c m ns s
     → IsElsewhere c n
     → Leads read c m (ns ++ n ∷ []) s
@@ -200,7 +235,7 @@ Leads-elsewhere read c m ns n s h e = Leads-more read c m ns n s s h (λ v g. st
     step (Live p) n e g = (tt, g)
 
 -- an unfinished subscription is given up
-pub Leads-fail : (read : StreamState) (c : List ℕ) (m : Mode) (ns : List Note) (k : ℕ) (since : Option Position) (arrived : List Position)
+pub Leads-fail : (read : Option StreamState) (c : List ℕ) (m : Mode) (ns : List Note) (k : ℕ) (since : Option Position) (arrived : List Position)
     → Leads read c m ns (Asked k since arrived) → Leads read c m ns Off
 Leads-fail read c m ns k since arrived h = Leads-turn read c m ns (Asked k since arrived) Off h step
   where
@@ -209,7 +244,7 @@ Leads-fail read c m ns k since arrived h = Leads-turn read c m ns (Asked k since
     step (Asking id from last) g = tt
     step (Live p) g = absurd g
 
-pub Leads-fail_ready : (read : StreamState) (c : List ℕ) (m : Mode) (ns : List Note) (k : ℕ) (was : Bool) (r : Reading) (arrived : List Position)
+pub Leads-fail_ready : (read : Option StreamState) (c : List ℕ) (m : Mode) (ns : List Note) (k : ℕ) (was : Bool) (r : Reading) (arrived : List Position)
     → Leads read c m ns (Ready k was r arrived) → Leads read c m ns Off
 Leads-fail_ready read c m ns k was r arrived h = Leads-turn read c m ns (Ready k was r arrived) Off h step
   where
@@ -219,7 +254,7 @@ Leads-fail_ready read c m ns k was r arrived h = Leads-turn read c m ns (Ready k
     step (Live p) g = absurd g
 
 -- an error answers an ask that does not wait
-pub Leads-error : (read : StreamState) (c : List ℕ) (k code : ℕ) (m : Mode) (ns : List Note) (s : Sub)
+pub Leads-error : (read : Option StreamState) (c : List ℕ) (k code : ℕ) (m : Mode) (ns : List Note) (s : Sub)
     → Leads read c m ns s → is_waiting k s ≡ false → Leads read c m (ns ++ Fails c k code ∷ []) s
 Leads-error read c k code m ns s h w = Leads-more read c m ns (Fails c k code) s s h (λ v g. (plain v, step v s w g))
   where
@@ -259,7 +294,7 @@ due-more c [] k = sym (or_else-none (bears c k))
 due-more c (x ∷ ks) k = rw (due-more c ks k) (or_else-assoc (bears c k) (due c ks) (bears c x))
 
 -- a subscription, its notes and the stream found change, and the client's side does not
-pub stands-on : (read after : StreamState) (c : List ℕ) (m : Mode) (ns more : List Note) (s t : Sub) (o : Option Sent)
+pub stands-on : (read after : Option StreamState) (c : List ℕ) (m : Mode) (ns more : List Note) (s t : Sub) (o : Option Sent)
     → (Leads read c m ns s → Leads after c m more t)
     → Stands read c m ns s o → Stands after c m more t o
 stands-on read after c m ns more s t None f h = f h
@@ -320,3 +355,27 @@ takes_waiting c b i (Subscribe d from) (Asking id f l) (Fails x j code) h g o u 
     let same : id ≡ i = h.0 in let lt : j < id = omega arith in rw (older x c j id lt) refl
 takes_waiting c b i (Subscribe d from) (Asking id f l) (Close code) h g o u = absurd u
 takes_waiting c b i (Subscribe d from) (Asking id f l) n h g o u = refl
+
+-- a place that comes to a live client is the next one
+abbrev pub IsNext : List ℕ → Mode → Note → Type 0
+IsNext c (Idle last) n = Unit {0}
+IsNext c (Asking id from last) n = Unit {0}
+IsNext c (Live p) (Pub d q) = d ≡ c → q ≡ next p
+IsNext c (Live p) n = Unit {0}
+
+pub next-comes : (read : Option StreamState) (c : List ℕ) (m : Mode) (n : Note) (ns : List Note) (s : Sub) (o : Option Sent) → Stands read c m (n ∷ ns) s o → IsNext c m n
+next-comes read c (Idle last) n ns s o h = tt
+next-comes read c (Asking id from last) n ns s o h = tt
+next-comes read c (Live p) (Pub d q) ns s None h = h.0
+next-comes read c (Live p) (Pub d q) ns s (Some k) h = of_errand k.errand h
+  where
+    of_errand : (e : Errand) → Awaits (Live p) k.id e → d ≡ c → q ≡ next p
+    of_errand (Subscribe x from) w = absurd w
+    of_errand (Unsubscribe x) w = absurd w
+    of_errand (Publish x body) w = absurd w
+    of_errand (History x limit) w = absurd w
+next-comes read c (Live p) n ns s o h = tt
+
+-- where it is the next one, its epoch is the client's own
+pub own-epoch : (p q : Position) → q ≡ next p → moved_on p q ≡ q
+own-epoch p q e = ap (moved_on p) e ∙ sym e

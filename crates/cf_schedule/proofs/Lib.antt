@@ -17,6 +17,7 @@ pub mod Hearing
 pub mod Within
 pub mod Bounding
 pub mod Brokering
+pub mod Automaton
 pub mod Telling
 pub mod Stepping
 pub mod Steps

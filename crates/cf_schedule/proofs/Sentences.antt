@@ -5,16 +5,17 @@ use Rattle.cf_protocol.specs.Note.{Lists}
 use Rattle.cf_schedule.specs.Trace.{Published as ToldPublished, Entry}
 use Rattle.cf_schedule.specs.Marks.{Mark, Asks, Reads, Subscribed, Published, Stops}
 use Rattle.cf_recovery.specs.Verdict.{next}
-use Rattle.cf_schedule.specs.StreamSafety.{IsTrueTo, AreTrueTo, IsOneOf, OneDatum, last_position, old_position, last_read, run_of, onto, all_of, Unbroken, RecoveredRun, HonestRecovery, places, all_places, Seen, nothing_seen, sees, sees_all, AreSound, IsWhole, IsSafe}
+use Rattle.cf_schedule.specs.StreamSafety.{IsTrueTo, AreTrueTo, IsOneOf, OneDatum, last_position, old_position, asks_now, last_read, run_of, onto, all_of, Unbroken, RecoveredRun, HonestRecovery, places, all_places}
+use Rattle.cf_schedule.proofs.Automaton.{Seen, nothing_seen, sees, sees_all, AreSound, IsWhole, IsSafe}
 
 -- ---- one datum
 
-one_is_true : (lists : Lists) (e : Entry) (t : List Entry) → AreTrueTo lists t → IsOneOf e t → IsTrueTo lists e.item
+one_is_true : (lists : Lists) (e : Entry) (t : List Entry) → AreTrueTo (λ n. lists) t → IsOneOf e t → IsTrueTo lists e.item
 one_is_true lists e [] all i = absurd i
 one_is_true lists e (x ∷ xs) all (inl same) = subst (λ (y : Entry). IsTrueTo lists y.item) (sym same) all.0
 one_is_true lists e (x ∷ xs) all (inr later) = one_is_true lists e xs all.1 later
 
-pub one_datum_of : (lists : Lists) (t : List Entry) → AreTrueTo lists t → OneDatum t
+pub one_datum_of : (lists : Lists) (t : List Entry) → AreTrueTo (λ n. lists) t → OneDatum t
 one_datum_of lists t all d e d_in e_in c p a b d_is e_is =
     let of_d : IsTrueTo lists (ToldPublished c p a) = subst (IsTrueTo lists) d_is (one_is_true lists d t all d_in) in
     let of_e : IsTrueTo lists (ToldPublished c p b) = subst (IsTrueTo lists) e_is (one_is_true lists e t all e_in) in
@@ -23,7 +24,7 @@ one_datum_of lists t all d e d_in e_in c p a b d_is e_is =
 -- ---- what was seen of a past, the latest first
 
 abbrev seen_of : List Mark → Seen
-seen_of past = record { last = last_position past; old = old_position past; read = last_read past; run = run_of past }
+seen_of past = record { last = last_position past; old = old_position past; asks = asks_now past; read = last_read past; run = run_of past }
 
 sees-seen_of : (past : List Mark) (m : Mark) → sees (seen_of past) m ≡ seen_of (m ∷ past)
 sees-seen_of past (Asks from) = refl

@@ -11,7 +11,7 @@ use Rattle.cf_protocol.specs.Outgoing.{Push, Publication}
 use Rattle.cf_protocol.specs.Position.{Position}
 use Rattle.cf_protocol.specs.Written.{command_text, outgoing_text, text_or_none}
 use Rattle.cf_recovery.specs.Verdict.{Pass, verdict}
-use Rattle.cf_client.specs.ClientState.{Live, takes}
+use Rattle.cf_client.specs.ClientState.{Live, takes, moved_on}
 use Rattle.cf_hub.specs.Connection.{Sub, Off, On, Line, Wording, most_waiting, push, put_sub, by_verdict, come_at, comes, closes}
 use Rattle.cf_stream.specs.StreamState.{StreamState, last_offset, with_one_more}
 use Rattle.cf_schedule.specs.Event.{Event, Publish, Deliver, Take}
@@ -188,9 +188,9 @@ taken l s n ns c seen h =
     ∙ ap (λ (ws : List Note). receive_first (ws ++ n ∷ []) (record l { line = record (l.line) { notes = ns }; way = ws ++ n ∷ [] })) h.way
 
 taken_pub : (l : Link) (s : Sub) (q : Position) (ns : List Note) (c : Bool) (seen : Position) → Looks l s (Pub both q ∷ ns) c seen
-    → Looks (receives (holds l)) s ns c q
+    → Looks (receives (holds l)) s ns c (moved_on seen q)
 taken_pub l s q ns c seen h =
-    subst (λ (k : Link). Looks k s ns c q) (sym (taken l s (Pub both q) ns c seen h)) (record {
+    subst (λ (k : Link). Looks k s ns c (moved_on seen q)) (sym (taken l s (Pub both q) ns c seen h)) (record {
       node = h.node;
       sub = h.sub;
       notes = refl;
@@ -244,8 +244,8 @@ body_there : (b : Broker) (top held : ℕ) (ds : List Datum) (ps : List Place) (
 body_there b top held ds ps o h = ap (λ (es : List Datum). body_of (slice_get es (o - 1))) h.list
 
 told_pub : (b : Broker) (l : Link) (q : Position) (seen : Position) (text : List ℕ) → body_at b.lists both q ≡ text → l.client.modes both ≡ Live seen
-    → items b.lists l.client (Pub both q) ≡ Published both q text ∷ []
-told_pub b l q seen text e m = ap (pub_items b.lists both q) m ∙ ap (λ (t : List ℕ). Published both q t ∷ []) e
+    → items b.lists l.client (Pub both q) ≡ Published both (moved_on seen q) text ∷ []
+told_pub b l q seen text e m = ap (pub_items b.lists both q) m ∙ ap (λ (t : List ℕ). Published both (moved_on seen q) t ∷ []) e
 
 -- ---- the beginning
 

@@ -1,5 +1,5 @@
 -- The invariant of one channel of one link: what is on its way leads the client to where the node's side stands.
--- `read` is the stream as the last read for this subscription found it.
+-- `read` is the stream as the last read for the ask that is out found it.
 use Rattle.std.proofs.Common.{◌≡◌, ℕ, suc, ◌≤◌, ◌<◌, true, false, if◌then◌else◌, Option, Some, None, List, [], ◌∷◌}
 use Rattle.std.specs.Str.{bytes_eq}
 use Rattle.cf_protocol.specs.Position.{Position}
@@ -19,11 +19,12 @@ Below None s = Unit {0}
 Below (Some p) s = p.epoch ≡ s.epoch → p.offset ≤ s.top
 
 -- the reading that an ask from there had to get
-abbrev pub Right : Option Position → StreamState → Reading → Type 0
-Right from read r = (r ≡ read_of from read) × Below from read
+abbrev pub Right : Option Position → Option StreamState → Reading → Type 0
+Right from None r = ⊥
+Right from (Some found) r = (r ≡ read_of from found) × Below from found
 
 -- once all that is on its way has come, the client agrees with the node
-abbrev pub Agrees : StreamState → Mode → Sub → Type 0
+abbrev pub Agrees : Option StreamState → Mode → Sub → Type 0
 Agrees read (Idle last) Off = Unit {0}
 Agrees read (Idle last) (On q mark) = Unit {0}
 Agrees read (Asking id from last) Off = Unit {0}
@@ -34,7 +35,7 @@ Agrees read (Live p) (On q mark) = p ≡ q
 Agrees read m s = ⊥
 
 -- a note that comes to the client at this mode is the one that has to come
-abbrev pub Fits : StreamState → List ℕ → Mode → Note → Type 0
+abbrev pub Fits : Option StreamState → List ℕ → Mode → Note → Type 0
 Fits read c (Idle last) n = Unit {0}
 Fits read c (Asking id from last) (Reply d k was r) = d ≡ c → k ≡ id → Right from read r
 Fits read c (Live p) (Pub d q) = d ≡ c → q ≡ next p
@@ -95,7 +96,7 @@ IsOpen [] = Unit {0}
 IsOpen (n ∷ ns) = IsNoClose n × IsOpen ns
 
 -- the notes on their way fit one after another, and then the client agrees with the node
-abbrev pub Leads : StreamState → List ℕ → Mode → List Note → Sub → Type 0
+abbrev pub Leads : Option StreamState → List ℕ → Mode → List Note → Sub → Type 0
 Leads read c m [] s = Agrees read m s
 Leads read c m (n ∷ ns) s = Fits read c m n × Leads read c (takes c m n) ns s
 
@@ -106,7 +107,7 @@ Awaits m id (Publish d body) = ⊥
 Awaits m id (History d limit) = ⊥
 
 -- where a command for c is still on its way, the client asks or is idle by it; else all leads on
-abbrev pub Stands : StreamState → List ℕ → Mode → List Note → Sub → Option Sent → Type 0
+abbrev pub Stands : Option StreamState → List ℕ → Mode → List Note → Sub → Option Sent → Type 0
 Stands read c m ns s None = Leads read c m ns s
 Stands read c m ns s (Some k) = Awaits m k.id k.errand
 
@@ -117,7 +118,7 @@ IsSubOld bound (Ready k was r arrived) = k < bound
 IsSubOld bound (On p mark) = Unit {0}
 
 -- THE INVARIANT OF A LINK to whose client these notes are coming. `found` is, by channel, the stream as the last read found it.
-pub record IsGoodWith (found : List ℕ → StreamState) (ns : List Note) (l : Link) : Type 0 where
+pub record IsGoodWith (found : List ℕ → Option StreamState) (ns : List Note) (l : Link) : Type 0 where
   pub stands : (c : List ℕ) → Stands (found c) c (l.client.modes c) ns (l.line.subs c) (due c l.up)
   pub rises : Rises l.heard l.up l.client.fresh
   pub old : AreOld l.heard ns
@@ -125,5 +126,5 @@ pub record IsGoodWith (found : List ℕ → StreamState) (ns : List Note) (l : L
   pub unclosed : l.line.closed ≡ false → IsOpen ns
   pub shut : l.line.closed ≡ true → (c : List ℕ) → l.line.subs c ≡ Off
 
-abbrev pub IsGood : (List ℕ → StreamState) → Link → Type 0
+abbrev pub IsGood : (List ℕ → Option StreamState) → Link → Type 0
 IsGood found l = IsGoodWith found (coming l) l

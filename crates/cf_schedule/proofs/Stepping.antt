@@ -1,5 +1,5 @@
 -- Each happening keeps the invariant of the world, beside what was seen so far of each client and channel.
-use Rattle.std.proofs.Common.{◌≡◌, ℕ, ℤ, ◌≤◌, ◌&&◌, not, Bool, true, false, Option, Some, None, List, [], ◌∷◌, refl, if◌then◌else◌, nat_lt}
+use Rattle.std.proofs.Common.{◌≡◌, ℕ, ℤ, ◌≤◌, ◌&&◌, not, Bool, true, false, Option, Some, None, List, [], ◌∷◌, refl, ◌⊎◌, inl, inr, if◌then◌else◌, nat_lt}
 use Rattle.std.proofs.Math.Nat.{le_refl}
 use Rattle.cf_protocol.specs.Position.{Position}
 use Rattle.cf_protocol.specs.Note.{Lists, Note, Reply, Pub, End, Fails, Put as PutDone, Left, Listed, PingDue, Close}
@@ -17,9 +17,11 @@ use Rattle.cf_schedule.specs.Refusals.{Judgement, Unheard, TooLong, Refused, Acc
 use Rattle.cf_schedule.specs.IntervalMachine.{size_of, datum_by, carried_out, broker_by, closes_by, listing, answer_to, answer_by}
 use Rattle.cf_schedule.specs.LooseRun.{Happening, Line as LineOf, SendAsk, SendAskFrom, SendLeave, Receive, loosely_allows}
 use Rattle.cf_schedule.specs.Marks.{Mark, Asks, Stops, only, read_marks}
-use Rattle.cf_schedule.specs.StreamSafety.{Seen, sees_all, AreSound, IsWhole}
+use Rattle.cf_schedule.proofs.Automaton.{Seen, sees_all, AreSound, IsWhole}
 use Rattle.cf_schedule.proofs.Names.{by_test}
-use Rattle.cf_schedule.proofs.Standing.{IsGood}
+use Rattle.cf_schedule.specs.Leading.{coming}
+use Rattle.cf_schedule.proofs.Standing.{due, IsGood}
+use Rattle.cf_schedule.proofs.Leading.{IsFree, stands-free}
 use Rattle.cf_schedule.proofs.Within.{IsBounded, IsSteady}
 use Rattle.cf_schedule.proofs.Keeping.{good-closes_with}
 use Rattle.cf_schedule.proofs.Hearing.{good-errs, good-says}
@@ -102,10 +104,13 @@ pub client-hold_first : (ns : List Note) (l : Link) → (hold_first ns l).client
 client-hold_first [] l = refl
 client-hold_first (n ∷ ns) l = refl
 
--- the invariant looks at the streams found alone
-pub same-found : (found other : List ℕ → StreamState) (l : Link) → ((c : List ℕ) → other c ≡ found c) → IsGood found l → IsGood other l
+-- What was read may change where the client is not asking, or its command is still on its way.
+pub same-found : (found other : List ℕ → Option StreamState) (l : Link) → ((c : List ℕ) → (other c ≡ found c) ⊎ IsFree (l.client.modes c) (due c l.up)) → IsGood found l → IsGood other l
 same-found found other l e g = record {
-  stands = λ c. rw (e c) (g.stands c);
+  stands = λ c. elim (e c) [
+    | inl same ↦ rw same (g.stands c)
+    | inr free ↦ stands-free (found c) (other c) c (l.client.modes c) (coming l) (l.line.subs c) (due c l.up) free (g.stands c)
+  ];
   rises = g.rises;
   old = g.old;
   subs_old = g.subs_old;
@@ -115,7 +120,7 @@ same-found found other l e g = record {
 
 -- ---- commands that are heard and answered
 
-pub closes_by-good : (found : List ℕ → StreamState) (lists : Lists) (j : Judgement) (l : Link) → IsGood found l → IsGood found (closes_by j l)
+pub closes_by-good : (found : List ℕ → Option StreamState) (lists : Lists) (j : Judgement) (l : Link) → IsGood found l → IsGood found (closes_by j l)
 closes_by-good found lists Unheard l g = g
 closes_by-good found lists TooLong l g = good-closes_with found lists l bad_message g
 closes_by-good found lists (Refused code) l g = g
@@ -162,7 +167,7 @@ tops-broker_by cfg l e (Refused code) b d i = le_refl _
 tops-broker_by cfg l e Accepted b d i = tops-carried cfg l e b d i
 
 -- the answer to a command
-pub answer-good : (found : List ℕ → StreamState) (lists : Lists) (b : Broker) (k : Sent) (j : Judgement) (l : Link) → IsGood found l → IsGood found (answer_by (wording lists) b k j l)
+pub answer-good : (found : List ℕ → Option StreamState) (lists : Lists) (b : Broker) (k : Sent) (j : Judgement) (l : Link) → IsGood found l → IsGood found (answer_by (wording lists) b k j l)
 answer-good found lists b k Unheard l g = g
 answer-good found lists b k TooLong l g = g
 answer-good found lists b k (Refused code) l g = good-errs found lists l (channel_of k.errand) k.id code g

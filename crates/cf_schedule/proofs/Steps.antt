@@ -1,5 +1,5 @@
 -- One step of the world: what each happening does keeps its invariant, and what it tells is safe.
-use Rattle.std.proofs.Common.{◌≡◌, ℕ, ◌≤◌, ◌∙◌, Bool, true, false, Option, Some, None, List, [], ◌∷◌, ◌++◌, length, refl, sym, subst, arith, inl, inr, if◌then◌else◌, is_some}
+use Rattle.std.proofs.Common.{◌≡◌, ℕ, ◌≤◌, ◌∙◌, Bool, true, false, Option, Some, None, List, [], ◌∷◌, ◌++◌, length, refl, sym, ap, subst, arith, ◌⊎◌, inl, inr, if◌then◌else◌, is_some}
 use Rattle.std.proofs.Math.Nat.{le_refl}
 use Rattle.std.specs.Str.{bytes_eq}
 use Rattle.cf_protocol.specs.Names.{with}
@@ -20,16 +20,16 @@ use Rattle.cf_schedule.specs.Refusals.{Judgement, judged}
 use Rattle.cf_schedule.specs.IntervalMachine.{size_of, sent, broker_by, closes_by, is_refused, heard_as, hear_first, heard, as_judged, answer_by, answered, command_by, judgement, exchange, connects, read_found, read_at, delivered, restarts, effect}
 use Rattle.cf_schedule.specs.LooseRun.{Happening, Line as LineOf, SendAsk, SendAskFrom, SendLeave, SendPublish, SendHistory, Hear, Hold, Receive, ErrorEnters, NoteEnters, Fail, FinishOver, CloseNow, CheckAgainst, failed_if, loose_effect, loosely_allows, befalls, loose_run}
 use Rattle.cf_schedule.specs.Marks.{Mark, Asks, Reads, Stops, only, read_mark, read_marks}
-use Rattle.cf_schedule.specs.StreamSafety.{Seen, sees, sees_all, nothing_seen, IsSafe}
-use Rattle.cf_schedule.proofs.Names.{text_tells, by_test, both_test, with-all, with-both}
+use Rattle.cf_schedule.proofs.Automaton.{Seen, sees, sees_all, nothing_seen, IsSafe}
+use Rattle.cf_schedule.proofs.Names.{text_tells, itself, by_test, both_test, with-all, with-both}
 use Rattle.cf_schedule.proofs.Standing.{due, IsGoodWith, IsGood}
-use Rattle.cf_schedule.proofs.Leading.{due-bound}
+use Rattle.cf_schedule.proofs.Leading.{IsSettled, IsFree, settled-free, next-comes, due-more, due-bound}
 use Rattle.cf_schedule.proofs.Within.{LastWithin, SubWithin, ErrandWithin, IsBounded, HasTop, IsSteady}
 use Rattle.cf_schedule.proofs.Keeping.{good-closes_with, good-comes, good-finishes, good-finishes_over, good-sends}
 use Rattle.cf_schedule.proofs.Hearing.{good-hears, good-errs, good-says, good-fails, good-reads, good-breaks, good-holds, good-receive_first, good_checks}
 use Rattle.cf_schedule.proofs.Bounding.{within-last_of, bounded-comes, bounded-finishes, bounded-finishes_over, bounded-closes_with, bounded-sends, bounded-hears, bounded-errs, bounded-says, bounded-fails, bounded-reads, bounded-breaks, bounded-holds, bounded-receive_first, bounded_checks}
 use Rattle.cf_schedule.proofs.Brokering.{grow-link, steady-epoch, steady-opened, steady-publish, steady-trim, steady-forget, steady-forget_all, lists-opened, lists-epoch, lists-trim, tops-publish, below-read, within_publication}
-use Rattle.cf_schedule.proofs.Telling.{told, told_first, Knows, Tells, knows-last, tells-front, quiet_told}
+use Rattle.cf_schedule.proofs.Telling.{told, told_first, Knows, Tells, knows-last, tells-front, told-read}
 use Rattle.cf_schedule.proofs.Stepping.{IsFine, IsStep, step_marks, loose_marks, marks, client-hears_first, client-errs, client-says, client-fail_at, client-hold_first, same-found, closes_by-good, closes_by-bounded, closes_by-client, steady-broker_by, same-tops, tops-broker_by, answer-good, answer-bounded, answer_client}
 
 only-nil : (x y : List ℕ) → only x y [] ≡ []
@@ -134,11 +134,15 @@ module _ (seen : List ℕ → List ℕ → Seen) (w : World) (f : IsFine seen w)
   ask-step y c flag from e within =
       link-step y (sends (Subscribe c from) (w.links y)) (λ d. only d c (Asks flag ∷ []))
       (same-found (λ d. (seen y d).read) _ _
-      (λ d. by_test (λ ms. (sees_all (seen y d) ms).read ≡ (seen y d).read) (bytes_eq d c) (Asks flag ∷ []) [] (λ h. refl) (λ h. refl))
+      (λ d. elim (text_tells d c) [
+        | inl h ↦ inr (subst (λ z. IsFree ((sends (Subscribe c from) (w.links y)).client.modes z) (due z (sends (Subscribe c from) (w.links y)).up)) (sym h.1)
+            (rw (due-more c (w.links y).up (record { id = (w.links y).client.fresh; errand = Subscribe c from }), itself c) tt))
+        | inr h ↦ inl (rw h.0 refl)
+      ])
       (good-sends (λ d. (seen y d).read) lists (w.links y) (Subscribe c from) (f.good y)))
       (bounded-sends (tops w.broker.lists) lists (w.links y) (Subscribe c from) (f.bounded y) within)
       (with-both (λ d ms m. Tells (seen y d) ms m) (λ d. []) (w.links y).client.modes c (Asks flag ∷ []) _
-      (let k = knows-last (seen y c) ((w.links y).client.modes c) (f.knows y c) in ((tt, tt), tt, (k, rw k e)))
+      (let k = knows-last (seen y c) ((w.links y).client.modes c) (f.knows y c) in ((tt, tt), tt, (k, rw k e, refl)))
       (λ d ne. (tt, tt, f.knows y d)))
 
   tells-stop : (y c : List ℕ) → Tells (seen y c) (Stops ∷ []) (idle ((w.links y).client.modes c))
@@ -149,7 +153,11 @@ module _ (seen : List ℕ → List ℕ → Seen) (w : World) (f : IsFine seen w)
   leave-step y c =
       link-step y (sends (Unsubscribe c) (w.links y)) (λ d. only d c (Stops ∷ []))
       (same-found (λ d. (seen y d).read) _ _
-      (λ d. by_test (λ ms. (sees_all (seen y d) ms).read ≡ (seen y d).read) (bytes_eq d c) (Stops ∷ []) [] (λ h. refl) (λ h. refl))
+      (λ d. elim (text_tells d c) [
+        | inl h ↦ inr (subst (λ z. IsFree ((sends (Unsubscribe c) (w.links y)).client.modes z) (due z (sends (Unsubscribe c) (w.links y)).up)) (sym h.1)
+            (rw (due-more c (w.links y).up (record { id = (w.links y).client.fresh; errand = Unsubscribe c }), itself c) tt))
+        | inr h ↦ inl (rw h.0 refl)
+      ])
       (good-sends (λ d. (seen y d).read) lists (w.links y) (Unsubscribe c) (f.good y)))
       (bounded-sends (tops w.broker.lists) lists (w.links y) (Unsubscribe c) (f.bounded y) tt)
       (with-both (λ d ms m. Tells (seen y d) ms m) (λ d. []) (w.links y).client.modes c (Stops ∷ []) _ (tells-stop y c) (λ d ne. (tt, tt, f.knows y d)))
@@ -193,7 +201,7 @@ module _ (seen : List ℕ → List ℕ → Seen) (w : World) (f : IsFine seen w)
       → IsStep seen (broker_with b w) (λ x d. only x y (only d c []))
   read-nothing b y c steady e =
       many (broker_with b w) _ steady
-      (λ x. same-found (λ d. (seen x d).read) _ _ (λ d. rw (only-nil d c, only-nil x y) refl) (f.good x))
+      (λ x. same-found (λ d. (seen x d).read) _ _ (λ d. inl (rw (only-nil d c, only-nil x y) refl)) (f.good x))
       (λ x. rw e (f.bounded x))
       (λ x d. rw (only-nil d c, only-nil x y) (tt, tt, f.knows x d))
 
@@ -206,14 +214,24 @@ module _ (seen : List ℕ → List ℕ → Seen) (w : World) (f : IsFine seen w)
       let within = (subst (SubWithin (tops w.broker.lists c)) a ((f.bounded y).subs c)).0 in
       one b w.boots w.counters w.clients y (with_line (put_sub c (Ready k (is_some since) (read_of since s) arrived) (w.links y).line) (w.links y)) (λ d. only d c (Reads s ∷ []))
       steady (same-tops w.broker.lists b.lists e)
-      (same-found (with (λ d. (seen y d).read) c s) _ _
-      (λ d. both_test (λ ms r. (sees_all (seen y d) ms).read ≡ r) (bytes_eq d c) (Reads s ∷ []) [] s (seen y d).read (λ h. refl) (λ h. refl))
-      (good-reads (λ d. (seen y d).read) lists (w.links y) c k since arrived s (f.good y) a (below-read (tops w.broker.lists c) since s within top)))
+      (same-found (with (λ d. (seen y d).read) c (sees (seen y c) (Reads s)).read) _ _
+      (λ d. inl (elim (text_tells d c) [
+        | inl h ↦ rw h.0 (ap (λ z. (sees (seen y z) (Reads s)).read) h.1)
+        | inr h ↦ rw h.0 refl
+      ]))
+      (good-reads (λ d. (seen y d).read) lists (w.links y) c k since arrived s _ (f.good y) a (below-read (tops w.broker.lists c) since s within top)
+      (read-out (seen y c) ((w.links y).client.modes c) (due c (w.links y).up) s (f.knows y c))))
       (rw e (bounded-reads (tops w.broker.lists) lists (w.links y) c k since arrived s (f.bounded y) a (rw top (le_refl _))))
       (with-all (λ d ms. Tells (seen y d) ms ((w.links y).client.modes d)) (λ d. []) c (Reads s ∷ [])
       ((tt, tt), tt, knows-again (seen y c) ((w.links y).client.modes c) s (f.knows y c))
       (λ d ne. (tt, tt, f.knows y d)))
     where
+      -- it is known, where the ask is still out
+      read-out : (t : Seen) (m : Mode) (o : Option Sent) (s : StreamState) → Knows t m → IsFree m o ⊎ ((sees t (Reads s)).read ≡ Some s)
+      read-out t (Idle last) o s k = inl (settled-free (Idle last) o tt)
+      read-out t (Asking id from last) o s k = inr (rw k.2 refl)
+      read-out t (Live p) o s k = inl (settled-free (Live p) o tt)
+
       knows-again : (t : Seen) (m : Mode) (s : StreamState) → Knows t m → Knows (sees t (Reads s)) m
       knows-again t (Idle last) s k = k
       knows-again t (Asking id from last) s k = k
@@ -244,16 +262,21 @@ module _ (seen : List ℕ → List ℕ → Seen) (w : World) (f : IsFine seen w)
       let coming : IsGoodWith (λ c. (seen y c).read) (n ∷ (ns ++ l.line.notes)) l = subst (λ xs. IsGoodWith (λ c. (seen y c).read) (xs ++ l.line.notes) l) e g in
       subst (λ (k : Client). IsStep seen (link_with y (receive_first (n ∷ ns) l) w) (λ x c. only x y (told c (k.modes c) n))) same
       (link-step y (receive_first (n ∷ ns) l) (λ c. told c (l.client.modes c) n)
-      (same-found (λ c. (seen y c).read) _ _ (λ c. quiet_told (seen y c) c (l.client.modes c) n)
+      (same-found (λ c. (seen y c).read) _ _
+      (λ c. elim (told-read (seen y c) c (l.client.modes c) n) [
+        | inl same ↦ inl same
+        | inr rests ↦ inr (settled-free _ _ (subst IsSettled (sym (modes-take n ns l c)) rests))
+      ])
       (good-receive_first (λ c. (seen y c).read) lists l (n ∷ ns) g e))
-      (bounded-receive_first (tops w.broker.lists) lists l (n ∷ ns) b e)
+      (bounded-receive_first (tops w.broker.lists) lists l n ns b e
+      (λ c. next-comes (seen y c).read c (l.client.modes c) n (ns ++ l.line.notes) (l.line.subs c) (due c l.up) (coming.stands c)))
       (λ c. rw (modes-take n ns l c) (tells-front (seen y c) c l.heard (l.client.modes c) n (ns ++ l.line.notes) (l.line.subs c) (due c l.up)
       (rw same (f.knows y c)) (coming.stands c) (due-bound c l.heard l.client.fresh l.up g.rises) coming.old.0)))
 
   pub break-step : (y : List ℕ) → IsStep seen (link_with y (breaks (w.links y)) w) (λ x c. only x y (Stops ∷ []))
   break-step y =
       link-step y (breaks (w.links y)) (λ c. Stops ∷ [])
-      (good-breaks (λ c. (seen y c).read) lists (w.links y))
+      (good-breaks (λ c. (sees_all (seen y c) (Stops ∷ [])).read) lists (w.links y))
       (bounded-breaks (tops w.broker.lists) lists (w.links y) (f.bounded y))
       (tells-stop y)
 
@@ -276,7 +299,7 @@ module _ (seen : List ℕ → List ℕ → Seen) (w : World) (f : IsFine seen w)
   restart-step n =
       many (restarts n w) _ f.steady
       (λ x. both_test (λ (ms : List Mark) (l : Link). IsGood (λ c. (sees_all (seen x c) ms).read) l) (on_node n (w.links x).node) (Stops ∷ []) [] _ _
-      (λ h. good-breaks (λ c. (seen x c).read) lists (w.links x)) (λ h. f.good x))
+      (λ h. good-breaks (λ c. (sees_all (seen x c) (Stops ∷ [])).read) lists (w.links x)) (λ h. f.good x))
       (λ x. by_test (IsBounded (tops w.broker.lists)) (on_node n (w.links x).node) _ _
       (λ h. bounded-breaks (tops w.broker.lists) lists (w.links x) (f.bounded x)) (λ h. f.bounded x))
       (λ x c. both_test (λ (ms : List Mark) (l : Link). Tells (seen x c) ms (l.client.modes c)) (on_node n (w.links x).node) (Stops ∷ []) [] _ _

@@ -14,7 +14,8 @@ use Rattle.cf_schedule.specs.LooseRun.{Happening, Line, SendAsk, SendAskFrom, Se
 use Rattle.cf_schedule.specs.Trace.{Item, Refused, Listed}
 use Rattle.cf_schedule.specs.Told.{run_items, reading_items, reply_items, pub_items, end_items, asks_under, error_items, listing_items, items, first_items, entries, told_first as tells_first, tells, loosely_tells, loosely_writes}
 use Rattle.cf_schedule.specs.Marks.{Mark, Subscribed, Published, Stops, only, item_marks, entry_marks, event_marks, own_marks, allowed_marks}
-use Rattle.cf_schedule.specs.StreamSafety.{places, IsSafe, nothing_seen}
+use Rattle.cf_schedule.specs.StreamSafety.{places}
+use Rattle.cf_schedule.proofs.Automaton.{IsSafe, nothing_seen}
 use Rattle.cf_schedule.proofs.Names.{text_tells, itself, not_this, by_test}
 use Rattle.cf_schedule.proofs.Telling.{told_by_reading, told, told_first}
 use Rattle.cf_schedule.proofs.Stepping.{step_marks, loose_marks, marks}

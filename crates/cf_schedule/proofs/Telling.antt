@@ -1,5 +1,5 @@
 -- What a note that comes to a client tells its application is sound.
-use Rattle.std.proofs.Common.{◌≡◌, ℕ, zero, suc, ◌+◌, ◌-◌, ◌≤◌, ◌<◌, ◌==◌, ◌&&◌, ◌∙◌, min, true, false, Option, Some, None, List, [], ◌∷◌, refl, sym, ap, subst, arith, inl, inr, if◌then◌else◌}
+use Rattle.std.proofs.Common.{◌≡◌, ℕ, zero, suc, ◌+◌, ◌-◌, ◌≤◌, ◌<◌, ◌==◌, ◌&&◌, ◌∙◌, min, Bool, true, false, Option, Some, None, List, [], ◌∷◌, refl, sym, ap, subst, arith, ◌⊎◌, inl, inr, if◌then◌else◌}
 use Rattle.std.proofs.lemmas.Bool.Decides.{nat_tests}
 use Rattle.std.specs.Str.{bytes_eq}
 use Rattle.cf_protocol.specs.Position.{Position}
@@ -8,12 +8,13 @@ use Rattle.cf_stream.specs.StreamState.{StreamState}
 use Rattle.cf_stream.specs.StreamAnswer.{most_in_reply, still_held, read_of}
 use Rattle.cf_recovery.specs.Verdict.{next}
 use Rattle.cf_hub.specs.Connection.{Sub}
-use Rattle.cf_client.specs.ClientState.{Mode, Idle, Asking, Live, last_of, takes, read_to}
+use Rattle.cf_client.specs.ClientState.{Mode, Idle, Asking, Live, last_of, takes, moved_on, read_to}
 use Rattle.cf_schedule.specs.Errand.{Errand, Sent, Subscribe, Unsubscribe, Publish, History}
 use Rattle.cf_schedule.specs.Marks.{Mark, Subscribed, Published, Stops}
-use Rattle.cf_schedule.specs.StreamSafety.{places, StillHeld, Seen, sees, sees_all, AreSound, IsWhole}
+use Rattle.cf_schedule.specs.StreamSafety.{places, StillHeld, IsHonest}
+use Rattle.cf_schedule.proofs.Automaton.{Seen, sees, sees_all, AreSound, IsWhole}
 use Rattle.cf_schedule.proofs.Standing.{Below, Right, Fits, IsOld, Awaits, Stands}
-use Rattle.cf_schedule.proofs.Leading.{IdFrom}
+use Rattle.cf_schedule.proofs.Leading.{IsSettled, settled-takes, IdFrom}
 use Rattle.cf_schedule.proofs.Names.{text_tells, older, by_two, by_test}
 
 -- what the application is told at channel c when a note is taken
@@ -28,7 +29,7 @@ told c (Idle last) n = []
 told c (Asking id from last) (Reply d k was r) = if bytes_eq d c && (k == id) then told_by_reading r else []
 told c (Asking id from last) (Close code) = Stops ∷ []
 told c (Asking id from last) n = []
-told c (Live p) (Pub d q) = if bytes_eq d c then Published q ∷ [] else []
+told c (Live p) (Pub d q) = if bytes_eq d c then Published (moved_on p q) ∷ [] else []
 told c (Live p) (End d) = if bytes_eq d c then Stops ∷ [] else []
 told c (Live p) (Close code) = Stops ∷ []
 told c (Live p) n = []
@@ -40,7 +41,7 @@ told_first c m (n ∷ ns) = told c m n
 -- what was seen so far fits the client's mode
 abbrev pub Knows : Seen → Mode → Type 0
 Knows s (Idle last) = s.last ≡ last
-Knows s (Asking id from last) = (s.last ≡ last) × (s.old ≡ from)
+Knows s (Asking id from last) = (s.last ≡ last) × (s.old ≡ from) × (s.asks ≡ true)
 Knows s (Live p) = (s.last ≡ Some p) × (s.run ≡ Some p)
 
 -- marks that are sound and whole, after which what was seen fits the mode
@@ -93,31 +94,37 @@ at_end : (r : StreamState) (p : Position) → r.top ≡ p.offset + (r.top - p.of
 unfolding plus
 at_end r p h = ap {B = Position} (λ (n : ℕ). record { epoch = r.epoch; offset = n }) h
 
-tells-held : (s : Seen) (p : Position) → s.old ≡ Some p → (p.epoch ≡ s.read.epoch) × (p.offset ≤ s.read.top) × (s.read.top - p.offset ≤ min s.read.held most_in_reply)
-    → Tells s (told_by_reading (record { epoch = s.read.epoch; low = p.offset; top = s.read.top; recovered = true })) (Live (record { epoch = s.read.epoch; offset = s.read.top }))
-tells-held s p o h =
-    let at : Position = record { epoch = s.read.epoch; offset = s.read.top } in
-    let from : Position = record { epoch = s.read.epoch; offset = p.offset } in
+-- what was read is known
+honest : (s : Seen) (found : StreamState) (recovered : Bool) (at : Position) → s.read ≡ Some found → IsHonest s.old (Some found) recovered at → IsHonest s.old s.read recovered at
+honest s found recovered at e h = subst (λ (r : Option StreamState). IsHonest s.old r recovered at) (sym e) h
+
+tells-held : (s : Seen) (found : StreamState) (p : Position) → s.read ≡ Some found → s.old ≡ Some p → (p.epoch ≡ found.epoch) × (p.offset ≤ found.top) × (found.top - p.offset ≤ min found.held most_in_reply)
+    → Tells s (told_by_reading (record { epoch = found.epoch; low = p.offset; top = found.top; recovered = true })) (Live (record { epoch = found.epoch; offset = found.top }))
+tells-held s found p read o h =
+    let at : Position = record { epoch = found.epoch; offset = found.top } in
+    let from : Position = record { epoch = found.epoch; offset = p.offset } in
     let after : Seen = sees s (Subscribed true at) in
     let running : after.run ≡ Some from = rw o refl in
     let same : from ≡ p = ap {B = Position} (λ (n : List ℕ). record { epoch = n; offset = p.offset }) (sym h.0) in
-    let reach : s.read.top ≡ p.offset + (s.read.top - p.offset) = omega arith in
-    let end' : at ≡ plus from (s.read.top - p.offset) = at_end s.read p reach in (
-      ((((λ f. rw o (h.0, h.2)), (λ k. refl)), refl), places-sound (s.read.top - p.offset) after from running),
-      rw o (ap (λ (q : Position). places q (s.read.top - p.offset)) same),
-      places-seen (s.read.top - p.offset) after from at running refl end',
+    let reach : found.top ≡ p.offset + (found.top - p.offset) = omega arith in
+    let end' : at ≡ plus from (found.top - p.offset) = at_end found p reach in (
+      (honest s found true at read (((λ f. rw o (h.0, h.2)), (λ k. refl)), refl), places-sound (found.top - p.offset) after from running),
+      rw o (ap (λ (q : Position). places q (found.top - p.offset)) same),
+      places-seen (found.top - p.offset) after from at running refl end',
     )
 
 -- a reply is told
-tells-recover : (s : Seen) (from : Option Position) → s.old ≡ from → Below from s.read → Tells s (told_by_reading (read_of from s.read)) (Live (read_to (read_of from s.read)))
-tells-recover s None o b = (((((λ f. absurd (cc)), (λ k. absurd (subst (λ x. StillHeld x s.read) o k))), refl), tt), refl, (refl, refl))
-tells-recover s (Some p) o b =
-    by_test (λ (r : Reading). Tells s (told_by_reading r) (Live (read_to r))) (still_held p s.read) _ _
-    (λ e. tells-held s p o (held-true p s.read e))
-    (λ e. (((((λ f. absurd (cc)), (λ k. absurd (held-false p s.read e b (subst (λ x. StillHeld x s.read) o k)))), refl), tt), refl, (refl, refl)))
+tells-recover : (s : Seen) (found : StreamState) (from : Option Position) → s.read ≡ Some found → s.old ≡ from → Below from found → Tells s (told_by_reading (read_of from found)) (Live (read_to (read_of from found)))
+tells-recover s found None read o b =
+    ((honest s found false _ read (((λ f. absurd (cc)), (λ k. absurd (subst (λ x. StillHeld x found) o k))), refl), tt), refl, (refl, refl))
+tells-recover s found (Some p) read o b =
+    by_test (λ (r : Reading). Tells s (told_by_reading r) (Live (read_to r))) (still_held p found) _ _
+    (λ e. tells-held s found p read o (held-true p found e))
+    (λ e. ((honest s found false _ read (((λ f. absurd (cc)), (λ k. absurd (held-false p found e b (subst (λ x. StillHeld x found) o k)))), refl), tt), refl, (refl, refl)))
 
-tells-reading : (s : Seen) (from : Option Position) (r : Reading) → s.old ≡ from → Right from s.read r → Tells s (told_by_reading r) (Live (read_to r))
-tells-reading s from r o h = rw h.0 (tells-recover s from o h.1)
+tells-reading : (s : Seen) (read : Option StreamState) (from : Option Position) (r : Reading) → s.read ≡ read → s.old ≡ from → Right from read r → Tells s (told_by_reading r) (Live (read_to r))
+tells-reading s None from r e o h = absurd h
+tells-reading s (Some found) from r e o h = rw h.0 (tells-recover s found from e o h.1)
 
 -- a note is told
 pub tells-take : (s : Seen) (c : List ℕ) (m : Mode) (n : Note) → Knows s m → Fits s.read c m n → Tells s (told c m n) (takes c m n)
@@ -125,7 +132,7 @@ tells-take s c (Idle last) (Close code) k f = ((tt, tt), tt, k)
 tells-take s c (Idle last) n k f = (tt, tt, k)
 tells-take s c (Asking id from last) (Reply d i was r) k f =
     elim (by_two d c i id) [
-      | inl e ↦ rw e.0 (tells-reading s from r k.1 (f e.1 e.2))
+      | inl e ↦ rw e.0 (tells-reading s s.read from r refl k.1 (f e.1 e.2))
       | inr e ↦ rw e (tt, tt, k)
     ]
 tells-take s c (Asking id from last) (Fails d i code) k f =
@@ -134,7 +141,7 @@ tells-take s c (Asking id from last) (Close code) k f = ((tt, tt), tt, k.0)
 tells-take s c (Asking id from last) n k f = (tt, tt, k)
 tells-take s c (Live p) (Pub d q) k f =
     elim (text_tells d c) [
-      | inl e ↦ rw e.0 ((rw k.1 (f e.1), tt), tt, (refl, refl))
+      | inl e ↦ rw e.0 ((rw k.1 (ap (moved_on p) (f e.1)), tt), tt, (refl, refl))
       | inr e ↦ rw e.0 (tt, tt, k)
     ]
 tells-take s c (Live p) (End d) k f =
@@ -169,25 +176,14 @@ pub tells-front : (s : Seen) (c : List ℕ) (b : ℕ) (m : Mode) (n : Note) (ns 
 tells-front s c b m n ns t None k h i old = tells-take s c m n k h.0
 tells-front s c b m n ns t (Some x) k h i old = tells-waiting s c b x.id x.errand m n k h i old
 
--- the marks of a note read no stream
-quiet-places : (n : ℕ) (s : Seen) (p : Position) → (sees_all s (places p n)).read ≡ s.read
-quiet-places zero s p = refl
-quiet-places (suc n) s p = quiet-places n (sees s (Published (next p))) (next p)
-
-quiet-reading : (s : Seen) (r : Reading) → (sees_all s (told_by_reading r)).read ≡ s.read
-quiet-reading s r =
-    by_test (λ ms. (sees_all (sees s (Subscribed r.recovered (read_to r))) ms).read ≡ s.read) r.recovered
-    (places (record { epoch = r.epoch; offset = r.low }) (r.top - r.low)) []
-    (λ h. quiet-places (r.top - r.low) (sees s (Subscribed r.recovered (read_to r))) _) (λ h. refl)
-
-pub quiet_told : (s : Seen) (c : List ℕ) (m : Mode) (n : Note) → (sees_all s (told c m n)).read ≡ s.read
-quiet_told s c (Idle last) (Close code) = refl
-quiet_told s c (Idle last) n = refl
-quiet_told s c (Asking id from last) (Reply d k was r) =
-    by_test (λ ms. (sees_all s ms).read ≡ s.read) (bytes_eq d c && (k == id)) (told_by_reading r) [] (λ h. quiet-reading s r) (λ h. refl)
-quiet_told s c (Asking id from last) (Close code) = refl
-quiet_told s c (Asking id from last) n = refl
-quiet_told s c (Live p) (Pub d q) = by_test (λ ms. (sees_all s ms).read ≡ s.read) (bytes_eq d c) (Published q ∷ []) [] (λ h. refl) (λ h. refl)
-quiet_told s c (Live p) (End d) = by_test (λ ms. (sees_all s ms).read ≡ s.read) (bytes_eq d c) (Stops ∷ []) [] (λ h. refl) (λ h. refl)
-quiet_told s c (Live p) (Close code) = refl
-quiet_told s c (Live p) n = refl
+-- After a note was taken what was read is as it was, unless the client isn't asking.
+pub told-read : (s : Seen) (c : List ℕ) (m : Mode) (n : Note) → ((sees_all s (told c m n)).read ≡ s.read) ⊎ IsSettled (takes c m n)
+told-read s c (Idle last) n = inr tt
+told-read s c (Asking id from last) (Reply d k was r) =
+    elim (by_two d c k id) [
+      | inl e ↦ rw e.0 (inr tt)
+      | inr e ↦ rw e (inl refl)
+    ]
+told-read s c (Asking id from last) (Close code) = inr tt
+told-read s c (Asking id from last) n = inl refl
+told-read s c (Live p) n = inr (settled-takes c (Live p) n tt)

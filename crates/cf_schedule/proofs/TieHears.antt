@@ -8,12 +8,9 @@ use Rattle.cf_protocol.specs.Names.{with}
 use Rattle.cf_protocol.specs.Note.{Lists, Note, Reading, Reply, Pub, End, Fails, Put, Left, Listed, PingDue, Close, outgoing_of, placed_from, placed_at}
 use Rattle.cf_protocol.specs.Outgoing.{Outgoing, Answer, Push, Subscribed, Publication}
 use Rattle.cf_protocol.specs.Position.{Position}
-use Rattle.cf_recovery.specs.Verdict.{next}
-use Rattle.cf_hub.specs.Connection.{Sub}
-use Rattle.cf_client.specs.ClientState.{Client, Mode, Idle, Asking, Live, takes, hears, read_to}
+use Rattle.cf_client.specs.ClientState.{Client, Mode, Idle, Asking, Live, takes, moved_on, hears, read_to}
 use Rattle.cf_schedule.specs.AnswersById.{IsForChannel}
 use Rattle.cf_schedule.specs.ClientCalls.{IsSame, GoesLive, IsForNone, Takes, TakesAll, TakesPublication, goes_live, published}
-use Rattle.cf_schedule.specs.Leading.{LeadsOn, Lead, if_same}
 use Rattle.cf_schedule.specs.PublicationList.{body_of}
 use Rattle.cf_schedule.specs.Tie.{IsSent}
 use Rattle.cf_schedule.specs.Told.{items, reply_items, reading_items, pub_items, asks_under}
@@ -47,7 +44,7 @@ placed-by ds (suc o) p h =
         (sym (ap (λ (z : Placed). z.offset) is), sym (ap (λ (z : Placed). z.datum.body) is) ∙ sym (ap body_of e))
 
 -- a live channel goes on
-goes-on : (c : List ℕ) (q : Position) (old x new : Client) (p r : Position) → IsSame old x → x.modes c ≡ Live p → r ≡ q → IsSame new (goes_live c r old) → IsSame new (hears (Pub c q) x)
+goes-on : (c : List ℕ) (q : Position) (old x new : Client) (p r : Position) → IsSame old x → x.modes c ≡ Live p → r ≡ moved_on p q → IsSame new (goes_live c r old) → IsSame new (hears (Pub c q) x)
 goes-on c q old x new p r s e is h = record {
   fresh = h.fresh ∙ s.fresh;
   modes = λ d. h.modes d ∙ elim (text_tells d c) [
@@ -55,7 +52,7 @@ goes-on c q old x new p r s e is h = record {
         let here : with old.modes c (Live r) d ≡ Live r = ap (λ (t : Bool). if t then Live r else old.modes d) k.0 in
         let mine : x.modes d ≡ Live p = ap x.modes k.1 ∙ e in
         let test : bytes_eq c d ≡ true = ap (bytes_eq c) k.1 ∙ itself c in
-        here ∙ ap Live is ∙ sym (ap (λ (m : Mode). takes d m (Pub c q)) mine ∙ ap (λ (t : Bool). if t then Live q else Live p) test)
+        here ∙ ap Live is ∙ sym (ap (λ (m : Mode). takes d m (Pub c q)) mine ∙ ap (λ (t : Bool). if t then Live (moved_on p q) else Live p) test)
     | inr k ↦
         let other : with old.modes c (Live r) d ≡ old.modes d = with-other old.modes c (Live r) d k.1 in
         let test : bytes_eq c d ≡ false = not_this c d (λ i. k.1 (sym i)) in
@@ -67,7 +64,7 @@ goes-on c q old x new p r s e is h = record {
     stays : (d : List ℕ) (m : Mode) → bytes_eq c d ≡ false → takes d m (Pub c q) ≡ m
     stays d (Idle last) t = refl
     stays d (Asking id from last) t = refl
-    stays d (Live u) t = ap (λ (b : Bool). if b then Live q else Live u) t
+    stays d (Live u) t = ap (λ (b : Bool). if b then Live (moved_on u q) else Live u) t
 
 -- a channel that isn't live passes over
 pass-over : (c : List ℕ) (q : Position) (old x new : Client) → IsSame old x → new ≡ old → ((p : Position) → x.modes c ≡ Live p → ⊥) → IsSame new (hears (Pub c q) x)
@@ -82,28 +79,23 @@ pass-over c q old x new s same idle = record {
     stays d (Asking id from last) t = refl
     stays d (Live u) t = elim (text_tells c d) [
       | inl k ↦ absurd (idle u (ap x.modes k.1 ∙ t))
-      | inr k ↦ ap (λ (b : Bool). if b then Live q else Live u) k.0
+      | inr k ↦ ap (λ (b : Bool). if b then Live (moved_on u q) else Live u) k.0
     ]
 
-leads-next : (c : List ℕ) (p q : Position) (ns : List Note) (s : Sub) → Lead c p (Pub c q ∷ ns) s → q ≡ next p
-leads-next c p q ns s h = (subst (λ (t : Bool). if_same t ((q ≡ next p) × Lead c q ns s) (Lead c p ns s)) (itself c) h).0
-
-hears-pub : (lists : Lists) (c : List ℕ) (q : Position) (pl : Placed) (m : Mode) (old x new : Client) (told : List Item) (ns : List Note) (s : Sub)
-    → x.modes c ≡ m → placed_at (lists c q.epoch) q.offset ≡ Some pl → IsSame old x → LeadsOn c m (Pub c q ∷ ns) s → TakesPublication c pl m old new told
+hears-pub : (lists : Lists) (c : List ℕ) (q : Position) (pl : Placed) (m : Mode) (old x new : Client) (told : List Item)
+    → x.modes c ≡ m → placed_at (lists c q.epoch) q.offset ≡ Some pl → IsSame old x → TakesPublication c pl m old new told
     → IsSame new (hears (Pub c q) x) × (told ≡ pub_items lists c q m)
-hears-pub lists c q pl (Idle last) old x new told ns s e at same lead h = (pass-over c q old x new same h.0 (λ p k. idle p (sym e ∙ k)), h.1)
+hears-pub lists c q pl (Idle last) old x new told e at same h = (pass-over c q old x new same h.0 (λ p k. idle p (sym e ∙ k)), h.1)
   where
     idle : (p : Position) → Idle last ≡ Live p → ⊥
     idle p k = cc
-hears-pub lists c q pl (Asking id from last) old x new told ns s e at same lead h = (pass-over c q old x new same h.0 (λ p k. idle p (sym e ∙ k)), h.1)
+hears-pub lists c q pl (Asking id from last) old x new told e at same h = (pass-over c q old x new same h.0 (λ p k. idle p (sym e ∙ k)), h.1)
   where
     idle : (p : Position) → Asking id from last ≡ Live p → ⊥
     idle p k = cc
-hears-pub lists c q pl (Live p) old x new told ns s e at same lead h =
+hears-pub lists c q pl (Live p) old x new told e at same h =
     let is = placed-by (lists c q.epoch) q.offset pl at in
-    let after : q ≡ next p = leads-next c p q ns s lead in
-    let epoch : p.epoch ≡ q.epoch = sym (ap (λ (z : Position). z.epoch) after) in
-    let here : ◌≡◌ {A = Position} (record { epoch = p.epoch; offset = pl.offset }) q = λ i. record { epoch = epoch i; offset = is.0 i } in (
+    let here : ◌≡◌ {A = Position} (record { epoch = p.epoch; offset = pl.offset }) (moved_on p q) = λ i. record { epoch = p.epoch; offset = is.0 i } in (
       goes-on c q old x new p (record { epoch = p.epoch; offset = pl.offset }) same e here h.0,
       h.1 ∙ (λ i. item.Published c (here i) (is.1 i) ∷ []),
     )
@@ -210,14 +202,14 @@ hears-reply lists c id was r ps old x new told fresh none for same h =
 
 -- ---- a note
 
-pub hears-note : (lists : Lists) (n : Note) (o : Outgoing) (ns : List Note) (subs : List ℕ → Sub) (old x new : Client) (told : List Item) → IsSent n → outgoing_of lists n ≡ Some o
-    → ((d : List ℕ) → IsForChannel d (x.modes d) n) → ((d : List ℕ) → LeadsOn d (x.modes d) (n ∷ ns) (subs d)) → IsSame old x → Takes o old new told
+pub hears-note : (lists : Lists) (n : Note) (o : Outgoing) (old x new : Client) (told : List Item) → IsSent n → outgoing_of lists n ≡ Some o
+    → ((d : List ℕ) → IsForChannel d (x.modes d) n) → IsSame old x → Takes o old new told
     → IsSame new (hears n x) × (told ≡ items lists x n)
-hears-note lists (Reply c id was r) o ns subs old x new told sent out for lead same h =
+hears-note lists (Reply c id was r) o old x new told sent out for same h =
     let is : Answer id (Subscribed (read_to r) (placed_from (lists c r.epoch) r.low (r.top - r.low)) r.recovered was) ≡ o = some-is _ o out in
     let g : Takes (Answer id (Subscribed (read_to r) (placed_from (lists c r.epoch) r.low (r.top - r.low)) r.recovered was)) old new told = subst (λ (z : Outgoing). Takes z old new told) (sym is) h in
     hears-reply lists c id was r (placed_from (lists c r.epoch) r.low (r.top - r.low)) old x new told sent.0 (no-places lists c r sent.1) for same g
-hears-note lists (Pub c q) o ns subs old x new told sent out for lead same h = by_placed (placed_at (lists c q.epoch) q.offset) refl out
+hears-note lists (Pub c q) o old x new told sent out for same h = by_placed (placed_at (lists c q.epoch) q.offset) refl out
   where
     by_placed : (u : Option Placed) → placed_at (lists c q.epoch) q.offset ≡ u → option_map (λ (d : Placed). Push c (Publication d)) u ≡ Some o → IsSame new (hears (Pub c q) x) × (told ≡ items lists x (Pub c q))
     by_placed None e k = absurd (cc)
@@ -225,11 +217,11 @@ hears-note lists (Pub c q) o ns subs old x new told sent out for lead same h = b
         let is : Push c (Publication pl) ≡ o = some-is (Push c (Publication pl)) o k in
         let g : TakesPublication c pl (old.modes c) old new told = subst (λ (z : Outgoing). Takes z old new told) (sym is) h in
         let f : TakesPublication c pl (x.modes c) old new told = subst (λ (m : Mode). TakesPublication c pl m old new told) (same.modes c) g in
-        hears-pub lists c q pl (x.modes c) old x new told ns (subs c) refl e same (lead c) f
-hears-note lists (End c) o ns subs old x new told sent out for lead same h = absurd sent
-hears-note lists (Fails c id code) o ns subs old x new told sent out for lead same h = absurd sent
-hears-note lists (Put id) o ns subs old x new told sent out for lead same h = absurd sent
-hears-note lists (Left id) o ns subs old x new told sent out for lead same h = absurd sent
-hears-note lists (Listed c id at low count) o ns subs old x new told sent out for lead same h = absurd sent
-hears-note lists PingDue o ns subs old x new told sent out for lead same h = absurd sent
-hears-note lists (Close code) o ns subs old x new told sent out for lead same h = absurd sent
+        hears-pub lists c q pl (x.modes c) old x new told refl e same f
+hears-note lists (End c) o old x new told sent out for same h = absurd sent
+hears-note lists (Fails c id code) o old x new told sent out for same h = absurd sent
+hears-note lists (Put id) o old x new told sent out for same h = absurd sent
+hears-note lists (Left id) o old x new told sent out for same h = absurd sent
+hears-note lists (Listed c id at low count) o old x new told sent out for same h = absurd sent
+hears-note lists PingDue o old x new told sent out for same h = absurd sent
+hears-note lists (Close code) o old x new told sent out for same h = absurd sent

@@ -9,7 +9,7 @@ use Rattle.cf_schedule.specs.Told.{entries, trace, writes}
 use Rattle.cf_schedule.specs.Trace.{Item, Entry}
 use Rattle.cf_schedule.specs.Seen.{seen}
 use Rattle.cf_schedule.specs.LooseRun.{lines}
-use Rattle.cf_schedule.specs.Shown.{shown_trace}
+use Rattle.cf_schedule.specs.Shown.{shown_entry, shown_trace}
 use Rattle.cf_schedule.specs.Stopping.{Carries}
 use Rattle.cf_schedule.specs.StreamSafety.{Safe}
 use Rattle.cf_schedule.specs.World.{World, start}
@@ -95,3 +95,14 @@ all-seen es i h =
     let many : length (map seen es) ≡ length es = length-map es seen in
     let past : length (map seen es) ≤ i = omega arith in
     all-taken (map seen es) i past
+
+-- and one that stopped before the first
+pub carries-none : (cfg : Config) (es : List CodeEvent) (t : CodeTrace) → t.entries.items ≡ [] → Carries cfg (map seen es) 0 t
+carries-none cfg es t none =
+    let told : shown_trace t ≡ [] = ap (map shown_entry) none in
+    record {
+      within = omega arith;
+      whole = told;
+      built = tt;
+      safe = subst (λ (l : List Entry). Safe cfg [] l) (sym told) (safe_run cfg []);
+    }

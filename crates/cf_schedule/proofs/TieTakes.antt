@@ -15,7 +15,7 @@ use Rattle.cf_schedule.specs.ClientCalls.{client_of, is_connected, TakesAll, Tex
 use Rattle.cf_schedule.specs.Config.{Config}
 use Rattle.cf_schedule.specs.Event.{Event, Take}
 use Rattle.cf_schedule.specs.IntervalMachine.{allows, effect, has_any, run}
-use Rattle.cf_schedule.specs.Leading.{LeadsOn, coming}
+use Rattle.cf_schedule.specs.Leading.{coming}
 use Rattle.cf_schedule.specs.Link.{Link, no_link, with_line, hold_first, holds, receives, gets}
 use Rattle.cf_schedule.specs.NodeState.{line_on, kept_on, OneOn, SameOn}
 use Rattle.cf_schedule.specs.TextLine.{takes_front}
@@ -30,7 +30,6 @@ use Rattle.cf_schedule.specs.declared.client.ClientFault.TheVariants.{Bad, NotNo
 use Rattle.cf_schedule.specs.declared.halt.Halt.TheVariants as out
 use Rattle.cf_schedule.specs.declared.nodes.Nodes.{Nodes}
 use Rattle.cf_schedule.specs.declared.world.Peer.{Peer}
-use Rattle.cf_schedule.proofs.Headline.{notes_lead}
 use Rattle.cf_schedule.proofs.OwnedRuns.{answers_by_id}
 use Rattle.cf_schedule.proofs.TieGrown.{grown-same}
 use Rattle.cf_schedule.proofs.TieHears.{hears-note, takes-one}
@@ -134,10 +133,8 @@ module _ (cfg : Config) (past : List Event) {table : NamespaceTable} {code : Cod
       let f = front-there cfg.namespaces m.broker.lists text (line_on ns p.node p.session) l.line h.line some in
       let come : coming l ≡ f.note ∷ f.rest = λ i. h.way i ++ f.is i in
       let for : (d : List ℕ) → IsForChannel d (l.client.modes d) f.note = λ d. (subst (AreForChannel d (l.client.modes d)) come (answers_by_id cfg past x d)).0 in
-      let lead : (d : List ℕ) → LeadsOn d (l.client.modes d) (f.note ∷ f.rest) (l.line.subs d) =
-      λ d. subst (λ (z : List Note). LeadsOn d (l.client.modes d) z (l.line.subs d)) come (notes_lead cfg past x d) in
       let read : IsReplies text (f.said.said ∷ []) = subst (λ (z : List ℕ). IsReplies z (f.said.said ∷ [])) (sym f.said.text) (back f.said.said f.said.regular) in
-      let heard = hears-note m.broker.lists f.note f.said.said f.rest l.line.subs (client_of p.client) l.client (client_of new) told f.said.sent (f.said.stays m.broker.lists (grown-same m.broker.lists)) for lead h.client
+      let heard = hears-note m.broker.lists f.note f.said.said (client_of p.client) l.client (client_of new) told f.said.sent (f.said.stays m.broker.lists (grown-same m.broker.lists)) for h.client
       (takes-one f.said.said (client_of p.client) (client_of new) told (takes (f.said.said ∷ []) read)) in
       let allowed : allows cfg m (Take x) ≡ true = λ i. is_some (h.node i) && has_any (f.is i) in
       let front-less : ◌≡◌ {A = Line Note} (record (l.line) { notes = drop 1 l.line.notes }) (record (l.line) { notes = f.rest }) = λ i. record (l.line) { notes = drop 1 (f.is i) } in

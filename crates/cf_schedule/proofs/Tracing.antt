@@ -1,5 +1,5 @@
 -- One datum: each Published entry has the datum that stands at its place, and that stands there ever after.
-use Rattle.std.proofs.Common.{◌≡◌, ℕ, zero, suc, ◌+◌, ◌-◌, ◌∙◌, ◌≤◌, ◌<◌, ◌==◌, ◌||◌, Bool, true, false, Option, Some, None, List, [], ◌∷◌, ◌++◌, length, refl, sym, ap, subst, arith, if◌then◌else◌, nat_lt, length-append, slice_get}
+use Rattle.std.proofs.Common.{◌≡◌, ℕ, zero, suc, ◌+◌, ◌-◌, ◌∙◌, ◌≤◌, ◌<◌, ◌==◌, ◌||◌, Bool, true, false, Option, Some, None, List, [], ◌∷◌, ◌++◌, length, refl, sym, ap, subst, arith, if◌then◌else◌, nat_lt, length-append, append_assoc, slice_get, take}
 use Rattle.cf_protocol.specs.Position.{Position}
 use Rattle.cf_protocol.specs.Datum.{Datum}
 use Rattle.cf_protocol.specs.Note.{Lists, Reading, Note, Reply, Pub, End, Fails, Put as PutDone, Left, Listed as Listing, PingDue, Close}
@@ -10,7 +10,7 @@ use Rattle.cf_client.specs.ClientState.{Mode, Idle, Asking, Live, Client, is_out
 use Rattle.cf_schedule.specs.Config.{Config}
 use Rattle.cf_schedule.specs.Event.{Event, Epoch, Connect, Ask, AskFrom, Read, Finish, Publish, PublishBy, Deliver, Take, Break, Leave, Trim, Forget, BrokerRestart, Restart, Check, ListHistory}
 use Rattle.cf_schedule.specs.Errand.{Errand, Sent, Subscribe, Unsubscribe, Publish as PublishErrand, History}
-use Rattle.cf_schedule.specs.PublicationList.{Place, Broker, tops, body_of, publication, opened, list_with, add_at, publish}
+use Rattle.cf_schedule.specs.PublicationList.{Place, Broker, tops, body_of, datum_at, publication, opened, list_with, add_at, publish}
 use Rattle.cf_schedule.specs.Link.{Link, holds}
 use Rattle.cf_schedule.specs.World.{World, start, broker_with}
 use Rattle.cf_schedule.specs.Refusals.{Judgement, Unheard, TooLong, Refused as Rejected, Accepted, judged}
@@ -18,9 +18,11 @@ use Rattle.cf_schedule.specs.IntervalMachine.{size_of, datum_by, sent, carried_o
 use Rattle.cf_schedule.specs.LooseRun.{Happening, Line, SendAsk, SendAskFrom, SendLeave, SendPublish, SendHistory, Hear, Hold, Receive, ErrorEnters, NoteEnters, Fail, FinishOver, CloseNow, CheckAgainst, failed_if, loose_effect, loosely_allows, befalls, loose_run}
 use Rattle.cf_schedule.specs.Trace.{Item, Subscribed, Published, Resubscribing, Refused, Listed, Closed, Entry}
 use Rattle.cf_schedule.specs.Told.{run_items, reading_items, reply_items, pub_items, end_items, asks_under, first_items, entries, told_first, tells, loosely_tells, loosely_writes, loose_trace}
-use Rattle.cf_schedule.specs.StreamSafety.{IsTrueTo, AreTrueTo, Seen, nothing_seen, sees_all}
+use Rattle.cf_schedule.specs.StreamSafety.{IsTrueTo, AreTrueTo, lists_before}
+use Rattle.cf_schedule.proofs.Automaton.{Seen, nothing_seen, sees_all}
 use Rattle.cf_schedule.proofs.Names.{by_test, with-two}
-use Rattle.cf_schedule.proofs.Standing.{Stands, Awaits, due, IsGoodWith}
+use Rattle.cf_schedule.proofs.Standing.{Stands, due, IsGoodWith}
+use Rattle.cf_schedule.proofs.Leading.{next-comes, own-epoch}
 use Rattle.cf_schedule.proofs.Within.{IsBoundedWith}
 use Rattle.cf_schedule.proofs.Brokering.{lists-epoch, lists-opened, lists-trim}
 use Rattle.cf_schedule.proofs.Hearing.{good-holds}
@@ -164,11 +166,17 @@ still-true a b (Refused c code) g h = tt
 still-true a b (Listed c at count) g h = tt
 still-true a b (Closed code) g h = tt
 
-all-true : (a b : Lists) (es : List Entry) → GoesOn a b → AreTrueTo a es → AreTrueTo b es
-all-true a b [] g h = tt
-all-true a b (e ∷ es) g h = (still-true a b e.item g h.0, all-true a b es g h.1)
+-- entries of one event
+AreAll : (ℕ → Type 0) → List Entry → Type 0
+AreAll P [] = Unit {0}
+AreAll P (e ∷ es) = P e.at × AreAll P es
 
-true-append : (lists : Lists) (xs ys : List Entry) → AreTrueTo lists xs → AreTrueTo lists ys → AreTrueTo lists (xs ++ ys)
+all-true : (a : Lists) (b : ℕ → Lists) (es : List Entry) → AreTrueTo (λ n. a) es → AreAll (λ n. GoesOn a (b n)) es → AreTrueTo b es
+unfolding AreAll
+all-true a b [] h g = tt
+all-true a b (e ∷ es) h g = (still-true a (b e.at) e.item g.0 h.0, all-true a b es h.1 g.1)
+
+true-append : (lists : ℕ → Lists) (xs ys : List Entry) → AreTrueTo lists xs → AreTrueTo lists ys → AreTrueTo lists (xs ++ ys)
 true-append lists [] ys h k = k
 true-append lists (x ∷ xs) ys h k = (h.0, true-append lists xs ys h.1 k)
 
@@ -176,7 +184,7 @@ abbrev ItemsTrue : Lists → List Item → Type 0
 ItemsTrue lists [] = Unit {0}
 ItemsTrue lists (i ∷ is) = IsTrueTo lists i × ItemsTrue lists is
 
-true-entries : (lists : Lists) (n : ℕ) (x : List ℕ) (is : List Item) → ItemsTrue lists is → AreTrueTo lists (entries n x is)
+true-entries : (lists : Lists) (n : ℕ) (x : List ℕ) (is : List Item) → ItemsTrue lists is → AreTrueTo (λ n. lists) (entries n x is)
 true-entries lists n x [] h = tt
 true-entries lists n x (i ∷ is) h = (h.0, true-entries lists n x is h.1)
 
@@ -190,19 +198,7 @@ true-if : (lists : Lists) (t : Bool) (xs ys : List Item) → ItemsTrue lists xs 
 true-if lists true xs ys h k = h
 true-if lists false xs ys h k = k
 
--- a place that comes to a live client is the next one
-next-live : (read : StreamState) (d : List ℕ) (p q : Position) (ns : List Note) (s : Sub) (o : Option Sent)
-    → Stands read d (Live p) (Pub d q ∷ ns) s o → q ≡ next p
-next-live read d p q ns s None h = h.0 refl
-next-live read d p q ns s (Some k) h = of_errand k.errand h
-  where
-    of_errand : (e : Errand) → Awaits (Live p) k.id e → q ≡ next p
-    of_errand (Subscribe c from) x = absurd x
-    of_errand (Unsubscribe c) x = absurd x
-    of_errand (PublishErrand c body) x = absurd x
-    of_errand (History c limit) x = absurd x
-
-module _ (lists : Lists) (found : List ℕ → StreamState) (l : Link) where
+module _ (lists : Lists) (found : List ℕ → Option StreamState) (l : Link) where
   true-reply : (d : List ℕ) (k : ℕ) (was : Bool) (r : Reading) (m : Mode) → r.top ≤ length (lists d r.epoch) → ItemsTrue lists (reply_items lists d k was r m)
   true-reply d k was r (Idle last) h = tt
   true-reply d k was r (Live p) h = tt
@@ -217,7 +213,7 @@ module _ (lists : Lists) (found : List ℕ → StreamState) (l : Link) where
   true-pub d q (Live p) h n =
       let e : q ≡ next p = n p refl in
       let one : q.offset ≡ p.offset + 1 = ap (λ (x : Position). x.offset) e in
-      ((omega arith, h, refl), tt)
+      (subst (λ (x : Position). IsTrueTo lists (Published d x (body_of (datum_at lists d q)))) (sym (own-epoch p q e)) (omega arith, h, refl), tt)
 
   true-end : (d : List ℕ) (m : Mode) → ItemsTrue lists (end_items d m)
   true-end d (Idle last) = tt
@@ -229,8 +225,8 @@ module _ (lists : Lists) (found : List ℕ → StreamState) (l : Link) where
   true-first (Reply d k was r ∷ ns) g b = true-reply d k was r (l.client.modes d) b.notes.0
   true-first (Pub d q ∷ ns) g b =
       true-pub d q (l.client.modes d) b.notes.0
-      (λ p i. next-live (found d) d p q ns (l.line.subs d) (due d l.up)
-      (subst (λ (m : Mode). Stands (found d) d m (Pub d q ∷ ns) (l.line.subs d) (due d l.up)) i (g.stands d)))
+      (λ p i. next-comes (found d) d (Live p) (Pub d q) ns (l.line.subs d) (due d l.up)
+      (subst (λ (m : Mode). Stands (found d) d m (Pub d q ∷ ns) (l.line.subs d) (due d l.up)) i (g.stands d)) refl)
   true-first (End d ∷ ns) g b = true-end d (l.client.modes d)
   true-first (Fails d k code ∷ ns) g b = true-if lists (asks_under k (l.client.modes d) || is_out k l.client.calls) _ [] (tt, tt) tt
   true-first (PutDone k ∷ ns) g b = tt
@@ -244,34 +240,93 @@ module _ (lists : Lists) (found : List ℕ → StreamState) (l : Link) where
   true-way [] g b = tt
   true-way (n ∷ ns) g b = true-first (n ∷ (ns ++ l.line.notes)) g b
 
-true-taken : (n : ℕ) (seen : List ℕ → List ℕ → Seen) (w : World) (f : IsFine seen w) (x : List ℕ) → AreTrueTo w.broker.lists (told_first n x w (holds (w.links x)).way)
+true-taken : (n : ℕ) (seen : List ℕ → List ℕ → Seen) (w : World) (f : IsFine seen w) (x : List ℕ) → AreTrueTo (λ n. w.broker.lists) (told_first n x w (holds (w.links x)).way)
 true-taken n seen w f x =
     let l : Link = holds (w.links x) in
-    subst (λ (k : Client). AreTrueTo w.broker.lists (entries n x (first_items w.broker.lists k l.way))) (client-hold_first (w.links x).line.notes (w.links x))
+    subst (λ (k : Client). AreTrueTo (λ n. w.broker.lists) (entries n x (first_items w.broker.lists k l.way))) (client-hold_first (w.links x).line.notes (w.links x))
     (true-entries w.broker.lists n x (first_items w.broker.lists l.client l.way)
     (true-way w.broker.lists (λ c. (seen x c).read) l l.way (good-holds (λ c. (seen x c).read) w.broker.lists (w.links x) (f.good x))
     (bounded-holds (tops w.broker.lists) w.broker.lists (w.links x) (f.bounded x))))
 
-true-told : (n : ℕ) (seen : List ℕ → List ℕ → Seen) (w : World) (f : IsFine seen w) (h : Happening) → AreTrueTo w.broker.lists (loosely_tells n w h)
+true-told : (n : ℕ) (seen : List ℕ → List ℕ → Seen) (w : World) (f : IsFine seen w) (h : Happening) → AreTrueTo (λ n. w.broker.lists) (loosely_tells n w h)
 true-told n seen w f (Line e) = of_event e
   where
-    of_event : (e : Event) → AreTrueTo w.broker.lists (tells n w e)
+    of_event : (e : Event) → AreTrueTo (λ n. w.broker.lists) (tells n w e)
     of_event (Take x) = true-taken n seen w f x
     of_event e = tt
 true-told n seen w f (Receive x) =
     true-entries w.broker.lists n x _ (true-way w.broker.lists (λ c. (seen x c).read) (w.links x) (w.links x).way (f.good x) (f.bounded x))
 true-told n seen w f h = tt
 
-true-writes : (cfg : Config) (n : ℕ) (seen : List ℕ → List ℕ → Seen) (w : World) (f : IsFine seen w) (h : Happening) → AreTrueTo w.broker.lists (loosely_writes cfg n w h)
-true-writes cfg n seen w f h = by_test (AreTrueTo w.broker.lists) (loosely_allows cfg w h) _ _ (λ e. true-told n seen w f h) (λ e. tt)
+true-writes : (cfg : Config) (n : ℕ) (seen : List ℕ → List ℕ → Seen) (w : World) (f : IsFine seen w) (h : Happening) → AreTrueTo (λ n. w.broker.lists) (loosely_writes cfg n w h)
+true-writes cfg n seen w f h = by_test (AreTrueTo (λ n. w.broker.lists)) (loosely_allows cfg w h) _ _ (λ e. true-told n seen w f h) (λ e. tt)
 
+at-entries : (P : ℕ → Type 0) (n : ℕ) (x : List ℕ) (is : List Item) → P n → AreAll P (entries n x is)
+unfolding AreAll
+at-entries P n x [] h = tt
+at-entries P n x (i ∷ is) h = (h, at-entries P n x is h)
+
+at-writes : (P : ℕ → Type 0) (cfg : Config) (n : ℕ) (w : World) (h : Happening) → P n → AreAll P (loosely_writes cfg n w h)
+unfolding AreAll
+at-writes P cfg n w h k = by_test (AreAll P) (loosely_allows cfg w h) _ _ (λ e. of_happening h) (λ e. tt)
+  where
+    of_event : (e : Event) → AreAll P (tells n w e)
+    of_event (Take x) = at-entries P n x _ k
+    of_event e = tt
+
+    of_happening : (h : Happening) → AreAll P (loosely_tells n w h)
+    of_happening (Line e) = of_event e
+    of_happening (Receive x) = at-entries P n x _ k
+    of_happening h = tt
+
+-- what happened before event number n, where so many happened before
+before-is : (past hs : List Happening) → take (suc (length past) - 1) (past ++ hs) ≡ past
+before-is past hs = let z : suc (length past) - 1 ≡ length past = omega arith in rw z (first past hs)
+  where
+    first : (xs ys : List Happening) → take (length xs) (xs ++ ys) ≡ xs
+    first [] ys = none ys
+      where
+        none : (ys : List Happening) → take 0 ys ≡ []
+        none [] = refl
+        none (y ∷ ys) = refl
+    first (x ∷ xs) ys = ap (λ (l : List Happening). x ∷ l) (first xs ys)
+
+loose-more : (cfg : Config) (past : List Happening) (w : World) (h : Happening) → loose_run cfg w (past ++ h ∷ []) ≡ befalls cfg (loose_run cfg w past) h
+loose-more cfg [] w h = refl
+loose-more cfg (x ∷ past) w h = loose-more cfg past (befalls cfg w x) h
+
+-- each entry by what was published when its event began
+true-before : (cfg : Config) (past hs : List Happening) (seen : List ℕ → List ℕ → Seen) → IsFine seen (loose_run cfg start past)
+    → AreTrueTo (lists_before cfg (past ++ hs)) (loose_trace cfg (suc (length past)) (loose_run cfg start past) hs)
+true-before cfg past [] seen f = tt
+true-before cfg past (h ∷ hs) seen f =
+    let w : World = loose_run cfg start past in
+    let n : ℕ = suc (length past) in
+    let here : GoesOn w.broker.lists (lists_before cfg (past ++ h ∷ hs) n) =
+    on-same w.broker.lists (lists_before cfg (past ++ h ∷ hs) n) (ap (λ (p : List Happening). (loose_run cfg start p).broker.lists) (before-is past (h ∷ hs))) in
+    let more : loose_run cfg start (past ++ h ∷ []) ≡ befalls cfg w h = loose-more cfg past start h in
+    let count : length (past ++ h ∷ []) ≡ n = length-append past (h ∷ []) ∙ (omega arith) in
+    let rest : AreTrueTo (lists_before cfg ((past ++ h ∷ []) ++ hs)) (loose_trace cfg (suc (length (past ++ h ∷ []))) (loose_run cfg start (past ++ h ∷ [])) hs) =
+    true-before cfg (past ++ h ∷ []) hs (λ x c. sees_all (seen x c) (marks cfg x c w h)) (subst (IsFine (λ x c. sees_all (seen x c) (marks cfg x c w h))) (sym more) (step cfg seen w f h).fine) in
+    true-append (lists_before cfg (past ++ h ∷ hs)) (loosely_writes cfg n w h) (loose_trace cfg (suc n) (befalls cfg w h) hs)
+    (all-true w.broker.lists (lists_before cfg (past ++ h ∷ hs)) (loosely_writes cfg n w h) (true-writes cfg n seen w f h)
+    (at-writes (λ k. GoesOn w.broker.lists (lists_before cfg (past ++ h ∷ hs) k)) cfg n w h here))
+    (subst (λ (v : World). AreTrueTo (lists_before cfg (past ++ h ∷ hs)) (loose_trace cfg (suc n) v hs)) more
+    (subst (λ (k : ℕ). AreTrueTo (lists_before cfg (past ++ h ∷ hs)) (loose_trace cfg (suc k) (loose_run cfg start (past ++ h ∷ [])) hs)) count
+    (subst (λ (l : List Happening). AreTrueTo (lists_before cfg l) (loose_trace cfg (suc (length (past ++ h ∷ []))) (loose_run cfg start (past ++ h ∷ [])) hs)) (append_assoc past (h ∷ []) hs) rest)))
+
+pub true_when_told : (cfg : Config) (hs : List Happening) → AreTrueTo (lists_before cfg hs) (loose_trace cfg 1 start hs)
+true_when_told cfg hs = true-before cfg [] hs (λ x c. nothing_seen) fine-start
+
+-- and by what was published in the end
 true-trace : (cfg : Config) (hs : List Happening) (n : ℕ) (seen : List ℕ → List ℕ → Seen) (w : World) → IsFine seen w
-    → AreTrueTo (loose_run cfg w hs).broker.lists (loose_trace cfg n w hs)
+    → AreTrueTo (λ k. (loose_run cfg w hs).broker.lists) (loose_trace cfg n w hs)
 true-trace cfg [] n seen w f = tt
 true-trace cfg (h ∷ hs) n seen w f =
-    true-append (loose_run cfg w (h ∷ hs)).broker.lists (loosely_writes cfg n w h) (loose_trace cfg (suc n) (befalls cfg w h) hs)
-    (all-true w.broker.lists (loose_run cfg w (h ∷ hs)).broker.lists (loosely_writes cfg n w h) (on-run cfg (h ∷ hs) w) (true-writes cfg n seen w f h))
+    true-append (λ k. (loose_run cfg w (h ∷ hs)).broker.lists) (loosely_writes cfg n w h) (loose_trace cfg (suc n) (befalls cfg w h) hs)
+    (all-true w.broker.lists (λ k. (loose_run cfg w (h ∷ hs)).broker.lists) (loosely_writes cfg n w h) (true-writes cfg n seen w f h)
+    (at-writes (λ k. GoesOn w.broker.lists (loose_run cfg w (h ∷ hs)).broker.lists) cfg n w h (on-run cfg (h ∷ hs) w)))
     (true-trace cfg hs (suc n) (λ x c. sees_all (seen x c) (marks cfg x c w h)) (befalls cfg w h) (step cfg seen w f h).fine)
 
-pub one_datum : (cfg : Config) (hs : List Happening) → AreTrueTo (loose_run cfg start hs).broker.lists (loose_trace cfg 1 start hs)
-one_datum cfg hs = true-trace cfg hs 1 (λ x c. nothing_seen) start fine-start
+pub true_ever_after : (cfg : Config) (hs : List Happening) → AreTrueTo (λ k. (loose_run cfg start hs).broker.lists) (loose_trace cfg 1 start hs)
+true_ever_after cfg hs = true-trace cfg hs 1 (λ x c. nothing_seen) start fine-start

@@ -1,10 +1,11 @@
--- Stream safety: what may be said of a trace beside the events that it is of.
--- Each sentence stands in plain words and, as the working form, as an automaton that goes through what befalls one client
--- at one channel.
-use Rattle.std.specs.Prelude.{◌≡◌, ℕ, zero, suc, ◌-◌, ◌≤◌, ◌<◌, min, ◌↔◌, ◌⊎◌, IsTrue, Bool, true, false, if◌then◌else◌, Option, Some, None, List, [], ◌∷◌, ◌++◌, length}
+-- STREAM SAFETY: what a trace may say, beside the happenings that it is of.
+-- A reader has to believe the machine in four things, which are not in the trace: whether the condition of an event held, which
+-- node a client is on, whether its subscription was asked for there, and the stream as its node read it (see Marks). All else is
+-- read off the events themselves and the trace.
+use Rattle.std.specs.Prelude.{◌≡◌, ℕ, zero, suc, ◌-◌, ◌≤◌, ◌<◌, min, ◌↔◌, IsTrue, Bool, true, false, if◌then◌else◌, Option, Some, None, List, [], ◌∷◌, ◌++◌, ◌⊎◌, length, take}
 use Rattle.cf_protocol.specs.Position.{Position}
 use Rattle.cf_protocol.specs.Note.{Lists}
-use Rattle.cf_stream.specs.StreamState.{StreamState, opens_in, position_of}
+use Rattle.cf_stream.specs.StreamState.{StreamState, position_of}
 use Rattle.cf_stream.specs.StreamAnswer.{most_in_reply}
 use Rattle.cf_recovery.specs.Verdict.{next}
 use Rattle.cf_schedule.specs.Config.{Config}
@@ -14,16 +15,28 @@ use Rattle.cf_schedule.specs.LooseRun.{Happening, loose_run}
 use Rattle.cf_schedule.specs.Trace.{Item, Published as ToldPublished, Entry}
 use Rattle.cf_schedule.specs.Marks.{Mark, Asks, Reads, Subscribed, Published, Stops, account}
 
+-- ---- numbered
+
+-- The numbers of entries never fall, and lie between these two.
+abbrev pub AreNumbered : ℕ → ℕ → List Entry → Type 0
+AreNumbered low high [] = Unit {0}
+AreNumbered low high (e ∷ es) = (low ≤ e.at) × (e.at ≤ high) × AreNumbered e.at high es
+
 -- ---- one datum
 
--- an entry that tells a publication has the body that stands at its place, which is one that exists
+-- An entry that tells a publication has the body that stands at its place, which is one that exists.
 abbrev pub IsTrueTo : Lists → Item → Type 0
 IsTrueTo lists (ToldPublished c p body) = (0 < p.offset) × (p.offset ≤ length (lists c p.epoch)) × (body ≡ body_at lists c p)
 IsTrueTo lists i = Unit {0}
 
-abbrev pub AreTrueTo : Lists → List Entry → Type 0
+-- each entry, by what stood in the lists at its number
+abbrev pub AreTrueTo : (ℕ → Lists) → List Entry → Type 0
 AreTrueTo lists [] = Unit {0}
-AreTrueTo lists (e ∷ es) = IsTrueTo lists e.item × AreTrueTo lists es
+AreTrueTo lists (e ∷ es) = IsTrueTo (lists e.at) e.item × AreTrueTo lists es
+
+-- what had been published when event number n began; events are numbered from 1
+abbrev pub lists_before : Config → List Happening → ℕ → Lists
+lists_before cfg hs n = (loose_run cfg start (take (n - 1) hs)).broker.lists
 
 abbrev pub IsOneOf : Entry → List Entry → Type 0
 IsOneOf e [] = ⊥
@@ -35,7 +48,7 @@ OneDatum t =
     (d e : Entry) → IsOneOf d t → IsOneOf e t
     → (c : List ℕ) (p : Position) (a b : List ℕ) → d.item ≡ ToldPublished c p a → e.item ≡ ToldPublished c p b → a ≡ b
 
--- ---- what came before, the latest first
+-- ---- what befell one client at one channel so far, the latest first
 
 -- the position of the last Subscribed or Published
 abbrev pub last_position : List Mark → Option Position
@@ -55,17 +68,23 @@ old_position (Subscribed recovered at ∷ ms) = old_position ms
 old_position (Published at ∷ ms) = old_position ms
 old_position (Stops ∷ ms) = old_position ms
 
--- the stream as the last read found it
-abbrev pub no_read : StreamState
-no_read = opens_in []
+-- Whether an ask is out: until its application is told that it is subscribed, or the client stops.
+abbrev pub asks_now : List Mark → Bool
+asks_now [] = false
+asks_now (Asks from ∷ ms) = true
+asks_now (Reads found ∷ ms) = asks_now ms
+asks_now (Subscribed recovered at ∷ ms) = false
+asks_now (Published at ∷ ms) = asks_now ms
+asks_now (Stops ∷ ms) = false
 
-abbrev pub last_read : List Mark → StreamState
-last_read [] = no_read
-last_read (Reads found ∷ ms) = found
-last_read (Asks from ∷ ms) = last_read ms
-last_read (Subscribed recovered at ∷ ms) = last_read ms
+-- The stream as the last read found it that was made for the ask that is out. Each read answers once.
+abbrev pub last_read : List Mark → Option StreamState
+last_read [] = None
+last_read (Reads found ∷ ms) = if asks_now ms then Some found else None
+last_read (Asks from ∷ ms) = None
+last_read (Subscribed recovered at ∷ ms) = None
 last_read (Published at ∷ ms) = last_read ms
-last_read (Stops ∷ ms) = last_read ms
+last_read (Stops ∷ ms) = None
 
 -- where a subscription sets out: from the old position where it recovered, else from the reply's
 abbrev pub sets_out : Bool → Option Position → Position → Position
@@ -74,13 +93,13 @@ sets_out true None at = at
 sets_out false old at = at
 
 -- The place after which the next Published has to come: that of the Published before it, or where the subscription set out.
--- None before the first Subscribed, and after the client was told of an end or a close, or left, broke or was restarted.
+-- None before the first Subscribed, after the client asks, and after it was told of an end or a close, left, broke or was restarted.
 abbrev pub run_of : List Mark → Option Position
 run_of [] = None
 run_of (Published at ∷ ms) = Some at
 run_of (Subscribed recovered at ∷ ms) = Some (sets_out recovered (old_position ms) at)
+run_of (Asks from ∷ ms) = None
 run_of (Stops ∷ ms) = None
-run_of (Asks from ∷ ms) = run_of ms
 run_of (Reads found ∷ ms) = run_of ms
 
 -- a past, the latest first, and what follows it
@@ -92,7 +111,7 @@ abbrev pub all_of : List (List Mark) → List Mark
 all_of [] = []
 all_of (ms ∷ more) = ms ++ all_of more
 
--- ---- the other three sentences, of what befalls one client at one channel
+-- ---- unbroken, recovered run, honest recovery: of what befalls one client at one channel, event by event
 
 abbrev pub Follows : Option Position → Position → Type 0
 Follows None at = ⊥
@@ -108,6 +127,7 @@ abbrev pub places : Position → ℕ → List Mark
 places p zero = []
 places p (suc n) = Published (next p) ∷ places (next p) n
 
+-- those after the old position, up to the reply's; none where the old position is not below that
 abbrev pub all_places : Option Position → Position → List Mark
 all_places None at = []
 all_places (Some p) at = places p (at.offset - p.offset)
@@ -121,73 +141,43 @@ RecoveredRun history =
     → length more < length ms
     → more ≡ all_places (old_position past) at
 
--- the stream is of the old position's epoch and held everything after it, within the limit of one reply
+-- The stream is of the old position's epoch and held everything after it, within the limit of one reply.
+-- Nothing here keeps the old offset from being above the top: `-` stops at 0, and this then holds of a full stream. A machine
+-- that says recovered only where the old offset is not above the top so has to prove that it never is.
 abbrev pub StillHeld : Option Position → StreamState → Type 0
 StillHeld None s = ⊥
 StillHeld (Some p) s = (p.epoch ≡ s.epoch) × (s.top - p.offset ≤ min s.held most_in_reply)
 
--- HONEST RECOVERY: a Subscribed says recovered exactly where, at the read behind it, the stream still held everything since
--- the old position; and it gives the position at which that read found the stream.
+-- what may be said after this read: recovered exactly where all was still held, and where the stream stood
+abbrev pub IsHonest : Option Position → Option StreamState → Bool → Position → Type 0
+IsHonest old None recovered at = ⊥
+IsHonest old (Some found) recovered at = (IsTrue recovered ↔ StillHeld old found) × (at ≡ position_of found)
+
+-- HONEST RECOVERY: a Subscribed stands behind a read made for the ask that it answers, and says recovered exactly where the
+-- stream then still held everything since the old position; and it gives the position at which that read found the stream.
 abbrev pub HonestRecovery : List (List Mark) → Type 0
 HonestRecovery history =
     (past after : List Mark) (recovered : Bool) (at : Position)
     → all_of history ≡ onto past (Subscribed recovered at ∷ after)
-    → (IsTrue recovered ↔ StillHeld (old_position past) (last_read past)) × (at ≡ position_of (last_read past))
+    → IsHonest (old_position past) (last_read past) recovered at
 
--- ---- the working form
+-- ---- the whole
 
--- What the marks so far say: the last position, the old position, the stream as last read, and the place after which the
--- next Published has to come.
-pub record Seen : Type 0 where
-  pub last : Option Position
-  pub old : Option Position
-  pub read : StreamState
-  pub run : Option Position
+-- what befalls client x at channel c in these happenings, by a trace
+abbrev pub befell : Config → List Happening → List Entry → List ℕ → List ℕ → List (List Mark)
+befell cfg hs t x c = account cfg x c t 1 start hs
 
-abbrev pub nothing_seen : Seen
-nothing_seen = record { last = None; old = None; read = no_read; run = None }
-
-abbrev pub sees : Seen → Mark → Seen
-sees s (Asks from) = record s { old = if from then s.last else None }
-sees s (Reads found) = record s { read = found }
-sees s (Subscribed recovered at) = record s { last = Some at; run = Some (sets_out recovered s.old at) }
-sees s (Published at) = record s { last = Some at; run = Some at }
-sees s Stops = record s { run = None }
-
-abbrev pub sees_all : Seen → List Mark → Seen
-sees_all s [] = s
-sees_all s (m ∷ ms) = sees_all (sees s m) ms
-
--- a mark is as it must be after what was seen
-abbrev pub IsSound : Seen → Mark → Type 0
-IsSound s (Asks from) = Unit {0}
-IsSound s (Reads found) = Unit {0}
-IsSound s (Subscribed recovered at) = (IsTrue recovered ↔ StillHeld s.old s.read) × (at ≡ position_of s.read)
-IsSound s (Published at) = Follows s.run at
-IsSound s Stops = Unit {0}
-
-abbrev pub AreSound : Seen → List Mark → Type 0
-AreSound s [] = Unit {0}
-AreSound s (m ∷ ms) = IsSound s m × AreSound (sees s m) ms
-
--- in its event a Subscribed is followed by its run, and by nothing else
-abbrev pub IsWhole : Seen → List Mark → Type 0
-IsWhole s [] = Unit {0}
-IsWhole s (Subscribed true at ∷ ms) = ms ≡ all_places s.old at
-IsWhole s (Subscribed false at ∷ ms) = ms ≡ []
-IsWhole s (Asks from ∷ ms) = IsWhole (sees s (Asks from)) ms
-IsWhole s (Reads found ∷ ms) = IsWhole (sees s (Reads found)) ms
-IsWhole s (Published at ∷ ms) = IsWhole (sees s (Published at)) ms
-IsWhole s (Stops ∷ ms) = IsWhole (sees s Stops) ms
-
-abbrev pub IsSafe : Seen → List (List Mark) → Type 0
-IsSafe s [] = Unit {0}
-IsSafe s (ms ∷ more) = AreSound s ms × IsWhole s ms × IsSafe (sees_all s ms) more
-
--- ---- the safety of a trace beside what happened
-
-abbrev pub SafeAccounts : Config → List Happening → List Entry → Type 0
-SafeAccounts cfg hs t = (x c : List ℕ) → IsSafe nothing_seen (account cfg x c t 1 start hs)
-
-abbrev pub Safe : Config → List Happening → List Entry → Type 0
-Safe cfg hs t = AreTrueTo (loose_run cfg start hs).broker.lists t × SafeAccounts cfg hs t
+-- A trace is safe beside the happenings that it is of.
+pub record Safe (cfg : Config) (hs : List Happening) (t : List Entry) : Type 0 where
+  -- entries stand in the order of their events
+  pub numbered : AreNumbered 1 (length hs) t
+  -- what is told of a publication is the datum that stood at its place when the entry's event began
+  pub true_to : AreTrueTo (lists_before cfg hs) t
+  -- no two entries tell different data of one place
+  pub one_datum : OneDatum t
+  -- what an application gets after subscribing is a run without gap or repeat
+  pub unbroken : (x c : List ℕ) → Unbroken (befell cfg hs t x c)
+  -- a recovered subscription brings exactly what was missed
+  pub recovered_run : (x c : List ℕ) → RecoveredRun (befell cfg hs t x c)
+  -- and it says recovered exactly where all of that was still held
+  pub honest_recovery : (x c : List ℕ) → HonestRecovery (befell cfg hs t x c)

@@ -4,7 +4,7 @@ use Rattle.std.specs.Prelude.{ℕ, zero, suc, ◌-◌, ◌==◌, ◌||◌, Bool,
 use Rattle.cf_protocol.specs.Position.{Position}
 use Rattle.cf_protocol.specs.Note.{Lists, Reading, Note, Reply, Pub, End, Fails, Put as Accepted, Left, Listed as Listing, PingDue, Close, insufficient}
 use Rattle.cf_recovery.specs.Verdict.{next}
-use Rattle.cf_client.specs.ClientState.{Client, Mode, Idle, Asking, Live, read_to, is_out}
+use Rattle.cf_client.specs.ClientState.{Client, Mode, Idle, Asking, Live, moved_on, read_to, is_out}
 use Rattle.cf_schedule.specs.Config.{Config}
 use Rattle.cf_schedule.specs.Trace.{Item, Subscribed, Published, Resubscribing, Refused, Listed, Closed, Entry}
 use Rattle.cf_schedule.specs.Event.{Event, Take}
@@ -33,7 +33,7 @@ reply_items lists c id was r (Live p) = []
 abbrev pub pub_items : Lists → List ℕ → Position → Mode → List Item
 pub_items lists c q (Idle last) = []
 pub_items lists c q (Asking k from last) = []
-pub_items lists c q (Live p) = Published c q (body_at lists c q) ∷ []
+pub_items lists c q (Live p) = Published c (moved_on p q) (body_at lists c q) ∷ []
 
 abbrev pub end_items : List ℕ → Mode → List Item
 end_items c (Idle last) = []

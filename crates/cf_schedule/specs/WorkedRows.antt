@@ -5,6 +5,7 @@ use Rattle.cf_schedule.specs.Config.{Config}
 use Rattle.cf_schedule.specs.Event.{Event, Epoch, Connect, Ask, AskFrom, Read, Finish, Publish, PublishBy, Deliver, Take, Break, Leave, Trim, BrokerRestart, Restart, Check, ListHistory}
 use Rattle.cf_protocol.specs.Position.{Position}
 use Rattle.cf_schedule.specs.Trace.{Item, Subscribed, Published, Resubscribing, Entry}
+use Rattle.cf_schedule.specs.LooseRun.{Happening, SendLeave, lines}
 use Rattle.cf_schedule.specs.World.{start}
 use Rattle.cf_schedule.specs.Told.{trace}
 use Rattle.cf_schedule.specs.TraceLine.{printed}
@@ -104,6 +105,21 @@ lists_and_refusals = first_publication ++ ListHistory ann news (negsuc 0) ∷ ta
 abbrev pub two_come : List Event
 two_come = opening ++ publishes "1" ∷ publishes "2" ∷ Deliver 0 1 ∷ Deliver 0 2 ∷ take ∷ take ∷ []
 
+-- ann asks again after a break, and asks alone
+abbrev pub asks_again : List Event
+asks_again = opening ++ Break ann ∷ Connect ann 0 ∷ AskFrom ann news ∷ take ∷ []
+
+abbrev pub asks_alone : List Event
+asks_alone = Epoch (codes "aaaa") ∷ Connect ann 0 ∷ Ask ann news ∷ take ∷ []
+
+-- ann breaks before its reply is taken
+abbrev pub breaks_first : List Event
+breaks_first = Epoch (codes "aaaa") ∷ Connect ann 0 ∷ Ask ann news ∷ Read ann news ∷ Finish ann news ∷ Break ann ∷ take ∷ []
+
+-- ann leaves while it asks, and the stream is read after that
+abbrev pub leaves_first : List Happening
+leaves_first = lines (Epoch (codes "aaaa") ∷ Connect ann 0 ∷ Ask ann news ∷ []) ++ SendLeave ann news ∷ lines (Read ann news ∷ take ∷ [])
+
 -- what a client is told of news in event n
 abbrev pub told_by : ℕ → List ℕ → Item → Entry
 told_by n x i = record { at = n; client = x; item = i }
@@ -116,6 +132,9 @@ tells_sub n o = told_by n ann (Subscribed news false false (place o))
 
 abbrev pub tells_recovered : ℕ → ℕ → Entry
 tells_recovered n o = told_by n ann (Subscribed news true true (place o))
+
+abbrev pub tells_lost : ℕ → ℕ → Entry
+tells_lost n o = told_by n ann (Subscribed news true false (place o))
 
 abbrev pub tells_pub : ℕ → ℕ → Name → Entry
 tells_pub n o body = told_by n ann (Published news (place o) (codes body))

@@ -10,40 +10,29 @@ ghost use Rattle.cf_schedule.specs.FreshEpochs.{AreFresh};
 ghost use Rattle.cf_schedule.specs.IntervalMachine.{run};
 ghost use Rattle.cf_schedule.specs.Leading.{IsListed, LeadsOn, coming};
 ghost use Rattle.cf_schedule.specs.LooseRun.{Happening, lines, loose_run};
-ghost use Rattle.cf_schedule.specs.Marks.{account};
 ghost use Rattle.cf_schedule.specs.PublicationList.{tops};
-ghost use Rattle.cf_schedule.specs.StreamSafety.{AreTrueTo, HonestRecovery, OneDatum, RecoveredRun, Safe, Unbroken};
+ghost use Rattle.cf_schedule.specs.StreamSafety.{AreTrueTo, Safe};
 ghost use Rattle.cf_schedule.specs.Told.{loose_trace, trace};
 ghost use Rattle.cf_schedule.specs.World.{start};
 
 /// The headline, of every schedule under every configuration: no two clients ever hold different publications at one place;
 /// what an application gets after subscribing is a run of the stream without gap or repeat; a recovered subscription is
-/// followed by exactly what was missed; and `recovered` is said exactly where the stream still held all of that.
-///
-/// The four sentences speak of a trace beside the events that it is of, for one client and one channel at a time; `safe` is
-/// their working form.
+/// followed by exactly what was missed; and `recovered` is said exactly where, at the read, the stream still held all of that
+/// within the limit of one reply.
 pub fn safe_always()
-    ensures one_datum { (config : Config) (events : List Event) → OneDatum (trace config 1 start events) }
-    ensures unbroken { (config : Config) (events : List Event) (client channel : List ℕ) → Unbroken (account config client channel (trace config 1 start events) 1 start (lines events)) }
-    ensures recovered_run { (config : Config) (events : List Event) (client channel : List ℕ) → RecoveredRun (account config client channel (trace config 1 start events) 1 start (lines events)) }
-    ensures honest_recovery { (config : Config) (events : List Event) (client channel : List ℕ) → HonestRecovery (account config client channel (trace config 1 start events) 1 start (lines events)) }
-    ensures safe { (config : Config) (events : List Event) → Safe config (lines events) (trace config 1 start events) }
+    ensures { (config : Config) (events : List Event) → Safe config (lines events) (trace config 1 start events) }
 {}
 
 /// The same of every loose run: of what running nodes with threads do.
 pub fn safe_loose()
-    ensures one_datum { (config : Config) (happenings : List Happening) → OneDatum (loose_trace config 1 start happenings) }
-    ensures unbroken { (config : Config) (happenings : List Happening) (client channel : List ℕ) → Unbroken (account config client channel (loose_trace config 1 start happenings) 1 start happenings) }
-    ensures recovered_run { (config : Config) (happenings : List Happening) (client channel : List ℕ) → RecoveredRun (account config client channel (loose_trace config 1 start happenings) 1 start happenings) }
-    ensures honest_recovery { (config : Config) (happenings : List Happening) (client channel : List ℕ) → HonestRecovery (account config client channel (loose_trace config 1 start happenings) 1 start happenings) }
-    ensures safe { (config : Config) (happenings : List Happening) → Safe config happenings (loose_trace config 1 start happenings) }
+    ensures { (config : Config) (happenings : List Happening) → Safe config happenings (loose_trace config 1 start happenings) }
 {}
 
-/// Each entry that tells an application of a publication has the datum that stands at its place: at the event of the entry,
-/// from where it is read, and ever after. So two entries of one place have one datum.
+/// What an application is told of a publication is the datum that stands at its place ever after. So two entries of one place
+/// have one datum.
 #[tactic(auto, using(crate::proofs::Headline::true_run))]
 pub fn one_datum()
-    ensures { (config : Config) (events : List Event) → AreTrueTo (run config start events).broker.lists (trace config 1 start events) }
+    ensures { (config : Config) (events : List Event) → AreTrueTo (λ number. (run config start events).broker.lists) (trace config 1 start events) }
 {}
 
 /// After every run what waits for a client leads from its position to where its node's side stands, and no position is above

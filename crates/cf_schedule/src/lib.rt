@@ -21,7 +21,6 @@ mod subscription;
 mod trace;
 mod walk;
 mod whole;
-pub mod words;
 mod world;
 
 pub use body::{Body, MAX_BODY_DEPTH};

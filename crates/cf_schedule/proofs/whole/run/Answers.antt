@@ -16,7 +16,7 @@ use Rattle.cf_schedule.specs.World.{World, start}
 use Rattle.cf_schedule.specs.declared.event.Event.{Event as CodeEvent}
 use Rattle.cf_schedule.specs.declared.trace.Entry.{Entry}
 use Rattle.cf_schedule.proofs.Headline.{safe_run}
-use Rattle.cf_schedule.proofs.TieRuns.{all-seen, carries, next-seen, run-more, trace-more, none-more, past-length, seen-more}
+use Rattle.cf_schedule.proofs.TieRuns.{all-seen, carries, next-seen, run-more, trace-more, none-more, past-length, seen-more, carries-none}
 use Rattle.cf_schedule.proofs.whole.run.Goals as goal
 
 pub loop-done-preserved : goal.loop-done-preserved
@@ -76,3 +76,6 @@ returns-clause-safe c =
     let past : length c.args.events.now ≤ c.loop-done.done = search rules in
     let whole : shown_trace c.loop-done.trace ≡ trace cfg 1 start es = c.loop-done.invariant.told ∙ ap (trace cfg 1 start) (all-seen c.args.events.now c.loop-done.done past) in
     subst (λ (t : List Told). Safe cfg (lines es) t) (sym whole) (safe_run cfg es)
+
+pub returns-in_default-clause-stopped : goal.returns-in_default-clause-stopped
+returns-in_default-clause-stopped c = carries-none (shown_config c.args.config.now) c.args.events.now (record { entries = c.new.result }) c.new.ensures.items
