@@ -1,0 +1,4 @@
+pub mod Prefixes
+pub mod Sums
+pub mod Steps
+pub mod Told

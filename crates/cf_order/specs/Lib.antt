@@ -1,0 +1,4 @@
+pub mod Passes
+pub mod View
+pub mod ShardRule
+pub mod ShardStep
