@@ -104,7 +104,7 @@ looks slots id me isnt s k len at small =
     let w = looked v k.log in
     let same : set s.words 0 n ≡ s.words = rw k.word refl in
     let fits : Fits k.seat k.log id w = record { owns = λ o. off v.owns isnt o; seen = begins k.seat k.log id v f; found = prefix_self k.log; met = prefix_trans v.met v.found k.log f.met f.found } in
-    let told : Looked v w n = record { same = refl; count = counted s.words s.views k; seen = begins k.seat k.log id v f; rises = f.found; share = share_fits s.words s.views k id v at } in
+    let told : Looked v w n = record { same = refl; count = counted s.words s.views k; seen = begins k.seat k.log id v f; rises = f.found; share = share_fits s.words s.views k id v at; below = (knows s.words s.views k id v at).share } in
     (w, keeps, tt, subst (λ (ws : List ℕ). IsOneLog ws (set s.views id w)) (sym same) (changes s.words s.views k id v w at refl (λ _. refl) refl fits), (told, refl))
 
 -- a load that changes no view

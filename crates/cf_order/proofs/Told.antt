@@ -4,17 +4,11 @@ use mathlib.Core.List.{IsPrefix}
 use Rattle.cf_protocol.specs.LogEntry.{Entry}
 use Rattle.cf_order.specs.Passes.{published}
 use Rattle.cf_order.specs.View.{View}
-use Rattle.cf_order.specs.ShardStep.{given, compared, Knows}
+use Rattle.cf_order.specs.ShardStep.{given, compared, Knows, IsBehind}
 use Rattle.cf_order.proofs.Prefixes.{prefix_trans}
-
--- the owner's log begins with all that the pass has seen and was told of
-pub record IsBehind (o v : View) : Type 0 where
-  pub seen : IsPrefix v.log o.log
-  pub found : IsPrefix v.found o.log
-  pub share : v.share ≤ published o.log
 
 pub is_behind : (o v t : View) (n : ℕ) → t ≡ compared o (given v v.share) → Knows t n → o.owns ≡ true → o.found ≡ o.log → IsPrefix v.log v.found → IsBehind o v
 is_behind o v t n is knows owns whole seen =
     let k : Knows (compared o (given v v.share)) n = subst (λ (u : View). Knows u n) is knows in
     let found : IsPrefix v.found o.log = subst (λ (l : List Entry). IsPrefix v.found l) whole k.met in
-    record { seen = prefix_trans v.log v.found o.log seen found; found = found; share = (let s = k.own owns in omega arith) }
+    record { seen = prefix_trans v.log v.found o.log seen found; found = found; share = k.own owns }

@@ -36,6 +36,7 @@ pub record Looked (v w : View) (n : ℕ) : Type 0 where
   pub seen : IsPrefix v.log w.found
   pub rises : IsPrefix v.found w.found
   pub share : v.share ≤ published w.found
+  pub below : v.share ≤ n
 
 -- what a view says of itself, where the word's count is n
 pub record Knows (v : View) (n : ℕ) : Type 0 where
@@ -43,6 +44,12 @@ pub record Knows (v : View) (n : ℕ) : Type 0 where
   pub seen : IsPrefix v.log v.found
   pub share : v.share ≤ n
   pub own : v.owns ≡ true → v.share ≤ published v.log
+
+-- the owner's log begins with all that the pass has seen and was told of
+pub record IsBehind (o v : View) : Type 0 where
+  pub seen : IsPrefix v.log o.log
+  pub found : IsPrefix v.found o.log
+  pub share : o.share + v.share ≤ published o.log
 
 -- what each step tells: of the step, the seat before, the count found, and the seat after
 abbrev pub HasLooked : {S : Type 0} → Step S → Me S View → ℕ → Me S View → Type 0
