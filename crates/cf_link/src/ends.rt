@@ -1,0 +1,116 @@
+//! The two ends of a link.
+ghost use Rattle.std.specs.Prelude.{◌≡◌, ◌<◌, ◌++◌, ◌∷◌, [], IfOk, IfErr, OnOk, OnErr, MatchOption, IfNone};
+ghost use Rattle.cf_link.specs.Link.{IsSameLink, WasFull, WasEmpty, AreLeft};
+
+use crate::log::{Ends, InOrder, Log, Receives, Sends, Total};
+use crossbeam_queue::{Pass, RuledArrayQueue};
+use std::alloc::{AllocError, Global};
+use std::marker::Model;
+use std::sync::{Arc, Wait};
+
+type Line<T> = RuledArrayQueue<T, Log<T>, InOrder>;
+
+/// The end that sends. Contracts see the link, its capacity and all that was sent.
+#[derive(Drop)]
+pub struct Sender<T> {
+    line: Arc<Line<T>>,
+    pass: Pass<T, Log<T>>,
+}
+
+impl<T> Model for Sender<T> {
+    ghost use Rattle.std.specs.Prelude.{◌≡◌, true};
+    ghost use Rattle.std.specs.Arc.{arc_value};
+    ghost use Rattle.crossbeam_queue.specs.Passes.{view as known, IsPassOf, ruled_capacity};
+    ghost use Rattle.cf_link.specs.Link.{End};
+
+    ghost Value = { End T };
+
+    ghost view = { λ s. record {
+      link = (arc_value s.line).table.shared.table_id;
+      capacity = ruled_capacity (arc_value s.line);
+      items = (known s.pass).sent;
+    } };
+
+    ghost invariant = { λ s. IsPassOf (arc_value s.line) s.pass × ((known s.pass).pushes ≡ true) };
+}
+
+/// The end that receives. Contracts see the link, its capacity and all that was received.
+#[derive(Drop)]
+pub struct Receiver<T> {
+    line: Arc<Line<T>>,
+    pass: Pass<T, Log<T>>,
+}
+
+impl<T> Model for Receiver<T> {
+    ghost use Rattle.std.specs.Prelude.{◌≡◌, true};
+    ghost use Rattle.std.specs.Arc.{arc_value};
+    ghost use Rattle.crossbeam_queue.specs.Passes.{view as known, IsPassOf, ruled_capacity};
+    ghost use Rattle.cf_link.specs.Link.{End};
+
+    ghost Value = { End T };
+
+    ghost view = { λ s. record {
+      link = (arc_value s.line).table.shared.table_id;
+      capacity = ruled_capacity (arc_value s.line);
+      items = (known s.pass).received;
+    } };
+
+    ghost invariant = { λ s. IsPassOf (arc_value s.line) s.pass × ((known s.pass).pops ≡ true) };
+}
+
+/// A new link with room for so many items, by its two ends. Capacity 0 is no link; an `AllocError` where memory was refused.
+pub fn pair<T: Drop>(alloc: Global, capacity: usize) -> Result<(Sender<T>, Receiver<T>), AllocError>
+    requires { 0 < capacity }
+    ensures link { IfOk result (λ ends. IsSameLink ends.0 ends.1) }
+    ensures capacity { IfOk result (λ ends. ends.0.capacity ≡ capacity) }
+    ensures nothing { IfOk result (λ ends. (ends.0.items ≡ []) × (ends.1.items ≡ [])) }
+{
+    let (line, mut first) = Line::ruled(alloc, capacity)?;
+    let second = line.another::<Ends>(&mut first);
+    let line = Arc::new(alloc, line)?;
+    let other = Arc::try_clone(&line)?;
+    Ok((
+        Sender { line, pass: first },
+        Receiver {
+            line: other,
+            pass: second,
+        },
+    ))
+}
+
+impl<T> Sender<T> {
+    /// Sends an item. It comes back where the link was full at one moment of the call. It takes no memory.
+    pub fn send(&mut self, rt: &impl Wait, item: T) -> Result<(), T>
+        ensures same { IsSameLink self.new self.old }
+        ensures sent { OnOk result (self.new.items ≡ self.old.items ++ item ∷ []) }
+        ensures refused { IfErr result (λ x. (x ≡ item) × (self.new.items ≡ self.old.items)) }
+        ensures full { OnErr result (WasFull self.old.capacity self.old.items) }
+    {
+        self.line.push_as::<Sends, _>(rt, &mut self.pass, item)
+    }
+}
+
+impl<T> Receiver<T> {
+    /// The oldest item that waits. `None` where the link was empty at one moment of the call. It takes no memory.
+    pub fn receive(&mut self, rt: &impl Wait) -> Option<T>
+        ensures same { IsSameLink self.new self.old }
+        ensures received { MatchOption result (self.new.items ≡ self.old.items) (λ x. self.new.items ≡ self.old.items ++ x ∷ []) }
+        ensures empty { IfNone result (WasEmpty self.old.items) }
+    {
+        self.line.pop_as::<Receives, _>(rt, &mut self.pass)
+    }
+}
+
+/// Ends a link: how many items were sent and not received. They are dropped.
+pub fn settle<T: Drop>(rt: &impl Wait, sender: Sender<T>, receiver: Receiver<T>) -> u64
+    requires { sender.link ≡ receiver.link }
+    ensures { AreLeft sender.items receiver.items result }
+{
+    let Sender { line, mut pass } = sender;
+    let Receiver {
+        line: _,
+        pass: other,
+    } = receiver;
+    line.absorb::<Ends>(&mut pass, other);
+    line.len_as::<Total, _>(rt, &mut pass) as u64
+}

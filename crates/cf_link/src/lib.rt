@@ -1,0 +1,11 @@
+//! A bounded link from one thread to another: what was received, and then what waits, is what was sent.
+//!
+//! The broker has one to each node. That a full link gives an item back, rather than wait, is this project's own rule.
+#![tactic(auto)]
+
+pub mod ends;
+pub mod log;
+#[cfg(test)]
+mod tests;
+
+pub use ends::{Receiver, Sender, pair, settle};
