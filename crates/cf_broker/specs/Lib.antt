@@ -1,0 +1,4 @@
+pub mod Shards
+pub mod ShardLog
+pub mod Delivery
+pub mod Shard

@@ -1,0 +1,36 @@
+-- What lies under a shard's lock, and what its calls make of it. (This project's own profile.)
+use Rattle.std.specs.Prelude.{ℕ, List, Some, refl}
+use Rattle.std.specs.Coded.{Coded, code_by, coded×}
+use Rattle.cf_protocol.specs.Datum.{Datum}
+use Rattle.cf_presence.specs.Presence.{Channels, coded_channels}
+use Rattle.cf_stream.specs.declared.refusal.StreamRefusal.{StreamRefusal}
+use Rattle.cf_stream.specs.declared.refusal.StreamRefusal.TheVariants.{AtLastOffset, WrongEpoch, NoEpoch, Memory}
+use Rattle.cf_stream.specs.Stream.{pushed, used_at}
+use Rattle.cf_stream.specs.Streams.{Kept, coded_kept, put_at, stood_or_opened}
+use Rattle.cf_broker.specs.declared.refusal.Refused.{Refused}
+use Rattle.cf_broker.specs.declared.refusal.Refused.TheVariants.{AtLastOffset as LastOffset, WrongEpoch as OtherEpoch, NoEpoch as NoneDrawn, Memory as NoMemory}
+
+-- the streams, who is there, and where the epochs of new streams come from
+pub record Lent (E : Type 0) : Type 0 where
+  pub streams : Kept
+  pub presence : Channels
+  pub epochs : E
+
+abbrev pub lent_code : {E : Type 0} → Coded E → Coded (Lent E)
+lent_code {E} e =
+    code_by (Kept × (Channels × E)) (coded× coded_kept (coded× coded_channels e))
+    (λ s. (s.streams, (s.presence, s.epochs))) (λ p. record { streams = p.0; presence = p.1.0; epochs = p.1.1 }) (λ _. refl)
+
+-- the streams after a publish, and after a read or a history, at a moment: the channel's stream opens in this epoch where there is none
+abbrev pub after_publish : Kept → (channel epoch : List ℕ) → Datum → (now : ℕ) → Kept
+after_publish k c e d now = put_at k c (Some (pushed (stood_or_opened k c e) d now))
+
+abbrev pub after_use : Kept → (channel epoch : List ℕ) → (now : ℕ) → Kept
+after_use k c e now = put_at k c (Some (used_at (stood_or_opened k c e) now))
+
+-- a refusal of the streams
+abbrev pub refused_of : StreamRefusal → Refused
+refused_of AtLastOffset = LastOffset
+refused_of WrongEpoch = OtherEpoch
+refused_of NoEpoch = NoneDrawn
+refused_of Memory = NoMemory

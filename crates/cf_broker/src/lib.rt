@@ -1,0 +1,16 @@
+//! The broker: sixteen shards of channels, each under a lock of its own, and a link to each node.
+//!
+//! A channel belongs to one shard by its name. What a call does is done under that shard's lock, by the method of the same name
+//! of `Shard`, which carries the contract. The rules of streams and presence are those of Centrifugo's documents; shards and
+//! links are this project's own.
+#![tactic(auto)]
+
+mod delivery;
+mod naming;
+mod refusal;
+mod shard;
+
+pub use delivery::{Delivery, Links};
+pub use naming::Naming;
+pub use refusal::Refused;
+pub use shard::Shard;
