@@ -1,0 +1,27 @@
+use Rattle.std.proofs.Common.{◌≡◌, map, false, refl, ap, inl, inr, ◌∙◌, sym}
+use Rattle.cf_protocol.specs.Shown.{shown_command}
+use Rattle.cf_session.specs.CommandScripts.{frame_script}
+use Rattle.cf_session.specs.SessionMachine.{Todo}
+use Rattle.cf_session.specs.Standing.{tables_of, commands_left, progress_of, is_over}
+use Rattle.cf_session.proofs.Steps.{idle_served, hears_served}
+use Rattle.cf_session.proofs.session.Session.hear.Goals as goal
+
+pub returns-in-Ok-clause-hears : goal.returns-in-Ok-clause-hears
+returns-in-Ok-clause-hears c =
+    let s = c.args.self.now in
+    let stands : is_over s.stage ≡ false = sym c.is_closed.ensures ∙ c.if-is_closed.false in
+    inl (
+    hears_served (tables_of s) s.client _ c.args.text.now _ _ (idle_served (tables_of s) (commands_left s) s.client s.stage c.requires stands)
+    (inl (map shown_command c.in-Ok.commands.items, c.if-text-gt-LONGEST_TEXT.false, c.in-Ok.ensures.found, refl))
+    (ap (λ xs. Todo (frame_script (tables_of s) (map shown_command xs) s.client)) c.from_vec.ensures.items)
+    )
+
+pub returns-in-Err-Bad-clause-hears : goal.returns-in-Err-Bad-clause-hears
+returns-in-Err-Bad-clause-hears c =
+    let s = c.args.self.now in
+    let stands : is_over s.stage ≡ false = sym c.is_closed.ensures ∙ c.if-is_closed.false in
+    inl (
+    hears_served (tables_of s) s.client _ c.args.text.now _ _ (idle_served (tables_of s) (commands_left s) s.client s.stage c.requires stands)
+    (inr (inr (c.in-Err-Bad.ensures.bad c.in-Err-Bad.field-0-is), refl))
+    refl
+    )

@@ -1,0 +1,150 @@
+-- Where a session of the code stands on its script.
+use Rattle.std.specs.Prelude.{◌≡◌, ◌⊎◌, ℕ, ◌+◌, ◌*◌, Bool, true, false, ◌||◌, Option, Some, None, option_map, MatchOption, List, [], ◌∷◌, map, length}
+use Rattle.std.specs.String.{string_bytes}
+use Rattle.cf_protocol.specs.Datum.{Who}
+use Rattle.cf_protocol.specs.Request as request
+use Rattle.cf_protocol.specs.Request.{Command}
+use Rattle.cf_protocol.specs.Outgoing as outgoing
+use Rattle.cf_protocol.specs.Shown.{shown_command, shown_outcome}
+use Rattle.cf_protocol.specs.declared.codes.ErrorCode.{ErrorCode}
+use Rattle.cf_protocol.specs.declared.codes.CloseCode.TheVariants as close
+use Rattle.cf_session.specs.Calls as call
+use Rattle.cf_session.specs.Calls.{Answer, Refused, Done, Found, Attached}
+use Rattle.cf_session.specs.Script.{Script, Over, Close, Say, Ask}
+use Rattle.cf_session.specs.CommandScripts.{Tables, frame_script, first_script, replies, after_attach, after_begin, after_read, after_finish, after_leave, after_lost}
+use Rattle.cf_session.specs.SessionMachine.{Act, Says, Closes, Progress, Todo, Out, Acts, GoesOn, Hears, failed_text}
+use Rattle.cf_session.specs.Shown.{shown_action, shown_answer}
+use Rattle.cf_session.specs.declared.kind.Kind.TheVariants as kind
+use Rattle.cf_session.specs.declared.action.Action.{Action}
+use Rattle.cf_session.specs.declared.action.Answer.{Answer as CodeAnswer}
+use Rattle.cf_session.specs.declared.stage.Stage.{Stage}
+use Rattle.cf_session.specs.declared.stage.Stage.TheVariants as stage
+use Rattle.cf_session.specs.declared.session.Session.{Session}
+
+-- where a session stands, by its stage, the commands that are left and its client
+abbrev pub progress_at : Tables → List Command → Option Who → Stage → Progress
+progress_at t ks who stage.Ready = Todo (frame_script t ks who)
+progress_at t ks who (stage.Attaching id user) = Out kind.Attach (after_attach id (string_bytes user) (λ w. frame_script t ks (Some w)))
+progress_at t ks who (stage.Beginning id read c since) = Out kind.Begin (after_begin id (string_bytes read) (string_bytes c) since (frame_script t ks who))
+progress_at t ks who (stage.Reads id read c since) = Todo (Ask (call.Read (string_bytes read) since) (after_read id (string_bytes c) (frame_script t ks who)))
+progress_at t ks who (stage.Reading id c) = Out kind.Read (after_read id (string_bytes c) (frame_script t ks who))
+progress_at t ks who (stage.Finishes c) = Todo (Ask (call.Finish (string_bytes c)) (after_finish (frame_script t ks who)))
+progress_at t ks who stage.Finishing = Out kind.Finish (after_finish (frame_script t ks who))
+progress_at t ks who (stage.Loses id c e) = Todo (Ask (call.Leave (string_bytes c)) (after_lost id e (frame_script t ks who)))
+progress_at t ks who (stage.Losing id e) = Out kind.Leave (after_lost id e (frame_script t ks who))
+progress_at t ks who (stage.Leaving id) = Out kind.Leave (after_leave id (frame_script t ks who))
+progress_at t ks who (stage.Calling id k) = Out k (replies id (frame_script t ks who))
+progress_at t ks who (stage.Says id outcome) = Todo (Say id (shown_outcome outcome) (frame_script t ks who))
+progress_at t ks who (stage.Closes code) = Todo (Close code)
+progress_at t ks who stage.Closed = Todo Over
+
+abbrev pub tables_of : Session → Tables
+tables_of s = record { namespaces = s.namespaces.now; tokens = s.tokens.now }
+
+abbrev pub commands_left : Session → List Command
+commands_left s = map shown_command s.frame.items
+
+-- what is done once the command at hand is through
+abbrev pub rest_of : Session → Script
+rest_of s = frame_script (tables_of s) (commands_left s) s.client
+
+abbrev pub progress_of : Session → Progress
+progress_of s = progress_at (tables_of s) (commands_left s) s.client s.stage
+
+-- it may hear a text
+abbrev pub idle_at : Stage → List Command → Bool
+idle_at stage.Ready [] = true
+idle_at stage.Closed ks = true
+idle_at other ks = false
+
+abbrev pub is_idle : Session → Bool
+is_idle s = idle_at s.stage (commands_left s)
+
+abbrev pub is_over : Stage → Bool
+is_over stage.Closed = true
+is_over other = false
+
+-- one of its calls met a refused request for memory; the last of them did
+abbrev pub is_short : Session → Bool
+is_short s = s.is_short
+
+abbrev pub fell_short : Session → Bool
+fell_short s = s.fell_short
+
+-- how many things it may still do
+abbrev pub work_at : Stage → ℕ
+work_at stage.Ready = 0
+work_at stage.Closed = 0
+work_at (stage.Closes code) = 1
+work_at (stage.Says id outcome) = 1
+work_at stage.Finishing = 1
+work_at (stage.Finishes c) = 2
+work_at (stage.Losing id e) = 2
+work_at (stage.Leaving id) = 2
+work_at (stage.Calling id k) = 2
+work_at (stage.Attaching id user) = 2
+work_at (stage.Loses id c e) = 3
+work_at (stage.Reading id c) = 4
+work_at (stage.Reads id read c since) = 5
+work_at (stage.Beginning id read c since) = 6
+
+abbrev pub work_of : Session → ℕ
+work_of s = 7 * length s.frame.items + work_at s.stage
+
+-- ---- what the public calls do
+
+-- the tables stay, and a session is short from the first refused request on
+pub record Keeps (old new : Session) : Type 0 where
+  pub tables : tables_of new ≡ tables_of old
+  pub short : is_short new ≡ (is_short old || fell_short new)
+
+abbrev pub HearsFrame : Session → List ℕ → Session → Type 0
+HearsFrame old text new = Hears (tables_of old) (progress_of old) text (progress_of new) (fell_short new)
+
+abbrev pub ActsNext : Session → Option Action → Session → Type 0
+ActsNext old action new = Acts (tables_of old) (progress_of old) (option_map shown_action action) (progress_of new) (fell_short new)
+
+abbrev pub TakesAnswer : Session → CodeAnswer → Session → Type 0
+TakesAnswer old answer new = GoesOn (shown_answer answer) (progress_of old) (progress_of new) (fell_short new)
+
+-- ---- what its parts do
+
+-- it goes on from this script
+abbrev pub ActsOn : Session → Script → Option Action → Session → Type 0
+ActsOn old script action new = Acts (tables_of old) (Todo script) (option_map shown_action action) (progress_of new) (fell_short new)
+
+-- a command is begun: there is nothing to do for it, and the next is at hand; or this is done
+abbrev pub Begins : Session → Script → Option Action → Session → Type 0
+Begins old script action new = MatchOption action ((progress_of new ≡ Todo script) × (new.stage ≡ stage.Ready)) (λ a. ActsOn old script (Some a) new)
+
+-- the script of this command and of those that are left
+abbrev pub script_from : Session → Command → Script
+script_from s k = frame_script (tables_of s) (k ∷ commands_left s) s.client
+
+-- what is done once this client is connected
+abbrev pub rest_with : Session → Who → Script
+rest_with s who = frame_script (tables_of s) (commands_left s) (Some who)
+
+-- the script of a first command
+abbrev pub opening_script : Session → ℕ → request.Request → Script
+opening_script s id r = first_script (tables_of s) id r (rest_with s)
+
+-- the two ways to give up a command, after which this is to be done
+abbrev pub Falls : ℕ → Script → Option Act → Progress → Type 0
+Falls id after act new = ((act ≡ Some (Says (failed_text id))) × (new ≡ Todo after)) ⊎ ((act ≡ Some (Closes close.InternalError)) × (new ≡ Todo Over))
+
+abbrev pub refused_code : Answer → Option ErrorCode
+refused_code (Refused e) = Some e
+refused_code Done = None
+refused_code (Found outcome) = None
+refused_code (Attached client) = None
+
+abbrev pub found_by : Answer → Option outgoing.Outcome
+found_by (Refused e) = None
+found_by Done = None
+found_by (Found outcome) = Some outcome
+found_by (Attached client) = None
+
+-- after an answer the reply is next, whatever else is left to do
+abbrev pub RepliesAt : ℕ → CodeAnswer → Stage → Type 0
+RepliesAt id a s = (t : Tables) (ks : List Command) (who : Option Who) → progress_at t ks who s ≡ Todo (replies id (frame_script t ks who) (shown_answer a))

@@ -1,0 +1,123 @@
+//! What is next once a call was answered.
+ghost use Rattle.std.specs.Prelude.{◌≡◌, ◌≤◌, None};
+ghost use Rattle.cf_protocol.specs.Codes.{code_of};
+ghost use Rattle.cf_session.specs.Shown.{shown_answer};
+ghost use Rattle.cf_session.specs.Standing.{RepliesAt, refused_code, found_by, work_at};
+
+use crate::action::Answer;
+use crate::stage::Stage;
+use cf_presence::Stats;
+use cf_protocol::{ErrorCode, Outcome};
+use cf_stream::History;
+use std::collections::BTreeMap;
+
+/// The error with which a call was refused.
+pub(crate) fn refused_with(answer: &Answer) -> Option<ErrorCode>
+    ensures { result ≡ refused_code (shown_answer answer.now) }
+{
+    match answer {
+        Answer::Attach(Err(code)) => Some(*code),
+        Answer::Begin(Err(code)) => Some(*code),
+        Answer::Read(Err(code)) => Some(*code),
+        Answer::Publish(Err(code)) => Some(*code),
+        Answer::History(Err(code)) => Some(*code),
+        Answer::Presence(Err(code)) => Some(*code),
+        _ => None,
+    }
+}
+
+pub(crate) fn refused(id: u32, code: ErrorCode) -> Stage
+    ensures { result ≡ Stage.Says id (Outcome.Failed (code_of code)) }
+{
+    Stage::Says {
+        id,
+        outcome: Outcome::Failed { code: code.code() },
+    }
+}
+
+/// The reply to a command of one call is next.
+pub(crate) fn replied(id: u32, answer: Answer) -> Stage
+    ensures goes { RepliesAt id answer result }
+    ensures work { work_at result ≤ 1 }
+{
+    match answer {
+        Answer::Publish(answer) => published(id, answer),
+        Answer::History(answer) => listed(id, answer),
+        Answer::Presence(answer) => present(id, answer),
+        Answer::Stats(stats) => counted(id, stats),
+        other => other_answer(id, &other),
+    }
+}
+
+fn published(id: u32, answer: Result<(), ErrorCode>) -> Stage
+    ensures goes { RepliesAt id (Answer.Publish answer) result }
+    ensures work { work_at result ≤ 1 }
+{
+    match answer {
+        Ok(()) => Stage::Says {
+            id,
+            outcome: Outcome::Published,
+        },
+        Err(code) => refused(id, code),
+    }
+}
+
+fn listed(id: u32, answer: Result<History, ErrorCode>) -> Stage
+    ensures goes { RepliesAt id (Answer.History answer) result }
+    ensures work { work_at result ≤ 1 }
+{
+    match answer {
+        Ok(past) => {
+            let History {
+                position,
+                publications,
+            } = past;
+            Stage::Says {
+                id,
+                outcome: Outcome::Past {
+                    position,
+                    publications,
+                },
+            }
+        }
+        Err(code) => refused(id, code),
+    }
+}
+
+fn present(id: u32, answer: Result<BTreeMap<String, String>, ErrorCode>) -> Stage
+    ensures goes { RepliesAt id (Answer.Presence answer) result }
+    ensures work { work_at result ≤ 1 }
+{
+    match answer {
+        Ok(users) => Stage::Says {
+            id,
+            outcome: Outcome::Present { users },
+        },
+        Err(code) => refused(id, code),
+    }
+}
+
+fn counted(id: u32, stats: Stats) -> Stage
+    ensures goes { RepliesAt id (Answer.Stats stats) result }
+    ensures work { work_at result ≤ 1 }
+{
+    Stage::Says {
+        id,
+        outcome: Outcome::Counted {
+            clients: stats.clients,
+            users: stats.users,
+        },
+    }
+}
+
+/// An answer that has no result of its own.
+fn other_answer(id: u32, answer: &Answer) -> Stage
+    requires { found_by (shown_answer answer.now) ≡ None }
+    ensures goes { RepliesAt id answer.now result }
+    ensures work { work_at result ≤ 1 }
+{
+    match refused_with(answer) {
+        Some(code) => refused(id, code),
+        None => Stage::Ready,
+    }
+}

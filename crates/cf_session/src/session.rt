@@ -1,0 +1,508 @@
+//! What a session does for its client's commands.
+ghost use Rattle.std.specs.Prelude.{◌≡◌, ◌+◌, ◌<◌, ◌≤◌, Option, Some, None, true, false, IsSome, string_bytes, IfOk, OnOk, OnErr};
+ghost use Rattle.cf_protocol.specs.Codes.{code_of};
+ghost use Rattle.cf_protocol.specs.Datum.{Who};
+ghost use Rattle.cf_protocol.specs.Shown.{shown_command, shown_outcome, shown_request};
+ghost use Rattle.cf_session.specs.Calls as call;
+ghost use Rattle.cf_session.specs.CommandScripts.{granted, after_attach, after_begin};
+ghost use Rattle.cf_session.specs.Script as script;
+ghost use Rattle.cf_session.specs.SessionMachine.{Todo, Out, Calls, Closes, GoesOn, awaits};
+ghost use Rattle.cf_session.specs.Shown.{shown_action, shown_answer, answer_kind};
+ghost use Rattle.cf_session.specs.Standing.{tables_of, rest_of, rest_with, progress_of, is_idle, is_over, is_short, fell_short, work_at, work_of, Keeps, HearsFrame, ActsNext, TakesAnswer, ActsOn, Begins, script_from, opening_script, Falls};
+ghost use Rattle.cf_session.specs.declared.kind.Kind.TheVariants as kind;
+
+use crate::action::{Action, Answer};
+use crate::kind::Kind;
+use crate::refusal::refusal_of;
+use crate::replied::{refused, refused_with, replied};
+use crate::stage::Stage;
+use cf_protocol::{
+    CloseCode, Command, Data, ErrorCode, Info, Namespaces, Outcome, Outgoing, Position, ReadFault,
+    Request, Tokens, read_commands, write_reply,
+};
+use std::alloc::{AllocError, Global};
+use std::collections::VecDeque;
+use std::mem;
+
+/// The longest text of a frame, in bytes.
+const LONGEST_TEXT: usize = 65_536;
+
+/// One session of a client: it reads the client's texts, and says what is to be done for them, one action after another.
+#[derive(Drop)]
+pub struct Session<'a> {
+    namespaces: &'a Namespaces,
+    tokens: &'a Tokens,
+    client: Option<Info>,
+    frame: VecDeque<Command>,
+    stage: Stage,
+    is_short: bool,
+    fell_short: bool,
+    alloc: Global,
+}
+
+impl<'a> Session<'a> {
+    /// A session that waits for its client's connect.
+    pub fn new(alloc: Global, namespaces: &'a Namespaces, tokens: &'a Tokens) -> Session<'a>
+        ensures progress { progress_of result ≡ Todo (script.Served None) }
+        ensures tables { tables_of result ≡ record { namespaces = namespaces.now; tokens = tokens.now } }
+        ensures idle { is_idle result ≡ true }
+        ensures short { is_short result ≡ false }
+    {
+        Session {
+            namespaces,
+            tokens,
+            client: None,
+            frame: VecDeque::new(alloc),
+            stage: Stage::Ready,
+            is_short: false,
+            fell_short: false,
+            alloc,
+        }
+    }
+
+    /// Whether all is done that its texts asked for, so that it may hear another.
+    pub fn is_idle(&self) -> bool
+        ensures { result ≡ is_idle self.now }
+    {
+        match &self.stage {
+            Stage::Ready => self.frame.is_empty(),
+            Stage::Closed => true,
+            _ => false,
+        }
+    }
+
+    fn is_closed(&self) -> bool
+        ensures { result ≡ is_over self.now.stage }
+    {
+        match &self.stage {
+            Stage::Closed => true,
+            _ => false,
+        }
+    }
+
+    /// Whether one of its calls met a refused request for memory.
+    pub fn short(&self) -> bool
+        ensures { result ≡ is_short self.now }
+    {
+        self.is_short
+    }
+
+    /// The call that is out, by its kind. None: the session does something by itself, or is idle.
+    pub fn awaited(&self) -> Option<Kind>
+        ensures { result ≡ awaits (progress_of self.now) }
+    {
+        match &self.stage {
+            Stage::Attaching { .. } => Some(Kind::Attach),
+            Stage::Beginning { .. } => Some(Kind::Begin),
+            Stage::Reading { .. } => Some(Kind::Read),
+            Stage::Finishing => Some(Kind::Finish),
+            Stage::Losing { .. } => Some(Kind::Leave),
+            Stage::Leaving { .. } => Some(Kind::Leave),
+            Stage::Calling { kind, .. } => Some(*kind),
+            Stage::Ready => None,
+            Stage::Reads { .. } => None,
+            Stage::Finishes { .. } => None,
+            Stage::Loses { .. } => None,
+            Stage::Says { .. } => None,
+            Stage::Closes(_) => None,
+            Stage::Closed => None,
+        }
+    }
+
+    /// Hears a text of its client, which is a frame of commands. A text over 65,536 bytes, and one that is no frame of commands,
+    /// closes with 3501; one for whose reading memory is refused with 3004. A session that is closed passes it over.
+    pub fn on_text(&mut self, text: &str)
+        requires { is_idle self.old ≡ true }
+        ensures hears { HearsFrame self.old text.now self.new }
+        ensures keeps { Keeps self.old self.new }
+    {
+        let was_short = self.is_short;
+        self.fell_short = false;
+        self.hear(text);
+        self.is_short = was_short || self.fell_short;
+    }
+
+    fn hear(&mut self, text: &str)
+        requires { is_idle self.old ≡ true }
+        ensures hears { HearsFrame self.old text.now self.new }
+        ensures tables { tables_of self.new ≡ tables_of self.old }
+    {
+        if self.is_closed() {
+            return;
+        }
+        if text.len() > LONGEST_TEXT {
+            self.stage = Stage::Closes(CloseCode::BadRequest);
+            return;
+        }
+        match read_commands(self.alloc, text) {
+            Ok(commands) => {
+                self.frame = VecDeque::from_vec(commands);
+                self.stage = Stage::Ready;
+            }
+            Err(ReadFault::Bad) => self.stage = Stage::Closes(CloseCode::BadRequest),
+            Err(ReadFault::Memory) => {
+                self.fell_short = true;
+                self.stage = Stage::Closes(CloseCode::InternalError);
+            }
+        }
+    }
+
+    /// What is to be done next. None: an answer is awaited, or the session is idle.
+    pub fn next_action(&mut self) -> Option<Action>
+        ensures acts { ActsNext self.old result self.new }
+        ensures keeps { Keeps self.old self.new }
+        ensures work { IsSome result → work_of self.new < work_of self.old }
+        ensures idle { result ≡ None → awaits (progress_of self.new) ≡ None → is_idle self.new ≡ true }
+    {
+        let was_short = self.is_short;
+        self.fell_short = false;
+        let action = self.act();
+        self.is_short = was_short || self.fell_short;
+        action
+    }
+
+    fn act(&mut self) -> Option<Action>
+        ensures acts { ActsNext self.old result self.new }
+        ensures tables { tables_of self.new ≡ tables_of self.old }
+        ensures work { IsSome result → work_of self.new < work_of self.old }
+        ensures idle { result ≡ None → awaits (progress_of self.new) ≡ None → is_idle self.new ≡ true }
+    {
+        match mem::replace(&mut self.stage, Stage::Ready) {
+            Stage::Ready => self.next_command(),
+            Stage::Says { id, outcome } => Some(self.say(id, outcome)),
+            Stage::Closes(code) => Some(self.close(code)),
+            Stage::Reads {
+                id,
+                read,
+                channel,
+                since,
+            } => {
+                self.stage = Stage::Reading { id, channel };
+                Some(Action::Read {
+                    channel: read,
+                    since,
+                })
+            }
+            Stage::Finishes { channel } => {
+                self.stage = Stage::Finishing;
+                Some(Action::Finish { channel })
+            }
+            Stage::Loses { id, channel, code } => {
+                self.stage = Stage::Losing { id, code };
+                Some(Action::Leave { channel })
+            }
+            waits => {
+                self.stage = waits;
+                None
+            }
+        }
+    }
+
+    /// The call that is out was answered; the answer is one to this call.
+    pub fn answered(&mut self, answer: Answer)
+        requires { awaits (progress_of self.old) ≡ Some (answer_kind answer) }
+        ensures goes { TakesAnswer self.old answer self.new }
+        ensures keeps { Keeps self.old self.new }
+        ensures work { work_of self.new ≤ work_of self.old }
+    {
+        let was_short = self.is_short;
+        self.fell_short = false;
+        self.take(answer);
+        self.is_short = was_short || self.fell_short;
+    }
+
+    fn take(&mut self, answer: Answer)
+        requires { awaits (progress_of self.old) ≡ Some (answer_kind answer) }
+        ensures goes { TakesAnswer self.old answer self.new }
+        ensures tables { tables_of self.new ≡ tables_of self.old }
+        ensures work { work_of self.new ≤ work_of self.old }
+    {
+        match mem::replace(&mut self.stage, Stage::Ready) {
+            Stage::Attaching { id, user } => self.attached(id, user, answer),
+            Stage::Beginning {
+                id,
+                read,
+                channel,
+                since,
+            } => {
+                self.stage = match refused_with(&answer) {
+                    Some(code) => refused(id, code),
+                    None => Stage::Reads {
+                        id,
+                        read,
+                        channel,
+                        since,
+                    },
+                };
+            }
+            Stage::Reading { id, channel } => {
+                self.stage = match refused_with(&answer) {
+                    Some(code) => Stage::Loses { id, channel, code },
+                    None => Stage::Finishes { channel },
+                };
+            }
+            Stage::Finishing => {}
+            Stage::Losing { id, code } => self.stage = refused(id, code),
+            Stage::Leaving { id } => {
+                self.stage = Stage::Says {
+                    id,
+                    outcome: Outcome::Unsubscribed,
+                };
+            }
+            Stage::Calling { id, .. } => self.stage = replied(id, answer),
+            // No call is out.
+            Stage::Ready => {}
+            Stage::Reads { .. } => {}
+            Stage::Finishes { .. } => {}
+            Stage::Loses { .. } => {}
+            Stage::Says { .. } => {}
+            Stage::Closes(_) => {}
+            Stage::Closed => {}
+        }
+    }
+
+    /// The connect's attach was answered: its client is known from now on.
+    fn attached(&mut self, id: u32, user: String, answer: Answer)
+        requires { self.old.stage ≡ Stage.Ready }
+        ensures goes { GoesOn (shown_answer answer) (Out kind.Attach (after_attach id (string_bytes user) (rest_with self.old))) (progress_of self.new) self.new.fell_short }
+        ensures tables { tables_of self.new ≡ tables_of self.old }
+        ensures work { work_of self.new ≤ work_of self.old + 1 }
+    {
+        let Answer::Attach(Ok(client)) = answer else {
+            self.stage = Stage::Closes(CloseCode::InternalError);
+            return;
+        };
+        match client.clone() {
+            Ok(copy) => {
+                self.client = Some(Info { user, client });
+                self.stage = Stage::Says {
+                    id,
+                    outcome: Outcome::Connected { client: copy },
+                };
+            }
+            Err(_) => {
+                self.fell_short = true;
+                self.stage = Stage::Closes(CloseCode::InternalError);
+            }
+        }
+    }
+
+    /// Goes on to the next command that has something done.
+    fn next_command(&mut self) -> Option<Action>
+        requires { self.old.stage ≡ Stage.Ready }
+        ensures acts { ActsOn self.old (rest_of self.old) result self.new }
+        ensures tables { tables_of self.new ≡ tables_of self.old }
+        ensures work { IsSome result → work_of self.new < work_of self.old }
+        ensures idle { result ≡ None → is_idle self.new ≡ true }
+    {
+        while let Some(command) = self.frame.pop_front() {
+            if let Some(action) = self.start(command) {
+                return Some(action);
+            }
+        }
+        None
+    }
+
+    /// Begins a command. None: there is nothing to do for it.
+    fn start(&mut self, command: Command) -> Option<Action>
+        requires { self.old.stage ≡ Stage.Ready }
+        ensures acts { Begins self.old (script_from self.old (shown_command command)) result self.new }
+        ensures tables { tables_of self.new ≡ tables_of self.old }
+        ensures frame { self.new.frame ≡ self.old.frame }
+        ensures work { work_at self.new.stage < 7 }
+    {
+        let Command { id, request } = command;
+        if self.client.is_none() {
+            return Some(self.open(id, request));
+        }
+        if let Some(code) = refusal_of(self.namespaces, &request) {
+            let outcome = Outcome::Failed { code: code.code() };
+            return Some(self.say(id, outcome));
+        }
+        match self.grant(id, request) {
+            Ok(action) => action,
+            Err(_) => Some(self.fall_short(id)),
+        }
+    }
+
+    /// The first command, which is to be the connect.
+    fn open(&mut self, id: u32, request: Request) -> Action
+        requires { self.old.stage ≡ Stage.Ready }
+        ensures acts { ActsOn self.old (opening_script self.old id (shown_request request)) (Some result) self.new }
+        ensures tables { tables_of self.new ≡ tables_of self.old }
+        ensures frame { self.new.frame ≡ self.old.frame }
+        ensures work { work_at self.new.stage < 7 }
+    {
+        let Request::Connect { token } = request else {
+            return self.close(CloseCode::BadRequest);
+        };
+        let tokens = self.tokens;
+        let Some(user) = tokens.user(token.as_str()) else {
+            return self.close(CloseCode::InvalidToken);
+        };
+        let Ok(action) = self.attach(id, user) else {
+            self.fell_short = true;
+            return self.close(CloseCode::InternalError);
+        };
+        action
+    }
+
+    fn attach(&mut self, id: u32, user: &str) -> Result<Action, AllocError>
+        ensures act { IfOk result (λ a. shown_action a ≡ Calls (call.Attach user.now)) }
+        ensures goes { OnOk result (progress_of self.new ≡ Out kind.Attach (after_attach id user.now (rest_with self.old))) }
+        ensures work { OnOk result (work_at self.new.stage ≡ 2) }
+        ensures tables { tables_of self.new ≡ tables_of self.old }
+        ensures frame { self.new.frame ≡ self.old.frame }
+    {
+        let kept = String::from_str(self.alloc, user)?;
+        let user = String::from_str(self.alloc, user)?;
+        self.stage = Stage::Attaching { id, user: kept };
+        Ok(Action::Attach { user })
+    }
+
+    /// A command of a connected client that passed its checks.
+    fn grant(&mut self, id: u32, request: Request) -> Result<Option<Action>, AllocError>
+        requires { self.old.stage ≡ Stage.Ready }
+        ensures acts { (who : Who) → self.old.client ≡ Some who → IfOk result (λ r.
+            Begins self.old (granted who id (shown_request request) (rest_of self.old)) r self.new) }
+        ensures err { OnErr result (self.new.stage ≡ Stage.Ready) }
+        ensures client { OnErr result (self.new.client ≡ self.old.client) }
+        ensures tables { tables_of self.new ≡ tables_of self.old }
+        ensures frame { self.new.frame ≡ self.old.frame }
+        ensures work { OnOk result (work_at self.new.stage < 7) }
+    {
+        match request {
+            Request::Subscribe { channel, since } => {
+                let action = self.begin(id, channel, &since)?;
+                Ok(Some(action))
+            }
+            Request::Unsubscribe { channel } => {
+                self.stage = Stage::Leaving { id };
+                Ok(Some(Action::Leave { channel }))
+            }
+            Request::Publish { channel, body } => {
+                let info = match &self.client {
+                    Some(info) => info.copied()?,
+                    None => return Ok(None),
+                };
+                let body = match body {
+                    Data::Body(body) => body,
+                    Data::Absent => String::new(self.alloc),
+                    Data::TooDeep => String::new(self.alloc),
+                };
+                let kind = Kind::Publish;
+                self.stage = Stage::Calling { id, kind };
+                Ok(Some(Action::Publish {
+                    channel,
+                    body,
+                    info,
+                }))
+            }
+            Request::Presence { channel } => {
+                let kind = Kind::Presence;
+                self.stage = Stage::Calling { id, kind };
+                Ok(Some(Action::Presence { channel }))
+            }
+            Request::PresenceStats { channel } => {
+                let kind = Kind::Stats;
+                self.stage = Stage::Calling { id, kind };
+                Ok(Some(Action::Stats { channel }))
+            }
+            Request::History {
+                channel,
+                limit,
+                since,
+                ..
+            } => {
+                let kind = Kind::History;
+                self.stage = Stage::Calling { id, kind };
+                Ok(Some(Action::History {
+                    channel,
+                    limit,
+                    since,
+                }))
+            }
+            Request::Ping => Ok(Some(self.say(id, Outcome::Pinged))),
+            Request::Pong => Ok(Some(Action::Pong)),
+            Request::Send => Ok(None),
+            Request::Other => Ok(None),
+            Request::Connect { .. } => Ok(Some(self.close(CloseCode::BadRequest))),
+        }
+    }
+
+    /// A subscription is begun.
+    fn begin(
+        &mut self,
+        id: u32,
+        channel: String,
+        since: &Option<Position>,
+    ) -> Result<Action, AllocError>
+        ensures act { IfOk result (λ a. shown_action a ≡ Calls (call.Begin (string_bytes channel) id since.now)) }
+        ensures goes { OnOk result (progress_of self.new ≡ Out kind.Begin
+            (after_begin id (string_bytes channel) (string_bytes channel) since.now (rest_of self.old))) }
+        ensures err { OnErr result (self.new.stage ≡ self.old.stage) }
+        ensures client { self.new.client ≡ self.old.client }
+        ensures tables { tables_of self.new ≡ tables_of self.old }
+        ensures frame { self.new.frame ≡ self.old.frame }
+        ensures work { OnOk result (work_at self.new.stage < 7) }
+    {
+        let read = channel.clone()?;
+        let kept = channel.clone()?;
+        self.stage = Stage::Beginning {
+            id,
+            read,
+            channel: kept,
+            since: *since,
+        };
+        Ok(Action::Begin {
+            channel,
+            id,
+            since: *since,
+        })
+    }
+
+    /// The reply to a command.
+    fn say(&mut self, id: u32, outcome: Outcome) -> Action
+        requires { self.old.stage ≡ Stage.Ready }
+        ensures acts { ActsOn self.old (script.Say id (shown_outcome outcome) (rest_of self.old)) (Some result) self.new }
+        ensures tables { tables_of self.new ≡ tables_of self.old }
+        ensures frame { self.new.frame ≡ self.old.frame }
+        ensures work { work_at self.new.stage ≡ 0 }
+    {
+        let Ok(text) = write_reply(self.alloc, &Outgoing::Answer { id, outcome }) else {
+            return self.fall_short(id);
+        };
+        Action::Say(text)
+    }
+
+    /// Memory was refused: the command is answered as one that failed within, or the session is closed.
+    fn fall_short(&mut self, id: u32) -> Action
+        requires { self.old.stage ≡ Stage.Ready }
+        ensures falls { Falls id (rest_of self.old) (Some (shown_action result)) (progress_of self.new) }
+        ensures tables { tables_of self.new ≡ tables_of self.old }
+        ensures frame { self.new.frame ≡ self.old.frame }
+        ensures short { self.new.fell_short ≡ true }
+        ensures work { work_at self.new.stage ≡ 0 }
+    {
+        self.fell_short = true;
+        let outcome = Outcome::Failed {
+            code: ErrorCode::Internal.code(),
+        };
+        match write_reply(self.alloc, &Outgoing::Answer { id, outcome }) {
+            Ok(text) => Action::Say(text),
+            Err(_) => self.close(CloseCode::InternalError),
+        }
+    }
+
+    fn close(&mut self, code: CloseCode) -> Action
+        ensures act { shown_action result ≡ Closes code }
+        ensures progress { progress_of self.new ≡ Todo script.Over }
+        ensures tables { tables_of self.new ≡ tables_of self.old }
+        ensures frame { self.new.frame ≡ self.old.frame }
+        ensures short { fell_short self.new ≡ fell_short self.old }
+        ensures work { work_at self.new.stage ≡ 0 }
+    {
+        self.stage = Stage::Closed;
+        Action::Close(code)
+    }
+}
