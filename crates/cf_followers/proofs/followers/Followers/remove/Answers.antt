@@ -1,0 +1,19 @@
+use Rattle.std.proofs.Common.{rules, not}
+use Rattle.std.proofs.lemmas.Fn.{filter_same}
+use Rattle.cf_followers.specs.Follows.{is_of}
+use Rattle.cf_followers.proofs.Keeping.{AreFollows-filter, fewer_where_any}
+use Rattle.cf_followers.proofs.followers.Followers.remove.Goals as goal
+
+pub returns-clause-removed : goal.returns-clause-removed
+returns-clause-removed c = rw (← c.self.view_is) (filter_same _ _ _ (λ x b f' k. search rules) _ _ c.retain.ensures.filtered)
+
+pub invariant_of-self : goal.invariant_of-self
+invariant_of-self c =
+    rw (returns-clause-removed c, ← c.self.view_is) (AreFollows-filter (λ r. not (is_of c.args.channel.now c.args.session r)) c.self.inside.rows.items c.self.invariant)
+
+pub returns-clause-found : goal.returns-clause-found
+returns-clause-found c =
+    let found = fewer_where_any (is_of c.args.channel.now c.args.session) c.self.inside.rows.items _ _ c.self.view_is (returns-clause-removed c) in search (rules, found)
+
+pub returns-clause-rows : goal.returns-clause-rows
+returns-clause-rows c = invariant_of-self c

@@ -1,0 +1,13 @@
+//! Which session of a node follows which channel, by the channel's name: rows in order of adding.
+//!
+//! The order and the limit are this project's own.
+#![tactic(auto)]
+
+mod followers;
+mod refusal;
+mod row;
+mod walk;
+
+pub use followers::{Followers, MOST_ROWS};
+pub use refusal::FollowRefusal;
+pub use row::Row;

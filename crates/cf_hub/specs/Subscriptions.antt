@@ -1,0 +1,46 @@
+-- A session's subscriptions as the code has them, and as the definitions have them.
+use Rattle.std.specs.Prelude.{◌≡◌, ◌-◌, ℕ, List, [], length, Bool, true, Option, Some, None}
+use Rattle.std.specs.BTreeMap.{BTreeMap, get_by_text}
+use Rattle.std.specs.Map.{update}
+use Rattle.std.specs.Str.{bytes_eq}
+use Rattle.std.specs.declared.alloc.Global.{Global}
+use Rattle.std.specs.declared.string.String.{String}
+use Rattle.cf_protocol.specs.Datum.{Placed}
+use Rattle.cf_protocol.specs.Note.{Reading}
+use Rattle.cf_protocol.specs.Position.{Position}
+use Rattle.cf_recovery.specs.Kept.{Kept, arrival, given_up, with_arrival}
+use Rattle.cf_recovery.specs.Verdict.{Verdict, verdict}
+use Rattle.cf_stream.specs.declared.answer.Recovery.{Recovery}
+use Rattle.cf_hub.specs.SessionState.{Subscription, Off, Asked, Ready, On}
+use Rattle.cf_hub.specs.Wordings.{Held, held}
+use Rattle.cf_hub.specs.declared.subscription.Progress.{Progress}
+use Rattle.cf_hub.specs.declared.subscription.Progress.TheVariants as code
+
+abbrev pub Subscriptions : Type 0
+Subscriptions = BTreeMap (String Global) Progress
+
+-- what a read of the stream found
+abbrev pub reading_of : Recovery → Reading
+reading_of r =
+    record { epoch = r.position.epoch; low = r.position.offset - length r.publications.items; top = r.position.offset; recovered = r.recovered }
+
+abbrev pub sub_of : Option Progress → Subscription Held
+sub_of None = Off
+sub_of (Some (code.Asked id since waiting)) = Asked id since (held waiting [])
+sub_of (Some (code.Ready id was recovery waiting)) = Ready id was (reading_of recovery) (held waiting recovery.publications.items)
+sub_of (Some (code.On at mark)) = On at mark
+
+-- new has w at the channel, and elsewhere what old has
+abbrev pub SetsAt : Subscriptions → Subscriptions → List ℕ → Option Progress → Type 0
+SetsAt old new c w = (q : List ℕ) → get_by_text new q ≡ update bytes_eq (get_by_text old) c w q
+
+-- one more came, or what came is given up
+abbrev pub keeps : List ℕ → Placed → Progress → Progress
+keeps e p (code.Asked id since waiting) = code.Asked id since (with_arrival (arrival e p) waiting)
+keeps e p (code.Ready id was recovery waiting) = code.Ready id was recovery (with_arrival (arrival e p) waiting)
+keeps e p (code.On at mark) = code.On at mark
+
+abbrev pub loses : Progress → Progress
+loses (code.Asked id since waiting) = code.Asked id since (given_up true)
+loses (code.Ready id was recovery waiting) = code.Ready id was recovery (given_up true)
+loses (code.On at mark) = code.On at mark

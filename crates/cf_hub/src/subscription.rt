@@ -1,0 +1,118 @@
+//! How far a session is with a channel.
+ghost use Rattle.std.specs.Prelude.{◌≡◌, ◌⊎◌, ◌≢◌, true, OnOk, OnErr, None, Some, option_map, is_some};
+ghost use Rattle.std.specs.BTreeMap.{get_by_text};
+ghost use Rattle.cf_recovery.specs.Kept.{arrival, given_up, with_arrival};
+ghost use Rattle.cf_hub.specs.Subscriptions.{SetsAt, keeps, loses};
+
+use cf_protocol::{Epoch, Position, Publication};
+use cf_recovery::Waiting;
+use cf_stream::Recovery;
+use std::alloc::{AllocError, Global};
+use std::collections::BTreeMap;
+use std::mem;
+
+/// How far a subscription has come.
+#[derive(Drop)]
+pub(crate) enum Progress {
+    /// The command `id` asked for it, and the stream was not read yet.
+    Asked {
+        id: u32,
+        since: Option<Position>,
+        waiting: Waiting,
+    },
+    /// The stream was read, and the reply was not queued yet.
+    Ready {
+        id: u32,
+        was_recovering: bool,
+        recovery: Recovery,
+        waiting: Waiting,
+    },
+    /// The client has, or has waiting, all up to this position. The mark is the position check's.
+    On {
+        at: Position,
+        mark: Option<u64>,
+    },
+}
+
+impl Progress {
+    /// Keeps a publication while it waits for its reply. Says whether memory was refused for it.
+    pub(crate) fn keep(&mut self, epoch: &Epoch, publication: &Publication) -> bool
+        ensures { (self.new ≡ keeps epoch.now publication.now self.old) ⊎ ((result ≡ true) × (self.new ≡ loses self.old)) }
+    {
+        match self {
+            Progress::Asked { waiting, .. } => keep_in(waiting, epoch, publication),
+            Progress::Ready { waiting, .. } => keep_in(waiting, epoch, publication),
+            Progress::On { .. } => false,
+        }
+    }
+}
+
+/// Keeps a publication in a buffer. Says whether memory was refused for it now.
+fn keep_in(waiting: &mut Waiting, epoch: &Epoch, publication: &Publication) -> bool
+    ensures { (waiting.new ≡ with_arrival (arrival epoch.now publication.now) waiting.old) ⊎ ((result ≡ true) × (waiting.new ≡ given_up true)) }
+{
+    let was_short = waiting.short();
+    waiting.keep(epoch, publication);
+    !was_short && waiting.short()
+}
+
+/// Keeps a publication at a channel.
+#[tactic(auto, using(std::proofs::lemmas::Map::Text::text_keys))]
+pub(crate) fn keep_at(
+    subscriptions: &mut BTreeMap<String, Progress>,
+    channel: &str,
+    epoch: &Epoch,
+    publication: &Publication,
+) -> bool
+    ensures { SetsAt subscriptions.old subscriptions.new channel.now (option_map (keeps epoch.now publication.now) (get_by_text subscriptions.old channel.now)) ⊎ ((result ≡ true) × SetsAt subscriptions.old subscriptions.new channel.now (option_map loses (get_by_text subscriptions.old channel.now))) }
+{
+    match subscriptions.get_mut(channel) {
+        None => false,
+        Some(progress) => progress.keep(epoch, publication),
+    }
+}
+
+/// Puts something in place of what is there, and gives that back. Where there is nothing, nothing changes.
+#[tactic(auto, using(std::proofs::lemmas::Map::Text::text_keys))]
+pub(crate) fn replace(
+    subscriptions: &mut BTreeMap<String, Progress>,
+    channel: &str,
+    progress: Progress,
+) -> Option<Progress>
+    ensures before { result ≡ get_by_text subscriptions.old channel.now }
+    ensures after { SetsAt subscriptions.old subscriptions.new channel.now (option_map (λ _. progress) (get_by_text subscriptions.old channel.now)) }
+{
+    match subscriptions.get_mut(channel) {
+        None => None,
+        Some(place) => Some(mem::replace(place, progress)),
+    }
+}
+
+/// Adds a subscription to a channel that has none.
+#[tactic(auto, using(std::proofs::lemmas::Map::Text::text_keys))]
+pub(crate) fn add(
+    subscriptions: &mut BTreeMap<String, Progress>,
+    alloc: Global,
+    channel: &str,
+    progress: Progress,
+) -> Result<(), AllocError>
+    requires { get_by_text subscriptions.old channel.now ≡ None }
+    ensures ok { OnOk result (SetsAt subscriptions.old subscriptions.new channel.now (Some progress)) }
+    ensures err { OnErr result (subscriptions.new.entries ≡ subscriptions.old.entries) }
+{
+    let key = String::from_str(alloc, channel)?;
+    subscriptions.insert(key, progress)?;
+    Ok(())
+}
+
+/// Takes a channel's subscription out.
+#[tactic(auto, using(std::proofs::lemmas::Map::Text::text_keys))]
+pub(crate) fn take_out(
+    subscriptions: &mut BTreeMap<String, Progress>,
+    channel: &str,
+) -> Option<Progress>
+    ensures before { result ≡ get_by_text subscriptions.old channel.now }
+    ensures after { SetsAt subscriptions.old subscriptions.new channel.now None }
+{
+    subscriptions.remove(channel)
+}
