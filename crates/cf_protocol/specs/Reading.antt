@@ -1,13 +1,14 @@
 -- What the reading calls answer, beside what the definitions have.
 use Rattle.std.specs.Prelude.{◌≡◌, ⊤, List, ℕ, Result, Ok, Err, Option, Some, None, option_and_then, option_map, []}
 use Rattle.std.specs.List.{AllZip}
-use Rattle.std.specs.Option.{IsSomeAnd}
+use Rattle.std.specs.Option.{IsSomeAnd, MatchOption}
 use Rattle.std.specs.String.{string_bytes}
 use Rattle.std.specs.declared.string.String.{String}
 use Rattle.std.specs.declared.alloc.Global.{Global}
 use Rattle.cf_json.specs.Grammar.{Tree}
 use Rattle.cf_json.specs.Spans.{Span, IsAt}
 use Rattle.cf_protocol.specs.Fields.{Fields, look_up, unless_null, read_or, as_object, as_items}
+use Rattle.cf_protocol.specs.declared.read.members.Members.{Members}
 use Rattle.cf_protocol.specs.declared.fault.ReadFault.{ReadFault}
 use Rattle.cf_protocol.specs.declared.fault.ReadFault.TheVariants.{Bad, Memory}
 
@@ -31,6 +32,22 @@ IsMember text m f = (string_bytes m.0 ≡ f.0) × IsAt text f.1 m.1
 abbrev pub Reads : List ℕ → List (String Global × Span) → Fields → Type 0
 Reads text found fs = AllZip (IsMember text) found fs
 
+-- the members of an object that was read
+abbrev pub AreMembers : Members → Type 0
+AreMembers m = (fs : Fields) × Reads m.text.now m.found.items fs
+
+-- what is said of the fields that the members stand for
+abbrev pub OfFields : Members → (Fields → Type 0) → Type 0
+OfFields m P = (fs : Fields) → Reads m.text.now m.found.items fs → P fs
+
+-- a value of the text stands at the span
+abbrev pub HasValue : List ℕ → Span → Type 0
+HasValue text s = (t : Tree) × IsAt text t s
+
+-- what is said of the value that stands there
+abbrev pub OfValue : List ℕ → Span → (Tree → Type 0) → Type 0
+OfValue text s P = (t : Tree) → IsAt text t s → P t
+
 -- where a value stands, if one is there
 abbrev pub Finds : List ℕ → Option Span → Option Tree → Type 0
 Finds text None o = o ≡ None
@@ -49,6 +66,18 @@ items_at k fs = read_or [] as_items (present_at k fs)
 
 abbrev pub Stand : List ℕ → List Span → List Tree → Type 0
 Stand text spans ts = AllZip (λ s t. IsAt text t s) spans ts
+
+-- values of the text stand at the spans
+abbrev pub HaveValues : List ℕ → List Span → Type 0
+HaveValues text spans = (ts : List Tree) × Stand text spans ts
+
+-- what is said of the values that stand there
+abbrev pub OfValues : List ℕ → List Span → (List Tree → Type 0) → Type 0
+OfValues text spans P = (ts : List Tree) → Stand text spans ts → P ts
+
+-- the members of an object, where one is there
+abbrev pub IsObject : Option Members → Option Fields → Type 0
+IsObject o r = MatchOption o (r ≡ None) (λ m. IsSomeAnd r (λ fs. Reads m.text.now m.found.items fs))
 
 -- one key of several that has a value, where it stands, and what it is read as; Bad where nothing is read
 abbrev pub Chooses : {K A : Type 0} → List ℕ → (K → Tree → Option A) → Result (K × Span) ReadFault → Option A → Type 0

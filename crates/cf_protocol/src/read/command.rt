@@ -1,11 +1,9 @@
 //! Commands.
 ghost use Rattle.std.specs.Prelude.{◌≡◌, Some, codes};
-ghost use Rattle.cf_json.specs.Grammar.{Tree};
-ghost use Rattle.cf_json.specs.Spans.{IsAt};
-ghost use Rattle.cf_protocol.specs.Fields.{Fields, look_up};
+ghost use Rattle.cf_protocol.specs.Fields.{look_up};
 ghost use Rattle.cf_protocol.specs.Command.{command_of, command_from, named_command, needs_id, connect, subscribe, publish, history, data_of};
 ghost use Rattle.cf_protocol.specs.Methods.{request_as, served};
-ghost use Rattle.cf_protocol.specs.Reading.{Answers, Reads};
+ghost use Rattle.cf_protocol.specs.Reading.{Answers, AreMembers, HasValue, OfFields, OfValue};
 ghost use Rattle.cf_protocol.specs.Shown.{shown_command, shown_request, shown_data};
 
 use crate::command::{Command, Data, Request};
@@ -20,8 +18,8 @@ const MAX_DATA_DEPTH: usize = 60;
 
 /// The command that a value is.
 pub fn read_command(alloc: Global, text: &str, span: Span) -> Result<Command, ReadFault>
-    requires { (t : Tree) × IsAt text.now t span }
-    ensures { (t : Tree) → IsAt text.now t span → Answers shown_command result (command_of t) }
+    requires { HasValue text.now span }
+    ensures { OfValue text.now span (λ t. Answers shown_command result (command_of t)) }
 {
     let members = Members::of(alloc, text, span)?;
     let command = read_from(alloc, &members)?;
@@ -30,8 +28,8 @@ pub fn read_command(alloc: Global, text: &str, span: Span) -> Result<Command, Re
 
 /// The command that has these members. Without any it is the pong.
 fn read_from(alloc: Global, members: &Members<'_>) -> Result<Command, ReadFault>
-    requires { (fs : Fields) × Reads members.now.text.now members.now.found.items fs }
-    ensures { (fs : Fields) → Reads members.now.text.now members.now.found.items fs → Answers shown_command result (command_from fs) }
+    requires { AreMembers members.now }
+    ensures { OfFields members.now (λ fs. Answers shown_command result (command_from fs)) }
 {
     if members.found.is_empty() {
         return Ok(Command {
@@ -44,8 +42,8 @@ fn read_from(alloc: Global, members: &Members<'_>) -> Result<Command, ReadFault>
 
 /// The command that has these members, of which there are some.
 fn read_named(alloc: Global, members: &Members<'_>) -> Result<Command, ReadFault>
-    requires { (fs : Fields) × Reads members.now.text.now members.now.found.items fs }
-    ensures { (fs : Fields) → Reads members.now.text.now members.now.found.items fs → Answers shown_command result (named_command fs) }
+    requires { AreMembers members.now }
+    ensures { OfFields members.now (λ fs. Answers shown_command result (named_command fs)) }
 {
     let id = members.whole("id", u64::from(u32::MAX))? as u32;
     let (method, value) = the_method(members)?;
@@ -70,8 +68,8 @@ fn read_request(
     method: Method,
     value: Span,
 ) -> Result<Request, ReadFault>
-    requires { (t : Tree) × IsAt text.now t value }
-    ensures { (t : Tree) → IsAt text.now t value → Answers shown_request result (request_as method t) }
+    requires { HasValue text.now value }
+    ensures { OfValue text.now value (λ t. Answers shown_request result (request_as method t)) }
 {
     match method {
         Method::Ping => Ok(Request::Ping),
@@ -87,8 +85,8 @@ fn read_request(
 
 /// The request of a method that has these members.
 fn read_served(alloc: Global, method: Method, members: &Members<'_>) -> Result<Request, ReadFault>
-    requires { (fs : Fields) × Reads members.now.text.now members.now.found.items fs }
-    ensures { (fs : Fields) → Reads members.now.text.now members.now.found.items fs → Answers shown_request result (served method fs) }
+    requires { AreMembers members.now }
+    ensures { OfFields members.now (λ fs. Answers shown_request result (served method fs)) }
 {
     match method {
         Method::Connect => read_connect(alloc, members),
@@ -114,16 +112,16 @@ fn read_served(alloc: Global, method: Method, members: &Members<'_>) -> Result<R
 }
 
 fn read_connect(alloc: Global, members: &Members<'_>) -> Result<Request, ReadFault>
-    requires { (fs : Fields) × Reads members.now.text.now members.now.found.items fs }
-    ensures { (fs : Fields) → Reads members.now.text.now members.now.found.items fs → Answers shown_request result (connect fs) }
+    requires { AreMembers members.now }
+    ensures { OfFields members.now (λ fs. Answers shown_request result (connect fs)) }
 {
     let token = members.text(alloc, "token")?;
     Ok(Request::Connect { token })
 }
 
 fn read_subscribe(alloc: Global, members: &Members<'_>) -> Result<Request, ReadFault>
-    requires { (fs : Fields) × Reads members.now.text.now members.now.found.items fs }
-    ensures { (fs : Fields) → Reads members.now.text.now members.now.found.items fs → Answers shown_request result (subscribe fs) }
+    requires { AreMembers members.now }
+    ensures { OfFields members.now (λ fs. Answers shown_request result (subscribe fs)) }
 {
     let channel = members.text(alloc, "channel")?;
     let recover = members.flag("recover")?;
@@ -133,8 +131,8 @@ fn read_subscribe(alloc: Global, members: &Members<'_>) -> Result<Request, ReadF
 }
 
 fn read_publish(alloc: Global, members: &Members<'_>) -> Result<Request, ReadFault>
-    requires { (fs : Fields) × Reads members.now.text.now members.now.found.items fs }
-    ensures { (fs : Fields) → Reads members.now.text.now members.now.found.items fs → Answers shown_request result (publish fs) }
+    requires { AreMembers members.now }
+    ensures { OfFields members.now (λ fs. Answers shown_request result (publish fs)) }
 {
     let channel = members.text(alloc, "channel")?;
     let body = read_data(alloc, members)?;
@@ -142,8 +140,8 @@ fn read_publish(alloc: Global, members: &Members<'_>) -> Result<Request, ReadFau
 }
 
 fn read_history(alloc: Global, members: &Members<'_>) -> Result<Request, ReadFault>
-    requires { (fs : Fields) × Reads members.now.text.now members.now.found.items fs }
-    ensures { (fs : Fields) → Reads members.now.text.now members.now.found.items fs → Answers shown_request result (history fs) }
+    requires { AreMembers members.now }
+    ensures { OfFields members.now (λ fs. Answers shown_request result (history fs)) }
 {
     let channel = members.text(alloc, "channel")?;
     let limit = members.limit("limit")?;
@@ -159,8 +157,9 @@ fn read_history(alloc: Global, members: &Members<'_>) -> Result<Request, ReadFau
 
 /// The data of a publish, which may be `null`.
 fn read_data(alloc: Global, members: &Members<'_>) -> Result<Data, ReadFault>
-    requires { (fs : Fields) × Reads members.now.text.now members.now.found.items fs }
-    ensures { (fs : Fields) → Reads members.now.text.now members.now.found.items fs → Answers shown_data result (Some (data_of (look_up (codes "data") fs))) }
+    requires { AreMembers members.now }
+    ensures { OfFields members.now (λ fs.
+        Answers shown_data result (Some (data_of (look_up (codes "data") fs)))) }
 {
     let Some(span) = members.get("data") else {
         return Ok(Data::Absent);

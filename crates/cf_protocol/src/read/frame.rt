@@ -1,11 +1,10 @@
 //! Frames: what stands one behind another in a text.
 ghost use Rattle.std.specs.Prelude.{◌≡◌, IfOk, IfErr, List, map};
-ghost use Rattle.cf_json.specs.Grammar.{Tree};
 ghost use Rattle.cf_protocol.specs.Command.{command_of};
 ghost use Rattle.cf_protocol.specs.Fields.{read_all};
 ghost use Rattle.cf_protocol.specs.Frame.{IsCommands, IsReplies, all_replies_of};
 ghost use Rattle.cf_protocol.specs.Outgoing as outgoing;
-ghost use Rattle.cf_protocol.specs.Reading.{Answers, Stand};
+ghost use Rattle.cf_protocol.specs.Reading.{Answers, HaveValues, OfValues};
 ghost use Rattle.cf_protocol.specs.Request as request;
 ghost use Rattle.cf_protocol.specs.Shown.{shown_command, shown_outgoing};
 
@@ -20,8 +19,10 @@ use std::alloc::Global;
 /// The commands of a frame, in order. `Bad` is a text that is no frame, or in which a value is no command or nests deeper than 64.
 pub fn read_commands(alloc: Global, text: &str) -> Result<Vec<Command>, ReadFault>
     ensures found { IfOk result (λ cs. IsCommands text.now (map shown_command cs.items)) }
-    ensures only { IfOk result (λ cs. (ks : List request.Command) → IsCommands text.now ks → ks ≡ map shown_command cs.items) }
-    ensures bad { IfErr result (λ e. e ≡ ReadFault.Bad → (ks : List request.Command) → IsCommands text.now ks → ⊥) }
+    ensures only { IfOk result (λ cs. (ks : List request.Command)
+        → IsCommands text.now ks → ks ≡ map shown_command cs.items) }
+    ensures bad { IfErr result (λ e. e ≡ ReadFault.Bad
+        → (ks : List request.Command) → IsCommands text.now ks → ⊥) }
 {
     let spans = split_frame(alloc, text)?;
     let commands = read_each_command(alloc, text, &spans)?;
@@ -30,8 +31,9 @@ pub fn read_commands(alloc: Global, text: &str) -> Result<Vec<Command>, ReadFaul
 
 /// The commands that stand at these places.
 fn read_each_command(alloc: Global, text: &str, spans: &[Span]) -> Result<Vec<Command>, ReadFault>
-    requires { (ts : List Tree) × Stand text.now spans.now ts }
-    ensures { (ts : List Tree) → Stand text.now spans.now ts → Answers (λ v. map shown_command v.items) result (read_all command_of ts) }
+    requires { HaveValues text.now spans.now }
+    ensures { OfValues text.now spans.now (λ ts.
+        Answers (λ v. map shown_command v.items) result (read_all command_of ts)) }
 {
     let mut commands = Vec::new(alloc);
     for span in spans {
@@ -45,8 +47,10 @@ fn read_each_command(alloc: Global, text: &str, spans: &[Span]) -> Result<Vec<Co
 /// frame, or in which a value is neither or nests deeper than 64.
 pub fn read_replies(alloc: Global, text: &str) -> Result<Vec<Outgoing>, ReadFault>
     ensures found { IfOk result (λ rs. IsReplies text.now (map shown_outgoing rs.items)) }
-    ensures only { IfOk result (λ rs. (os : List outgoing.Outgoing) → IsReplies text.now os → os ≡ map shown_outgoing rs.items) }
-    ensures bad { IfErr result (λ e. e ≡ ReadFault.Bad → (os : List outgoing.Outgoing) → IsReplies text.now os → ⊥) }
+    ensures only { IfOk result (λ rs. (os : List outgoing.Outgoing)
+        → IsReplies text.now os → os ≡ map shown_outgoing rs.items) }
+    ensures bad { IfErr result (λ e. e ≡ ReadFault.Bad
+        → (os : List outgoing.Outgoing) → IsReplies text.now os → ⊥) }
 {
     let spans = split_frame(alloc, text)?;
     let replies = read_each_reply(alloc, text, &spans)?;
@@ -55,8 +59,9 @@ pub fn read_replies(alloc: Global, text: &str) -> Result<Vec<Outgoing>, ReadFaul
 
 /// The replies and pushes that stand at these places.
 fn read_each_reply(alloc: Global, text: &str, spans: &[Span]) -> Result<Vec<Outgoing>, ReadFault>
-    requires { (ts : List Tree) × Stand text.now spans.now ts }
-    ensures { (ts : List Tree) → Stand text.now spans.now ts → Answers (λ v. map shown_outgoing v.items) result (all_replies_of ts) }
+    requires { HaveValues text.now spans.now }
+    ensures { OfValues text.now spans.now (λ ts.
+        Answers (λ v. map shown_outgoing v.items) result (all_replies_of ts)) }
 {
     let mut replies = Vec::new(alloc);
     for span in spans {

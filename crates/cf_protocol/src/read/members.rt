@@ -1,10 +1,7 @@
 //! The members of an object, read by their keys.
-ghost use Rattle.std.specs.Prelude.{option_and_then, ◌≡◌, ℕ, List, [], false, pos, Option, Some, None, MatchOption, IfOk, ◌≤◌, is_some, string_bytes};
-ghost use Rattle.std.specs.Option.{IsSomeAnd};
-ghost use Rattle.cf_json.specs.Grammar.{Tree};
-ghost use Rattle.cf_json.specs.Spans.{IsAt};
-ghost use Rattle.cf_protocol.specs.Fields.{Fields, look_up, unless_null, read_or, as_object, as_text, as_flag, as_whole, as_limit, position, object_or_none};
-ghost use Rattle.cf_protocol.specs.Reading.{Tells, Answers, Reads, Finds, Stand, present_at, object_at, items_at};
+ghost use Rattle.std.specs.Prelude.{option_and_then, ◌≡◌, [], false, pos, IfOk, ◌≤◌, is_some, string_bytes};
+ghost use Rattle.cf_protocol.specs.Fields.{look_up, unless_null, read_or, as_object, as_text, as_flag, as_whole, as_limit, position, object_or_none};
+ghost use Rattle.cf_protocol.specs.Reading.{Tells, Answers, Reads, Finds, Stand, AreMembers, HasValue, IsObject, OfFields, OfValue, present_at, object_at, items_at};
 
 use crate::epoch::Epoch;
 use crate::fault::ReadFault;
@@ -23,8 +20,8 @@ pub struct Members<'a> {
 
 /// Whether a value counts as present: it is not `null`.
 pub fn is_present(text: &str, span: Span) -> bool
-    requires { (t : Tree) × IsAt text.now t span }
-    ensures { (t : Tree) → IsAt text.now t span → result ≡ is_some (unless_null t) }
+    requires { HasValue text.now span }
+    ensures { OfValue text.now span (λ t. result ≡ is_some (unless_null t)) }
 {
     kind(text, span) != Kind::Null
 }
@@ -32,8 +29,9 @@ pub fn is_present(text: &str, span: Span) -> bool
 impl<'a> Members<'a> {
     /// The members of the value, which is to be an object.
     pub fn of(alloc: Global, text: &'a str, span: Span) -> Result<Members<'a>, ReadFault>
-        requires { (t : Tree) × IsAt text.now t span }
-        ensures { (t : Tree) → IsAt text.now t span → Tells (λ m fs. Reads m.text.now m.found.items fs) result (as_object t) }
+        requires { HasValue text.now span }
+        ensures { OfValue text.now span (λ t.
+            Tells (λ m fs. Reads m.text.now m.found.items fs) result (as_object t)) }
     {
         if kind(text, span) != Kind::Object {
             return Err(ReadFault::Bad);
@@ -44,7 +42,7 @@ impl<'a> Members<'a> {
 
     /// Where the value of this key stands.
     pub fn get(&self, key: &str) -> Option<Span>
-        ensures { (fs : Fields) → Reads self.now.text.now self.now.found.items fs → Finds self.now.text.now result (look_up key.now fs) }
+        ensures { OfFields self.now (λ fs. Finds self.now.text.now result (look_up key.now fs)) }
     {
         for member in &self.found {
             if key == member.0.as_str() {
@@ -56,8 +54,8 @@ impl<'a> Members<'a> {
 
     /// The same, where `null` counts as absent.
     pub fn present(&self, key: &str) -> Option<Span>
-        requires { (fs : Fields) × Reads self.now.text.now self.now.found.items fs }
-        ensures { (fs : Fields) → Reads self.now.text.now self.now.found.items fs → Finds self.now.text.now result (present_at key.now fs) }
+        requires { AreMembers self.now }
+        ensures { OfFields self.now (λ fs. Finds self.now.text.now result (present_at key.now fs)) }
     {
         let span = self.get(key)?;
         if kind(self.text, span) == Kind::Null {
@@ -68,8 +66,9 @@ impl<'a> Members<'a> {
 
     /// A text; the empty one where it is absent.
     pub fn text(&self, alloc: Global, key: &str) -> Result<String, ReadFault>
-        requires { (fs : Fields) × Reads self.now.text.now self.now.found.items fs }
-        ensures { (fs : Fields) → Reads self.now.text.now self.now.found.items fs → Answers string_bytes result (read_or [] as_text (present_at key.now fs)) }
+        requires { AreMembers self.now }
+        ensures { OfFields self.now (λ fs.
+            Answers string_bytes result (read_or [] as_text (present_at key.now fs))) }
     {
         let Some(span) = self.present(key) else {
             return Ok(String::new(alloc));
@@ -83,8 +82,9 @@ impl<'a> Members<'a> {
 
     /// A flag; false where it is absent.
     pub fn flag(&self, key: &str) -> Result<bool, ReadFault>
-        requires { (fs : Fields) × Reads self.now.text.now self.now.found.items fs }
-        ensures { (fs : Fields) → Reads self.now.text.now self.now.found.items fs → Answers (λ b. b) result (read_or false as_flag (present_at key.now fs)) }
+        requires { AreMembers self.now }
+        ensures { OfFields self.now (λ fs.
+            Answers (λ b. b) result (read_or false as_flag (present_at key.now fs))) }
     {
         let Some(span) = self.present(key) else {
             return Ok(false);
@@ -98,8 +98,9 @@ impl<'a> Members<'a> {
 
     /// A whole number of at most so much; 0 where it is absent.
     pub fn whole(&self, key: &str, most: u64) -> Result<u64, ReadFault>
-        requires { (fs : Fields) × Reads self.now.text.now self.now.found.items fs }
-        ensures exact { (fs : Fields) → Reads self.now.text.now self.now.found.items fs → Answers (λ n. n) result (read_or 0 (as_whole 0 most) (present_at key.now fs)) }
+        requires { AreMembers self.now }
+        ensures exact { OfFields self.now (λ fs.
+            Answers (λ n. n) result (read_or 0 (as_whole 0 most) (present_at key.now fs))) }
         ensures most { IfOk result (λ n. n ≤ most) }
     {
         let Some(span) = self.present(key) else {
@@ -119,8 +120,9 @@ impl<'a> Members<'a> {
 
     /// A limit, a whole number of 32 bits with a sign; 0 where it is absent.
     pub fn limit(&self, key: &str) -> Result<i32, ReadFault>
-        requires { (fs : Fields) × Reads self.now.text.now self.now.found.items fs }
-        ensures { (fs : Fields) → Reads self.now.text.now self.now.found.items fs → Answers (λ z. z) result (read_or (pos 0) as_limit (present_at key.now fs)) }
+        requires { AreMembers self.now }
+        ensures { OfFields self.now (λ fs.
+            Answers (λ z. z) result (read_or (pos 0) as_limit (present_at key.now fs))) }
     {
         let Some(span) = self.present(key) else {
             return Ok(0);
@@ -139,8 +141,9 @@ impl<'a> Members<'a> {
 
     /// The members of an object, where one stands.
     pub fn object(&self, alloc: Global, key: &str) -> Result<Option<Members<'a>>, ReadFault>
-        requires { (fs : Fields) × Reads self.now.text.now self.now.found.items fs }
-        ensures { (fs : Fields) → Reads self.now.text.now self.now.found.items fs → Tells (λ o r. MatchOption o (r ≡ None) (λ m. IsSomeAnd r (λ gs. Reads m.text.now m.found.items gs))) result (object_at key.now fs) }
+        requires { AreMembers self.now }
+        ensures { OfFields self.now (λ fs.
+            Tells IsObject result (object_at key.now fs)) }
     {
         match self.present(key) {
             Some(span) => {
@@ -153,8 +156,9 @@ impl<'a> Members<'a> {
 
     /// The items of a list; none where it is absent.
     pub fn list(&self, alloc: Global, key: &str) -> Result<Vec<Span>, ReadFault>
-        requires { (fs : Fields) × Reads self.now.text.now self.now.found.items fs }
-        ensures { (fs : Fields) → Reads self.now.text.now self.now.found.items fs → Tells (λ v ts. Stand self.now.text.now v.items ts) result (items_at key.now fs) }
+        requires { AreMembers self.now }
+        ensures { OfFields self.now (λ fs.
+            Tells (λ v ts. Stand self.now.text.now v.items ts) result (items_at key.now fs)) }
     {
         let Some(span) = self.present(key) else {
             return Ok(Vec::new(alloc));
@@ -168,8 +172,9 @@ impl<'a> Members<'a> {
 
     /// A whole number from 1 to so much, which is there.
     pub fn positive(&self, key: &str, most: u64) -> Result<u64, ReadFault>
-        requires { (fs : Fields) × Reads self.now.text.now self.now.found.items fs }
-        ensures exact { (fs : Fields) → Reads self.now.text.now self.now.found.items fs → Answers (λ n. n) result (option_and_then (as_whole 1 most) (present_at key.now fs)) }
+        requires { AreMembers self.now }
+        ensures exact { OfFields self.now (λ fs.
+            Answers (λ n. n) result (option_and_then (as_whole 1 most) (present_at key.now fs))) }
         ensures most { IfOk result (λ n. n ≤ most) }
     {
         let number = self.whole(key, most)?;
@@ -181,8 +186,8 @@ impl<'a> Members<'a> {
 
     /// The position that `epoch` and `offset` say.
     pub fn position(&self, alloc: Global) -> Result<Position, ReadFault>
-        requires { (fs : Fields) × Reads self.now.text.now self.now.found.items fs }
-        ensures { (fs : Fields) → Reads self.now.text.now self.now.found.items fs → Answers (λ p. p) result (position fs) }
+        requires { AreMembers self.now }
+        ensures { OfFields self.now (λ fs. Answers (λ p. p) result (position fs)) }
     {
         let epoch = self.text(alloc, "epoch")?;
         let offset = self.whole("offset", u64::MAX)?;
@@ -194,8 +199,9 @@ impl<'a> Members<'a> {
 
     /// The position of `since`, where it is there.
     pub fn since(&self, alloc: Global) -> Result<Option<Position>, ReadFault>
-        requires { (fs : Fields) × Reads self.now.text.now self.now.found.items fs }
-        ensures { (fs : Fields) → Reads self.now.text.now self.now.found.items fs → Answers (λ p. p) result (object_or_none position fs "since") }
+        requires { AreMembers self.now }
+        ensures { OfFields self.now (λ fs.
+            Answers (λ p. p) result (object_or_none position fs "since")) }
     {
         match self.object(alloc, "since")? {
             Some(found) => {

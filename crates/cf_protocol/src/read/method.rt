@@ -1,9 +1,8 @@
 //! The methods of commands.
 ghost use Rattle.std.specs.Prelude.{◌≡◌};
-ghost use Rattle.cf_protocol.specs.Fields.{Fields};
 ghost use Rattle.cf_protocol.specs.Command.{request_of};
 ghost use Rattle.cf_protocol.specs.Methods.{method_key, request_as};
-ghost use Rattle.cf_protocol.specs.Reading.{Chooses, Reads};
+ghost use Rattle.cf_protocol.specs.Reading.{AreMembers, Chooses, OfFields};
 
 use crate::fault::ReadFault;
 use crate::read::members::Members;
@@ -64,8 +63,9 @@ impl Method {
 
 /// The one method of a command, and where its value stands.
 pub fn the_method(members: &Members<'_>) -> Result<(Method, Span), ReadFault>
-    requires { (fs : Fields) × Reads members.now.text.now members.now.found.items fs }
-    ensures { (fs : Fields) → Reads members.now.text.now members.now.found.items fs → Chooses members.now.text.now request_as result (request_of fs) }
+    requires { AreMembers members.now }
+    ensures { OfFields members.now (λ fs.
+        Chooses members.now.text.now request_as result (request_of fs)) }
 {
     let mut only = None;
     for method in METHODS {

@@ -2,10 +2,9 @@
 ghost use Rattle.std.specs.FinMap.{from_entries};
 ghost use Rattle.std.specs.Prelude.{◌≡◌, Some, option_map};
 ghost use Rattle.cf_json.specs.Grammar.{Tree};
-ghost use Rattle.cf_json.specs.Spans.{IsAt};
 ghost use Rattle.cf_protocol.specs.Fields.{Fields, as_object, object_as};
 ghost use Rattle.cf_protocol.specs.Methods.{result_key, outcome_of};
-ghost use Rattle.cf_protocol.specs.Reading.{Answers, Chooses, Reads};
+ghost use Rattle.cf_protocol.specs.Reading.{Answers, AreMembers, Chooses, HasValue, OfFields, OfValue, Reads};
 ghost use Rattle.cf_protocol.specs.Reply.{code_in, connected, counted, past, present_users, result_of, subscribed, users_of};
 ghost use Rattle.cf_protocol.specs.Shown.{shown_outcome, shown_users};
 
@@ -63,8 +62,9 @@ impl ResultKey {
 
 /// The one result of a reply, and where its value stands.
 pub fn the_result(members: &Members<'_>) -> Result<(ResultKey, Span), ReadFault>
-    requires { (fs : Fields) × Reads members.now.text.now members.now.found.items fs }
-    ensures { (fs : Fields) → Reads members.now.text.now members.now.found.items fs → Chooses members.now.text.now (λ key. object_as (outcome_of key)) result (result_of fs) }
+    requires { AreMembers members.now }
+    ensures { OfFields members.now (λ fs.
+        Chooses members.now.text.now (λ key. object_as (outcome_of key)) result (result_of fs)) }
 {
     let mut only = None;
     for key in RESULT_KEYS {
@@ -89,8 +89,9 @@ pub fn read_result(
     key: ResultKey,
     span: Span,
 ) -> Result<Outcome, ReadFault>
-    requires { (t : Tree) × IsAt text.now t span }
-    ensures { (t : Tree) → IsAt text.now t span → Answers shown_outcome result (object_as (outcome_of key) t) }
+    requires { HasValue text.now span }
+    ensures { OfValue text.now span (λ t.
+        Answers shown_outcome result (object_as (outcome_of key) t)) }
 {
     let members = Members::of(alloc, text, span)?;
     let outcome = read_outcome(alloc, key, &members)?;
@@ -99,8 +100,8 @@ pub fn read_result(
 
 /// The result of a key that has these members.
 fn read_outcome(alloc: Global, key: ResultKey, members: &Members<'_>) -> Result<Outcome, ReadFault>
-    requires { (fs : Fields) × Reads members.now.text.now members.now.found.items fs }
-    ensures { (fs : Fields) → Reads members.now.text.now members.now.found.items fs → Answers shown_outcome result (outcome_of key fs) }
+    requires { AreMembers members.now }
+    ensures { OfFields members.now (λ fs. Answers shown_outcome result (outcome_of key fs)) }
 {
     match key {
         ResultKey::Error => read_failed(members),
@@ -117,32 +118,33 @@ fn read_outcome(alloc: Global, key: ResultKey, members: &Members<'_>) -> Result<
 
 /// A code, which is at least 1.
 pub fn read_code(members: &Members<'_>) -> Result<u32, ReadFault>
-    requires { (fs : Fields) × Reads members.now.text.now members.now.found.items fs }
-    ensures { (fs : Fields) → Reads members.now.text.now members.now.found.items fs → Answers (λ n. n) result (code_in fs) }
+    requires { AreMembers members.now }
+    ensures { OfFields members.now (λ fs. Answers (λ n. n) result (code_in fs)) }
 {
     let code = members.positive("code", u64::from(u32::MAX))?;
     Ok(code as u32)
 }
 
 fn read_failed(members: &Members<'_>) -> Result<Outcome, ReadFault>
-    requires { (fs : Fields) × Reads members.now.text.now members.now.found.items fs }
-    ensures { (fs : Fields) → Reads members.now.text.now members.now.found.items fs → Answers shown_outcome result (outcome_of ResultKey.Error fs) }
+    requires { AreMembers members.now }
+    ensures { OfFields members.now (λ fs.
+        Answers shown_outcome result (outcome_of ResultKey.Error fs)) }
 {
     let code = read_code(members)?;
     Ok(Outcome::Failed { code })
 }
 
 fn read_connected(alloc: Global, members: &Members<'_>) -> Result<Outcome, ReadFault>
-    requires { (fs : Fields) × Reads members.now.text.now members.now.found.items fs }
-    ensures { (fs : Fields) → Reads members.now.text.now members.now.found.items fs → Answers shown_outcome result (connected fs) }
+    requires { AreMembers members.now }
+    ensures { OfFields members.now (λ fs. Answers shown_outcome result (connected fs)) }
 {
     let client = members.text(alloc, "client")?;
     Ok(Outcome::Connected { client })
 }
 
 fn read_subscribed(alloc: Global, members: &Members<'_>) -> Result<Outcome, ReadFault>
-    requires { (fs : Fields) × Reads members.now.text.now members.now.found.items fs }
-    ensures { (fs : Fields) → Reads members.now.text.now members.now.found.items fs → Answers shown_outcome result (subscribed fs) }
+    requires { AreMembers members.now }
+    ensures { OfFields members.now (λ fs. Answers shown_outcome result (subscribed fs)) }
 {
     let position = members.position(alloc)?;
     let publications = read_publications(alloc, members)?;
@@ -157,8 +159,8 @@ fn read_subscribed(alloc: Global, members: &Members<'_>) -> Result<Outcome, Read
 }
 
 fn read_past(alloc: Global, members: &Members<'_>) -> Result<Outcome, ReadFault>
-    requires { (fs : Fields) × Reads members.now.text.now members.now.found.items fs }
-    ensures { (fs : Fields) → Reads members.now.text.now members.now.found.items fs → Answers shown_outcome result (past fs) }
+    requires { AreMembers members.now }
+    ensures { OfFields members.now (λ fs. Answers shown_outcome result (past fs)) }
 {
     let position = members.position(alloc)?;
     let publications = read_publications(alloc, members)?;
@@ -169,8 +171,8 @@ fn read_past(alloc: Global, members: &Members<'_>) -> Result<Outcome, ReadFault>
 }
 
 fn read_counted(members: &Members<'_>) -> Result<Outcome, ReadFault>
-    requires { (fs : Fields) × Reads members.now.text.now members.now.found.items fs }
-    ensures { (fs : Fields) → Reads members.now.text.now members.now.found.items fs → Answers shown_outcome result (counted fs) }
+    requires { AreMembers members.now }
+    ensures { OfFields members.now (λ fs. Answers shown_outcome result (counted fs)) }
 {
     let clients = members.whole("num_clients", u64::MAX)?;
     let users = members.whole("num_users", u64::MAX)?;
@@ -179,8 +181,8 @@ fn read_counted(members: &Members<'_>) -> Result<Outcome, ReadFault>
 
 /// The clients that are there.
 fn read_present(alloc: Global, members: &Members<'_>) -> Result<Outcome, ReadFault>
-    requires { (fs : Fields) × Reads members.now.text.now members.now.found.items fs }
-    ensures { (fs : Fields) → Reads members.now.text.now members.now.found.items fs → Answers shown_outcome result (present_users fs) }
+    requires { AreMembers members.now }
+    ensures { OfFields members.now (λ fs. Answers shown_outcome result (present_users fs)) }
 {
     match members.object(alloc, "presence")? {
         Some(clients) => {
@@ -196,8 +198,9 @@ fn read_present(alloc: Global, members: &Members<'_>) -> Result<Outcome, ReadFau
 
 /// The user of each of these clients, by the client's id, which is the key of its info. One whose info is `null` counts as absent.
 fn read_users(alloc: Global, clients: &Members<'_>) -> Result<BTreeMap<String, String>, ReadFault>
-    requires { (fs : Fields) × Reads clients.now.text.now clients.now.found.items fs }
-    ensures { (t : Tree) (fs : Fields) → as_object t ≡ Some fs → Reads clients.now.text.now clients.now.found.items fs
+    requires { AreMembers clients.now }
+    ensures { (t : Tree) (fs : Fields) → as_object t ≡ Some fs
+        → Reads clients.now.text.now clients.now.found.items fs
         → Answers shown_users result (option_map from_entries (users_of fs)) }
 {
     let mut users = BTreeMap::new(alloc);

@@ -1,9 +1,7 @@
 //! Replies and pushes.
-ghost use Rattle.std.specs.Prelude.{◌≡◌, [], ◌∷◌};
-ghost use Rattle.cf_json.specs.Grammar.{Tree};
-ghost use Rattle.cf_json.specs.Spans.{IsAt};
-ghost use Rattle.cf_protocol.specs.Fields.{Fields, object_or_none};
-ghost use Rattle.cf_protocol.specs.Reading.{Answers, Reads};
+ghost use Rattle.std.specs.Prelude.{[], ◌∷◌};
+ghost use Rattle.cf_protocol.specs.Fields.{object_or_none};
+ghost use Rattle.cf_protocol.specs.Reading.{Answers, AreMembers, HasValue, OfFields, OfValue};
 ghost use Rattle.cf_protocol.specs.Reply.{answer_from, code_in, publication, push_from, reply_from, reply_of};
 ghost use Rattle.cf_protocol.specs.Shown.{shown_outgoing, told};
 
@@ -18,8 +16,8 @@ use std::alloc::Global;
 
 /// The reply or push that a value is; none for a push of a kind that isn't known, which is passed over.
 pub fn read_outgoing(alloc: Global, text: &str, span: Span) -> Result<Option<Outgoing>, ReadFault>
-    requires { (t : Tree) × IsAt text.now t span }
-    ensures { (t : Tree) → IsAt text.now t span → Answers told result (reply_of t) }
+    requires { HasValue text.now span }
+    ensures { OfValue text.now span (λ t. Answers told result (reply_of t)) }
 {
     let members = Members::of(alloc, text, span)?;
     let outgoing = read_from(alloc, &members)?;
@@ -28,8 +26,8 @@ pub fn read_outgoing(alloc: Global, text: &str, span: Span) -> Result<Option<Out
 
 /// The reply or push that has these members. An object without members is the ping.
 fn read_from(alloc: Global, members: &Members<'_>) -> Result<Option<Outgoing>, ReadFault>
-    requires { (fs : Fields) × Reads members.now.text.now members.now.found.items fs }
-    ensures { (fs : Fields) → Reads members.now.text.now members.now.found.items fs → Answers told result (reply_from fs) }
+    requires { AreMembers members.now }
+    ensures { OfFields members.now (λ fs. Answers told result (reply_from fs)) }
 {
     if members.found.is_empty() {
         return Ok(Some(Outgoing::Ping));
@@ -48,8 +46,9 @@ fn read_from(alloc: Global, members: &Members<'_>) -> Result<Option<Outgoing>, R
 
 /// The publication of a push, where it has one.
 fn read_pushed(alloc: Global, members: &Members<'_>) -> Result<Option<Publication>, ReadFault>
-    requires { (fs : Fields) × Reads members.now.text.now members.now.found.items fs }
-    ensures { (fs : Fields) → Reads members.now.text.now members.now.found.items fs → Answers (λ p. p) result (object_or_none publication fs "pub") }
+    requires { AreMembers members.now }
+    ensures { OfFields members.now (λ fs.
+        Answers (λ p. p) result (object_or_none publication fs "pub")) }
 {
     match members.object(alloc, "pub")? {
         Some(found) => {
@@ -62,8 +61,9 @@ fn read_pushed(alloc: Global, members: &Members<'_>) -> Result<Option<Publicatio
 
 /// The code of a push that ends a subscription.
 fn read_end(alloc: Global, members: &Members<'_>) -> Result<Option<u32>, ReadFault>
-    requires { (fs : Fields) × Reads members.now.text.now members.now.found.items fs }
-    ensures { (fs : Fields) → Reads members.now.text.now members.now.found.items fs → Answers (λ c. c) result (object_or_none code_in fs "unsubscribe") }
+    requires { AreMembers members.now }
+    ensures { OfFields members.now (λ fs.
+        Answers (λ c. c) result (object_or_none code_in fs "unsubscribe")) }
 {
     match members.object(alloc, "unsubscribe")? {
         Some(found) => {
@@ -76,8 +76,8 @@ fn read_end(alloc: Global, members: &Members<'_>) -> Result<Option<u32>, ReadFau
 
 /// The push that has these members; none where it is of a kind that isn't known.
 fn read_push(alloc: Global, members: &Members<'_>) -> Result<Option<Outgoing>, ReadFault>
-    requires { (fs : Fields) × Reads members.now.text.now members.now.found.items fs }
-    ensures { (fs : Fields) → Reads members.now.text.now members.now.found.items fs → Answers told result (push_from fs) }
+    requires { AreMembers members.now }
+    ensures { OfFields members.now (λ fs. Answers told result (push_from fs)) }
 {
     let channel = members.text(alloc, "channel")?;
     let publication = read_pushed(alloc, members)?;
@@ -98,8 +98,9 @@ fn read_push(alloc: Global, members: &Members<'_>) -> Result<Option<Outgoing>, R
 
 /// The reply that has these members.
 fn read_answer(alloc: Global, members: &Members<'_>) -> Result<Outgoing, ReadFault>
-    requires { (fs : Fields) × Reads members.now.text.now members.now.found.items fs }
-    ensures { (fs : Fields) → Reads members.now.text.now members.now.found.items fs → Answers (λ o. shown_outgoing o ∷ []) result (answer_from fs) }
+    requires { AreMembers members.now }
+    ensures { OfFields members.now (λ fs.
+        Answers (λ o. shown_outgoing o ∷ []) result (answer_from fs)) }
 {
     let id = members.positive("id", u64::from(u32::MAX))?;
     let (key, value) = the_result(members)?;

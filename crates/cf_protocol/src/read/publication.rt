@@ -1,9 +1,6 @@
 //! Publications in replies and pushes.
-ghost use Rattle.std.specs.Prelude.{◌≡◌, List};
-ghost use Rattle.cf_json.specs.Grammar.{Tree};
-ghost use Rattle.cf_json.specs.Spans.{IsAt};
-ghost use Rattle.cf_protocol.specs.Fields.{Fields, object_as, object_or_none, objects, read_all};
-ghost use Rattle.cf_protocol.specs.Reading.{Answers, Reads, Stand};
+ghost use Rattle.cf_protocol.specs.Fields.{object_as, object_or_none, objects, read_all};
+ghost use Rattle.cf_protocol.specs.Reading.{Answers, AreMembers, HasValue, HaveValues, OfFields, OfValue, OfValues};
 ghost use Rattle.cf_protocol.specs.Reply.{info, publication};
 
 use crate::fault::ReadFault;
@@ -15,8 +12,8 @@ use std::alloc::Global;
 /// Who published, from the members of an `info` object (Centrifugo's client protocol, ClientInfo). Bad where a member is of another kind;
 /// Memory where a growth was refused.
 pub fn read_info(alloc: Global, members: &Members<'_>) -> Result<Info, ReadFault>
-    requires { (fs : Fields) × Reads members.now.text.now members.now.found.items fs }
-    ensures { (fs : Fields) → Reads members.now.text.now members.now.found.items fs → Answers (λ w. w) result (info fs) }
+    requires { AreMembers members.now }
+    ensures { OfFields members.now (λ fs. Answers (λ w. w) result (info fs)) }
 {
     let client = members.text(alloc, "client")?;
     let user = members.text(alloc, "user")?;
@@ -25,8 +22,8 @@ pub fn read_info(alloc: Global, members: &Members<'_>) -> Result<Info, ReadFault
 
 /// The info of a client that is there.
 pub fn read_client(alloc: Global, text: &str, span: Span) -> Result<Info, ReadFault>
-    requires { (t : Tree) × IsAt text.now t span }
-    ensures { (t : Tree) → IsAt text.now t span → Answers (λ w. w) result (object_as info t) }
+    requires { HasValue text.now span }
+    ensures { OfValue text.now span (λ t. Answers (λ w. w) result (object_as info t)) }
 {
     let members = Members::of(alloc, text, span)?;
     let info = read_info(alloc, &members)?;
@@ -35,8 +32,8 @@ pub fn read_client(alloc: Global, text: &str, span: Span) -> Result<Info, ReadFa
 
 /// The info of a publication, where a client published it.
 fn read_publisher(alloc: Global, members: &Members<'_>) -> Result<Option<Info>, ReadFault>
-    requires { (fs : Fields) × Reads members.now.text.now members.now.found.items fs }
-    ensures { (fs : Fields) → Reads members.now.text.now members.now.found.items fs → Answers (λ w. w) result (object_or_none info fs "info") }
+    requires { AreMembers members.now }
+    ensures { OfFields members.now (λ fs. Answers (λ w. w) result (object_or_none info fs "info")) }
 {
     match members.object(alloc, "info")? {
         Some(found) => {
@@ -49,8 +46,8 @@ fn read_publisher(alloc: Global, members: &Members<'_>) -> Result<Option<Info>, 
 
 /// A publication. Its data is there, and may be `null`.
 pub fn read_publication(alloc: Global, members: &Members<'_>) -> Result<Publication, ReadFault>
-    requires { (fs : Fields) × Reads members.now.text.now members.now.found.items fs }
-    ensures { (fs : Fields) → Reads members.now.text.now members.now.found.items fs → Answers (λ p. p) result (publication fs) }
+    requires { AreMembers members.now }
+    ensures { OfFields members.now (λ fs. Answers (λ p. p) result (publication fs)) }
 {
     let Some(span) = members.get("data") else {
         return Err(ReadFault::Bad);
@@ -63,8 +60,8 @@ pub fn read_publication(alloc: Global, members: &Members<'_>) -> Result<Publicat
 
 /// A publication of a list.
 fn read_published(alloc: Global, text: &str, span: Span) -> Result<Publication, ReadFault>
-    requires { (t : Tree) × IsAt text.now t span }
-    ensures { (t : Tree) → IsAt text.now t span → Answers (λ p. p) result (object_as publication t) }
+    requires { HasValue text.now span }
+    ensures { OfValue text.now span (λ t. Answers (λ p. p) result (object_as publication t)) }
 {
     let members = Members::of(alloc, text, span)?;
     let publication = read_publication(alloc, &members)?;
@@ -77,8 +74,9 @@ fn read_each_published(
     text: &str,
     spans: &[Span],
 ) -> Result<Vec<Publication>, ReadFault>
-    requires { (ts : List Tree) × Stand text.now spans.now ts }
-    ensures { (ts : List Tree) → Stand text.now spans.now ts → Answers (λ v. v.items) result (read_all (object_as publication) ts) }
+    requires { HaveValues text.now spans.now }
+    ensures { OfValues text.now spans.now (λ ts.
+        Answers (λ v. v.items) result (read_all (object_as publication) ts)) }
 {
     let mut publications = Vec::new(alloc);
     for span in spans {
@@ -93,8 +91,9 @@ pub fn read_publications(
     alloc: Global,
     members: &Members<'_>,
 ) -> Result<Vec<Publication>, ReadFault>
-    requires { (fs : Fields) × Reads members.now.text.now members.now.found.items fs }
-    ensures { (fs : Fields) → Reads members.now.text.now members.now.found.items fs → Answers (λ v. v.items) result (objects publication fs "publications") }
+    requires { AreMembers members.now }
+    ensures { OfFields members.now (λ fs.
+        Answers (λ v. v.items) result (objects publication fs "publications")) }
 {
     let spans = members.list(alloc, "publications")?;
     let publications = read_each_published(alloc, members.text, &spans)?;
