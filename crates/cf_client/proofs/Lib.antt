@@ -1,3 +1,4 @@
 pub mod Moves
 pub mod Taking
 pub mod Apart
+pub mod Drafting

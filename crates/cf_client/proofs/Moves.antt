@@ -1,10 +1,9 @@
 -- One channel's mode changes, or all of them.
-use Rattle.std.proofs.Common.{◌≡◌, ◌∙◌, ◌≢◌, ℕ, suc, Bool, true, false, cond, if◌then◌else◌, not, MatchOption, IsSomeAnd, ◌==◌, Option, Some, None, List, [], ◌∷◌, ◌++◌, refl, sym, ap, subst, inl, inr, map, filter, IfSome, ◌⊎◌}
-use Rattle.std.specs.BTreeMap.{get_by_text, is_at, IsClone}
+use Rattle.std.proofs.Common.{◌≡◌, ◌∙◌, ◌≢◌, ℕ, suc, Bool, true, false, cond, if◌then◌else◌, not, MatchOption, IsSomeAnd, ◌==◌, Option, Some, None, List, [], ◌∷◌, ◌++◌, refl, sym, ap, subst, inl, inr, map, filter, IfSome, IsSome, ◌⊎◌}
+use Rattle.std.specs.BTreeMap.{get_by_text, is_at}
 use Rattle.std.specs.Cmp.Lexicographic.{slice_cmp}
 use Rattle.std.specs.Ordering.{nat_cmp, is_eq}
 use Rattle.std.specs.String.{string_bytes}
-use Rattle.std.proofs.lemmas.Map.Entries.{lookup_clone}
 use Rattle.std.specs.Option.{option_map}
 use Rattle.std.specs.Map.{update, lookup}
 use Rattle.std.specs.Map.Calls.{RetainsPairs}
@@ -12,12 +11,14 @@ use Rattle.std.specs.Str.{bytes_eq}
 use Rattle.std.specs.declared.string.String.{String}
 use Rattle.std.specs.declared.alloc.Global.{Global}
 use Rattle.std.proofs.lemmas.List.{reverse-append, append-nil}
+use Rattle.std.proofs.lemmas.Map.Text.{is_eq-slice_cmp}
 use Rattle.std.proofs.lemmas.Slice.Eq.{bytes_eq-Decides}
 use Rattle.cf_protocol.specs.Names.{with}
 use Rattle.cf_protocol.specs.Position.{Position}
 use Rattle.cf_client.specs.ClientState.{Mode, Asking, idle, last_of, without}
 use Rattle.cf_client.specs.ClientCalls.{Call, State, asks_under, asked, moves, answered}
-use Rattle.cf_client.specs.Shown.{Channels, modes_of, mode_or_idle, shown_mode, SetsMode, calls_of, shown_call, ids_of}
+use Rattle.cf_client.specs.ClientView.{mode_in, ids_of}
+use Rattle.cf_client.specs.Shown.{Channels, modes_of, mode_or_idle, shown_mode, SetsMode, calls_of, shown_call}
 use Rattle.cf_client.specs.declared.calls.Call.{Call as CodeCall}
 use Rattle.cf_client.specs.declared.channels.Mode.{Mode as CodeMode}
 use Rattle.cf_client.specs.declared.channels.Mode.TheVariants as code
@@ -40,7 +41,7 @@ not_this d c h =
     ]
 
 -- the order of the two names doesn't matter
-either_way : (a b : List ℕ) → bytes_eq a b ≡ bytes_eq b a
+pub either_way : (a b : List ℕ) → bytes_eq a b ≡ bytes_eq b a
 either_way a b =
     elim (text_tells a b) [
       | inl h ↦ h.0 ∙ sym (subst (λ (x : List ℕ). bytes_eq b x ≡ true) (sym h.1) (subst (λ (x : List ℕ). bytes_eq x b ≡ true) h.1 h.0))
@@ -49,15 +50,31 @@ either_way a b =
 
 -- ---- one channel
 
-mode_or_idle-if : (b : Bool) (x y : Option CodeMode) → mode_or_idle (if b then x else y) ≡ (if b then mode_or_idle x else mode_or_idle y)
+pub mode_or_idle-if : (b : Bool) (x y : Option CodeMode) → mode_or_idle (if b then x else y) ≡ (if b then mode_or_idle x else mode_or_idle y)
 mode_or_idle-if true x y = refl
 mode_or_idle-if false x y = refl
+
+abbrev named_of : List (String Global × CodeMode) → List (List ℕ × Mode)
+named_of es = map (λ (e : String Global × CodeMode). (string_bytes e.0, shown_mode e.1)) es
+
+mode_in-entries : (es : List (String Global × CodeMode)) (c : List ℕ) → mode_in (named_of es) c ≡ mode_or_idle (lookup (is_at (λ k. slice_cmp nat_cmp c (string_bytes k))) es)
+mode_in-entries [] c = refl
+mode_in-entries (e ∷ es) c =
+    let rest : Option CodeMode = lookup (is_at (λ k. slice_cmp nat_cmp c (string_bytes k))) es in
+    ap (λ (m : Mode). if bytes_eq c (string_bytes e.0) then shown_mode e.1 else m) (mode_in-entries es c)
+    ∙ sym (mode_or_idle-if (bytes_eq c (string_bytes e.0)) (Some e.1) rest)
+    ∙ ap (λ (b : Bool). mode_or_idle (if b then Some e.1 else rest)) (sym (is_eq-slice_cmp c (string_bytes e.0)))
+
+-- what a look-up finds
+pub modes-get : (m : Channels) (c : List ℕ) → modes_of m c ≡ mode_or_idle (get_by_text m c)
+modes-get m c = mode_in-entries m.entries c
 
 pub sets_mode : (old new : Channels) (c : List ℕ) (v : CodeMode)
     → ((d : List ℕ) → get_by_text new d ≡ update bytes_eq (get_by_text old) c (Some v) d) → SetsMode old new c (shown_mode v)
 sets_mode old new c v e = λ d.
-    ap mode_or_idle (e d) ∙ mode_or_idle-if (bytes_eq c d) (Some v) (get_by_text old d)
+    modes-get new d ∙ ap mode_or_idle (e d) ∙ mode_or_idle-if (bytes_eq c d) (Some v) (get_by_text old d)
     ∙ ap (λ (b : Bool). if b then shown_mode v else mode_or_idle (get_by_text old d)) (either_way c d)
+    ∙ ap (λ m. if bytes_eq d c then shown_mode v else m) (sym (modes-get old d))
 
 -- ---- all channels
 
@@ -71,56 +88,43 @@ map_all {K = K} {X = X} T g f each (e ∷ es) kept h =
     let rest = map_all T g f each es h.3 (subst (λ x. RetainsPairs T x es h.3) one.2 h.5) in
     h.6 ∙ (λ i. cond {A = List (K × X)} (one.0 i) ((e.0, one.1 i) ∷ rest i) (rest i))
 
-lookup-map : {K X : Type 0} (g : X → X) (test : K → Bool) (es : List (K × X)) → lookup test (map (λ e. (e.0, g e.1)) es) ≡ option_map g (lookup test es)
-lookup-map g test [] = refl
-lookup-map {K = K} {X = X} g test (e ∷ es) = elim (test e.0) as (λ b. cond b (Some (g e.1)) (lookup test (map (λ (x : K × X). (x.0, g x.1)) es)) ≡ option_map g (cond b (Some e.1) (lookup test es))) [
-  | true ↦ refl
-  | false ↦ lookup-map g test es
-]
-
 abbrev pub code_idle : CodeMode → CodeMode
 code_idle m = code.Idle (last_of (shown_mode m))
 
-idle_or_idle : (o : Option CodeMode) → mode_or_idle (option_map code_idle o) ≡ idle (mode_or_idle o)
-idle_or_idle None = refl
-idle_or_idle (Some m) = refl
+idle-if : (b : Bool) (x y : Mode) → (if b then idle x else idle y) ≡ idle (if b then x else y)
+idle-if true x y = refl
+idle-if false x y = refl
+
+idle_in : (es : List (String Global × CodeMode)) (c : List ℕ) → mode_in (named_of (map (λ (e : String Global × CodeMode). (e.0, code_idle e.1)) es)) c ≡ idle (mode_in (named_of es) c)
+idle_in [] c = refl
+idle_in (e ∷ es) c =
+    ap (λ (m : Mode). if bytes_eq c (string_bytes e.0) then idle (shown_mode e.1) else m) (idle_in es c) ∙ idle-if (bytes_eq c (string_bytes e.0)) (shown_mode e.1) (mode_in (named_of es) c)
 
 pub all_idle : (old new : Channels) → new.entries ≡ map (λ e. (e.0, code_idle e.1)) old.entries → (c : List ℕ) → modes_of new c ≡ idle (modes_of old c)
-all_idle old new is c =
-    let test : String Global → Bool = is_at (λ (k : String Global). slice_cmp nat_cmp c (string_bytes k)) in
-    ap (λ (es : List (String Global × CodeMode)). mode_or_idle (lookup test es)) is
-    ∙ ap mode_or_idle (lookup-map code_idle test old.entries)
-    ∙ idle_or_idle (get_by_text old c)
+all_idle old new is c = ap (λ (es : List (String Global × CodeMode)). mode_in (named_of es) c) is ∙ idle_in old.entries c
 
--- what a copy has
-clone_at : (D : CodeMode → CodeMode → Type 0) → ((v w : CodeMode) → D v w → w ≡ v)
-    → (o p : Option CodeMode) → MatchOption o (p ≡ None) (λ v. IsSomeAnd p (D v)) → p ≡ o
-clone_at D same None p h = h
-clone_at D same (Some v) None h = absurd h
-clone_at D same (Some v) (Some w) h = ap Some (same v w h)
+-- ---- a channel's mode is set where it is there
 
-pub modes_clone : (C : String Global → String Global → Type 0) (D : CodeMode → CodeMode → Type 0) (old new : Channels)
-    → ((x y : String Global) → C x y → string_bytes y ≡ string_bytes x) → ((v w : CodeMode) → D v w → w ≡ v)
-    → IsClone C D old new → (c : List ℕ) → modes_of new c ≡ modes_of old c
-modes_clone C D old new keys values h c =
-    let test : String Global → Bool = is_at (λ (k : String Global). slice_cmp nat_cmp c (string_bytes k)) in
-    ap mode_or_idle (clone_at D values (get_by_text old c) (get_by_text new c)
-    (lookup_clone C D test (λ x y e. ap (λ (b : List ℕ). is_eq (slice_cmp nat_cmp c b)) (keys x y e)) old.entries new.entries h))
+set_present : (b : Bool) (m : CodeMode) (o : Option CodeMode) → (b ≡ true → IsSome o) → (if b then Some m else o) ≡ option_map (λ v. if b then m else v) o
+set_present true m None there = let h : false ≡ true = there refl in absurd (cc)
+set_present true m (Some v) there = refl
+set_present false m None there = refl
+set_present false m (Some v) there = refl
 
--- ---- asks
+pub set_each : (old new : Channels) (c : List ℕ) (m : CodeMode) → IsSome (get_by_text old c)
+    → ((d : List ℕ) → get_by_text new d ≡ update bytes_eq (get_by_text old) c (Some m) d)
+    → (d : List ℕ) → get_by_text new d ≡ option_map (λ v. if bytes_eq c d then m else v) (get_by_text old d)
+set_each old new c m there sets d =
+    sets d ∙ set_present (bytes_eq c d) m (get_by_text old d) (λ e. subst (λ x. IsSome (get_by_text old x)) ((bytes_eq-Decides c d).0 e) there)
 
--- what a walk over the channels finds
-pub asks_at : (m : Channels) (id : ℕ) (k s : List ℕ) (v : CodeMode) (r : Bool)
-    → get_by_text m k ≡ Some v → s ≡ k → r ≡ asks_under id (shown_mode v) → r ≡ true → asks_under id (modes_of m s) ≡ true
-asks_at m id k s v r found same tells holds =
-    ap (λ (b : List ℕ). asks_under id (modes_of m b)) same ∙ ap (λ (o : Option CodeMode). asks_under id (mode_or_idle o)) found ∙ sym tells ∙ holds
+set_absent : (b : Bool) (m : CodeMode) (o : Option CodeMode) → (b ≡ true → o ≡ None) → o ≡ option_map (λ v. if b then m else v) o
+set_absent true m o none = none refl ∙ ap (option_map (λ v. m)) (sym (none refl))
+set_absent false m None none = refl
+set_absent false m (Some v) none = refl
 
-abbrev pub NoAskIn : ℕ → CodeMode → Type 0
-NoAskIn id v = asks_under id (shown_mode v) ≡ false
-
-pub none_asks : (id : ℕ) (o : Option CodeMode) → IfSome o (NoAskIn id) → asks_under id (mode_or_idle o) ≡ false
-none_asks id None h = refl
-none_asks id (Some v) h = h
+pub set_nowhere : (old : Channels) (c : List ℕ) (m : CodeMode) → get_by_text old c ≡ None
+    → (d : List ℕ) → get_by_text old d ≡ option_map (λ v. if bytes_eq c d then m else v) (get_by_text old d)
+set_nowhere old c m none d = set_absent (bytes_eq c d) m (get_by_text old d) (λ e. subst (λ x. get_by_text old x ≡ None) ((bytes_eq-Decides c d).0 e) none)
 
 -- ---- calls
 

@@ -1,7 +1,6 @@
 -- What a client takes, and what its application is told.
-use Rattle.std.proofs.Common.{◌≡◌, ◌∙◌, ℕ, Bool, true, if◌then◌else◌, Option, Some, None, List, [], ◌∷◌, ◌++◌, refl, sym, ap, subst, append_assoc, map, IsSome}
+use Rattle.std.proofs.Common.{◌≡◌, ◌∙◌, ℕ, Bool, true, if◌then◌else◌, Option, Some, None, List, [], ◌∷◌, ◌++◌, refl, sym, ap, subst, append_assoc, map}
 use Rattle.std.proofs.lemmas.List.{append-nil, map-append}
-use Rattle.std.specs.BTreeMap.{get_by_text}
 use Rattle.std.specs.declared.string.String.{String}
 use Rattle.std.specs.declared.alloc.Global.{Global}
 use Rattle.cf_protocol.specs.Position.{Position}
@@ -11,7 +10,7 @@ use Rattle.cf_client.specs.ClientState.{Mode, Idle, Asking, Live}
 use Rattle.cf_client.specs.ClientCalls.{State, asks_under, moves, asks_again, TakesPublication, TakesEnd, Takes, TakesAll}
 use Rattle.cf_client.specs.AppItem as item
 use Rattle.cf_client.specs.AppItem.{AppItem, published}
-use Rattle.cf_client.specs.Shown.{Channels, modes_of, mode_or_idle, shown_item, shown_mode, SetsMode}
+use Rattle.cf_client.specs.Shown.{shown_item, shown_mode}
 use Rattle.cf_client.specs.declared.channels.Mode.{Mode as CodeMode}
 use Rattle.cf_client.specs.declared.channels.Mode.TheVariants as code
 use Rattle.cf_client.specs.declared.event.AppEvent.{AppEvent}
@@ -28,27 +27,7 @@ pub told_reply : (before mid after : List AppEvent) (i : AppItem) (is : List App
     → map shown_item after ≡ map shown_item before ++ i ∷ is
 told_reply before mid after i is h k = k ∙ ap (λ (xs : List AppItem). xs ++ is) h ∙ append_assoc (map shown_item before) (i ∷ []) is
 
--- ---- modes that are set
-
-asks_is_there : (id : ℕ) (o : Option CodeMode) → asks_under id (mode_or_idle o) ≡ true → IsSome o
-asks_is_there id None h = absurd (cc)
-asks_is_there id (Some v) h = refl
-
-live_is_there : (p : Position) (o : Option CodeMode) → mode_or_idle o ≡ Live p → IsSome o
-live_is_there p None h = absurd (cc)
-live_is_there p (Some v) h = refl
-
--- a channel that asks is there
-pub sets_asking : (old new : Channels) (b name : List ℕ) (id : ℕ) (m : Mode) → b ≡ name → asks_under id (modes_of old name) ≡ true
-    → (IsSome (get_by_text old b) → SetsMode old new b m) → SetsMode old new name m
-sets_asking old new b name id m same asks goes =
-    subst (λ (n : List ℕ). IsSome (get_by_text old n) → SetsMode old new n m) same goes (asks_is_there id (get_by_text old name) asks)
-
--- and so is a live one
-pub sets_live : (old new : Channels) (b name : List ℕ) (p : Position) (m : Mode) → b ≡ name → modes_of old name ≡ Live p
-    → (IsSome (get_by_text old b) → SetsMode old new b m) → SetsMode old new name m
-sets_live old new b name p m same live goes =
-    subst (λ (n : List ℕ). IsSome (get_by_text old n) → SetsMode old new n m) same goes (live_is_there p (get_by_text old name) live)
+-- ---- modes that are found
 
 -- what was found at a name
 pub live_at : (found : CodeMode) (m : Mode) (p : Position) → shown_mode found ≡ m → found ≡ code.Live p → m ≡ Live p

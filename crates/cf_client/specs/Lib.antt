@@ -1,5 +1,7 @@
 pub mod ClientState
 pub mod AppItem
 pub mod ClientCalls
+pub mod ClientView
 pub mod Shown
+pub mod Draft
 pub mod OneAnswer

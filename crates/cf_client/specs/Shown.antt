@@ -9,12 +9,13 @@ use Rattle.cf_protocol.specs.Frame.{IsReplies}
 use Rattle.cf_protocol.specs.Outgoing.{Outgoing}
 use Rattle.cf_client.specs.ClientState.{Mode, Idle, Asking, Live}
 use Rattle.cf_client.specs.ClientCalls.{Call, State}
+use Rattle.cf_client.specs.ClientView.{ClientView, mode_in, state_of}
 use Rattle.cf_client.specs.AppItem as item
 use Rattle.cf_client.specs.AppItem.{AppItem}
 use Rattle.cf_client.specs.declared.calls.Call.{Call as CodeCall}
 use Rattle.cf_client.specs.declared.channels.Mode.{Mode as CodeMode}
 use Rattle.cf_client.specs.declared.channels.Mode.TheVariants as code
-use Rattle.cf_client.specs.declared.client.Client.{Client as CodeClient}
+use Rattle.cf_client.specs.declared.known.Known.{Known as CodeKnown}
 use Rattle.cf_client.specs.declared.event.AppEvent.{AppEvent}
 use Rattle.cf_client.specs.declared.event.AppEvent.TheVariants as event
 use Rattle.cf_client.specs.declared.fault.ClientFault.{ClientFault}
@@ -44,22 +45,22 @@ mode_or_idle (Some m) = shown_mode m
 abbrev pub Channels : Type 0
 Channels = BTreeMap (String Global) CodeMode
 
+-- the channels as contracts see them
+abbrev pub named : Channels → List (List ℕ × Mode)
+named m = map (λ e. (string_bytes e.0, shown_mode e.1)) m.entries
+
 abbrev pub modes_of : Channels → List ℕ → Mode
-modes_of m c = mode_or_idle (get_by_text m c)
+modes_of m = mode_in (named m)
 
 abbrev pub calls_of : List CodeCall → List Call
 calls_of = map shown_call
 
--- ids of calls, newest first
-abbrev pub ids_of : List Call → List ℕ
-ids_of ks = reverse (map (λ (k : Call). k.id) ks)
+-- what it knows, as contracts see it
+abbrev pub view_of : CodeKnown → ClientView
+view_of k = record { connected = k.is_connected; last_id = k.last_id; channels = named k.channels; calls = calls_of k.calls.items }
 
-abbrev pub state_of : CodeClient → State
-state_of k = record {
-  connected = k.is_connected;
-  client = record { fresh = suc k.last_id; modes = modes_of k.channels; calls = ids_of (calls_of k.calls.items) };
-  out = calls_of k.calls.items;
-}
+abbrev pub known_state : CodeKnown → State
+known_state k = state_of (view_of k)
 
 -- one channel's mode is set, and the others stay
 abbrev pub SetsMode : Channels → Channels → List ℕ → Mode → Type 0

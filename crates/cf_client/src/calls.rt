@@ -31,18 +31,3 @@ pub(crate) fn forget_call(calls: &mut Vec<Call>, id: u32)
 {
     calls.retain(|call| call.id != id);
 }
-
-/// A copy, unless memory is refused.
-pub(crate) fn copied_calls(calls: &Vec<Call>) -> Result<Vec<Call>, AllocError>
-    ensures { IfOk result (λ copy. calls_of copy.items ≡ calls_of calls.now.items) }
-{
-    let mut copy = Vec::new(*calls.allocator());
-    for call in calls {
-        let channel = call.channel.clone()?;
-        copy.push(Call {
-            id: call.id,
-            channel,
-        })?;
-    }
-    Ok(copy)
-}

@@ -1,5 +1,7 @@
 //! What a client is doing on each of its channels.
-ghost use Rattle.std.specs.Prelude.{◌≡◌, List, ℕ, false, true, IsSome, IfOk, IfSome, IfNone, string_bytes};
+ghost use Rattle.std.specs.Prelude.{◌≡◌, List, ℕ, IsSome, if◌then◌else◌};
+ghost use Rattle.std.specs.Option.{option_map};
+ghost use Rattle.std.specs.Str.{bytes_eq};
 ghost use Rattle.std.specs.BTreeMap.{get_by_text};
 ghost use Rattle.cf_client.specs.ClientState.{idle, is_idle, last_of};
 ghost use Rattle.cf_client.specs.ClientCalls.{asks_under};
@@ -7,7 +9,6 @@ ghost use Rattle.cf_client.specs.declared.channels.Mode.TheVariants as code;
 ghost use Rattle.cf_client.specs.Shown.{modes_of, shown_mode, SetsMode};
 
 use cf_protocol::Position;
-use std::alloc::AllocError;
 use std::collections::BTreeMap;
 
 /// What a client is doing on a channel.
@@ -70,7 +71,7 @@ impl Mode {
     }
 
     /// Whether it waits for the answer to the command of this id.
-    fn is_asking(&self, id: u32) -> bool
+    pub(crate) fn is_asking(&self, id: u32) -> bool
         ensures { result ≡ asks_under id (shown_mode self.now) }
     {
         match self {
@@ -93,7 +94,8 @@ pub(crate) fn mode_at(channels: &BTreeMap<String, Mode>, channel: &str) -> Mode
 
 /// Changes the mode of a channel that the client asked for. Another stays as it is.
 pub(crate) fn set_mode(channels: &mut BTreeMap<String, Mode>, channel: &str, mode: Mode)
-    ensures { IsSome (get_by_text channels.old channel.now) → SetsMode channels.old channels.new channel.now (shown_mode mode) }
+    ensures sets { IsSome (get_by_text channels.old channel.now) → SetsMode channels.old channels.new channel.now (shown_mode mode) }
+    ensures each { (c : List ℕ) → get_by_text channels.new c ≡ option_map (λ m. if bytes_eq channel.now c then mode else m) (get_by_text channels.old c) }
 {
     if let Some(place) = channels.get_mut(channel) {
         *place = mode;
@@ -108,31 +110,4 @@ pub(crate) fn make_idle(channels: &mut BTreeMap<String, Mode>)
         *mode = mode.idle();
         true
     });
-}
-
-/// The channel that waits for the answer to the command of this id.
-pub(crate) fn channel_asking(
-    channels: &BTreeMap<String, Mode>,
-    id: u32,
-) -> Result<Option<String>, AllocError>
-    ensures some { IfOk result (λ found. IfSome found (λ s. asks_under id (modes_of channels.now (string_bytes s)) ≡ true)) }
-    ensures none { IfOk result (λ found. IfNone found ((c : List ℕ) → asks_under id (modes_of channels.now c) ≡ false)) }
-{
-    for (channel, mode) in channels {
-        if mode.is_asking(id) {
-            let channel = channel.clone()?;
-            return Ok(Some(channel));
-        }
-    }
-    Ok(None)
-}
-
-/// A copy, unless memory is refused.
-pub(crate) fn copied_channels(
-    channels: &BTreeMap<String, Mode>,
-) -> Result<BTreeMap<String, Mode>, AllocError>
-    ensures { IfOk result (λ copy. (c : List ℕ) → modes_of copy c ≡ modes_of channels.now c) }
-{
-    let copy = channels.clone()?;
-    Ok(copy)
 }

@@ -5,8 +5,10 @@
 mod calls;
 mod channels;
 mod client;
+mod draft;
 mod event;
 mod fault;
+mod known;
 pub mod laws;
 #[cfg(test)]
 mod tests;

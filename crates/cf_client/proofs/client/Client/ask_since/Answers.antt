@@ -1,28 +1,25 @@
-use Rattle.std.proofs.Common.{◌≡◌, Some, subst, List, ℕ}
+use Rattle.std.proofs.Common.{Some, sym, subst}
 use Rattle.std.specs.String.{string_bytes}
 use Rattle.std.proofs.lemmas.Map.Text.{btree_map_updates_text}
-use Rattle.cf_client.specs.ClientState.{Mode, Asking, last_of}
-use Rattle.cf_client.specs.Shown.{state_of, modes_of, shown_mode, SetsMode}
-use Rattle.cf_client.specs.declared.channels.Mode.{Mode as CodeMode}
-use Rattle.cf_client.proofs.Moves.{sets_mode, asked_here}
+use Rattle.cf_client.specs.ClientCalls.{State}
+use Rattle.cf_client.specs.OneAnswer.{AreApart}
+use Rattle.cf_client.specs.Shown.{known_state}
+use Rattle.cf_client.proofs.Apart.{asked_apart}
+use Rattle.cf_client.proofs.Drafting.{asked_path}
 use Rattle.cf_client.proofs.client.Client.ask_since.Goals as goal
+
+pub invariant_of-self-2 : goal.invariant_of-self-2
+invariant_of-self-2 c =
+    let k = c.self.inside.known in
+    let sets = btree_map_updates_text (string_bytes c.in_ok-key.key) k.channels c.insert.new.self (Some c.asking-asking.result) c.in_ok-insert.ensures.updates in
+    let next = rw (← c.self.view_is) at c.in_ok-id.ensures.ok in
+    let goes = asked_path k c.insert.new.self (string_bytes c.in_ok-key.key) c.args.channel.now c.in_ok-id.id c.args.from c.mode_at-mode.result c.asking-asking.result c.in_ok-key.ensures.ok next sets c.asking-asking.ensures c.mode_at-mode.ensures in
+    subst (λ (s : State). AreApart s.client) (sym goes) (asked_apart c.args.channel.now c.args.from (known_state k) c.self.invariant)
 
 pub returns-clause-ok : goal.returns-clause-ok
 returns-clause-ok c =
-    let s = state_of c.args.self.now in
-    let id = c.in_ok-id.id in
-    let from = c.args.from in
-    let old = c.args.self.now.channels in
-    let new = c.insert.new.self in
-    let name = c.args.channel.now in
-    let last = last_of (shown_mode c.mode_at-mode.result) in
-    let key : string_bytes c.in_ok-key.key ≡ name = c.in_ok-key.ensures.ok in
-    let sets : SetsMode old new (string_bytes c.in_ok-key.key) (shown_mode c.asking-asking.result) =
-    sets_mode old new (string_bytes c.in_ok-key.key) c.asking-asking.result
-    (btree_map_updates_text (string_bytes c.in_ok-key.key) old new (Some c.asking-asking.result) c.in_ok-insert.ensures.updates) in
-    let here : SetsMode old new name (shown_mode c.asking-asking.result) =
-    subst (λ (b : List ℕ). SetsMode old new b (shown_mode c.asking-asking.result)) key sets in
-    let asks : SetsMode old new name (Asking id from last) =
-    subst (λ (m : CodeMode). SetsMode old new name (shown_mode m)) c.asking-asking.ensures here in
-    asked_here s id (modes_of new) name from c.in_ok-id.ensures.ok
-    (subst (λ (m : Mode). SetsMode old new name (Asking id from (last_of m))) c.mode_at-mode.ensures asks)
+    let k = c.self.inside.known in
+    let sets = btree_map_updates_text (string_bytes c.in_ok-key.key) k.channels c.insert.new.self (Some c.asking-asking.result) c.in_ok-insert.ensures.updates in
+    let next = rw (← c.self.view_is) at c.in_ok-id.ensures.ok in
+    rw (← c.self.view_is)
+    (asked_path k c.insert.new.self (string_bytes c.in_ok-key.key) c.args.channel.now c.in_ok-id.id c.args.from c.mode_at-mode.result c.asking-asking.result c.in_ok-key.ensures.ok next sets c.asking-asking.ensures c.mode_at-mode.ensures)

@@ -1,12 +1,22 @@
 use Rattle.std.proofs.Common.{map, sym, subst}
 use Rattle.cf_protocol.specs.Shown.{shown_outgoing}
-use Rattle.cf_client.specs.ClientCalls.{TakesAll}
-use Rattle.cf_client.specs.Shown.{state_of, shown_item}
+use Rattle.cf_client.specs.ClientCalls.{State, TakesAll}
+use Rattle.cf_client.specs.OneAnswer.{AreApart}
+use Rattle.cf_client.specs.Draft.{drafted}
+use Rattle.cf_client.specs.Shown.{known_state, shown_item}
+use Rattle.cf_client.proofs.Apart.{texts_apart}
 use Rattle.cf_client.proofs.client.Client.on_text.Goals as goal
+
+pub invariant_of-self : goal.invariant_of-self
+invariant_of-self c =
+    let k = c.self.inside.known in
+    subst (λ (s : State). AreApart s.client) (sym c.carry_out.ensures)
+    (texts_apart (map shown_outgoing c.in_ok-outgoings.outgoings.items) (known_state k) (drafted k c.in_ok-draft.draft) (map shown_item c.in_ok-draft.events.items) c.self.invariant c.in_ok-draft.ensures)
 
 pub returns-clause-takes : goal.returns-clause-takes
 returns-clause-takes c = λ os reads.
-    let told = map shown_item c.in_ok-events.events.items in
-    let new = state_of c.take_all.new.self in
-    subst (λ xs. TakesAll xs (state_of c.args.self.now) new told) (sym (c.in_ok-outgoings.ensures.only os reads))
-    (subst (λ s. TakesAll (map shown_outgoing c.in_ok-outgoings.outgoings.items) s new told) c.in_ok-next.ensures c.in_ok-events.ensures)
+    let k = c.self.inside.known in
+    let told = map shown_item c.in_ok-draft.events.items in
+    rw (← c.self.view_is)
+    (subst (λ xs. TakesAll xs (known_state k) (known_state c.carry_out.new.known) told) (sym (c.in_ok-outgoings.ensures.only os reads))
+    (subst (λ s. TakesAll (map shown_outgoing c.in_ok-outgoings.outgoings.items) (known_state k) s told) (sym c.carry_out.ensures) c.in_ok-draft.ensures))

@@ -1,7 +1,7 @@
 use Rattle.std.proofs.Common.{◌∷◌, [], refl}
 use Rattle.cf_client.specs.AppItem.{PongDue}
 use Rattle.cf_client.proofs.Taking.{told_one}
-use Rattle.cf_client.proofs.client.Client.take.Goals as goal
+use Rattle.cf_client.proofs.draft.Draft.take.Goals as goal
 
 pub returns-in_ok-push-in-Ping : goal.returns-in_ok-push-in-Ping
 returns-in_ok-push-in-Ping c =

@@ -1,5 +1,5 @@
 use Rattle.std.proofs.Common.{◌≡◌, length, rules}
-use Rattle.cf_client.proofs.client.Client.take_answer.Goals as goal
+use Rattle.cf_client.proofs.draft.Draft.take_answer.Goals as goal
 
 pub returns-in-Subscribed : goal.returns-in-Subscribed
 returns-in-Subscribed c = rw (c.in-Subscribed.is) c.subscribed.ensures

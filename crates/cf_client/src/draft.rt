@@ -1,0 +1,316 @@
+//! What the replies and pushes of a text make of a client, before any of it is carried out.
+ghost use Rattle.std.specs.Prelude.{◌≡◌, ◌++◌, List, ℕ, Some, None, false, true, IsSome, map, option_map, IfOk, IfSome, IfNone, OnOk, string_bytes, length};
+ghost use Rattle.cf_protocol.specs.Outgoing as sent;
+ghost use Rattle.cf_protocol.specs.Shown.{shown_outgoing, shown_outcome, shown_pushed};
+ghost use Rattle.cf_client.specs.ClientCalls.{answered, asks_under, channel_under, moves, AnswersCall, TakesAll, Takes, TakesAnswer, TakesPublication, TakesEnd};
+ghost use Rattle.cf_client.specs.AppItem as item;
+ghost use Rattle.cf_client.specs.Draft.{drafted, drafted_code, drafted_mode};
+ghost use Rattle.cf_client.specs.Shown.{shown_item, shown_mode, known_state, TellsAlso};
+ghost use Rattle.cf_client.specs.declared.known.Known.{Known as CodeKnown};
+ghost use Rattle.std.specs.BTreeMap.{get_by_text};
+
+use crate::calls::{channel_called, forget_call};
+use crate::channels::{Mode, set_mode};
+use crate::event::{AppEvent, pass_all, passed, subscribed};
+use crate::known::Known;
+use cf_protocol::{Outcome, Outgoing, Position, Publication, Pushed};
+use std::alloc::{AllocError, Global};
+use std::collections::BTreeMap;
+
+/// From this code of an unsubscribe push on the client has to ask again.
+const ASKS_AGAIN: u32 = 2500;
+
+/// What is to change of what a client knows: the modes of channels that it asked for, and the calls that are answered.
+#[derive(Drop)]
+pub(crate) struct Draft {
+    changed: BTreeMap<String, Mode>,
+    answered: Vec<u32>,
+    alloc: Global,
+}
+
+/// What the replies and pushes of a text make of what a client knows, taken one after another, and what its application gets.
+pub(crate) fn draft_of(
+    alloc: Global,
+    known: &Known,
+    outgoings: Vec<Outgoing>,
+) -> Result<(Draft, Vec<AppEvent>), AllocError>
+    ensures { IfOk result (λ r. TakesAll (map shown_outgoing outgoings.items) (known_state known.now) (drafted known.now r.0) (map shown_item r.1.items)) }
+{
+    let mut draft = Draft::new(alloc);
+    let mut events = Vec::new(alloc);
+    for outgoing in outgoings {
+        draft.take(known, outgoing, &mut events)?;
+    }
+    Ok((draft, events))
+}
+
+impl Draft {
+    /// Nothing changes.
+    fn new(alloc: Global) -> Draft
+        ensures { (k : CodeKnown) → drafted k result ≡ known_state k }
+    {
+        Draft {
+            changed: BTreeMap::new(alloc),
+            answered: Vec::new(alloc),
+            alloc,
+        }
+    }
+
+    /// Carries the changes out. It takes no memory.
+    pub(crate) fn carry_out(self, known: &mut Known)
+        ensures { known_state known.new ≡ drafted known.old self }
+    {
+        let Draft {
+            changed, answered, ..
+        } = self;
+        change_all(&mut known.channels, changed);
+        for id in &answered {
+            forget_call(&mut known.calls, *id);
+        }
+    }
+
+    /// What the client is then doing on a channel.
+    fn mode_at(&self, known: &Known, channel: &str) -> Mode
+        ensures { shown_mode result ≡ drafted_mode known.now.channels self.now.changed channel.now }
+    {
+        let Some(mode) = known.channels.get(channel) else {
+            return Mode::Idle { last: None };
+        };
+        match self.changed.get(channel) {
+            None => *mode,
+            Some(changed) => *changed,
+        }
+    }
+
+    /// The channel that then waits for the answer to the command of this id.
+    fn channel_asking(&self, known: &Known, id: u32) -> Result<Option<String>, AllocError>
+        ensures some { IfOk result (λ found. IfSome found (λ s. asks_under id (drafted_mode known.now.channels self.now.changed (string_bytes s)) ≡ true)) }
+        ensures none { IfOk result (λ found. IfNone found ((c : List ℕ) → asks_under id (drafted_mode known.now.channels self.now.changed c) ≡ false)) }
+    {
+        for (channel, _mode) in &known.channels {
+            let mode = self.mode_at(known, channel.as_str());
+            if mode.is_asking(id) {
+                let channel = channel.clone()?;
+                return Ok(Some(channel));
+            }
+        }
+        Ok(None)
+    }
+
+    /// Changes the mode of a channel.
+    fn put(&mut self, channel: &str, mode: Mode) -> Result<(), AllocError>
+        ensures { OnOk result ((k : CodeKnown) → IsSome (get_by_text k.channels channel.now) → drafted k self.new ≡ moves channel.now (shown_mode mode) (drafted k self.old)) }
+    {
+        let key = String::from_str(self.alloc, channel)?;
+        self.changed.insert(key, mode)?;
+        Ok(())
+    }
+
+    /// The call of this id is no longer out. Gives its channel.
+    fn answer_call(&mut self, known: &Known, id: u32) -> Result<Option<String>, AllocError>
+        ensures found { IfOk result (λ found. option_map string_bytes found ≡ channel_under id (drafted known.now self.old).out) }
+        ensures answered { OnOk result (drafted known.now self.new ≡ answered id (drafted known.now self.old)) }
+    {
+        let found = if self.answered.contains(&id) {
+            None
+        } else {
+            channel_called(&known.calls, id)?
+        };
+        self.answered.push(id)?;
+        Ok(found)
+    }
+
+    fn take(
+        &mut self,
+        known: &Known,
+        outgoing: Outgoing,
+        events: &mut Vec<AppEvent>,
+    ) -> Result<(), AllocError>
+        ensures { OnOk result (TellsAlso (Takes (shown_outgoing outgoing) (drafted known.now self.old) (drafted known.now self.new)) events.old.items events.new.items) }
+    {
+        match outgoing {
+            Outgoing::Ping => {
+                events.push(AppEvent::PongDue)?;
+                Ok(())
+            }
+            Outgoing::Answer { id, outcome } => self.take_answer(known, id, outcome, events),
+            Outgoing::Push { channel, push } => match push {
+                Pushed::Publication(publication) => self.publication(known, channel, publication, events),
+                Pushed::Unsubscribe { code } => self.unsubscribed(known, channel, code, events),
+            },
+        }
+    }
+
+    fn take_answer(
+        &mut self,
+        known: &Known,
+        id: u32,
+        outcome: Outcome,
+        events: &mut Vec<AppEvent>,
+    ) -> Result<(), AllocError>
+        ensures { OnOk result (TellsAlso (TakesAnswer id (shown_outcome outcome) (drafted known.now self.old) (drafted known.now self.new)) events.old.items events.new.items) }
+    {
+        match outcome {
+            Outcome::Subscribed {
+                position,
+                publications,
+                recovered,
+                was_recovering,
+            } => self.subscribed(
+                known,
+                id,
+                &position,
+                publications,
+                recovered,
+                was_recovering,
+                events,
+            ),
+            Outcome::Failed { code } => self.failed(known, id, code, events),
+            Outcome::Past {
+                position,
+                publications,
+            } => self.listed(known, id, &position, publications.len(), events),
+            Outcome::Published => {
+                self.answer_call(known, id)?;
+                Ok(())
+            }
+            Outcome::Connected { .. } => Ok(()),
+            Outcome::Unsubscribed => Ok(()),
+            Outcome::Present { .. } => Ok(()),
+            Outcome::Counted { .. } => Ok(()),
+            Outcome::Pinged => Ok(()),
+        }
+    }
+
+    /// A reply to a subscribe: the channel that asks under its id goes live.
+    fn subscribed(
+        &mut self,
+        known: &Known,
+        id: u32,
+        position: &Position,
+        publications: Vec<Publication>,
+        recovered: bool,
+        was_recovering: bool,
+        events: &mut Vec<AppEvent>,
+    ) -> Result<(), AllocError>
+        ensures { OnOk result (TellsAlso (TakesAnswer id (sent.Subscribed position.now publications.items recovered was_recovering) (drafted known.now self.old) (drafted known.now self.new)) events.old.items events.new.items) }
+    {
+        let Some(channel) = self.channel_asking(known, id)? else {
+            return Ok(());
+        };
+        self.put(channel.as_str(), Mode::Live { at: *position })?;
+        let name = channel.clone()?;
+        events.push(subscribed(name, was_recovering, recovered, position))?;
+        pass_all(channel.as_str(), position, publications, events)?;
+        Ok(())
+    }
+
+    /// An error reply: the channel that asks under its id is idle, or a call is answered.
+    fn failed(
+        &mut self,
+        known: &Known,
+        id: u32,
+        code: u32,
+        events: &mut Vec<AppEvent>,
+    ) -> Result<(), AllocError>
+        ensures { OnOk result (TellsAlso (TakesAnswer id (sent.Failed code) (drafted known.now self.old) (drafted known.now self.new)) events.old.items events.new.items) }
+    {
+        let Some(channel) = self.channel_asking(known, id)? else {
+            return self.call_failed(known, id, code, events);
+        };
+        let mode = self.mode_at(known, channel.as_str()).idle();
+        self.put(channel.as_str(), mode)?;
+        events.push(AppEvent::Refused { channel, code })?;
+        Ok(())
+    }
+
+    fn call_failed(
+        &mut self,
+        known: &Known,
+        id: u32,
+        code: u32,
+        events: &mut Vec<AppEvent>,
+    ) -> Result<(), AllocError>
+        ensures { OnOk result (TellsAlso (AnswersCall id (λ c. item.Refused c code) (drafted known.now self.old) (drafted known.now self.new)) events.old.items events.new.items) }
+    {
+        let Some(channel) = self.answer_call(known, id)? else {
+            return Ok(());
+        };
+        events.push(AppEvent::Refused { channel, code })?;
+        Ok(())
+    }
+
+    /// The answer to a history.
+    fn listed(
+        &mut self,
+        known: &Known,
+        id: u32,
+        position: &Position,
+        count: usize,
+        events: &mut Vec<AppEvent>,
+    ) -> Result<(), AllocError>
+        ensures { OnOk result (TellsAlso (AnswersCall id (λ c. item.Listed c position.now count) (drafted known.now self.old) (drafted known.now self.new)) events.old.items events.new.items) }
+    {
+        let Some(channel) = self.answer_call(known, id)? else {
+            return Ok(());
+        };
+        let position = *position;
+        events.push(AppEvent::Listed {
+            channel,
+            position,
+            count,
+        })?;
+        Ok(())
+    }
+
+    fn publication(
+        &mut self,
+        known: &Known,
+        channel: String,
+        publication: Publication,
+        events: &mut Vec<AppEvent>,
+    ) -> Result<(), AllocError>
+        ensures { OnOk result (TellsAlso (TakesPublication (string_bytes channel) publication ((drafted known.now self.old).client.modes (string_bytes channel)) (drafted known.now self.old) (drafted known.now self.new)) events.old.items events.new.items) }
+    {
+        let Mode::Live { at } = self.mode_at(known, channel.as_str()) else {
+            return Ok(());
+        };
+        let epoch = at.epoch;
+        let offset = publication.offset;
+        let live = Mode::Live {
+            at: Position { epoch, offset },
+        };
+        self.put(channel.as_str(), live)?;
+        events.push(passed(channel, epoch, publication))?;
+        Ok(())
+    }
+
+    fn unsubscribed(
+        &mut self,
+        known: &Known,
+        channel: String,
+        code: u32,
+        events: &mut Vec<AppEvent>,
+    ) -> Result<(), AllocError>
+        ensures { OnOk result (TellsAlso (TakesEnd (string_bytes channel) code ((drafted known.now self.old).client.modes (string_bytes channel)) (drafted known.now self.old) (drafted known.now self.new)) events.old.items events.new.items) }
+    {
+        let Mode::Live { at } = self.mode_at(known, channel.as_str()) else {
+            return Ok(());
+        };
+        let idle = Mode::Idle { last: Some(at) };
+        self.put(channel.as_str(), idle)?;
+        if code >= ASKS_AGAIN {
+            events.push(AppEvent::Resubscribing { channel, code })?;
+        }
+        Ok(())
+    }
+}
+
+/// Sets the modes of the channels that the client asked for.
+fn change_all(channels: &mut BTreeMap<String, Mode>, mut changed: BTreeMap<String, Mode>)
+    ensures { (c : List ℕ) → get_by_text channels.new c ≡ drafted_code channels.old changed c }
+{
+    while let Some((channel, mode)) = changed.pop_last() {
+        set_mode(channels, channel.as_str(), mode);
+    }
+}
