@@ -12,9 +12,9 @@ use Rattle.cf_recovery.specs.Verdict.{next}
 use Rattle.cf_hub.specs.PositionCheck.{Checked, Fine, Behind, Ended, position_check}
 use Rattle.cf_hub.specs.Connection.{Sub, Off, Asked, Ready, On, Line, closes, push, most_waiting, put_sub, pass_at, passes, end_at, ends, come_at, comes, finish_at, finishes, by_check, check_at, checks}
 use Rattle.cf_client.specs.ClientState.{Mode, Idle, Asking, Live, last_of, takes, read_to, hears as takes_note}
-use Rattle.cf_schedule.specs.Errand.{Errand, Sent, Subscribe, Unsubscribe, Publish, History}
+use Rattle.cf_schedule.specs.Errand.{Errand, Sent, Subscribe, Unsubscribe, Publish, History, channel_of}
 use Rattle.cf_schedule.specs.Weights.{wording}
-use Rattle.cf_schedule.specs.Link.{Link, with_line, sends, hears_subscribe, hears_errand, hears_first, hears, is_waiting, errs, says, fail_at, fails, over_at, finishes_over, closes_with, breaks, gets, hold_first, holds, receive_first}
+use Rattle.cf_schedule.specs.Link.{Link, with_line, sends, is_heard, hears_subscribe, hears_errand, hears, is_waiting, errs, find, errs_for, errs_late, says, fail_at, fails, over_at, finishes_over, closes_with, breaks, gets, hold_first, holds, receive_first}
 use Rattle.cf_schedule.specs.Leading.{coming}
 use Rattle.cf_schedule.proofs.Within.{IsWithin, LastWithin, AreWithin, ModeWithin, SubWithin, NoteWithin, NotesWithin, ErrandWithin, UpsWithin, IsBoundedWith, IsBounded}
 use Rattle.cf_schedule.proofs.Names.{text_tells, by_two, by_test, with-all, with-same}
@@ -231,7 +231,7 @@ module _ (tops : List ℕ → List ℕ → ℕ) (lists : Lists) where
   bounded-hears_subscribe : (refused : Bool) (l : Link) (c : List ℕ) (k : ℕ) (from : Option Position) (ks : List Sent) (s : Sub)
       → IsBounded tops l → LastWithin (tops c) from → UpsWithin tops ks → IsBounded tops (hears_subscribe refused c k from ks s l)
   bounded-hears_subscribe refused l c k from ks Off g h u =
-      by_test (λ (v : Line Note). IsBounded tops (record l { up = ks; heard = suc k; line = v })) (l.line.closed || refused) _ _
+      by_test (λ (v : Line Note). IsBounded tops (with_line v (is_heard k (Subscribe c from) ks l))) (l.line.closed || refused) _ _
       (λ e. record { modes = g.modes; notes = g.notes; ups = u; subs = g.subs })
       (λ e. record { modes = g.modes; notes = g.notes; ups = u; subs = with-all (λ j s. SubWithin (tops j) s) l.line.subs c (Asked k from []) (h, tt) (λ j ne. g.subs j) })
   bounded-hears_subscribe refused l c k from ks (Asked i since arrived) g h u = g
@@ -249,15 +249,18 @@ module _ (tops : List ℕ → List ℕ → ℕ) (lists : Lists) where
   bounded-hears_errand refused l id (Publish c body) ks g h u = record { modes = g.modes; notes = g.notes; subs = g.subs; ups = u }
   bounded-hears_errand refused l id (History c limit) ks g h u = record { modes = g.modes; notes = g.notes; subs = g.subs; ups = u }
 
-  bounded-hears_first : (refused : Bool) (l : Link) (ks : List Sent) → IsBounded tops l → UpsWithin tops ks → IsBounded tops (hears_first refused ks l)
-  bounded-hears_first refused l [] g u = g
-  bounded-hears_first refused l (k ∷ ks) g u = bounded-hears_errand refused l k.id k.errand ks g u.0 u.1
-
-  pub bounded-hears : (refused : Bool) (l : Link) → IsBounded tops l → IsBounded tops (hears refused l)
-  bounded-hears refused l g = bounded-hears_first refused l l.up g g.ups
+  pub bounded-hears : (refused : Bool) (l : Link) (k : Sent) (ks : List Sent) → IsBounded tops l → l.up ≡ k ∷ ks → IsBounded tops (hears refused k ks l)
+  bounded-hears refused l k ks g e = let u : UpsWithin tops (k ∷ ks) = subst (UpsWithin tops) e g.ups in bounded-hears_errand refused l k.id k.errand ks g u.0 u.1
 
   pub bounded-errs : (l : Link) (c : List ℕ) (k code : ℕ) → IsBounded tops l → IsBounded tops (errs (wording lists) c k code l)
   bounded-errs l c k code g = by_test (IsBounded tops) (nat_lt k l.heard && not (is_waiting k (l.line.subs c))) _ _ (λ h. bounded-push l (Fails c k code) g tt) (λ h. g)
+
+  pub bounded-errs_late : (l : Link) (k code : ℕ) → IsBounded tops l → IsBounded tops (errs_late (wording lists) k code l)
+  bounded-errs_late l k code g = of_command (find k l.done)
+    where
+      of_command : (o : Option Sent) → IsBounded tops (errs_for (wording lists) code o l)
+      of_command None = g
+      of_command (Some x) = bounded-errs l (channel_of x.errand) x.id code g
 
   pub bounded-says : (l : Link) (n : Note) → IsBounded tops l → IsBounded tops (says (wording lists) n l)
   bounded-says l (Reply c id was r) g = g

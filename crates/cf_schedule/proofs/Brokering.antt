@@ -1,7 +1,8 @@
 -- What each event makes of the broker keeps it steady, and lists only grow.
-use Rattle.std.proofs.Common.{◌≡◌, ℕ, zero, suc, ◌+◌, ◌≤◌, ◌==◌, ◌||◌, Bool, true, false, Option, Some, None, List, [], ◌∷◌, ◌++◌, length, refl, sym, subst, arith, ◌≢◌, ◌⊎◌, inl, inr, nat_lt, slice_get, length-append}
+use Rattle.std.proofs.Common.{◌≡◌, ℕ, zero, suc, ◌+◌, ◌≤◌, ◌==◌, ◌&&◌, ◌||◌, not, min, is_some, Bool, true, false, Option, Some, None, List, [], ◌∷◌, ◌++◌, length, refl, sym, subst, arith, ◌≢◌, ◌⊎◌, inl, inr, nat_lt, slice_get, length-append}
 use Rattle.std.proofs.Math.Nat.{le_refl}
-use Rattle.cf_protocol.specs.Names.{with, is_among}
+use Rattle.std.proofs.lemmas.Bool.Decides.{nat_tests}
+use Rattle.cf_protocol.specs.Names.{with, is_among, and_also}
 use Rattle.cf_protocol.specs.Position.{Position}
 use Rattle.cf_protocol.specs.Datum.{Datum}
 use Rattle.cf_protocol.specs.Note.{Lists, Note, Reply, Pub}
@@ -9,11 +10,11 @@ use Rattle.cf_stream.specs.StreamState.{StreamState, last_offset}
 use Rattle.cf_hub.specs.Connection.{Sub, Off, Asked, Ready, On}
 use Rattle.cf_client.specs.ClientState.{Mode, Idle, Asking, Live}
 use Rattle.cf_schedule.specs.Errand.{Errand, Sent, Subscribe, Unsubscribe, Publish, History}
-use Rattle.cf_schedule.specs.PublicationList.{Place, Broker, tops, publication, epoch_comes, open_at, opened, list_with, add_at, publish, trim_at, trim, forget, forget_all}
+use Rattle.cf_schedule.specs.PublicationList.{Place, Broker, tops, publication, epoch_comes, open_at, opened, opened_in, is_fresh_for, list_with, add_at, publish, trim_at, trim, forget, forget_all}
 use Rattle.cf_schedule.specs.FreshEpochs.{AreDistinct}
 use Rattle.cf_schedule.specs.Link.{Link}
 use Rattle.cf_schedule.proofs.Standing.{Below}
-use Rattle.cf_schedule.proofs.Within.{IsWithin, LastWithin, AreWithin, ModeWithin, SubWithin, NoteWithin, NotesWithin, ErrandWithin, UpsWithin, IsBounded, HasTop, IsApart, IsAmong, PlacesWithin, IsSteady}
+use Rattle.cf_schedule.proofs.Within.{IsWithin, LastWithin, AreWithin, ModeWithin, SubWithin, NoteWithin, NotesWithin, ErrandWithin, UpsWithin, IsBounded, HasTop, HoldsWithin, IsApart, IsAmong, PlacesWithin, IsSteady}
 use Rattle.cf_schedule.proofs.Names.{text_tells, by_test, with-all, with-both, with-same, with-two}
 
 -- bounds that held hold under higher tops
@@ -146,6 +147,7 @@ steady-epoch e b g =
     by_test IsSteady ((length e == 0) || is_among e b.came) _ _ (λ h. g)
     (λ i'. let h : is_among e b.came ≡ false = or_right (length e == 0) (is_among e b.came) i' in record {
       top = g.top;
+      held = g.held;
       unused = λ i k c. elim (is_among-more b.waiting e i k) [ inl j ↦ subst (λ v. tops b.lists c v ≡ 0) j (g.unseen e h c) | inr j ↦ g.unused i j c ];
       unseen = λ i k c. g.unseen i (not_among-tail e i b.came k) c;
       waiting_came = λ i k. elim (is_among-more b.waiting e i k) [
@@ -168,6 +170,7 @@ steady-open_at c None (x ∷ es) b g e =
     let first : is_among x b.waiting ≡ true = rw e (is_among-head x es) in
     record {
       top = with-all (λ d s. HasTop (tops b.lists d) s) b.streams c _ (g.unused x first c) (λ d ne. g.top d);
+      held = with-all (λ d s. HoldsWithin s) b.streams c _ (le_refl _) (λ d ne. g.held d);
       unused = λ i k d. g.unused i (rw e (is_among-tail x i es k)) d;
       unseen = g.unseen;
       waiting_came = λ i k. g.waiting_came i (rw e (is_among-tail x i es k));
@@ -191,10 +194,17 @@ lengths-with P lists c e d here there =
 grow-add : (lists : Lists) (c e : List ℕ) (d : Datum) (x i : List ℕ) → tops lists x i ≤ tops (list_with c e d lists) x i
 grow-add lists c e d = lengths-with (λ x i n. tops lists x i ≤ n) lists c e d (omega arith) (λ x i. le_refl _)
 
+min-more : (held top size : ℕ) → held ≤ top → min (held + 1) size ≤ top + 1
+min-more held top size h = grind (arith, nat_tests)
+
+min-less : (held top count : ℕ) → held ≤ top → min held count ≤ top
+min-less held top count h = grind (arith, nat_tests)
+
 steady-add_at : (size : ℕ) (c : List ℕ) (d : Datum) (o : Option StreamState) (b : Broker) → IsSteady b → b.streams c ≡ o → IsSteady (add_at size c d o b)
 steady-add_at size c d None b g e = g
 steady-add_at size c d (Some s) b g e =
     let top : length (b.lists c s.epoch) ≡ s.top = subst (HasTop (tops b.lists c)) e (g.top c) in
+    let holds : s.held ≤ s.top = subst HoldsWithin e (g.held c) in
     let apart : is_among s.epoch b.waiting ≡ false = subst (IsApart b.waiting) e (g.apart c) in
     let among : is_among s.epoch b.came ≡ true = subst (IsAmong b.came) e (g.among c) in
     let more : List ℕ → List Datum = with (b.lists c) s.epoch (b.lists c s.epoch ++ d ∷ []) in
@@ -202,6 +212,7 @@ steady-add_at size c d (Some s) b g e =
     by_test IsSteady (nat_lt s.top last_offset) _ _
     (λ h. record {
       top = with-both (λ d (f : List ℕ → List Datum) t. HasTop (λ i. length (f i)) t) b.lists b.streams c more _ risen (λ d ne. g.top d);
+      held = with-all (λ d s. HoldsWithin s) b.streams c _ (min-more s.held s.top size holds) (λ d ne. g.held d);
       unused = λ i k x. lengths-with (λ x i n. is_among i b.waiting ≡ true → n ≡ 0) b.lists c s.epoch d
           (λ j. absurd (false-true _ j apart)) (λ x i j. g.unused i j x) x i k;
       unseen = λ i k x. lengths-with (λ x i n. is_among i b.came ≡ false → n ≡ 0) b.lists c s.epoch d
@@ -224,6 +235,7 @@ steady-trim_at : (c : List ℕ) (k : ℕ) (o : Option StreamState) (b : Broker) 
 steady-trim_at c k None b g e = g
 steady-trim_at c k (Some s) b g e = record {
   top = with-all (λ d s. HasTop (tops b.lists d) s) b.streams c _ (subst (HasTop (tops b.lists c)) e (g.top c)) (λ d ne. g.top d);
+  held = with-all (λ d s. HoldsWithin s) b.streams c _ (min-less s.held s.top k (subst HoldsWithin e (g.held c))) (λ d ne. g.held d);
   unused = g.unused;
   unseen = g.unseen;
   waiting_came = g.waiting_came;
@@ -240,6 +252,7 @@ steady-trim c k b g = steady-trim_at c k (b.streams c) b g refl
 pub steady-forget : (c : List ℕ) (b : Broker) → IsSteady b → IsSteady (forget c b)
 steady-forget c b g = record {
   top = with-all (λ d s. HasTop (tops b.lists d) s) b.streams c None tt (λ d ne. g.top d);
+  held = with-all (λ d s. HoldsWithin s) b.streams c None tt (λ d ne. g.held d);
   unused = g.unused;
   unseen = g.unseen;
   waiting_came = g.waiting_came;
@@ -253,6 +266,7 @@ steady-forget c b g = record {
 pub steady-forget_all : (b : Broker) → IsSteady b → IsSteady (forget_all b)
 steady-forget_all b g = record {
   top = λ c. tt;
+  held = λ c. tt;
   unused = g.unused;
   unseen = g.unseen;
   waiting_came = g.waiting_came;
@@ -262,6 +276,46 @@ steady-forget_all b g = record {
   among = λ c. tt;
   within = g.within;
 }
+
+-- a stream is opened in an epoch that is fresh for its channel
+also-first : (e : List ℕ) (xs : List (List ℕ)) → is_among e (and_also e xs) ≡ true
+also-first e xs = by_test (λ v. is_among e v ≡ true) (is_among e xs) _ _ (λ h. h) (λ h. is_among-head e xs)
+
+also-more : (e i : List ℕ) (xs : List (List ℕ)) → is_among i xs ≡ true → is_among i (and_also e xs) ≡ true
+also-more e i xs k = by_test (λ v. is_among i v ≡ true) (is_among e xs) _ _ (λ h. k) (λ h. is_among-tail e i xs k)
+
+also-less : (e i : List ℕ) (xs : List (List ℕ)) → is_among i (and_also e xs) ≡ false → is_among i xs ≡ false
+also-less e i xs k = not_true (is_among i xs) (λ j. false-true (is_among i (and_also e xs)) (also-more e i xs j) k)
+
+also-not : (e i : List ℕ) (xs : List (List ℕ)) → e ≢ i → is_among i xs ≡ false → is_among i (and_also e xs) ≡ false
+also-not e i xs ne k = by_test (λ v. is_among i v ≡ false) (is_among e xs) _ _ (λ h. k) (λ h. not_among-cons e i xs ne k)
+
+also-among : (e : List ℕ) (came : List (List ℕ)) (s : Option StreamState) → IsAmong came s → IsAmong (and_also e came) s
+also-among e came None h = tt
+also-among e came (Some s) h = also-more e s.epoch came h
+
+fresh-parts : (a b c d : Bool) → (not a && (b && (not c && not d))) ≡ true → (a ≡ false) × (b ≡ true) × (c ≡ false) × (d ≡ false)
+fresh-parts a b c d h = grind arith
+
+none-listed : (n : ℕ) → (n == 0) ≡ true → n ≡ 0
+none-listed n h = grind (arith, nat_tests)
+
+pub steady-opened_in : (c e : List ℕ) (b : Broker) → is_fresh_for c e b ≡ true → IsSteady b → IsSteady (opened_in c e b)
+steady-opened_in c e b h g =
+    let is = fresh-parts (is_some (b.streams c)) (length (b.lists c e) == 0) (length e == 0) (is_among e b.waiting) h in
+    let none : tops b.lists c e ≡ 0 = none-listed (length (b.lists c e)) is.1 in
+    record {
+      top = with-all (λ d s. HasTop (tops b.lists d) s) b.streams c _ none (λ d ne. g.top d);
+      held = with-all (λ d s. HoldsWithin s) b.streams c _ (le_refl _) (λ d ne. g.held d);
+      unused = g.unused;
+      unseen = λ i k. g.unseen i (also-less e i b.came k);
+      waiting_came = λ i k. also-more e i b.came (g.waiting_came i k);
+      distinct = g.distinct;
+      named = also-not e [] b.came (not_empty e is.2) g.named;
+      apart = with-all (λ d s. IsApart b.waiting s) b.streams c _ is.3 (λ d ne. g.apart d);
+      among = with-all (λ d s. IsAmong (and_also e b.came) s) b.streams c _ (also-first e b.came) (λ d ne. also-among e b.came (b.streams d) (g.among d));
+      within = g.within;
+    }
 
 -- lists only grow
 lists-open_at : (c : List ℕ) (s : Option StreamState) (es : List (List ℕ)) (b : Broker) → (open_at c s es b).lists ≡ b.lists

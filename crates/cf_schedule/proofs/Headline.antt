@@ -10,7 +10,7 @@ use Rattle.cf_client.specs.ClientState.{Mode, Idle, Asking, Live, last_of, moved
 use Rattle.cf_schedule.specs.Config.{Config}
 use Rattle.cf_schedule.specs.Event.{Event}
 use Rattle.cf_schedule.specs.Errand.{Errand, Sent, Subscribe, Unsubscribe, Publish, History}
-use Rattle.cf_schedule.specs.PublicationList.{Broker, tops}
+use Rattle.cf_schedule.specs.PublicationList.{Broker, tops, StandsOver}
 use Rattle.cf_schedule.specs.FreshEpochs.{AreFresh}
 use Rattle.cf_schedule.specs.World.{World, start}
 use Rattle.cf_schedule.specs.IntervalMachine.{run}
@@ -23,7 +23,7 @@ use Rattle.cf_schedule.specs.Leading.{coming, Lead, LeadsOn, IsListed}
 use Rattle.cf_schedule.proofs.Names.{text_tells}
 use Rattle.cf_schedule.proofs.Standing.{Leads, Awaits, Stands, due}
 use Rattle.cf_schedule.proofs.Leading.{own-epoch}
-use Rattle.cf_schedule.proofs.Within.{LastWithin, IsApart, IsSteady}
+use Rattle.cf_schedule.proofs.Within.{LastWithin, HasTop, HoldsWithin, IsApart, IsSteady}
 use Rattle.cf_schedule.proofs.Bounding.{within-last_of}
 use Rattle.cf_schedule.proofs.Steps.{fine-run, fine-start}
 use Rattle.cf_schedule.proofs.Schedules.{run_of_lines, trace_of_lines}
@@ -104,6 +104,16 @@ pub true_run : (cfg : Config) (es : List Event) → AreTrueTo (λ n. (run cfg st
 true_run cfg es =
     subst (λ (w : World). AreTrueTo (λ n. w.broker.lists) (trace cfg 1 start es)) (run_of_lines cfg es start)
     (subst (λ (t : List Entry). AreTrueTo (λ n. (loose_run cfg start (lines es)).broker.lists) t) (trace_of_lines cfg es 1 start) (true_ever_after cfg (lines es)))
+
+-- STREAMS STAND OVER LISTS
+stands_over : (lists : List ℕ → List Datum) (o : Option StreamState) → HasTop (λ e. length (lists e)) o → HoldsWithin o → StandsOver lists o
+stands_over lists None h k = tt
+stands_over lists (Some s) h k = (sym h, k)
+
+pub streams_stand : (cfg : Config) (hs : List Happening) (c : List ℕ) → StandsOver ((loose_run cfg start hs).broker.lists c) ((loose_run cfg start hs).broker.streams c)
+streams_stand cfg hs c =
+    let g = (fine-run cfg hs (λ x c. nothing_seen) start fine-start).1.steady in
+    stands_over ((loose_run cfg start hs).broker.lists c) ((loose_run cfg start hs).broker.streams c) (g.top c) (g.held c)
 
 -- FRESH EPOCHS
 false-true : (b : Bool) → b ≡ true → b ≡ false → ⊥

@@ -9,9 +9,9 @@ use Rattle.cf_stream.specs.StreamAnswer.{read_of}
 use Rattle.cf_hub.specs.PositionCheck.{Checked, Fine, Behind, Ended, position_check}
 use Rattle.cf_hub.specs.Connection.{Sub, Off, Asked, Ready, On, Line, push, most_waiting, put_sub, begins, by_check, check_at, checks}
 use Rattle.cf_client.specs.ClientState.{Mode, Idle, Asking, Live, takes, hears as takes_note}
-use Rattle.cf_schedule.specs.Errand.{Errand, Sent, Subscribe, Unsubscribe, Publish, History}
+use Rattle.cf_schedule.specs.Errand.{Errand, Sent, Subscribe, Unsubscribe, Publish, History, channel_of}
 use Rattle.cf_schedule.specs.Weights.{wording}
-use Rattle.cf_schedule.specs.Link.{Link, with_line, hears_subscribe, hears_errand, hears_first, hears, is_waiting, errs, says, fail_at, fails, breaks, gets, hold_first, holds, receive_first, receives}
+use Rattle.cf_schedule.specs.Link.{Link, with_line, is_heard, hears_subscribe, hears_errand, hears, is_waiting, errs, find, errs_for, errs_late, says, fail_at, fails, breaks, gets, hold_first, holds, receive_first, receives}
 use Rattle.cf_schedule.specs.Leading.{coming}
 use Rattle.cf_schedule.proofs.Standing.{Below, Agrees, or_else, bears, due, AsksFor, IsIdle, IsOld, AreOld, Rises, IsNoClose, IsOpen, Leads, Awaits, Stands, IsSubOld, IsGoodWith, IsGood}
 use Rattle.cf_schedule.proofs.Names.{text_tells, itself, not_this, by_test, with-all, with-both}
@@ -59,18 +59,18 @@ module _ (found : List ℕ → Option StreamState) (lists : Lists) where
   leads-left l c t q (Live p) h = absurd h
 
   -- A command for channel c is heard, and the subscription to c is that of v from then on; the others stay.
-  heard-one : (l : Link) (v : Line Note) (c : List ℕ) (k : Sent) (ks : List Sent)
+  heard-one : (l : Link) (v : Line Note) (c : List ℕ) (k : Sent) (ks done : List Sent)
       → IsGood found l → l.up ≡ k ∷ ks → v.notes ≡ l.line.notes → v.closed ≡ l.line.closed
       → bears c k ≡ Some k → ((d : List ℕ) → d ≢ c → bears d k ≡ None)
       → ((d : List ℕ) → d ≢ c → v.subs d ≡ l.line.subs d)
       → (AreOld k.id (coming l) → Awaits (l.client.modes c) k.id k.errand → Leads (found c) c (l.client.modes c) (coming l) (v.subs c))
       → IsSubOld (suc k.id) (v.subs c) → (l.line.closed ≡ true → v.subs c ≡ Off)
-      → IsGood found (record l { up = ks; heard = suc k.id; line = v })
-  heard-one l v c k ks g e ns shut_as mine others same here sub_old shut =
+      → IsGood found (record l { up = ks; done = done; heard = suc k.id; line = v })
+  heard-one l v c k ks done g e ns shut_as mine others same here sub_old shut =
       let rises : (l.heard ≤ k.id) × Rises (suc k.id) ks l.client.fresh = subst (λ x. Rises l.heard x l.client.fresh) e g.rises in
       let le : l.heard ≤ k.id = rises.0 in
       let le2 : l.heard ≤ suc k.id = omega arith in
-      subst (λ ns. IsGoodWith found (l.way ++ ns) (record l { up = ks; heard = suc k.id; line = v })) (sym ns) (record {
+      subst (λ ns. IsGoodWith found (l.way ++ ns) (record l { up = ks; done = done; heard = suc k.id; line = v })) (sym ns) (record {
         stands = λ d. elim (text_tells d c) [
           | inl i ↦ subst (λ x. Stands (found x) x (l.client.modes x) (coming l) (v.subs x) (due x ks)) (sym i.1)
               (heard-last l c (v.subs c) k (due c ks) (here (AreOld-le l.heard k.id (coming l) le g.old))
@@ -91,9 +91,9 @@ module _ (found : List ℕ → Option StreamState) (lists : Lists) where
       })
 
   -- a command that bears on no channel
-  heard-plain : (l : Link) (k : Sent) (ks : List Sent) → IsGood found l → l.up ≡ k ∷ ks → ((d : List ℕ) → bears d k ≡ None)
-      → IsGood found (record l { up = ks; heard = suc k.id })
-  heard-plain l k ks g e none =
+  heard-plain : (l : Link) (k : Sent) (ks done : List Sent) → IsGood found l → l.up ≡ k ∷ ks → ((d : List ℕ) → bears d k ≡ None)
+      → IsGood found (record l { up = ks; done = done; heard = suc k.id })
+  heard-plain l k ks done g e none =
       let rises : (l.heard ≤ k.id) × Rises (suc k.id) ks l.client.fresh = subst (λ x. Rises l.heard x l.client.fresh) e g.rises in
       let le : l.heard ≤ k.id = rises.0 in
       let le2 : l.heard ≤ suc k.id = omega arith in
@@ -112,9 +112,9 @@ module _ (found : List ℕ → Option StreamState) (lists : Lists) where
   -- a subscribe that changes no subscription
   heard-kept : (l : Link) (c : List ℕ) (k : ℕ) (from : Option Position) (ks : List Sent)
       → IsGood found l → l.up ≡ record { id = k; errand = Subscribe c from } ∷ ks → IsQuiet (l.line.subs c)
-      → IsGood found (record l { up = ks; heard = suc k })
+      → IsGood found (is_heard k (Subscribe c from) ks l)
   heard-kept l c k from ks g e q =
-      heard-one l l.line c (record { id = k; errand = Subscribe c from }) ks g e refl refl
+      heard-one l l.line c (record { id = k; errand = Subscribe c from }) ks _ g e refl refl
       (rw (itself c) refl) (λ d ne. rw (not_this c d (λ i. ne (sym i))) refl) (λ d ne. refl)
       (λ old. leads-asked l c k from (l.line.subs c) old q (l.client.modes c))
       (quiet-old (l.line.subs c) q) (λ h. g.shut h c)
@@ -128,9 +128,9 @@ module _ (found : List ℕ → Option StreamState) (lists : Lists) where
   good-hears_subscribe : (refused : Bool) (l : Link) (c : List ℕ) (k : ℕ) (from : Option Position) (ks : List Sent) (s : Sub)
       → IsGood found l → l.up ≡ record { id = k; errand = Subscribe c from } ∷ ks → l.line.subs c ≡ s → IsGood found (hears_subscribe refused c k from ks s l)
   good-hears_subscribe refused l c k from ks Off g e i =
-      by_test (λ (v : Line Note). IsGood found (record l { up = ks; heard = suc k; line = v })) (l.line.closed || refused) _ _
+      by_test (λ (v : Line Note). IsGood found (with_line v (is_heard k (Subscribe c from) ks l))) (l.line.closed || refused) _ _
       (λ h. heard-kept l c k from ks g e (rw i tt))
-      (λ h. heard-one l (begins c k from l.line) c (record { id = k; errand = Subscribe c from }) ks g e refl refl
+      (λ h. heard-one l (begins c k from l.line) c (record { id = k; errand = Subscribe c from }) ks _ g e refl refl
       (rw (itself c) refl) (λ d ne. rw (not_this c d (λ i. ne (sym i))) refl) (λ d ne. rw (not_this d c ne) refl)
       (λ old h'. rw (itself c) (leads-begun l c k from old (g.unclosed (or_false l.line.closed refused h)) (l.client.modes c) h'))
       (rw (itself c) (omega arith)) (λ j. let o = or_false l.line.closed refused h in absurd (cc)))
@@ -142,18 +142,14 @@ module _ (found : List ℕ → Option StreamState) (lists : Lists) where
       → IsGood found (hears_errand refused id x ks l)
   good-hears_errand refused l id (Subscribe c from) ks g e = good-hears_subscribe refused l c id from ks (l.line.subs c) g e refl
   good-hears_errand refused l id (Unsubscribe c) ks g e =
-      heard-one l (put_sub c Off l.line) c (record { id = id; errand = Unsubscribe c }) ks g e refl refl
+      heard-one l (put_sub c Off l.line) c (record { id = id; errand = Unsubscribe c }) ks _ g e refl refl
       (rw (itself c) refl) (λ d ne. rw (not_this c d (λ i. ne (sym i))) refl) (λ d ne. rw (not_this d c ne) refl)
       (λ old h. rw (itself c) (leads-left l c Off tt (l.client.modes c) h)) (rw (itself c) tt) (λ h. rw (itself c) refl)
-  good-hears_errand refused l id (Publish c body) ks g e = heard-plain l (record { id = id; errand = Publish c body }) ks g e (λ d. refl)
-  good-hears_errand refused l id (History c limit) ks g e = heard-plain l (record { id = id; errand = History c limit }) ks g e (λ d. refl)
+  good-hears_errand refused l id (Publish c body) ks g e = heard-plain l (record { id = id; errand = Publish c body }) ks _ g e (λ d. refl)
+  good-hears_errand refused l id (History c limit) ks g e = heard-plain l (record { id = id; errand = History c limit }) ks _ g e (λ d. refl)
 
-  good-hears_first : (refused : Bool) (l : Link) (ks : List Sent) → IsGood found l → l.up ≡ ks → IsGood found (hears_first refused ks l)
-  good-hears_first refused l [] g e = g
-  good-hears_first refused l (k ∷ ks) g e = good-hears_errand refused l k.id k.errand ks g e
-
-  pub good-hears : (refused : Bool) (l : Link) → IsGood found l → IsGood found (hears refused l)
-  good-hears refused l g = good-hears_first refused l l.up g refl
+  pub good-hears : (refused : Bool) (l : Link) (k : Sent) (ks : List Sent) → IsGood found l → l.up ≡ k ∷ ks → IsGood found (hears refused k ks l)
+  good-hears refused l k ks g e = good-hears_errand refused l k.id k.errand ks g e
 
   -- a note enters that changes no subscription
   good-enters : (l : Link) (n : Note)
@@ -190,6 +186,14 @@ module _ (found : List ℕ → Option StreamState) (lists : Lists) where
     where
       both : (a b : ℕ) (t : Bool) → (nat_lt a b && not t) ≡ true → (a < b) × (t ≡ false)
       both a b t h = grind (arith, nat_tests)
+
+  -- at any time later
+  pub good-errs_late : (l : Link) (k code : ℕ) → IsGood found l → IsGood found (errs_late (wording lists) k code l)
+  good-errs_late l k code g = of_command (find k l.done)
+    where
+      of_command : (o : Option Sent) → IsGood found (errs_for (wording lists) code o l)
+      of_command None = g
+      of_command (Some x) = good-errs l (channel_of x.errand) x.id code g
 
   -- a note that tells a channel nothing
   good-plain : (l : Link) (n : Note) → ((d : List ℕ) → IsElsewhere d n) → IsOld l.heard n → IsNoClose n → IsGood found l → IsGood found (with_line (push (wording lists) n l.line) l)

@@ -1,26 +1,28 @@
 -- In every run each id of a connection is of one channel, so that answers are matched by id alone.
-use Rattle.std.proofs.Common.{◌≡◌, ℕ, ℤ, suc, ◌∙◌, Option, Some, None, List, [], ◌∷◌, refl, sym, ap, subst}
+use Rattle.std.proofs.Common.{◌≡◌, ℕ, ℤ, suc, ◌∙◌, Bool, Option, Some, None, List, [], ◌∷◌, refl, sym, ap, subst}
 use Rattle.cf_protocol.specs.Names.{with}
 use Rattle.cf_protocol.specs.Position.{Position}
 use Rattle.cf_protocol.specs.Note.{Put as PutDone, Left, Listed}
 use Rattle.cf_stream.specs.StreamState.{StreamState}
 use Rattle.cf_stream.specs.StreamAnswer.{read_of, listed_above}
-use Rattle.cf_hub.specs.Connection.{Sub, Off, Asked, Ready, On}
+use Rattle.cf_hub.specs.Connection.{Sub, Off, Asked, Ready, On, checks}
 use Rattle.cf_client.specs.ClientState.{Client, last_of}
 use Rattle.cf_schedule.specs.Config.{Config}
 use Rattle.cf_schedule.specs.Event.{Event, Epoch, Connect, Ask, AskFrom, Read, Finish, Publish, PublishBy, Deliver, Take, Break, Leave, Trim, Forget, BrokerRestart, Restart, Check, ListHistory}
 use Rattle.cf_schedule.specs.Errand.{Errand, Sent, Subscribe, Unsubscribe, Publish as PublishErrand, History, channel_of}
 use Rattle.cf_schedule.specs.PublicationList.{Place, Broker, publication, opened, stands_at}
 use Rattle.cf_schedule.specs.Weights.{wording}
-use Rattle.cf_schedule.specs.Link.{Link, sends, hears, holds}
-use Rattle.cf_schedule.specs.World.{World, start, broker_with, on_node}
+use Rattle.cf_schedule.specs.Link.{Link, with_line, sends, hears, errs_late, says, fails, finishes_over, closes_with, holds, receives}
+use Rattle.cf_schedule.specs.World.{World, start, link_with, broker_with, on_node}
 use Rattle.cf_schedule.specs.Refusals.{Judgement, Unheard, TooLong, Refused, Accepted, judged, bad_message}
-use Rattle.cf_schedule.specs.IntervalMachine.{sent, closes_by, is_refused, hear_first, heard, as_judged, listing, answer_to, answer_by, answered, command_by, judgement, exchange, read_found, read_at, delivered, effect, allows, happens, run}
+use Rattle.cf_schedule.specs.IntervalMachine.{sent, closes_by, is_refused, heard_as, listing, answer_to, answer_by, answered, command_by, judgement, exchange, read_found, read_at, delivered, effect, run}
+use Rattle.cf_schedule.specs.LooseRun.{Happening, Line as LineOf, SendAsk, SendAskFrom, SendLeave, SendPublish, SendHistory, Hear, Hold, Receive, ErrorEnters, NoteEnters, Fail, FinishOver, CloseNow, CheckAgainst, Join, PublishAny, OpenIn, failed_if, hear_first, loose_effect, loosely_allows, befalls, loose_run, lines}
 use Rattle.cf_schedule.specs.Leading.{coming}
 use Rattle.cf_schedule.specs.AnswersById.{AreForChannel}
 use Rattle.cf_schedule.proofs.Names.{by_test, with-all, with-both, with-same}
-use Rattle.cf_schedule.proofs.Stepping.{client-hears_first, closes_by-client}
-use Rattle.cf_schedule.proofs.Owning.{IsOwn, IsOwned, own-comes, own-finishes, own-checks, own-closes_with, own-reads, own-hears, own-errs, own-says, own-breaks, own-holds, own-receives, owner_with, own_fresh, own-sends, for_channel}
+use Rattle.cf_schedule.proofs.Stepping.{client-hears, closes_by-client}
+use Rattle.cf_schedule.proofs.Schedules.{run_of_lines}
+use Rattle.cf_schedule.proofs.Owning.{IsOwn, OwnUps, IsOwned, own-comes, own-finishes, own-finishes_over, own-fails, own-checks, own-closes_with, own-reads, own-hears, own-errs, own-errs_late, own-says, own-breaks, own-holds, own-receives, owner_with, own_fresh, own-sends, for_channel}
 
 AreOwned : (List ℕ → ℕ → List ℕ) → World → Type 0
 AreOwned owners w = (y : List ℕ) → IsOwned (owners y) (w.links y)
@@ -35,14 +37,10 @@ module _ (owners : List ℕ → ℕ → List ℕ) (w : World) (g : (y : List ℕ
   owned-closes_by x (Refused code) l h = h
   owned-closes_by x Accepted l h = h
 
-  owned-heard : (cfg : Config) (x : List ℕ) (y : List ℕ) → IsOwned (owners y) ((heard cfg x as_judged w).links y)
-  owned-heard cfg x y = first (w.links x).up
-    where
-      first : (ks : List Sent) → IsOwned (owners y) ((hear_first cfg x as_judged ks w).links y)
-      first [] = g y
-      first (k ∷ ks) =
-          let j : Judgement = judged cfg w (w.links x) k in
-          one-owned x (closes_by j (hears (is_refused j) (w.links x))) (owned-closes_by x j _ (own-hears (owners x) w.broker.lists (is_refused j) (w.links x) (g x))) y
+  owned-heard : (cfg : Config) (x : List ℕ) (k : Sent) (ks : List Sent) (j : Judgement) → IsOwn (owners x) (w.links x).client.fresh (channel_of k.errand) k.id → OwnUps (owners x) (w.links x).client.fresh ks
+      → (y : List ℕ) → IsOwned (owners y) ((heard_as cfg x k ks j w).links y)
+  owned-heard cfg x k ks j h u =
+      one-owned x (closes_by j (hears (is_refused j) k ks (w.links x))) (owned-closes_by x j _ (own-hears (owners x) w.broker.lists (is_refused j) (w.links x) k ks (g x) h u))
 
   owned-answer : (b : Broker) (x : List ℕ) (k : Sent) (j : Judgement) → IsOwn (owners x) (w.links x).client.fresh (channel_of k.errand) k.id
       → IsOwned (owners x) (answer_by (wording w.broker.lists) b k j (w.links x))
@@ -66,15 +64,10 @@ module _ (owners : List ℕ → ℕ → List ℕ) (w : World) (g : (y : List ℕ
       → (y : List ℕ) → IsOwned (owners y) ((answered x k j w).links y)
   owned-answered x k j h = one-owned x (answer_by (wording w.broker.lists) w.broker k j (w.links x)) (owned-answer w.broker x k j h)
 
-heard-client : (cfg : Config) (x : List ℕ) (w : World) → ((heard cfg x as_judged w).links x).client ≡ (w.links x).client
-heard-client cfg x w = first (w.links x).up
-  where
-    first : (ks : List Sent) → ((hear_first cfg x as_judged ks w).links x).client ≡ (w.links x).client
-    first [] = refl
-    first (k ∷ ks) =
-        let j : Judgement = judged cfg w (w.links x) k in
-        let l : Link = closes_by j (hears (is_refused j) (w.links x)) in
-        ap (λ (v : Link). v.client) (with-same w.links x l) ∙ (closes_by-client j (hears (is_refused j) (w.links x)) ∙ client-hears_first (is_refused j) (w.links x).up (w.links x))
+heard-client : (cfg : Config) (x : List ℕ) (k : Sent) (ks : List Sent) (j : Judgement) (w : World) → ((heard_as cfg x k ks j w).links x).client ≡ (w.links x).client
+heard-client cfg x k ks j w =
+    let l : Link = closes_by j (hears (is_refused j) k ks (w.links x)) in
+    ap (λ (v : Link). v.client) (with-same w.links x l) ∙ (closes_by-client j (hears (is_refused j) k ks (w.links x)) ∙ client-hears (is_refused j) k ks (w.links x))
 
 sends-fresh : (e : Errand) (l : Link) → (sends e l).client.fresh ≡ suc l.client.fresh
 sends-fresh (Subscribe c from) l = refl
@@ -93,13 +86,17 @@ owned-exchange cfg x e owners w g =
     let after : List ℕ → ℕ → List ℕ = with owners x (owner_with (owners x) (w.links x).client.fresh (channel_of e)) in
     let s : (y : List ℕ) → IsOwned (after y) ((sent x e w).links y) =
     with-both (λ y o l. IsOwned o l) owners w.links x (owner_with (owners x) (w.links x).client.fresh (channel_of e)) (sends e (w.links x)) (own-sends (owners x) (w.links x) e (g x)) (λ y ne. g y) in
-    let h : (y : List ℕ) → IsOwned (after y) ((heard cfg x as_judged (sent x e w)).links y) = owned-heard after (sent x e w) s cfg x in
-    let fresh : ((heard cfg x as_judged (sent x e w)).links x).client.fresh ≡ suc (w.links x).client.fresh =
-    ap (λ (v : Client). v.fresh) (heard-client cfg x (sent x e w)) ∙ (ap (λ (v : Link). v.client.fresh) (with-same w.links x (sends e (w.links x))) ∙ sends-fresh e (w.links x)) in
-    let own : IsOwn (after x) ((heard cfg x as_judged (sent x e w)).links x).client.fresh (channel_of e) (w.links x).client.fresh =
-    rw fresh (subst (λ (o : ℕ → List ℕ). IsOwn o (suc (w.links x).client.fresh) (channel_of e) (w.links x).client.fresh)
+    let k : Sent = command_by x e w in
+    let j : Judgement = judgement cfg x e w in
+    let sent-fresh : ((sent x e w).links x).client.fresh ≡ suc (w.links x).client.fresh =
+    ap (λ (v : Link). v.client.fresh) (with-same w.links x (sends e (w.links x))) ∙ sends-fresh e (w.links x) in
+    let mine : (n : ℕ) → n ≡ suc (w.links x).client.fresh → IsOwn (after x) n (channel_of e) (w.links x).client.fresh =
+    λ n is. rw is (subst (λ (o : ℕ → List ℕ). IsOwn o (suc (w.links x).client.fresh) (channel_of e) (w.links x).client.fresh)
     (sym (with-same owners x (owner_with (owners x) (w.links x).client.fresh (channel_of e)))) (own_fresh (owners x) (w.links x).client.fresh (channel_of e))) in
-    owned-answered after (heard cfg x as_judged (sent x e w)) h x (command_by x e w) (judgement cfg x e w) own
+    let h : (y : List ℕ) → IsOwned (after y) ((heard_as cfg x k [] j (sent x e w)).links y) = owned-heard after (sent x e w) s cfg x k [] j (mine _ sent-fresh) tt in
+    let fresh : ((heard_as cfg x k [] j (sent x e w)).links x).client.fresh ≡ suc (w.links x).client.fresh =
+    ap (λ (v : Client). v.fresh) (heard-client cfg x k [] j (sent x e w)) ∙ sent-fresh in
+    owned-answered after (heard_as cfg x k [] j (sent x e w)) h x k j (mine _ fresh)
 
 -- each event keeps it, for some owners
 HasOwners : World → Type 0
@@ -109,7 +106,7 @@ owned-effect : (cfg : Config) (w : World) → HasOwners w → (e : Event) → Ha
 unfolding HasOwners AreOwned
 owned-effect cfg w g (Epoch e) = g
 owned-effect cfg w g (Connect x n) =
-    (g.0, one-owned g.0 w g.1 x _ (let h = g.1 x in record { modes = h.modes; notes = h.notes; subs = h.subs; ups = h.ups }))
+    (g.0, one-owned g.0 w g.1 x _ (let h = g.1 x in record { modes = h.modes; notes = h.notes; subs = h.subs; ups = h.ups; done = h.done }))
 owned-effect cfg w g (Ask x c) = (_, owned-exchange cfg x (Subscribe c None) g.0 w g.1)
 owned-effect cfg w g (AskFrom x c) = (_, owned-exchange cfg x (Subscribe c (last_of ((w.links x).client.modes c))) g.0 w g.1)
 owned-effect cfg w g (Read x c) = of_sub ((w.links x).line.subs c)
@@ -144,18 +141,64 @@ owned-effect cfg w g (Restart n) =
 owned-effect cfg w g (Check x c) = (g.0, one-owned g.0 w g.1 x _ (own-checks (g.0 x) w.broker.lists (w.links x) c (stands_at (w.broker.streams c)) (g.1 x)))
 owned-effect cfg w g (ListHistory x c limit) = (_, owned-exchange cfg x (History c limit) g.0 w g.1)
 
-owned-run : (cfg : Config) (es : List Event) (w : World) → HasOwners w → HasOwners (run cfg w es)
+-- a command that is sent alone
+owned-sent : (x : List ℕ) (e : Errand) (w : World) → HasOwners w → HasOwners (sent x e w)
+unfolding HasOwners
+owned-sent x e w g = (
+  with g.0 x (owner_with (g.0 x) (w.links x).client.fresh (channel_of e)),
+  with-both (λ y o l. IsOwned o l) g.0 w.links x (owner_with (g.0 x) (w.links x).client.fresh (channel_of e)) (sends e (w.links x)) (own-sends (g.0 x) (w.links x) e (g.1 x)) (λ y ne. g.1 y),
+)
+
+owned-hear : (cfg : Config) (x : List ℕ) (failing : Bool) (w : World) → HasOwners w → (ks : List Sent) → (w.links x).up ≡ ks → HasOwners (hear_first cfg x failing ks w)
+unfolding HasOwners
+owned-hear cfg x failing w g [] e = g
+owned-hear cfg x failing w g (k ∷ ks) e =
+    let u : OwnUps (g.0 x) (w.links x).client.fresh (k ∷ ks) = subst (OwnUps (g.0 x) (w.links x).client.fresh) e (g.1 x).ups in
+    (g.0, owned-heard g.0 w g.1 cfg x k ks (failed_if failing (judged cfg w (w.links x) k)) u.0 u.1)
+
+-- one link changes
+owned-link : (x : List ℕ) (w : World) → (g : HasOwners w) → (f : Link → Link) → ((o : ℕ → List ℕ) → IsOwned o (w.links x) → IsOwned o (f (w.links x))) → HasOwners (link_with x (f (w.links x)) w)
+unfolding HasOwners
+owned-link x w g f k = (g.0, one-owned g.0 w g.1 x (f (w.links x)) (k (g.0 x) (g.1 x)))
+
+owned-loose : (cfg : Config) (w : World) → HasOwners w → (h : Happening) → HasOwners (loose_effect cfg w h)
+unfolding HasOwners
+owned-loose cfg w g (LineOf e) = owned-effect cfg w g e
+owned-loose cfg w g (SendAsk x c) = owned-sent x _ w g
+owned-loose cfg w g (SendAskFrom x c) = owned-sent x _ w g
+owned-loose cfg w g (SendLeave x c) = owned-sent x _ w g
+owned-loose cfg w g (SendPublish x c body) = owned-sent x _ w g
+owned-loose cfg w g (SendHistory x c limit) = owned-sent x _ w g
+owned-loose cfg w g (Hear x failing) = owned-hear cfg x failing w g (w.links x).up refl
+owned-loose cfg w g (Hold x) = owned-link x w g holds (λ o. own-holds o w.broker.lists (w.links x))
+owned-loose cfg w g (Receive x) = owned-link x w g receives (λ o. own-receives o w.broker.lists (w.links x))
+owned-loose cfg w g (ErrorEnters x id code) = owned-link x w g (errs_late (wording w.broker.lists) id code) (λ o. own-errs_late o w.broker.lists (w.links x) id code)
+owned-loose cfg w g (NoteEnters x n) = owned-link x w g (says (wording w.broker.lists) n) (λ o. own-says o w.broker.lists (w.links x) n)
+owned-loose cfg w g (Fail x c) = owned-link x w g (fails c) (λ o. own-fails o w.broker.lists (w.links x) c)
+owned-loose cfg w g (FinishOver x c) = owned-link x w g (λ l. with_line (finishes_over (wording w.broker.lists) c l.line) l) (λ o. own-finishes_over o w.broker.lists (w.links x) c)
+owned-loose cfg w g (CloseNow x code) = owned-link x w g (closes_with code) (λ o. own-closes_with o w.broker.lists (w.links x) code)
+owned-loose cfg w g (CheckAgainst x c top) = owned-link x w g (λ l. with_line (checks (wording w.broker.lists) c top l.line) l) (λ o. own-checks o w.broker.lists (w.links x) c top)
+owned-loose cfg w g (Join x n) = owned-effect cfg w g (Connect x n)
+owned-loose cfg w g (PublishAny c d) = g
+owned-loose cfg w g (OpenIn c e) = g
+
+owned-run : (cfg : Config) (hs : List Happening) (w : World) → HasOwners w → HasOwners (loose_run cfg w hs)
 owned-run cfg [] w g = g
-owned-run cfg (e ∷ es) w g = owned-run cfg es (happens cfg w e) (by_test HasOwners (allows cfg w e) (effect cfg w e) w (λ h. owned-effect cfg w g e) (λ h. g))
+owned-run cfg (h ∷ hs) w g = owned-run cfg hs (befalls cfg w h) (by_test HasOwners (loosely_allows cfg w h) (loose_effect cfg w h) w (λ e. owned-loose cfg w g h) (λ e. g))
 
 owned-start : HasOwners start
 unfolding HasOwners
-owned-start = ((λ y k. []), λ y. record { modes = λ c. tt; notes = tt; subs = λ c. tt; ups = tt })
+owned-start = ((λ y k. []), λ y. record { modes = λ c. tt; notes = tt; subs = λ c. tt; ups = tt; done = tt })
+
+pub answers_by_id_loose : (cfg : Config) (hs : List Happening) (x c : List ℕ)
+    → AreForChannel c (((loose_run cfg start hs).links x).client.modes c) (coming ((loose_run cfg start hs).links x))
+unfolding HasOwners
+answers_by_id_loose cfg hs x c =
+    let h = owned-run cfg hs start owned-start in
+    let l : Link = (loose_run cfg start hs).links x in
+    for_channel (h.0 x) l.client.fresh c (l.client.modes c) (coming l) ((h.1 x).modes c) (h.1 x).notes
 
 pub answers_by_id : (cfg : Config) (es : List Event) (x c : List ℕ)
     → AreForChannel c (((run cfg start es).links x).client.modes c) (coming ((run cfg start es).links x))
-unfolding HasOwners
 answers_by_id cfg es x c =
-    let h = owned-run cfg es start owned-start in
-    let l : Link = (run cfg start es).links x in
-    for_channel (h.0 x) l.client.fresh c (l.client.modes c) (coming l) ((h.1 x).modes c) (h.1 x).notes
+    subst (λ (w : World). AreForChannel c ((w.links x).client.modes c) (coming (w.links x))) (run_of_lines cfg es start) (answers_by_id_loose cfg (lines es) x c)

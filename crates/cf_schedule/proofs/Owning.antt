@@ -12,7 +12,7 @@ use Rattle.cf_hub.specs.Connection.{Sub, Off, Asked, Ready, On, Line, closes, pu
 use Rattle.cf_client.specs.ClientState.{Mode, Idle, Asking, Live, idle, takes, read_to, hears as takes_note}
 use Rattle.cf_schedule.specs.Errand.{Errand, Sent, Subscribe, Unsubscribe, Publish as PublishErrand, History, channel_of}
 use Rattle.cf_schedule.specs.Weights.{wording}
-use Rattle.cf_schedule.specs.Link.{Link, with_line, sends, hears_subscribe, hears_errand, hears_first, hears, is_waiting, errs, says, closes_with, breaks, gets, hold_first, holds, receive_first, receives}
+use Rattle.cf_schedule.specs.Link.{Link, with_line, sends, is_heard, hears_subscribe, hears_errand, hears, is_waiting, errs, find, errs_for, errs_late, says, fail_at, fails, over_at, finishes_over, closes_with, breaks, gets, hold_first, holds, receive_first, receives}
 use Rattle.cf_schedule.specs.Leading.{coming}
 use Rattle.cf_schedule.specs.AnswersById.{IsForChannel, AreForChannel}
 use Rattle.cf_schedule.proofs.Names.{by_test, with-all}
@@ -42,7 +42,7 @@ abbrev OwnNotes : (ℕ → List ℕ) → ℕ → List Note → Type 0
 OwnNotes owner fresh [] = Unit {0}
 OwnNotes owner fresh (n ∷ ns) = OwnNote owner fresh n × OwnNotes owner fresh ns
 
-abbrev OwnUps : (ℕ → List ℕ) → ℕ → List Sent → Type 0
+abbrev pub OwnUps : (ℕ → List ℕ) → ℕ → List Sent → Type 0
 OwnUps owner fresh [] = Unit {0}
 OwnUps owner fresh (k ∷ ks) = IsOwn owner fresh (channel_of k.errand) k.id × OwnUps owner fresh ks
 
@@ -52,6 +52,7 @@ pub record IsOwnedWith (owner : ℕ → List ℕ) (ns : List Note) (l : Link) : 
   pub notes : OwnNotes owner l.client.fresh ns
   pub subs : (c : List ℕ) → OwnSub owner l.client.fresh c (l.line.subs c)
   pub ups : OwnUps owner l.client.fresh l.up
+  pub done : OwnUps owner l.client.fresh l.done
 
 abbrev pub IsOwned : (ℕ → List ℕ) → Link → Type 0
 IsOwned owner l = IsOwnedWith owner (coming l) l
@@ -77,7 +78,7 @@ module _ (owner : ℕ → List ℕ) (lists : Lists) where
   own-more l v n e g h s =
       subst (λ ns. IsOwnedWith owner (l.way ++ ns) (with_line v l)) (sym e)
       (subst (λ ns. IsOwnedWith owner ns (with_line v l)) (append_assoc l.way l.line.notes (n ∷ []))
-      (record { modes = g.modes; notes = notes-more owner l.client.fresh (coming l) n g.notes h; subs = s; ups = g.ups }))
+      (record { modes = g.modes; notes = notes-more owner l.client.fresh (coming l) n g.notes h; subs = s; ups = g.ups; done = g.done }))
 
   own-push : (l : Link) (n : Note) → IsOwned owner l → OwnNote owner l.client.fresh n → IsOwned owner (with_line (push (wording lists) n l.line) l)
   own-push l n g h =
@@ -92,6 +93,7 @@ module _ (owner : ℕ → List ℕ) (lists : Lists) where
     notes = g.notes;
     subs = with-all (λ d s. OwnSub owner l.client.fresh d s) l.line.subs c t h (λ d ne. g.subs d);
     ups = g.ups;
+    done = g.done;
   }
 
   own-say : (l : Link) (c : List ℕ) (t : Sub) (n : Note) → IsOwned owner l → OwnSub owner l.client.fresh c t → OwnNote owner l.client.fresh n
@@ -156,6 +158,26 @@ module _ (owner : ℕ → List ℕ) (lists : Lists) where
   pub own-checks : (l : Link) (c : List ℕ) (top : Option Position) → IsOwned owner l → IsOwned owner (with_line (checks (wording lists) c top l.line) l)
   own-checks l c top g = own-check_at l c top (l.line.subs c) g
 
+  own-over_at : (l : Link) (c : List ℕ) (s : Sub) → IsOwned owner l → l.line.subs c ≡ s → IsOwned owner (with_line (over_at (wording lists) c s l.line) l)
+  own-over_at l c Off g e = g
+  own-over_at l c (Asked k since arrived) g e = g
+  own-over_at l c (On p mark) g e = g
+  own-over_at l c (Ready k was r arrived) g e =
+      let own : IsOwn owner l.client.fresh c k = subst (OwnSub owner l.client.fresh c) e (g.subs c) in
+      own-ends (with_line (push (wording lists) (Reply c k was r) (put_sub c (On (read_to r) None) l.line)) l) c (own-say l c (On (read_to r) None) (Reply c k was r) g tt own)
+
+  pub own-finishes_over : (l : Link) (c : List ℕ) → IsOwned owner l → IsOwned owner (with_line (finishes_over (wording lists) c l.line) l)
+  own-finishes_over l c g = own-over_at l c (l.line.subs c) g refl
+
+  own-fail_at : (l : Link) (c : List ℕ) (s : Sub) → IsOwned owner l → IsOwned owner (fail_at c s l)
+  own-fail_at l c Off g = g
+  own-fail_at l c (Asked k since arrived) g = own-put l c Off g tt
+  own-fail_at l c (Ready k was r arrived) g = own-put l c Off g tt
+  own-fail_at l c (On q mark) g = g
+
+  pub own-fails : (l : Link) (c : List ℕ) → IsOwned owner l → IsOwned owner (fails c l)
+  own-fails l c g = own-fail_at l c (l.line.subs c) g
+
   pub own-closes_with : (l : Link) (code : ℕ) → IsOwned owner l → IsOwned owner (closes_with code l)
   own-closes_with l code g =
       by_test (λ (v : Line Note). IsOwned owner (with_line v l)) l.line.closed _ _ (λ h. g)
@@ -170,12 +192,12 @@ module _ (owner : ℕ → List ℕ) (lists : Lists) where
   own-hears_subscribe : (refused : Bool) (l : Link) (c : List ℕ) (k : ℕ) (from : Option Position) (ks : List Sent) (s : Sub)
       → IsOwned owner l → IsOwn owner l.client.fresh c k → OwnUps owner l.client.fresh ks → IsOwned owner (hears_subscribe refused c k from ks s l)
   own-hears_subscribe refused l c k from ks Off g h u =
-      by_test (λ (v : Line Note). IsOwned owner (record l { up = ks; heard = suc k; line = v })) (l.line.closed || refused) _ _
-      (λ e. record { modes = g.modes; notes = g.notes; ups = u; subs = g.subs })
-      (λ e. record { modes = g.modes; notes = g.notes; ups = u; subs = with-all (λ d s. OwnSub owner l.client.fresh d s) l.line.subs c (Asked k from []) h (λ d ne. g.subs d) })
+      by_test (λ (v : Line Note). IsOwned owner (with_line v (is_heard k (Subscribe c from) ks l))) (l.line.closed || refused) _ _
+      (λ e. record { modes = g.modes; notes = g.notes; ups = u; done = (h, g.done); subs = g.subs })
+      (λ e. record { modes = g.modes; notes = g.notes; ups = u; done = (h, g.done); subs = with-all (λ d s. OwnSub owner l.client.fresh d s) l.line.subs c (Asked k from []) h (λ d ne. g.subs d) })
   own-hears_subscribe refused l c k from ks (Asked i since arrived) g h u = g
   own-hears_subscribe refused l c k from ks (Ready i was r arrived) g h u = g
-  own-hears_subscribe refused l c k from ks (On q mark) g h u = record { modes = g.modes; notes = g.notes; subs = g.subs; ups = u }
+  own-hears_subscribe refused l c k from ks (On q mark) g h u = record { modes = g.modes; notes = g.notes; subs = g.subs; ups = u; done = (h, g.done) }
 
   own-hears_errand : (refused : Bool) (l : Link) (id : ℕ) (e : Errand) (ks : List Sent) → IsOwned owner l → IsOwn owner l.client.fresh (channel_of e) id → OwnUps owner l.client.fresh ks
       → IsOwned owner (hears_errand refused id e ks l)
@@ -184,20 +206,35 @@ module _ (owner : ℕ → List ℕ) (lists : Lists) where
     modes = g.modes;
     notes = g.notes;
     ups = u;
+    done = (h, g.done);
     subs = with-all (λ d s. OwnSub owner l.client.fresh d s) l.line.subs c Off tt (λ d ne. g.subs d);
   }
-  own-hears_errand refused l id (PublishErrand c body) ks g h u = record { modes = g.modes; notes = g.notes; subs = g.subs; ups = u }
-  own-hears_errand refused l id (History c limit) ks g h u = record { modes = g.modes; notes = g.notes; subs = g.subs; ups = u }
+  own-hears_errand refused l id (PublishErrand c body) ks g h u = record { modes = g.modes; notes = g.notes; subs = g.subs; ups = u; done = (h, g.done) }
+  own-hears_errand refused l id (History c limit) ks g h u = record { modes = g.modes; notes = g.notes; subs = g.subs; ups = u; done = (h, g.done) }
 
-  own-hears_first : (refused : Bool) (l : Link) (ks : List Sent) → IsOwned owner l → OwnUps owner l.client.fresh ks → IsOwned owner (hears_first refused ks l)
-  own-hears_first refused l [] g u = g
-  own-hears_first refused l (k ∷ ks) g u = own-hears_errand refused l k.id k.errand ks g u.0 u.1
-
-  pub own-hears : (refused : Bool) (l : Link) → IsOwned owner l → IsOwned owner (hears refused l)
-  own-hears refused l g = own-hears_first refused l l.up g g.ups
+  pub own-hears : (refused : Bool) (l : Link) (k : Sent) (ks : List Sent) → IsOwned owner l → IsOwn owner l.client.fresh (channel_of k.errand) k.id → OwnUps owner l.client.fresh ks
+      → IsOwned owner (hears refused k ks l)
+  own-hears refused l k ks g h u = own-hears_errand refused l k.id k.errand ks g h u
 
   pub own-errs : (l : Link) (c : List ℕ) (k code : ℕ) → IsOwned owner l → IsOwn owner l.client.fresh c k → IsOwned owner (errs (wording lists) c k code l)
   own-errs l c k code g h = by_test (IsOwned owner) (nat_lt k l.heard && not (is_waiting k (l.line.subs c))) _ _ (λ e. own-push l (Fails c k code) g h) (λ e. g)
+
+  OwnFound : ℕ → Option Sent → Type 0
+  OwnFound fresh None = Unit {0}
+  OwnFound fresh (Some k) = IsOwn owner fresh (channel_of k.errand) k.id
+
+  own-found : (fresh id : ℕ) (ks : List Sent) → OwnUps owner fresh ks → OwnFound fresh (find id ks)
+  unfolding OwnFound
+  own-found fresh id [] h = tt
+  own-found fresh id (k ∷ ks) h = by_test (OwnFound fresh) (k.id == id) _ _ (λ e. h.0) (λ e. own-found fresh id ks h.1)
+
+  pub own-errs_late : (l : Link) (k code : ℕ) → IsOwned owner l → IsOwned owner (errs_late (wording lists) k code l)
+  unfolding OwnFound
+  own-errs_late l k code g = of_command (find k l.done) (own-found l.client.fresh k l.done g.done)
+    where
+      of_command : (o : Option Sent) → OwnFound l.client.fresh o → IsOwned owner (errs_for (wording lists) code o l)
+      of_command None h = g
+      of_command (Some x) h = own-errs l (channel_of x.errand) x.id code g h
 
   pub own-says : (l : Link) (n : Note) → IsOwned owner l → IsOwned owner (says (wording lists) n l)
   own-says l (Reply c id was r) g = g
@@ -214,20 +251,20 @@ module _ (owner : ℕ → List ℕ) (lists : Lists) where
   own-idle fresh c m = tt
 
   pub own-breaks : (l : Link) → IsOwned owner (breaks l)
-  own-breaks l = record { modes = λ c. tt; notes = tt; subs = λ c. tt; ups = tt }
+  own-breaks l = record { modes = λ c. tt; notes = tt; subs = λ c. tt; ups = tt; done = tt }
 
   own-hold_first : (l : Link) (ns : List Note) → IsOwned owner l → l.line.notes ≡ ns → IsOwned owner (hold_first ns l)
   own-hold_first l [] g e = g
   own-hold_first l (n ∷ ns) g e =
       let same : coming l ≡ (l.way ++ n ∷ []) ++ ns = rw e (sym (append_assoc l.way (n ∷ []) ns)) in
       subst (λ xs. IsOwnedWith owner xs (hold_first (n ∷ ns) l)) same
-      (record { modes = g.modes; notes = g.notes; subs = g.subs; ups = g.ups })
+      (record { modes = g.modes; notes = g.notes; subs = g.subs; ups = g.ups; done = g.done })
 
   pub own-holds : (l : Link) → IsOwned owner l → IsOwned owner (holds l)
   own-holds l g = own-hold_first l l.line.notes g refl
 
   own-taken : (l : Link) (n : Note) → IsOwnedWith owner (n ∷ coming l) l → IsOwned owner (record l { client = takes_note n l.client })
-  own-taken l n g = record { modes = λ c. own-takes owner l.client.fresh c (l.client.modes c) n (g.modes c); notes = g.notes.1; subs = g.subs; ups = g.ups }
+  own-taken l n g = record { modes = λ c. own-takes owner l.client.fresh c (l.client.modes c) n (g.modes c); notes = g.notes.1; subs = g.subs; ups = g.ups; done = g.done }
 
   own-gets : (l : Link) (n : Note) → IsOwnedWith owner (n ∷ coming l) l → IsOwned owner (gets n l)
   own-gets l (Close code) g = own-breaks l
@@ -244,7 +281,7 @@ module _ (owner : ℕ → List ℕ) (lists : Lists) where
   own-receive_first l [] g e = g
   own-receive_first l (n ∷ ns) g e =
       let h : IsOwnedWith owner (n ∷ (ns ++ l.line.notes)) l = subst (λ xs. IsOwnedWith owner (xs ++ l.line.notes) l) e g in
-      own-gets (record l { way = ns }) n (record { modes = h.modes; notes = h.notes; subs = h.subs; ups = h.ups })
+      own-gets (record l { way = ns }) n (record { modes = h.modes; notes = h.notes; subs = h.subs; ups = h.ups; done = h.done })
 
   pub own-receives : (l : Link) → IsOwned owner l → IsOwned owner (receives l)
   own-receives l g = own-receive_first l l.way g refl
@@ -303,6 +340,7 @@ own-sends owner l (Subscribe c from) g = record {
   notes = still-notes owner l.client.fresh c (coming l) g.notes;
   subs = λ d. still-sub owner l.client.fresh c d (l.line.subs d) (g.subs d);
   ups = ups-more _ (suc l.client.fresh) l.up (record { id = l.client.fresh; errand = Subscribe c from }) (still-ups owner l.client.fresh c l.up g.ups) (own_fresh owner l.client.fresh c);
+  done = still-ups owner l.client.fresh c l.done g.done;
 }
 own-sends owner l (Unsubscribe c) g = record {
   modes = with-all (λ d m. OwnMode (owner_with owner l.client.fresh c) (suc l.client.fresh) d m) l.client.modes c (idle (l.client.modes c)) tt
@@ -310,18 +348,21 @@ own-sends owner l (Unsubscribe c) g = record {
   notes = still-notes owner l.client.fresh c (coming l) g.notes;
   subs = λ d. still-sub owner l.client.fresh c d (l.line.subs d) (g.subs d);
   ups = ups-more _ (suc l.client.fresh) l.up (record { id = l.client.fresh; errand = Unsubscribe c }) (still-ups owner l.client.fresh c l.up g.ups) (own_fresh owner l.client.fresh c);
+  done = still-ups owner l.client.fresh c l.done g.done;
 }
 own-sends owner l (PublishErrand c body) g = record {
   modes = λ d. still-mode owner l.client.fresh c d (l.client.modes d) (g.modes d);
   notes = still-notes owner l.client.fresh c (coming l) g.notes;
   subs = λ d. still-sub owner l.client.fresh c d (l.line.subs d) (g.subs d);
   ups = ups-more _ (suc l.client.fresh) l.up (record { id = l.client.fresh; errand = PublishErrand c body }) (still-ups owner l.client.fresh c l.up g.ups) (own_fresh owner l.client.fresh c);
+  done = still-ups owner l.client.fresh c l.done g.done;
 }
 own-sends owner l (History c limit) g = record {
   modes = λ d. still-mode owner l.client.fresh c d (l.client.modes d) (g.modes d);
   notes = still-notes owner l.client.fresh c (coming l) g.notes;
   subs = λ d. still-sub owner l.client.fresh c d (l.line.subs d) (g.subs d);
   ups = ups-more _ (suc l.client.fresh) l.up (record { id = l.client.fresh; errand = History c limit }) (still-ups owner l.client.fresh c l.up g.ups) (own_fresh owner l.client.fresh c);
+  done = still-ups owner l.client.fresh c l.done g.done;
 }
 
 -- what the invariant says of answers

@@ -11,7 +11,7 @@ use Rattle.cf_schedule.specs.Event.{Event, Ask, AskFrom, Read, Take, Break, Leav
 use Rattle.cf_schedule.specs.Errand.{Errand, Sent, Subscribe, Unsubscribe, Publish as PublishErrand, History, channel_of}
 use Rattle.cf_schedule.specs.PublicationList.{Broker, tops, opened}
 use Rattle.cf_schedule.specs.Weights.{wording}
-use Rattle.cf_schedule.specs.Link.{Link, hears_subscribe, hears_errand, hears_first, is_waiting, errs, says, fail_at, hold_first, holds}
+use Rattle.cf_schedule.specs.Link.{Link, hears_subscribe, hears_errand, hears, is_waiting, errs, find, errs_for, errs_late, says, fail_at, hold_first, holds}
 use Rattle.cf_schedule.specs.World.{World, on_node}
 use Rattle.cf_schedule.specs.Refusals.{Judgement, Unheard, TooLong, Refused, Accepted, bad_message}
 use Rattle.cf_schedule.specs.IntervalMachine.{size_of, datum_by, carried_out, broker_by, closes_by, listing, answer_to, answer_by}
@@ -76,12 +76,18 @@ client-hears_errand refused id (Unsubscribe c) ks l = refl
 client-hears_errand refused id (PublishErrand c body) ks l = refl
 client-hears_errand refused id (History c limit) ks l = refl
 
-pub client-hears_first : (refused : Bool) (ks : List Sent) (l : Link) → (hears_first refused ks l).client ≡ l.client
-client-hears_first refused [] l = refl
-client-hears_first refused (k ∷ ks) l = client-hears_errand refused k.id k.errand ks l
+pub client-hears : (refused : Bool) (k : Sent) (ks : List Sent) (l : Link) → (hears refused k ks l).client ≡ l.client
+client-hears refused k ks l = client-hears_errand refused k.id k.errand ks l
 
 pub client-errs : (lists : Lists) (c : List ℕ) (k code : ℕ) (l : Link) → (errs (wording lists) c k code l).client ≡ l.client
 client-errs lists c k code l = by_test (λ (v : Link). v.client ≡ l.client) (nat_lt k l.heard && not (is_waiting k (l.line.subs c))) _ _ (λ h. refl) (λ h. refl)
+
+pub client-errs_late : (lists : Lists) (k code : ℕ) (l : Link) → (errs_late (wording lists) k code l).client ≡ l.client
+client-errs_late lists k code l = of_command (find k l.done)
+  where
+    of_command : (o : Option Sent) → (errs_for (wording lists) code o l).client ≡ l.client
+    of_command None = refl
+    of_command (Some x) = client-errs lists (channel_of x.errand) x.id code l
 
 pub client-says : (lists : Lists) (n : Note) (l : Link) → (says (wording lists) n l).client ≡ l.client
 client-says lists (Reply c id was r) l = refl

@@ -1,5 +1,5 @@
 -- One step of the world: what each happening does keeps its invariant, and what it tells is safe.
-use Rattle.std.proofs.Common.{◌≡◌, ℕ, ◌≤◌, ◌∙◌, Bool, true, false, Option, Some, None, List, [], ◌∷◌, ◌++◌, length, refl, sym, ap, subst, arith, ◌⊎◌, inl, inr, if◌then◌else◌, is_some}
+use Rattle.std.proofs.Common.{◌≡◌, ℕ, ◌≤◌, ◌∙◌, ◌&&◌, not, Bool, true, false, Option, Some, None, List, [], ◌∷◌, ◌++◌, length, refl, sym, ap, subst, arith, ◌⊎◌, inl, inr, if◌then◌else◌, is_some}
 use Rattle.std.proofs.Math.Nat.{le_refl}
 use Rattle.std.specs.Str.{bytes_eq}
 use Rattle.cf_protocol.specs.Names.{with}
@@ -12,25 +12,25 @@ use Rattle.cf_client.specs.ClientState.{Mode, Idle, Asking, Live, Client, last_o
 use Rattle.cf_schedule.specs.Config.{Config}
 use Rattle.cf_schedule.specs.Event.{Event, Epoch, Connect, Ask, AskFrom, Read, Finish, Publish, PublishBy, Deliver, Take, Break, Leave, Trim, Forget, BrokerRestart, Restart, Check, ListHistory}
 use Rattle.cf_schedule.specs.Errand.{Errand, Sent, Subscribe, Unsubscribe, Publish as PublishErrand, History}
-use Rattle.cf_schedule.specs.PublicationList.{Place, Broker, tops, publication, epoch_comes, opened, publish, trim, forget, forget_all, stands_at}
+use Rattle.cf_schedule.specs.PublicationList.{Place, Broker, tops, publication, epoch_comes, opened, opened_in, publish, trim, forget, forget_all, stands_at}
 use Rattle.cf_schedule.specs.Weights.{wording}
-use Rattle.cf_schedule.specs.Link.{Link, with_line, sends, hears, errs, says, fails, finishes_over, breaks, holds, receive_first}
-use Rattle.cf_schedule.specs.World.{World, start, link_with, broker_with, on_node}
+use Rattle.cf_schedule.specs.Link.{Link, with_line, sends, hears, errs_late, says, fails, finishes_over, breaks, holds, receive_first}
+use Rattle.cf_schedule.specs.World.{World, start, link_with, broker_with, on_node, is_ready}
 use Rattle.cf_schedule.specs.Refusals.{Judgement, judged}
-use Rattle.cf_schedule.specs.IntervalMachine.{size_of, sent, broker_by, closes_by, is_refused, heard_as, hear_first, heard, as_judged, answer_by, answered, command_by, judgement, exchange, connects, read_found, read_at, delivered, restarts, effect}
-use Rattle.cf_schedule.specs.LooseRun.{Happening, Line as LineOf, SendAsk, SendAskFrom, SendLeave, SendPublish, SendHistory, Hear, Hold, Receive, ErrorEnters, NoteEnters, Fail, FinishOver, CloseNow, CheckAgainst, failed_if, loose_effect, loosely_allows, befalls, loose_run}
+use Rattle.cf_schedule.specs.IntervalMachine.{size_of, sent, broker_by, closes_by, is_refused, heard_as, answer_by, answered, command_by, judgement, exchange, id_left, nothing_sent, can_command, idle_at, allows, connects, read_found, read_at, delivered, restarts, effect}
+use Rattle.cf_schedule.specs.LooseRun.{Happening, Line as LineOf, SendAsk, SendAskFrom, SendLeave, SendPublish, SendHistory, Hear, Hold, Receive, ErrorEnters, NoteEnters, Fail, FinishOver, CloseNow, CheckAgainst, Join, PublishAny, OpenIn, failed_if, hear_first, loose_effect, loosely_allows, befalls, loose_run}
 use Rattle.cf_schedule.specs.Marks.{Mark, Asks, Reads, Stops, only, read_mark, read_marks}
 use Rattle.cf_schedule.proofs.Automaton.{Seen, sees, sees_all, nothing_seen, IsSafe}
-use Rattle.cf_schedule.proofs.Names.{text_tells, itself, by_test, both_test, with-all, with-both}
+use Rattle.cf_schedule.proofs.Names.{text_tells, itself, by_test, both_test, with-same, with-all, with-both}
 use Rattle.cf_schedule.proofs.Standing.{due, IsGoodWith, IsGood}
 use Rattle.cf_schedule.proofs.Leading.{IsSettled, IsFree, settled-free, next-comes, due-more, due-bound}
 use Rattle.cf_schedule.proofs.Within.{LastWithin, SubWithin, ErrandWithin, IsBounded, HasTop, IsSteady}
 use Rattle.cf_schedule.proofs.Keeping.{good-closes_with, good-comes, good-finishes, good-finishes_over, good-sends}
-use Rattle.cf_schedule.proofs.Hearing.{good-hears, good-errs, good-says, good-fails, good-reads, good-breaks, good-holds, good-receive_first, good_checks}
-use Rattle.cf_schedule.proofs.Bounding.{within-last_of, bounded-comes, bounded-finishes, bounded-finishes_over, bounded-closes_with, bounded-sends, bounded-hears, bounded-errs, bounded-says, bounded-fails, bounded-reads, bounded-breaks, bounded-holds, bounded-receive_first, bounded_checks}
-use Rattle.cf_schedule.proofs.Brokering.{grow-link, steady-epoch, steady-opened, steady-publish, steady-trim, steady-forget, steady-forget_all, lists-opened, lists-epoch, lists-trim, tops-publish, below-read, within_publication}
+use Rattle.cf_schedule.proofs.Hearing.{good-hears, good-errs_late, good-says, good-fails, good-reads, good-breaks, good-holds, good-receive_first, good_checks}
+use Rattle.cf_schedule.proofs.Bounding.{within-last_of, bounded-comes, bounded-finishes, bounded-finishes_over, bounded-closes_with, bounded-sends, bounded-hears, bounded-errs_late, bounded-says, bounded-fails, bounded-reads, bounded-breaks, bounded-holds, bounded-receive_first, bounded_checks}
+use Rattle.cf_schedule.proofs.Brokering.{grow-link, steady-epoch, steady-opened, steady-opened_in, steady-publish, steady-trim, steady-forget, steady-forget_all, lists-opened, lists-epoch, lists-trim, tops-publish, below-read, within_publication}
 use Rattle.cf_schedule.proofs.Telling.{told, told_first, Knows, Tells, knows-last, tells-front, told-read}
-use Rattle.cf_schedule.proofs.Stepping.{IsFine, IsStep, step_marks, loose_marks, marks, client-hears_first, client-errs, client-says, client-fail_at, client-hold_first, same-found, closes_by-good, closes_by-bounded, closes_by-client, steady-broker_by, same-tops, tops-broker_by, answer-good, answer-bounded, answer_client}
+use Rattle.cf_schedule.proofs.Stepping.{IsFine, IsStep, step_marks, loose_marks, marks, client-hears, client-errs_late, client-says, client-fail_at, client-hold_first, same-found, closes_by-good, closes_by-bounded, closes_by-client, steady-broker_by, same-tops, tops-broker_by, answer-good, answer-bounded, answer_client}
 
 only-nil : (x y : List ℕ) → only x y [] ≡ []
 only-nil x y = by_test (λ ms. ms ≡ []) (bytes_eq x y) [] [] (λ h. refl) (λ h. refl)
@@ -172,21 +172,18 @@ module _ (seen : List ℕ → List ℕ → Seen) (w : World) (f : IsFine seen w)
       (λ x c. (tt, tt, with-all (λ x l. Knows (seen x c) (l.client.modes c)) w.links y (sends e (w.links y)) (rw same (f.knows y c)) (λ x ne. f.knows x c) x))
 
   -- the node hears a command
-  pub heard-step : (cfg : Config) (y : List ℕ) (change : Judgement → Judgement) → IsStep seen (heard cfg y change w) (λ x c. [])
-  heard-step cfg y change = first (w.links y).up
-    where
-      judged_as : (e : Errand) (j : Judgement) → IsStep seen (heard_as cfg y e j w) (λ x c. [])
-      judged_as e j =
-          quiet-step (broker_by cfg (w.links y) e j w.broker) w.boots w.counters w.clients y (closes_by j (hears (is_refused j) (w.links y)))
-          (steady-broker_by cfg (w.links y) e j w.broker f.steady)
-          (tops-broker_by cfg (w.links y) e j w.broker)
-          (closes_by-good (λ c. (seen y c).read) lists j _ (good-hears (λ c. (seen y c).read) lists (is_refused j) (w.links y) (f.good y)))
-          (closes_by-bounded (tops w.broker.lists) lists j _ (bounded-hears (tops w.broker.lists) lists (is_refused j) (w.links y) (f.bounded y)))
-          (closes_by-client j (hears (is_refused j) (w.links y)) ∙ client-hears_first (is_refused j) (w.links y).up (w.links y))
+  pub heard_as-step : (cfg : Config) (y : List ℕ) (k : Sent) (ks : List Sent) (j : Judgement) → (w.links y).up ≡ k ∷ ks → IsStep seen (heard_as cfg y k ks j w) (λ x c. [])
+  heard_as-step cfg y k ks j e =
+      quiet-step (broker_by cfg (w.links y) k.errand j w.broker) w.boots w.counters w.clients y (closes_by j (hears (is_refused j) k ks (w.links y)))
+      (steady-broker_by cfg (w.links y) k.errand j w.broker f.steady)
+      (tops-broker_by cfg (w.links y) k.errand j w.broker)
+      (closes_by-good (λ c. (seen y c).read) lists j _ (good-hears (λ c. (seen y c).read) lists (is_refused j) (w.links y) k ks (f.good y) e))
+      (closes_by-bounded (tops w.broker.lists) lists j _ (bounded-hears (tops w.broker.lists) lists (is_refused j) (w.links y) k ks (f.bounded y) e))
+      (closes_by-client j (hears (is_refused j) k ks (w.links y)) ∙ client-hears (is_refused j) k ks (w.links y))
 
-      first : (ks : List Sent) → IsStep seen (hear_first cfg y change ks w) (λ x c. [])
-      first [] = still
-      first (k ∷ ks) = judged_as k.errand (change (judged cfg w (w.links y) k))
+  pub hear-step : (cfg : Config) (y : List ℕ) (failing : Bool) (ks : List Sent) → (w.links y).up ≡ ks → IsStep seen (hear_first cfg y failing ks w) (λ x c. [])
+  hear-step cfg y failing [] e = still
+  hear-step cfg y failing (k ∷ ks) e = heard_as-step cfg y k ks (failed_if failing (judged cfg w (w.links y) k)) e
 
   -- and answers one
   pub answered-step : (y : List ℕ) (k : Sent) (j : Judgement) → IsStep seen (answered y k j w) (λ x c. [])
@@ -319,89 +316,106 @@ module _ (seen : List ℕ → List ℕ → Seen) (w : World) (f : IsFine seen w)
 
 -- a command is sent, heard and answered
 exchange-step : (cfg : Config) (y : List ℕ) (e : Errand) (seen : List ℕ → List ℕ → Seen) (w : World) (ms : List ℕ → List ℕ → List Mark)
-    → IsStep seen (sent y e w) ms → IsStep seen (exchange cfg y e w) ms
-exchange-step cfg y e seen w ms a =
+    → can_command cfg y e w ≡ true → IsStep seen (sent y e w) ms → IsStep seen (exchange cfg y e w) ms
+exchange-step cfg y e seen w ms can a =
     let seen' : List ℕ → List ℕ → Seen = λ x c. sees_all (seen x c) (ms x c) in
-    let h : IsStep seen' (heard cfg y as_judged (sent y e w)) (λ x c. []) = heard-step seen' (sent y e w) a.fine cfg y as_judged in
-    let r : IsStep seen' (exchange cfg y e w) (λ x c. []) =
-    answered-step seen' (heard cfg y as_judged (sent y e w)) h.fine y (command_by y e w) (judgement cfg y e w) in
+    let k : Sent = command_by y e w in
+    let j : Judgement = judgement cfg y e w in
+    let none : (w.links y).up ≡ [] = nothing-is (w.links y).up (third (is_ready (w.links y)) (id_left (w.links y)) _ _ can) in
+    let up : ((sent y e w).links y).up ≡ k ∷ [] = ap (λ (l : Link). l.up) (with-same w.links y (sends e (w.links y))) ∙ ap (λ (us : List Sent). us ++ k ∷ []) none in
+    let h : IsStep seen' (heard_as cfg y k [] j (sent y e w)) (λ x c. []) = heard_as-step seen' (sent y e w) a.fine cfg y k [] j up in
+    let r : IsStep seen' (exchange cfg y e w) (λ x c. []) = answered-step seen' (heard_as cfg y k [] j (sent y e w)) h.fine y k j in
     afterwards seen (sent y e w) (exchange cfg y e w) ms a r
+  where
+    third : (a b c d : Bool) → (a && (b && (c && d))) ≡ true → c ≡ true
+    third a b c d h = grind arith
+
+    nothing-is : (us : List Sent) → nothing_sent us ≡ true → us ≡ []
+    nothing-is [] h = refl
+    nothing-is (u ∷ us) h = absurd (cc)
+
+second : (a b : Bool) → (a && b) ≡ true → b ≡ true
+second a b h = grind arith
 
 -- each line's effect
 module _ (cfg : Config) (seen : List ℕ → List ℕ → Seen) (w : World) (f : IsFine seen w) where
   last_within : (x c : List ℕ) → LastWithin (tops w.broker.lists c) (last_of ((w.links x).client.modes c))
   last_within x c = within-last_of (tops w.broker.lists c) ((w.links x).client.modes c) ((f.bounded x).modes c)
 
-  effect-step : (e : Event) → IsStep seen (effect cfg w e) (λ x c. step_marks x c w e)
-  effect-step (Epoch e) = broker-step seen w f (epoch_comes e w.broker) (steady-epoch e w.broker f.steady) (same-tops w.broker.lists (epoch_comes e w.broker).lists (lists-epoch e w.broker))
-  effect-step (Connect x n) = connect-step seen w f x n
-  effect-step (Ask x c) = exchange-step cfg x (Subscribe c None) seen w _ (ask-step seen w f x c false None refl tt)
-  effect-step (AskFrom x c) =
-      exchange-step cfg x (Subscribe c (last_of ((w.links x).client.modes c))) seen w _ (ask-step seen w f x c true (last_of ((w.links x).client.modes c)) refl (last_within x c))
-  effect-step (Read x c) = read-step seen w f x c ((w.links x).line.subs c) refl
-  effect-step (Finish x c) =
+  effect-step : (e : Event) → allows cfg w e ≡ true → IsStep seen (effect cfg w e) (λ x c. step_marks x c w e)
+  effect-step (Epoch e) can = broker-step seen w f (epoch_comes e w.broker) (steady-epoch e w.broker f.steady) (same-tops w.broker.lists (epoch_comes e w.broker).lists (lists-epoch e w.broker))
+  effect-step (Connect x n) can = connect-step seen w f x n
+  effect-step (Ask x c) can = exchange-step cfg x (Subscribe c None) seen w _ (second (idle_at x c w) _ can) (ask-step seen w f x c false None refl tt)
+  effect-step (AskFrom x c) can =
+      exchange-step cfg x (Subscribe c (last_of ((w.links x).client.modes c))) seen w _ (second (idle_at x c w) _ can) (ask-step seen w f x c true (last_of ((w.links x).client.modes c)) refl (last_within x c))
+  effect-step (Read x c) can = read-step seen w f x c ((w.links x).line.subs c) refl
+  effect-step (Finish x c) can =
       line-step seen w f x (finishes (wording w.broker.lists) c (w.links x).line)
       (good-finishes (λ c. (seen x c).read) w.broker.lists (w.links x) c (f.good x))
       (bounded-finishes (tops w.broker.lists) w.broker.lists (w.links x) c (f.bounded x))
-  effect-step (Publish c body) =
+  effect-step (Publish c body) can =
       broker-step seen w f (publish (size_of cfg c) c (record { body = body; info = None }) w.broker)
       (steady-publish (size_of cfg c) c (record { body = body; info = None }) w.broker f.steady) (tops-publish (size_of cfg c) c (record { body = body; info = None }) w.broker)
-  effect-step (PublishBy x c body) = exchange-step cfg x (PublishErrand c body) seen w _ (call-step seen w f x (PublishErrand c body) refl tt)
-  effect-step (Deliver n i) = deliver-step seen w f n i (publication i w.broker) refl
-  effect-step (Take x) =
+  effect-step (PublishBy x c body) can = exchange-step cfg x (PublishErrand c body) seen w _ can (call-step seen w f x (PublishErrand c body) refl tt)
+  effect-step (Deliver n i) can = deliver-step seen w f n i (publication i w.broker) refl
+  effect-step (Take x) can =
       receive-step seen w f x (holds (w.links x)) (holds (w.links x)).way
       (good-holds (λ c. (seen x c).read) w.broker.lists (w.links x) (f.good x))
       (bounded-holds (tops w.broker.lists) w.broker.lists (w.links x) (f.bounded x))
       (client-hold_first (w.links x).line.notes (w.links x)) refl
-  effect-step (Break x) = break-step seen w f x
-  effect-step (Leave x c) = exchange-step cfg x (Unsubscribe c) seen w _ (leave-step seen w f x c)
-  effect-step (Trim c k) = broker-step seen w f (trim c k w.broker) (steady-trim c k w.broker f.steady) (same-tops w.broker.lists (trim c k w.broker).lists (lists-trim c k w.broker))
-  effect-step (Forget c) = broker-step seen w f (forget c w.broker) (steady-forget c w.broker f.steady) (λ d i. le_refl _)
-  effect-step BrokerRestart = broker-step seen w f (forget_all w.broker) (steady-forget_all w.broker f.steady) (λ d i. le_refl _)
-  effect-step (Restart n) = restart-step seen w f n
-  effect-step (Check x c) =
+  effect-step (Break x) can = break-step seen w f x
+  effect-step (Leave x c) can = exchange-step cfg x (Unsubscribe c) seen w _ (second (not (idle_at x c w)) _ can) (leave-step seen w f x c)
+  effect-step (Trim c k) can = broker-step seen w f (trim c k w.broker) (steady-trim c k w.broker f.steady) (same-tops w.broker.lists (trim c k w.broker).lists (lists-trim c k w.broker))
+  effect-step (Forget c) can = broker-step seen w f (forget c w.broker) (steady-forget c w.broker f.steady) (λ d i. le_refl _)
+  effect-step BrokerRestart can = broker-step seen w f (forget_all w.broker) (steady-forget_all w.broker f.steady) (λ d i. le_refl _)
+  effect-step (Restart n) can = restart-step seen w f n
+  effect-step (Check x c) can =
       line-step seen w f x (checks (wording w.broker.lists) c (stands_at (w.broker.streams c)) (w.links x).line)
       (good_checks (λ c. (seen x c).read) w.broker.lists (w.links x) c (stands_at (w.broker.streams c)) (f.good x))
       (bounded_checks (tops w.broker.lists) w.broker.lists (w.links x) c (stands_at (w.broker.streams c)) (f.bounded x))
-  effect-step (ListHistory x c limit) = exchange-step cfg x (History c limit) seen w _ (call-step seen w f x (History c limit) refl tt)
+  effect-step (ListHistory x c limit) can = exchange-step cfg x (History c limit) seen w _ can (call-step seen w f x (History c limit) refl tt)
 
-  loose-step : (h : Happening) → IsStep seen (loose_effect cfg w h) (λ x c. loose_marks x c w h)
-  loose-step (LineOf e) = effect-step e
-  loose-step (SendAsk x c) = ask-step seen w f x c false None refl tt
-  loose-step (SendAskFrom x c) = ask-step seen w f x c true (last_of ((w.links x).client.modes c)) refl (last_within x c)
-  loose-step (SendLeave x c) = leave-step seen w f x c
-  loose-step (SendPublish x c body) = call-step seen w f x (PublishErrand c body) refl tt
-  loose-step (SendHistory x c limit) = call-step seen w f x (History c limit) refl tt
-  loose-step (Hear x failing) = heard-step seen w f cfg x (failed_if failing)
-  loose-step (Hold x) =
+  loose-step : (h : Happening) → loosely_allows cfg w h ≡ true → IsStep seen (loose_effect cfg w h) (λ x c. loose_marks x c w h)
+  loose-step (LineOf e) can = effect-step e can
+  loose-step (SendAsk x c) can = ask-step seen w f x c false None refl tt
+  loose-step (SendAskFrom x c) can = ask-step seen w f x c true (last_of ((w.links x).client.modes c)) refl (last_within x c)
+  loose-step (SendLeave x c) can = leave-step seen w f x c
+  loose-step (SendPublish x c body) can = call-step seen w f x (PublishErrand c body) refl tt
+  loose-step (SendHistory x c limit) can = call-step seen w f x (History c limit) refl tt
+  loose-step (Hear x failing) can = hear-step seen w f cfg x failing (w.links x).up refl
+  loose-step (Hold x) can =
       quiet-link seen w f x (holds (w.links x)) (good-holds (λ c. (seen x c).read) w.broker.lists (w.links x) (f.good x))
       (bounded-holds (tops w.broker.lists) w.broker.lists (w.links x) (f.bounded x)) (client-hold_first (w.links x).line.notes (w.links x))
-  loose-step (Receive x) = receive-step seen w f x (w.links x) (w.links x).way (f.good x) (f.bounded x) refl refl
-  loose-step (ErrorEnters x c id code) =
-      quiet-link seen w f x (errs (wording w.broker.lists) c id code (w.links x)) (good-errs (λ d. (seen x d).read) w.broker.lists (w.links x) c id code (f.good x))
-      (bounded-errs (tops w.broker.lists) w.broker.lists (w.links x) c id code (f.bounded x)) (client-errs w.broker.lists c id code (w.links x))
-  loose-step (NoteEnters x n) =
+  loose-step (Receive x) can = receive-step seen w f x (w.links x) (w.links x).way (f.good x) (f.bounded x) refl refl
+  loose-step (ErrorEnters x id code) can =
+      quiet-link seen w f x (errs_late (wording w.broker.lists) id code (w.links x)) (good-errs_late (λ d. (seen x d).read) w.broker.lists (w.links x) id code (f.good x))
+      (bounded-errs_late (tops w.broker.lists) w.broker.lists (w.links x) id code (f.bounded x)) (client-errs_late w.broker.lists id code (w.links x))
+  loose-step (NoteEnters x n) can =
       quiet-link seen w f x (says (wording w.broker.lists) n (w.links x)) (good-says (λ d. (seen x d).read) w.broker.lists (w.links x) n (f.good x))
       (bounded-says (tops w.broker.lists) w.broker.lists (w.links x) n (f.bounded x)) (client-says w.broker.lists n (w.links x))
-  loose-step (Fail x c) =
+  loose-step (Fail x c) can =
       quiet-link seen w f x (fails c (w.links x)) (good-fails (λ d. (seen x d).read) w.broker.lists (w.links x) c (f.good x))
       (bounded-fails (tops w.broker.lists) w.broker.lists (w.links x) c (f.bounded x)) (client-fail_at c ((w.links x).line.subs c) (w.links x))
-  loose-step (FinishOver x c) =
+  loose-step (FinishOver x c) can =
       line-step seen w f x (finishes_over (wording w.broker.lists) c (w.links x).line) (good-finishes_over (λ d. (seen x d).read) w.broker.lists (w.links x) c (f.good x))
       (bounded-finishes_over (tops w.broker.lists) w.broker.lists (w.links x) c (f.bounded x))
-  loose-step (CloseNow x code) =
+  loose-step (CloseNow x code) can =
       line-step seen w f x (closes_now (Close code) (w.links x).line) (good-closes_with (λ d. (seen x d).read) w.broker.lists (w.links x) code (f.good x))
       (bounded-closes_with (tops w.broker.lists) w.broker.lists (w.links x) code (f.bounded x))
-  loose-step (CheckAgainst x c top) =
+  loose-step (CheckAgainst x c top) can =
       line-step seen w f x (checks (wording w.broker.lists) c top (w.links x).line) (good_checks (λ d. (seen x d).read) w.broker.lists (w.links x) c top (f.good x))
       (bounded_checks (tops w.broker.lists) w.broker.lists (w.links x) c top (f.bounded x))
+  loose-step (Join x n) can = connect-step seen w f x n
+  loose-step (PublishAny c d) can =
+      broker-step seen w f (publish (size_of cfg c) c d w.broker) (steady-publish (size_of cfg c) c d w.broker f.steady) (tops-publish (size_of cfg c) c d w.broker)
+  loose-step (OpenIn c e) can = broker-step seen w f (opened_in c e w.broker) (steady-opened_in c e w.broker can f.steady) (λ d i. le_refl _)
 
   pub step : (h : Happening) → IsStep seen (befalls cfg w h) (λ x c. marks cfg x c w h)
   step h = allowed (loosely_allows cfg w h) (loose-step h)
     where
-      allowed : (b : Bool) → IsStep seen (loose_effect cfg w h) (λ x c. loose_marks x c w h)
+      allowed : (b : Bool) → (b ≡ true → IsStep seen (loose_effect cfg w h) (λ x c. loose_marks x c w h))
           → IsStep seen (if b then loose_effect cfg w h else w) (λ x c. if b then loose_marks x c w h else [])
-      allowed true k = k
+      allowed true k = k refl
       allowed false k = still seen w f
 
 -- from any world that is fine
@@ -420,6 +434,7 @@ pub fine-start : IsFine (λ x c. nothing_seen) start
 fine-start = record {
   steady = record {
     top = λ c. tt;
+    held = λ c. tt;
     unused = λ e h c. refl;
     unseen = λ e h c. refl;
     waiting_came = λ e h. h;

@@ -17,8 +17,8 @@ use Rattle.cf_schedule.specs.ClientCalls.{IsSame, ask_fault, client_of, is_conne
 use Rattle.cf_schedule.specs.Config.{Config}
 use Rattle.cf_schedule.specs.Errand.{Errand, Subscribe, Sent, command_of}
 use Rattle.cf_schedule.specs.Event.{Ask}
-use Rattle.cf_schedule.specs.IntervalMachine.{allows, effect, sent, heard, hear_first, heard_as, as_judged, answered, command_by, judgement, exchange, is_refused, idle_at, can_command, id_left, lacks_epoch}
-use Rattle.cf_schedule.specs.Link.{Link, no_link, sends, hears, hears_subscribe}
+use Rattle.cf_schedule.specs.IntervalMachine.{allows, effect, sent, heard_as, answered, command_by, judgement, exchange, is_refused, idle_at, can_command, id_left, nothing_sent, lacks_epoch}
+use Rattle.cf_schedule.specs.Link.{Link, no_link, with_line, sends, is_heard, hears, hears_subscribe}
 use Rattle.cf_schedule.specs.NodeState.{line_on, kept_on, subscriptions_on, holds_on, rows_on, OneOn, BeginsOn}
 use Rattle.cf_schedule.specs.NotYet.{IsNotYet}
 use Rattle.cf_schedule.specs.Refusals.{Judgement, Unheard, TooLong, Refused, Accepted, judged, judged_in, refused_if, is_bad, has_no_room, node_is_full, longest_command, most_channels, most_rows, last_id, bad_request, already_subscribed, limit_exceeded}
@@ -60,7 +60,7 @@ le-over a b h = grind (arith, nat_tests)
 pub ask-nobody : (cfg : Config) (m : World) (x c : List ℕ) → m.links x ≡ no_link → allows cfg m (Ask x c) ≡ false
 ask-nobody cfg m x c h =
     and-false (idle_at x c m) (can_command cfg x (Subscribe c None) m)
-    (ap (λ (l : Link). is_ready l && (id_left (m.links x) && not (lacks_epoch (judgement cfg x (Subscribe c None) m) (Subscribe c None) m.broker))) h)
+    (ap (λ (l : Link). is_ready l && (id_left (m.links x) && (nothing_sent (m.links x).up && not (lacks_epoch (judgement cfg x (Subscribe c None) m) (Subscribe c None) m.broker)))) h)
 
 pub ask-unbuilt : (cfg : Config) (m : World) (x c : List ℕ) → allows cfg m (Ask x c) ≡ false → IsNotYet cfg m (Ask x c) → ⊥
 ask-unbuilt cfg m x c h k =
@@ -124,7 +124,7 @@ module _ {cfg : Config} {table : NamespaceTable} {code : Code} {ns : Nodes} {pee
       let some : any_unfinished (m.links x).line.subs (m.links x).line.channels ≡ true =
       line-is (any_unfinished (m.links x).line.subs (m.links x).line.channels) (λ v e s. by_any (any_unfinished (m.links x).line.subs (m.links x).line.channels) refl v e s) in
       and-false (idle_at x c m) (can_command cfg x (Subscribe c None) m)
-      (λ i. (is_some (shown.node i) && not (some i)) && (id_left (m.links x) && not (lacks_epoch (judgement cfg x (Subscribe c None) m) (Subscribe c None) m.broker)))
+      (λ i. (is_some (shown.node i) && not (some i)) && (id_left (m.links x) && (nothing_sent (m.links x).up && not (lacks_epoch (judgement cfg x (Subscribe c None) m) (Subscribe c None) m.broker))))
     where
       by_any : (b : Bool) → any_unfinished (m.links x).line.subs (m.links x).line.channels ≡ b → (v : Line (List ℕ)) → line_on ns p.node p.session ≡ Some v → ShowsLine cfg.namespaces m.broker.lists v (m.links x).line → b ≡ true
       by_any true f v e s = refl
@@ -144,7 +144,7 @@ module _ {cfg : Config} {table : NamespaceTable} {code : Code} {ns : Nodes} {pee
       by_two false b e f = λ i. e i && can_command cfg x (Subscribe c None) m
       by_two true false e f =
           and-false (idle_at x c m) (can_command cfg x (Subscribe c None) m)
-          (and-false (is_ready (m.links x)) _ (λ i. f i && not (lacks_epoch (judgement cfg x (Subscribe c None) m) (Subscribe c None) m.broker)))
+          (and-false (is_ready (m.links x)) _ (λ i. f i && (nothing_sent (m.links x).up && not (lacks_epoch (judgement cfg x (Subscribe c None) m) (Subscribe c None) m.broker))))
       by_two true true e f = absurd (h (fault-none c (client_of p.client) (idle-is ∙ e) (left-is ∙ f)))
 
   -- the client stays as it was
@@ -184,7 +184,7 @@ module _ {cfg : Config} {table : NamespaceTable} {code : Code} {ns : Nodes} {pee
   pub ask-allowed : ((v : Line (List ℕ)) → line_on ns p.node p.session ≡ Some v → (d : List ℕ) → is_unfinished (v.subs d) ≡ false) → ask_fault c true (client_of p.client) ≡ None → allows cfg m (Ask x c) ≡ true
   ask-allowed ready h =
       let l = idle-left c (client_of p.client) h in
-      λ i. (sym idle-is ∙ l.0) i && ((is_some (shown.node i) && ready-is ready i) && ((sym left-is ∙ l.1) i && not (lacks (judgement cfg x (Subscribe c None) m) i)))
+      λ i. (sym idle-is ∙ l.0) i && ((is_some (shown.node i) && ready-is ready i) && ((sym left-is ∙ l.1) i && (nothing_sent (shown.up i) && not (lacks (judgement cfg x (Subscribe c None) m) i))))
     where
       lacks : (j : Judgement) → lacks_epoch j (Subscribe c None) m.broker ≡ false
       lacks Unheard = refl
@@ -271,6 +271,7 @@ module _ {cfg : Config} {table : NamespaceTable} {code : Code} {ns : Nodes} {pee
       record (m.links x) {
         client = asks c None (m.links x).client;
         up = [];
+        done = command_by x (Subscribe c None) m ∷ (m.links x).done;
         heard = suc (m.links x).client.fresh;
         line = begins c (m.links x).client.fresh None (m.links x).line;
       }
@@ -281,14 +282,12 @@ module _ {cfg : Config} {table : NamespaceTable} {code : Code} {ns : Nodes} {pee
   off-sub (Ready id was r arrived) h = absurd (cc)
   off-sub (On q mark) h = absurd (cc)
 
-  hears-is : is_off ((m.links x).line.subs c) ≡ true → hears false sent-link ≡ begun-link
+  hears-is : is_off ((m.links x).line.subs c) ≡ true → hears false (command_by x (Subscribe c None) m) [] sent-link ≡ begun-link
   hears-is off =
       let l : Link = m.links x in
       let id : ℕ = l.client.fresh in
-      let one : Link = record l { client = asks c None l.client; up = command_by x (Subscribe c None) m ∷ [] } in
-      ap (λ (u : List Sent). hears false (record l { client = asks c None l.client; up = u ++ command_by x (Subscribe c None) m ∷ [] })) shown.up
-      ∙ ap (λ (s : Sub). hears_subscribe false c id None [] s one) (off-sub (l.line.subs c) off)
-      ∙ ap (λ (b : Bool). record one { up = []; heard = suc id; line = if b || false then l.line else begins c id None l.line }) closed-is
+      ap (λ (s : Sub). hears_subscribe false c id None [] s sent-link) (off-sub (l.line.subs c) off)
+      ∙ ap (λ (b : Bool). with_line (if b || false then l.line else begins c id None l.line) (is_heard id (Subscribe c None) [] sent-link)) closed-is
 
   twice : (a b : Link) (y : List ℕ) → with (with m.links x a) x b y ≡ with m.links x b y
   twice a b y = by_name (bytes_eq y x)
@@ -298,37 +297,19 @@ module _ {cfg : Config} {table : NamespaceTable} {code : Code} {ns : Nodes} {pee
       by_name false = refl
 
   exchange-is : is_off ((m.links x).line.subs c) ≡ true → judgement cfg x (Subscribe c None) m ≡ Accepted
-      → judged cfg (sent x (Subscribe c None) m) ((sent x (Subscribe c None) m).links x) (command_by x (Subscribe c None) m) ≡ Accepted
       → exchange cfg x (Subscribe c None) m ≡ link_with x begun-link m
-  exchange-is off j0 j1 =
+  exchange-is off j0 =
       let e : Errand = Subscribe c None in
       let k : Sent = command_by x e m in
       let w1 : World = sent x e m in
       let at : w1.links x ≡ sent-link = with-same m.links x sent-link in
-      let up : (w1.links x).up ≡ k ∷ [] = ap (λ (z : Link). z.up) at ∙ ap (λ (u : List Sent). u ++ k ∷ []) shown.up in
-      let first : heard cfg x as_judged w1 ≡ heard_as cfg x e Accepted w1 =
-      ap (λ (u : List Sent). hear_first cfg x as_judged u w1) up ∙ ap (λ (j : Judgement). heard_as cfg x e j w1) j1 in
-      let then-link : hears false (w1.links x) ≡ begun-link = ap (hears false) at ∙ hears-is off in
-      let both : heard_as cfg x e Accepted w1 ≡ link_with x begun-link m =
+      let then-link : hears false k [] (w1.links x) ≡ begun-link = ap (hears false k []) at ∙ hears-is off in
+      let both : heard_as cfg x k [] Accepted w1 ≡ link_with x begun-link m =
       ap (λ (z : Link). record w1 { links = with w1.links x z }) then-link
       ∙ (λ i. record m { links = λ y. twice sent-link begun-link y i }) in
-      let there : heard cfg x as_judged w1 ≡ link_with x begun-link m = first ∙ both in
-      (λ i. answered x k (j0 i) (there i))
+      ap (λ (j : Judgement). answered x k j (heard_as cfg x k [] j w1)) j0
+      ∙ ap (answered x k Accepted) both
       ∙ own-link x ((link_with x begun-link m).links x) (link_with x begun-link m) refl
-
-  -- as judged once the command was sent: the counts are as they were
-  sent-room : has_no_room (m.links x) m ≡ false → has_no_room ((sent x (Subscribe c None) m).links x) (sent x (Subscribe c None) m) ≡ false
-  sent-room h =
-      let w1 : World = sent x (Subscribe c None) m in
-      let at : w1.links x ≡ sent-link = with-same m.links x sent-link in
-      let counts : (n : ℕ) → rows_of n w1.links m.clients ≡ rows_of n m.links m.clients =
-      λ n. rows-same w1.links m.links (with-node m.links x sent-link refl) (with-rows m.links x sent-link refl) n m.clients in
-      ap (λ (z : Link). has_no_room z w1) at ∙ by_node (m.links x).node counts ∙ h
-    where
-      by_node : (o : Option ℕ) → ((n : ℕ) → rows_of n (sent x (Subscribe c None) m).links m.clients ≡ rows_of n m.links m.clients)
-          → (nat_le most_channels (rows (m.links x).line) || node_is_full o (sent x (Subscribe c None) m)) ≡ (nat_le most_channels (rows (m.links x).line) || node_is_full o m)
-      by_node None g = refl
-      by_node (Some n) g = ap (λ (r : ℕ). nat_le most_channels (rows (m.links x).line) || nat_le most_rows r) (g n)
 
   pub ask-goes : (new : CodeClient) (more : Nodes) (after : List ℕ → Option Peer) → ((y : List ℕ) → after y ≡ with peers x (Some (record p { client = new })) y)
       → IsSame (client_of new) (asks c None (client_of p.client)) → is_connected new ≡ is_connected p.client → ask_fault c true (client_of p.client) ≡ None
@@ -339,11 +320,7 @@ module _ {cfg : Config} {table : NamespaceTable} {code : Code} {ns : Nodes} {pee
   ask-goes new more after now same stays may short served fits one begun kept =
       let room = has-room (is_off ((m.links x).line.subs c)) (has_no_room (m.links x) m) (sym room-is ∙ fits) in
       let good = served-good served in
-      let w1 : World = sent x (Subscribe c None) m in
-      let at : w1.links x ≡ sent-link = with-same m.links x sent-link in
       let j0 : judgement cfg x (Subscribe c None) m ≡ Accepted = accepted-by m (m.links x) closed-is (short-is short) good.0 good.1 good.2 room.0 room.1 in
-      let j1 : judged cfg w1 (w1.links x) (command_by x (Subscribe c None) m) ≡ Accepted =
-      accepted-by w1 (w1.links x) (ap (λ (z : Link). z.line.closed) at ∙ closed-is) (short-is short) good.0 good.1 good.2 (ap (λ (z : Link). is_off (z.line.subs c)) at ∙ room.0) (sent-room room.1) in
       let more-rows : rows (begins c (m.links x).client.fresh None (m.links x).line) ≡ suc (rows (m.links x).line) = by_line (line_on ns p.node p.session) shown.line room.0 in
       let set : IsSome (settings_of cfg.namespaces c) = ap is_some good.2 in
       let moved : AreTied cfg table code more after (link_with x begun-link m) =
@@ -368,7 +345,7 @@ module _ {cfg : Config} {table : NamespaceTable} {code : Code} {ns : Nodes} {pee
         };
         connected = stays ∙ shown.connected;
       }) in
-      (j0, subst (λ (z : World). AreTied cfg table code more after z) (sym (exchange-is room.0 j0 j1)) moved)
+      (j0, subst (λ (z : World). AreTied cfg table code more after z) (sym (exchange-is room.0 j0)) moved)
     where
       by_line : (o : Option (Line (List ℕ))) → ShowsAt cfg.namespaces m.broker.lists o (m.links x).line → is_off ((m.links x).line.subs c) ≡ true → rows (begins c (m.links x).client.fresh None (m.links x).line) ≡ suc (rows (m.links x).line)
       by_line None s off = absurd s

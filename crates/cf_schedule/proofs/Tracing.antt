@@ -6,7 +6,7 @@ use Rattle.cf_protocol.specs.Note.{Lists, Reading, Note, Reply, Pub, End, Fails,
 use Rattle.cf_stream.specs.StreamState.{StreamState, last_offset}
 use Rattle.cf_recovery.specs.Verdict.{next}
 use Rattle.cf_hub.specs.Connection.{Sub, Off, Asked, Ready, On}
-use Rattle.cf_client.specs.ClientState.{Mode, Idle, Asking, Live, Client, is_out}
+use Rattle.cf_client.specs.ClientState.{Mode, Idle, Asking, Live, Client, last_of, is_out}
 use Rattle.cf_schedule.specs.Config.{Config}
 use Rattle.cf_schedule.specs.Event.{Event, Epoch, Connect, Ask, AskFrom, Read, Finish, Publish, PublishBy, Deliver, Take, Break, Leave, Trim, Forget, BrokerRestart, Restart, Check, ListHistory}
 use Rattle.cf_schedule.specs.Errand.{Errand, Sent, Subscribe, Unsubscribe, Publish as PublishErrand, History}
@@ -14,8 +14,8 @@ use Rattle.cf_schedule.specs.PublicationList.{Place, Broker, tops, body_of, datu
 use Rattle.cf_schedule.specs.Link.{Link, holds}
 use Rattle.cf_schedule.specs.World.{World, start, broker_with}
 use Rattle.cf_schedule.specs.Refusals.{Judgement, Unheard, TooLong, Refused as Rejected, Accepted, judged}
-use Rattle.cf_schedule.specs.IntervalMachine.{size_of, datum_by, sent, carried_out, broker_by, hear_first, heard, as_judged, exchange, delivered, read_found, read_at, effect}
-use Rattle.cf_schedule.specs.LooseRun.{Happening, Line, SendAsk, SendAskFrom, SendLeave, SendPublish, SendHistory, Hear, Hold, Receive, ErrorEnters, NoteEnters, Fail, FinishOver, CloseNow, CheckAgainst, failed_if, loose_effect, loosely_allows, befalls, loose_run}
+use Rattle.cf_schedule.specs.IntervalMachine.{size_of, datum_by, sent, carried_out, broker_by, judgement, exchange, delivered, read_found, read_at, effect}
+use Rattle.cf_schedule.specs.LooseRun.{Happening, Line, SendAsk, SendAskFrom, SendLeave, SendPublish, SendHistory, Hear, Hold, Receive, ErrorEnters, NoteEnters, Fail, FinishOver, CloseNow, CheckAgainst, Join, PublishAny, OpenIn, failed_if, hear_first, loose_effect, loosely_allows, befalls, loose_run}
 use Rattle.cf_schedule.specs.Trace.{Item, Subscribed, Published, Resubscribing, Refused, Listed, Closed, Entry}
 use Rattle.cf_schedule.specs.Told.{run_items, reading_items, reply_items, pub_items, end_items, asks_under, first_items, entries, told_first, tells, loosely_tells, loosely_writes, loose_trace}
 use Rattle.cf_schedule.specs.StreamSafety.{IsTrueTo, AreTrueTo, lists_before}
@@ -78,21 +78,18 @@ on-broker_by cfg l e TooLong b = on-same _ _ refl
 on-broker_by cfg l e (Rejected code) b = on-same _ _ refl
 on-broker_by cfg l e Accepted b = on-carried cfg l e b
 
-on-heard : (cfg : Config) (x : List ℕ) (change : Judgement → Judgement) (w : World) → GoesOn w.broker.lists (heard cfg x change w).broker.lists
-on-heard cfg x change w = first (w.links x).up
-  where
-    first : (ks : List Sent) → GoesOn w.broker.lists (hear_first cfg x change ks w).broker.lists
-    first [] = on-same _ _ refl
-    first (k ∷ ks) = on-broker_by cfg (w.links x) k.errand (change (judged cfg w (w.links x) k)) w.broker
-
 on-exchange : (cfg : Config) (x : List ℕ) (e : Errand) (w : World) → GoesOn w.broker.lists (exchange cfg x e w).broker.lists
-on-exchange cfg x e w = on-heard cfg x as_judged (sent x e w)
+on-exchange cfg x e w = on-broker_by cfg ((sent x e w).links x) e (judgement cfg x e w) w.broker
+
+on-hear : (cfg : Config) (x : List ℕ) (failing : Bool) (w : World) (ks : List Sent) → GoesOn w.broker.lists (hear_first cfg x failing ks w).broker.lists
+on-hear cfg x failing w [] = on-same _ _ refl
+on-hear cfg x failing w (k ∷ ks) = on-broker_by cfg (w.links x) k.errand (failed_if failing (judged cfg w (w.links x) k)) w.broker
 
 on-effect : (cfg : Config) (w : World) (e : Event) → GoesOn w.broker.lists (effect cfg w e).broker.lists
 on-effect cfg w (Epoch e) = on-same _ _ (lists-epoch e w.broker)
 on-effect cfg w (Connect x n) = on-same _ _ refl
-on-effect cfg w (Ask x c) = on-exchange cfg x _ w
-on-effect cfg w (AskFrom x c) = on-exchange cfg x _ w
+on-effect cfg w (Ask x c) = on-exchange cfg x (Subscribe c None) w
+on-effect cfg w (AskFrom x c) = on-exchange cfg x (Subscribe c (last_of ((w.links x).client.modes c))) w
 on-effect cfg w (Read x c) = of_sub ((w.links x).line.subs c)
   where
     of_stream : (since : Option Position) (o : Option StreamState) → GoesOn w.broker.lists (read_found x c since o (broker_with (opened c w.broker) w)).broker.lists
@@ -106,7 +103,7 @@ on-effect cfg w (Read x c) = of_sub ((w.links x).line.subs c)
     of_sub (On p mark) = on-same _ _ refl
 on-effect cfg w (Finish x c) = on-same _ _ refl
 on-effect cfg w (Publish c body) = on-publish (size_of cfg c) c (record { body = body; info = None }) w.broker
-on-effect cfg w (PublishBy x c body) = on-exchange cfg x _ w
+on-effect cfg w (PublishBy x c body) = on-exchange cfg x (PublishErrand c body) w
 on-effect cfg w (Deliver n i) = of_place (publication i w.broker)
   where
     of_place : (o : Option Place) → GoesOn w.broker.lists (delivered n o w).broker.lists
@@ -114,17 +111,17 @@ on-effect cfg w (Deliver n i) = of_place (publication i w.broker)
     of_place (Some p) = on-same _ _ refl
 on-effect cfg w (Take x) = on-same _ _ refl
 on-effect cfg w (Break x) = on-same _ _ refl
-on-effect cfg w (Leave x c) = on-exchange cfg x _ w
+on-effect cfg w (Leave x c) = on-exchange cfg x (Unsubscribe c) w
 on-effect cfg w (Trim c k) = on-same _ _ (lists-trim c k w.broker)
 on-effect cfg w (Forget c) = on-same _ _ refl
 on-effect cfg w BrokerRestart = on-same _ _ refl
 on-effect cfg w (Restart n) = on-same _ _ refl
 on-effect cfg w (Check x c) = on-same _ _ refl
-on-effect cfg w (ListHistory x c limit) = on-exchange cfg x _ w
+on-effect cfg w (ListHistory x c limit) = on-exchange cfg x (History c limit) w
 
 on-loose : (cfg : Config) (w : World) (h : Happening) → GoesOn w.broker.lists (loose_effect cfg w h).broker.lists
 on-loose cfg w (Line e) = on-effect cfg w e
-on-loose cfg w (Hear x failing) = on-heard cfg x (failed_if failing) w
+on-loose cfg w (Hear x failing) = on-hear cfg x failing w (w.links x).up
 on-loose cfg w (SendAsk x c) = on-same _ _ refl
 on-loose cfg w (SendAskFrom x c) = on-same _ _ refl
 on-loose cfg w (SendLeave x c) = on-same _ _ refl
@@ -132,12 +129,15 @@ on-loose cfg w (SendPublish x c body) = on-same _ _ refl
 on-loose cfg w (SendHistory x c limit) = on-same _ _ refl
 on-loose cfg w (Hold x) = on-same _ _ refl
 on-loose cfg w (Receive x) = on-same _ _ refl
-on-loose cfg w (ErrorEnters x c id code) = on-same _ _ refl
+on-loose cfg w (ErrorEnters x id code) = on-same _ _ refl
 on-loose cfg w (NoteEnters x n) = on-same _ _ refl
 on-loose cfg w (Fail x c) = on-same _ _ refl
 on-loose cfg w (FinishOver x c) = on-same _ _ refl
 on-loose cfg w (CloseNow x code) = on-same _ _ refl
 on-loose cfg w (CheckAgainst x c top) = on-same _ _ refl
+on-loose cfg w (Join x n) = on-same _ _ refl
+on-loose cfg w (PublishAny c d) = on-publish (size_of cfg c) c d w.broker
+on-loose cfg w (OpenIn c e) = on-same _ _ refl
 
 on-befalls : (cfg : Config) (w : World) (h : Happening) → GoesOn w.broker.lists (befalls cfg w h).broker.lists
 on-befalls cfg w h = allowed (loosely_allows cfg w h)

@@ -69,6 +69,10 @@ abbrev pub HasTop : (List ℕ → ℕ) → Option StreamState → Type 0
 HasTop top None = Unit {0}
 HasTop top (Some s) = top s.epoch ≡ s.top
 
+abbrev pub HoldsWithin : Option StreamState → Type 0
+HoldsWithin None = Unit {0}
+HoldsWithin (Some s) = s.held ≤ s.top
+
 abbrev pub IsApart : List (List ℕ) → Option StreamState → Type 0
 IsApart waiting None = Unit {0}
 IsApart waiting (Some s) = is_among s.epoch waiting ≡ false
@@ -81,9 +85,10 @@ abbrev pub PlacesWithin : (List ℕ → List ℕ → ℕ) → List Place → Typ
 PlacesWithin tops [] = Unit {0}
 PlacesWithin tops (p ∷ ps) = IsWithin (tops p.channel) p.at × PlacesWithin tops ps
 
--- Each stream's top is the length of its list, no epoch that waits has a list, and none is drawn twice.
+-- Each stream's top is the length of its list and it holds no more, no epoch that waits has a list, and none is drawn twice.
 pub record IsSteady (b : Broker) : Type 0 where
   pub top : (c : List ℕ) → HasTop (tops b.lists c) (b.streams c)
+  pub held : (c : List ℕ) → HoldsWithin (b.streams c)
   pub unused : (e : List ℕ) → is_among e b.waiting ≡ true → (c : List ℕ) → tops b.lists c e ≡ 0
   pub unseen : (e : List ℕ) → is_among e b.came ≡ false → (c : List ℕ) → tops b.lists c e ≡ 0
   pub waiting_came : (e : List ℕ) → is_among e b.waiting ≡ true → is_among e b.came ≡ true

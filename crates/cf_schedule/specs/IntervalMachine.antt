@@ -59,23 +59,13 @@ abbrev pub is_refused : Judgement → Bool
 is_refused Accepted = false
 is_refused j = true
 
-abbrev pub heard_as : Config → List ℕ → Errand → Judgement → World → World
-heard_as cfg x e j w =
+-- the node of x does what the judgement of a command says, and `rest` is left on its way
+abbrev pub heard_as : Config → List ℕ → Sent → List Sent → Judgement → World → World
+heard_as cfg x k rest j w =
     record w {
-      broker = broker_by cfg (w.links x) e j w.broker;
-      links = with w.links x (closes_by j (hears (is_refused j) (w.links x)));
+      broker = broker_by cfg (w.links x) k.errand j w.broker;
+      links = with w.links x (closes_by j (hears (is_refused j) k rest (w.links x)));
     }
-
-abbrev pub hear_first : Config → List ℕ → (Judgement → Judgement) → List Sent → World → World
-hear_first cfg x change [] w = w
-hear_first cfg x change (k ∷ rest) w = heard_as cfg x k.errand (change (judged cfg w (w.links x) k)) w
-
--- the node of x hears the first of the commands that are on their way
-abbrev pub heard : Config → List ℕ → (Judgement → Judgement) → World → World
-heard cfg x change w = hear_first cfg x change (w.links x).up w
-
-abbrev pub as_judged : Judgement → Judgement
-as_judged j = j
 
 abbrev pub listing : Wording Note → List ℕ → ℕ → ℤ → Option StreamState → Link → Link
 listing w c id limit None l = l
@@ -104,8 +94,12 @@ command_by x e w = record { id = (w.links x).client.fresh; errand = e }
 abbrev pub judgement : Config → List ℕ → Errand → World → Judgement
 judgement cfg x e w = judged cfg w (w.links x) (command_by x e w)
 
+-- The command is sent and gets a judgement; the node does what that says, and says its answer. Nothing else is on its way.
 abbrev pub exchange : Config → List ℕ → Errand → World → World
-exchange cfg x e w = answered x (command_by x e w) (judgement cfg x e w) (heard cfg x as_judged (sent x e w))
+exchange cfg x e w =
+    let k = command_by x e w in
+    let j = judgement cfg x e w in
+    answered x k j (heard_as cfg x k [] j (sent x e w))
 
 -- ---- the other events
 
@@ -201,9 +195,14 @@ lacks_epoch Accepted (PublishErrand c body) b = not (can_open c b)
 lacks_epoch Accepted (History c limit) b = not (can_open c b)
 lacks_epoch j e b = false
 
+-- no command is on its way to the node
+abbrev pub nothing_sent : List Sent → Bool
+nothing_sent [] = true
+nothing_sent (k ∷ ks) = false
+
 abbrev pub can_command : Config → List ℕ → Errand → World → Bool
 can_command cfg x e w =
-    is_ready (w.links x) && (id_left (w.links x) && not (lacks_epoch (judgement cfg x e w) e w.broker))
+    is_ready (w.links x) && (id_left (w.links x) && (nothing_sent (w.links x).up && not (lacks_epoch (judgement cfg x e w) e w.broker)))
 
 abbrev pub idle_at : List ℕ → List ℕ → World → Bool
 idle_at x c w = is_idle ((w.links x).client.modes c)

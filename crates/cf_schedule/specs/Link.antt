@@ -1,13 +1,13 @@
 -- One client and its connection: the client, its session on the node, and what travels between them.
 -- Nothing else lies between a client and its node. A connection gives, in order, a prefix of what was sent on it.
-use Rattle.std.specs.Prelude.{ℕ, suc, ◌==◌, nat_lt, ◌&&◌, ◌||◌, not, Bool, true, false, if◌then◌else◌, Option, None, List, [], ◌∷◌, ◌++◌}
+use Rattle.std.specs.Prelude.{ℕ, suc, ◌==◌, nat_lt, ◌&&◌, ◌||◌, not, Bool, true, false, if◌then◌else◌, Option, Some, None, List, [], ◌∷◌, ◌++◌}
 use Rattle.cf_protocol.specs.Position.{Position}
 use Rattle.cf_protocol.specs.Note.{Note, Reply, Pub, End, Fails, Put as Accepted, Left, Listed, PingDue, Close}
 use Rattle.cf_hub.specs.Connection.{Sub, Off, Asked, Ready, On, Wording, Line, opens, closes_now, push, put_sub, end_at, begins}
 use Rattle.cf_hub.specs.Connection as line
 use Rattle.cf_client.specs.ClientState.{Client, new_client, asks, calls_for, reconnects, hears as takes_note}
 use Rattle.cf_client.specs.ClientState as client
-use Rattle.cf_schedule.specs.Errand.{Errand, Subscribe, Unsubscribe, Publish, History, Sent}
+use Rattle.cf_schedule.specs.Errand.{Errand, Subscribe, Unsubscribe, Publish, History, Sent, channel_of}
 
 pub record Link : Type 0 where
   -- the node that it is connected to, and its client id there
@@ -17,14 +17,15 @@ pub record Link : Type 0 where
   pub line : Line Note
   -- the notes that left the node and did not reach the client yet
   pub way : List Note
-  -- the commands that left the client and were not heard yet; those of ids below this were
+  -- the commands that left the client and were not heard yet; those that were, the latest first; their ids are below this
   pub up : List Sent
+  pub done : List Sent
   pub heard : ℕ
   pub client : Client
 
 -- a client that never connected
 abbrev pub no_link : Link
-no_link = record { node = None; name = []; line = opens; way = []; up = []; heard = client.first_id; client = new_client }
+no_link = record { node = None; name = []; line = opens; way = []; up = []; done = []; heard = client.first_id; client = new_client }
 
 -- something happens at its session
 abbrev pub with_line : Line Note → Link → Link
@@ -44,7 +45,7 @@ sends e l = record l { client = client_sends e l.client; up = l.up ++ record { i
 
 -- the connection ends, and what was on its way is lost
 abbrev pub breaks : Link → Link
-breaks l = record { node = None; name = []; line = opens; way = []; up = []; heard = client.first_id; client = reconnects l.client }
+breaks l = record { node = None; name = []; line = opens; way = []; up = []; done = []; heard = client.first_id; client = reconnects l.client }
 
 -- a note reaches the client; a close ends the connection
 abbrev pub gets : Note → Link → Link
@@ -69,27 +70,27 @@ receives l = receive_first l.way l
 
 -- ---- the node's side
 
--- A command is heard, in the order in which they were sent. A subscribe waits while the one before it for its channel is
+-- a command is heard, and `rest` is left on its way
+abbrev pub is_heard : ℕ → Errand → List Sent → Link → Link
+is_heard id e rest l = record l { up = rest; done = record { id = id; errand = e } ∷ l.done; heard = suc id }
+
+-- Commands are heard in the order in which they were sent. A subscribe waits while the one before it for its channel is
 -- unfinished; it begins a subscription unless the node refuses it, or the session is closed.
 abbrev pub hears_subscribe : Bool → List ℕ → ℕ → Option Position → List Sent → Sub → Link → Link
 hears_subscribe refused c id from rest Off l =
-    record l { up = rest; heard = suc id; line = if l.line.closed || refused then l.line else begins c id from l.line }
+    with_line (if l.line.closed || refused then l.line else begins c id from l.line) (is_heard id (Subscribe c from) rest l)
 hears_subscribe refused c id from rest (Asked i since arrived) l = l
 hears_subscribe refused c id from rest (Ready i was r arrived) l = l
-hears_subscribe refused c id from rest (On q mark) l = record l { up = rest; heard = suc id }
+hears_subscribe refused c id from rest (On q mark) l = is_heard id (Subscribe c from) rest l
 
 abbrev pub hears_errand : Bool → ℕ → Errand → List Sent → Link → Link
 hears_errand refused id (Subscribe c from) rest l = hears_subscribe refused c id from rest (l.line.subs c) l
-hears_errand refused id (Unsubscribe c) rest l = record l { up = rest; heard = suc id; line = line.leaves c l.line }
-hears_errand refused id (Publish c body) rest l = record l { up = rest; heard = suc id }
-hears_errand refused id (History c limit) rest l = record l { up = rest; heard = suc id }
+hears_errand refused id (Unsubscribe c) rest l = with_line (line.leaves c l.line) (is_heard id (Unsubscribe c) rest l)
+hears_errand refused id (Publish c body) rest l = is_heard id (Publish c body) rest l
+hears_errand refused id (History c limit) rest l = is_heard id (History c limit) rest l
 
-abbrev pub hears_first : Bool → List Sent → Link → Link
-hears_first refused [] l = l
-hears_first refused (k ∷ rest) l = hears_errand refused k.id k.errand rest l
-
-abbrev pub hears : Bool → Link → Link
-hears refused l = hears_first refused l.up l
+abbrev pub hears : Bool → Sent → List Sent → Link → Link
+hears refused k rest l = hears_errand refused k.id k.errand rest l
 
 -- whether the subscription waits for its reply under this id
 abbrev pub is_waiting : ℕ → Sub → Bool
@@ -102,6 +103,19 @@ is_waiting k (On q mark) = false
 abbrev pub errs : Wording Note → List ℕ → ℕ → ℕ → Link → Link
 errs w c id code l =
     if nat_lt id l.heard && not (is_waiting id (l.line.subs c)) then with_line (push w (Fails c id code) l.line) l else l
+
+-- the command of this id, if it was heard
+abbrev pub find : ℕ → List Sent → Option Sent
+find id [] = None
+find id (k ∷ ks) = if k.id == id then Some k else find id ks
+
+abbrev pub errs_for : Wording Note → ℕ → Option Sent → Link → Link
+errs_for w code None l = l
+errs_for w code (Some k) l = errs w (channel_of k.errand) k.id code l
+
+-- the same at any time later: the error is for the channel of that command
+abbrev pub errs_late : Wording Note → ℕ → ℕ → Link → Link
+errs_late w id code l = errs_for w code (find id l.done) l
 
 -- the notes that answer other commands than a subscribe, and the ping
 abbrev pub is_plain : Note → Bool

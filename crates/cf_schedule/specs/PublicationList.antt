@@ -1,7 +1,7 @@
 -- Everything that was ever published, by channel and epoch, and the streams as they stand over it.
 -- (Centrifugo, history and recovery: publications have offsets in the stream of a channel and its epoch.)
-use Rattle.std.specs.Prelude.{ℕ, zero, suc, ◌+◌, ◌-◌, ◌==◌, nat_lt, ◌||◌, not, Bool, true, false, if◌then◌else◌, Option, Some, None, List, [], ◌∷◌, ◌++◌, length, slice_get}
-use Rattle.cf_protocol.specs.Names.{with, is_among}
+use Rattle.std.specs.Prelude.{ℕ, zero, suc, ◌+◌, ◌-◌, ◌==◌, nat_lt, ◌&&◌, ◌||◌, not, Bool, is_some, ◌≡◌, ◌≤◌, true, false, if◌then◌else◌, Option, Some, None, List, [], ◌∷◌, ◌++◌, length, slice_get}
+use Rattle.cf_protocol.specs.Names.{with, is_among, and_also}
 use Rattle.cf_protocol.specs.Position.{Position}
 use Rattle.cf_protocol.specs.Datum.{Datum}
 use Rattle.cf_protocol.specs.Note.{Lists}
@@ -67,6 +67,14 @@ open_at c None (e ∷ es) b = record b { waiting = es; streams = with b.streams 
 abbrev pub opened : List ℕ → Broker → Broker
 opened c b = open_at c (b.streams c) b.waiting b
 
+-- the stream of c is opened in this epoch, which then never comes again
+abbrev pub opened_in : List ℕ → List ℕ → Broker → Broker
+opened_in c e b = record b { came = and_also e b.came; streams = with b.streams c (Some (opens_in e)) }
+
+-- Whether that may be: the channel has no stream, no publication of it was ever in this epoch, which isn't empty and doesn't wait.
+abbrev pub is_fresh_for : List ℕ → List ℕ → Broker → Bool
+is_fresh_for c e b = not (is_some (b.streams c)) && ((length (b.lists c e) == 0) && (not (length e == 0) && not (is_among e b.waiting)))
+
 -- whether the stream of c stands, or can be opened
 abbrev pub stands_or_opens : Option StreamState → List (List ℕ) → Bool
 stands_or_opens (Some s) es = true
@@ -121,3 +129,8 @@ forget_all b = record b { streams = no_stream }
 abbrev pub stands_at : Option StreamState → Option Position
 stands_at None = None
 stands_at (Some s) = Some (position_of s)
+
+-- A stream stands over the publication list of its epoch: its top is the length of that list, and it holds no more.
+abbrev pub StandsOver : (List ℕ → List Datum) → Option StreamState → Type 0
+StandsOver lists None = Unit {0}
+StandsOver lists (Some s) = (s.top ≡ length (lists s.epoch)) × (s.held ≤ s.top)

@@ -10,7 +10,7 @@ ghost use Rattle.cf_schedule.specs.FreshEpochs.{AreFresh};
 ghost use Rattle.cf_schedule.specs.IntervalMachine.{run};
 ghost use Rattle.cf_schedule.specs.Leading.{IsListed, LeadsOn, coming};
 ghost use Rattle.cf_schedule.specs.LooseRun.{Happening, lines, loose_run};
-ghost use Rattle.cf_schedule.specs.PublicationList.{tops};
+ghost use Rattle.cf_schedule.specs.PublicationList.{StandsOver, tops};
 ghost use Rattle.cf_schedule.specs.StreamSafety.{AreTrueTo, Safe};
 ghost use Rattle.cf_schedule.specs.Told.{loose_trace, trace};
 ghost use Rattle.cf_schedule.specs.World.{start};
@@ -49,11 +49,17 @@ pub fn epochs_are_fresh()
     ensures { (config : Config) (events : List Event) → AreFresh (run config start events).broker }
 {}
 
-/// Answers are matched by id alone: after every run a reply or an error that is coming to a client, under the id of an ask that
-/// is out, is for the channel that asks. The text of a reply names no channel.
-#[tactic(auto, using(crate::proofs::OwnedRuns::answers_by_id))]
+/// Answers are matched by id alone: after every loose run a reply or an error that is coming to a client, under the id of an ask
+/// that is out, is for the channel that asks. The text of a reply names no channel.
+#[tactic(auto, using(crate::proofs::OwnedRuns::answers_by_id_loose))]
 pub fn answers_by_id()
-    ensures { (config : Config) (events : List Event) (client channel : List ℕ) → AreForChannel channel (((run config start events).links client).client.modes channel) (coming ((run config start events).links client)) }
+    ensures { (config : Config) (happenings : List Happening) (client channel : List ℕ) → AreForChannel channel (((loose_run config start happenings).links client).client.modes channel) (coming ((loose_run config start happenings).links client)) }
+{}
+
+/// After every loose run a stream's top is the length of the publication list of its epoch, and it holds no more.
+#[tactic(auto, using(crate::proofs::Headline::streams_stand))]
+pub fn streams_stand_over_lists()
+    ensures { (config : Config) (happenings : List Happening) (channel : List ℕ) → StandsOver ((loose_run config start happenings).broker.lists channel) ((loose_run config start happenings).broker.streams channel) }
 {}
 
 /// A schedule is a loose run of its lines: it leads to the same world and has the same trace.
