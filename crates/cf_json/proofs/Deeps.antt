@@ -1,7 +1,6 @@
 -- Only an opening bracket stops a reading for its depth.
 use Rattle.std.proofs.Common.{◌≡◌, ◌⊎◌, ℕ, zero, suc, List, [], ◌∷◌, length, drop, Bool, true, false, cond, ◌==◌, nat_lt, Ok, Err, refl, sym, ap, ◌∙◌, subst, inl, inr}
 use Rattle.std.specs.Prelude.{codes, nat_eq}
-use Rattle.std.specs.List.{starts_with}
 use Rattle.std.proofs.lemmas.Bool.{eqb-true}
 use Rattle.cf_json.specs.Bytes.{is_digit, is_hex, is_escape, is_exponent_mark}
 use Rattle.cf_json.specs.Grammar.{Parts, no_parts, part, Space, Key}
@@ -74,7 +73,9 @@ number_not s = bind_not (whole_end (after_minus s)) (λ r. fraction_end r >>= ex
 
 word_not : (w s : List ℕ) → NotDeep (word_end w s)
 unfolding word_end
-word_not w s = cond_not (starts_with nat_eq s w) (Ok (drop (length w) s)) (stopped s) tt tt
+word_not [] s = tt
+word_not (c ∷ w) [] = tt
+word_not (c ∷ w) (x ∷ xs) = cond_not (x == c) (word_end w xs) (stopped (x ∷ xs)) (word_not w xs) tt
 
 colon_not : (s : List ℕ) → NotDeep (colon_at s)
 colon_not [] = tt

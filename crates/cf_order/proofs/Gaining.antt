@@ -1,5 +1,5 @@
 -- What a log gains.
-use Rattle.std.proofs.Common.{◌≡◌, List, [], ◌∷◌, ◌++◌, refl, ap, sym, ◌∙◌, append_assoc}
+use Rattle.std.proofs.Common.{List, [], ◌∷◌, ◌++◌, ap, sym, ◌∙◌, append_assoc}
 use mathlib.Core.List.{IsPrefix}
 use Rattle.cf_protocol.specs.LogEntry.{Entry}
 use Rattle.cf_order.specs.Together.{Gains}

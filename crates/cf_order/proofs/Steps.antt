@@ -1,15 +1,15 @@
 -- Each step keeps the rule.
-use Rattle.std.proofs.Common.{◌≡◌, ◌≢◌, ◌⊎◌, ℕ, zero, suc, ◌+◌, ◌-◌, ◌%◌, ◌^◌, ◌<◌, ◌≤◌, Bool, true, false, true≢false, List, [], ◌∷◌, ◌++◌, length, set, refl, ap, sym, ◌∙◌, subst, ⊎_elim, arith, length-append, append_assoc}
+use Rattle.std.proofs.Common.{◌≡◌, ◌≢◌, ℕ, zero, suc, ◌+◌, ◌%◌, ◌^◌, ◌<◌, ◌≤◌, Bool, true, false, true≢false, List, [], ◌∷◌, ◌++◌, length, set, refl, ap, sym, ◌∙◌, subst, ⊎_elim, arith, length-append}
 use Rattle.std.specs.Prelude.{slice_index}
 use mathlib.Core.Option.{none, some, some-injective, some-ne-none}
 use mathlib.Core.List.{IsPrefix}
 use lib.ListN.{get_elem?}
-use Rattle.atomic_table.specs.Table.{State, Me, Step, keeps, step, Allows, Splits, Joins}
+use Rattle.atomic_table.specs.Table.{State, Me, keeps, step, Allows, Splits, Joins}
 use Rattle.atomic_table.proofs.Lists.{at_set, at_snoc, set_here, set_else, set_again, at_longer}
 use Rattle.cf_protocol.specs.LogEntry.{Entry}
-use Rattle.cf_order.specs.Passes.{longer, shorter, publishes, published}
+use Rattle.cf_order.specs.Passes.{longer, published}
 use Rattle.cf_order.specs.View.{View, opening_view, spent_view}
-use Rattle.cf_order.specs.ShardRule.{shares, Fits, HasOwner, IsOneLog}
+use Rattle.cf_order.specs.ShardRule.{Fits, HasOwner, IsOneLog}
 use Rattle.cf_order.specs.ShardStep.{looked, added, given, with_share, joined, compared, HasLooked, HasAdded, HasTold, Looked, Knows}
 use Rattle.cf_order.proofs.Prefixes.{prefix_self, prefix_none, prefix_front, prefix_trans, prefix_shorter, prefix_whole, prefix_length, longer_fits, longer_below}
 use Rattle.cf_order.proofs.Sums.{published-append, published_le, shares-set, shares-append, share_le}

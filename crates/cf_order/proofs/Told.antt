@@ -1,8 +1,7 @@
 -- What is known once a pass was compared with the owner.
-use Rattle.std.proofs.Common.{◌≡◌, ℕ, ◌+◌, ◌≤◌, true, List, subst, arith}
+use Rattle.std.proofs.Common.{◌≡◌, ℕ, true, List, subst}
 use mathlib.Core.List.{IsPrefix}
 use Rattle.cf_protocol.specs.LogEntry.{Entry}
-use Rattle.cf_order.specs.Passes.{published}
 use Rattle.cf_order.specs.View.{View}
 use Rattle.cf_order.specs.ShardStep.{given, compared, Knows, IsBehind}
 use Rattle.cf_order.proofs.Prefixes.{prefix_trans}

@@ -15,18 +15,21 @@ fn opened(word: &ShardWord, mut owner: Owner, mut pass: Pass) -> (Owner, Pass)
     ensures owner { result.0.word ≡ word.now }
     ensures pass { result.1.word ≡ word.now }
 {
-    word.append(&mut owner, &mut pass, &Entry::Opened("news", Epoch::from_text("aaaa")));
-    word.append(&mut owner, &mut pass, &Entry::Published("news", "1", Some(("ann", "n0-1"))));
+    word.append(
+        &mut owner,
+        &mut pass,
+        &Entry::Opened("news", Epoch::from_text("aaaa")),
+    );
+    word.append(
+        &mut owner,
+        &mut pass,
+        &Entry::Published("news", "1", Some(("ann", "n0-1"))),
+    );
     (owner, pass)
 }
 
 /// The same in a thread of its own.
-fn opened_there(
-    rt: &impl Threads,
-    word: &ShardWord,
-    owner: Owner,
-    lent: Pass,
-) -> (Owner, Pass)
+fn opened_there(rt: &impl Threads, word: &ShardWord, owner: Owner, lent: Pass) -> (Owner, Pass)
     requires owner { (owner.word ≡ word.now) × (owner.log ≡ []) }
     requires pass { lent.word ≡ word.now }
     ensures owner { result.0.word ≡ word.now }

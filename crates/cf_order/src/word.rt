@@ -126,10 +126,8 @@ impl ShardWord {
         ensures same { pass.new ≡ pass.old }
         ensures lent { result ≡ record pass.old { looks = 0; share = 0 } }
     {
-        Pass {
-            share: 0,
-            seat: self.table.shared.split_seat::<Lends>(&mut pass.seat),
-        }
+        let seat = self.table.shared.split_seat::<Lends>(&mut pass.seat);
+        Pass { share: 0, seat }
     }
 
     /// Takes in another pass: the longer log, and both shares.
