@@ -1,4 +1,5 @@
 pub mod Shards
 pub mod ShardLog
+pub mod LogAnswer
 pub mod Delivery
 pub mod Shard

@@ -1,10 +1,13 @@
 -- What lies under a shard's lock, and what its calls make of it. (This project's own profile.)
-use Rattle.std.specs.Prelude.{ℕ, List, Some, refl}
+use Rattle.std.specs.Prelude.{◌≡◌, ℕ, List, Some, refl}
 use Rattle.std.specs.Coded.{Coded, code_by, coded×}
 use Rattle.cf_protocol.specs.Datum.{Datum}
+use Rattle.cf_protocol.specs.LogEntry.{Entry}
+use Rattle.cf_protocol.specs.Settings.{NamespaceTable}
 use Rattle.cf_presence.specs.Presence.{Channels, coded_channels}
 use Rattle.cf_stream.specs.declared.refusal.StreamRefusal.{StreamRefusal}
 use Rattle.cf_stream.specs.declared.refusal.StreamRefusal.TheVariants.{AtLastOffset, WrongEpoch, NoEpoch, Memory}
+use Rattle.cf_stream.specs.LogState.{IsState}
 use Rattle.cf_stream.specs.Stream.{pushed, used_at}
 use Rattle.cf_stream.specs.Streams.{Kept, coded_kept, put_at, stood_or_opened}
 use Rattle.cf_broker.specs.declared.refusal.Refused.{Refused}
@@ -20,6 +23,12 @@ abbrev pub lent_code : {E : Type 0} → Coded E → Coded (Lent E)
 lent_code {E} e =
     code_by (Kept × (Channels × E)) (coded× coded_kept (coded× coded_channels e))
     (λ s. (s.streams, (s.presence, s.epochs))) (λ p. record { streams = p.0; presence = p.1.0; epochs = p.1.1 }) (λ _. refl)
+
+-- the streams are those of these namespaces, and what some log leaves
+pub record IsShard (namespaces : NamespaceTable) (streams : Kept) : Type 0 where
+  pub settings : streams.namespaces ≡ namespaces
+  pub log : List Entry
+  pub state : IsState streams log
 
 -- the streams after a publish, and after a read or a history, at a moment: the channel's stream opens in this epoch where there is none
 abbrev pub after_publish : Kept → (channel epoch : List ℕ) → Datum → (now : ℕ) → Kept

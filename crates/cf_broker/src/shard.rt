@@ -1,5 +1,5 @@
 //! What lies under a shard's lock.
-ghost use Rattle.std.specs.Prelude.{◌≡◌, ◌≢◌, ◌↔◌, IfOk, IfErr, OnOk, OnErr, IsErrOf, IsTrue, IsSome, IsSomeAnd, None, Some, List, ℕ};
+ghost use Rattle.std.specs.Prelude.{◌≡◌, ◌≢◌, ◌↔◌, [], IfOk, IfErr, OnOk, OnErr, IsErrOf, IsTrue, IsSome, IsSomeAnd, None, Some, List, ℕ};
 ghost use Rattle.std.specs.FinMap as fin;
 ghost use Rattle.std.specs.String.{string_bytes};
 ghost use Rattle.cf_protocol.specs.Settings.{settings_of};
@@ -7,11 +7,12 @@ ghost use Rattle.cf_protocol.specs.Shown.{shown_users};
 ghost use Rattle.cf_presence.specs.Presence.{clients_of, entered, left, still, users_of, user_count};
 ghost use Rattle.cf_stream.specs.ChannelLists.{ReadsAt, ListsAt, StandsAt};
 ghost use Rattle.cf_stream.specs.FreshEpochs.{Draws, DrawsNone};
-ghost use Rattle.cf_stream.specs.LogState.{Adds};
+ghost use Rattle.cf_stream.specs.LogState.{Adds, IsState};
 ghost use Rattle.cf_stream.specs.Stream.{trimmed};
 ghost use Rattle.cf_stream.specs.Streams.{stream_of, put_at, after_tick, seconds_at, IsOfAnother};
 ghost use Rattle.std.specs.Option.{option_map};
 ghost use Rattle.cf_broker.specs.Delivery.{OfferedToAll, carried};
+ghost use Rattle.cf_broker.specs.LogAnswer.{IsPosition, IsPublished, IsReadAnswer, IsHistoryAnswer};
 ghost use Rattle.cf_broker.specs.Shard.{after_publish, after_use};
 ghost use Rattle.cf_broker.specs.ShardLog.{entries_of_publish, entries_of_use, entries_of_trim, entries_of_forget, entries_of_tick};
 
@@ -37,8 +38,7 @@ pub struct Shard<N: Naming, E: Epochs, const I: usize> {
 }
 
 impl<N: Naming, E: Epochs, const I: usize> Model for Shard<N, E, I> {
-    ghost use Rattle.std.specs.Prelude.{◌≡◌};
-    ghost use Rattle.cf_broker.specs.Shard.{Lent, lent_code};
+    ghost use Rattle.cf_broker.specs.Shard.{Lent, lent_code, IsShard};
 
     ghost Value = { Lent E };
 
@@ -46,13 +46,14 @@ impl<N: Naming, E: Epochs, const I: usize> Model for Shard<N, E, I> {
 
     ghost view = { λ s. record { streams = s.streams; presence = s.presence; epochs = s.epochs } };
 
-    ghost invariant = { λ s. s.streams.namespaces ≡ N.namespaces };
+    ghost invariant = { λ s. IsShard N.namespaces s.streams };
 }
 
 impl<N: Naming, E: Epochs, const I: usize> Shard<N, E, I> {
-    /// A shard of these streams, in which nobody is present.
+    /// A shard without streams, in which nobody is present.
     pub fn new(alloc: Global, streams: Streams, epochs: E) -> Shard<N, E, I>
-        requires { streams.namespaces ≡ N.namespaces }
+        requires namespaces { streams.namespaces ≡ N.namespaces }
+        requires empty { IsState streams [] }
         ensures { result ≡ record { streams = streams; presence = fin.empty; epochs = epochs } }
     {
         Shard {
@@ -79,6 +80,7 @@ impl<N: Naming, E: Epochs, const I: usize> Shard<N, E, I> {
         ensures streams { IfOk result (λ p. self.new.streams ≡ after_publish self.old.streams channel.now p.epoch (record { body = string_bytes body; info = info }) now) }
         ensures log { IfOk result (λ p. Adds self.old.streams self.new.streams (entries_of_publish self.old.streams channel.now p.epoch (record { body = string_bytes body; info = info }))) }
         ensures answer { IfOk result (λ p. StandsAt self.new.streams channel.now (Some p)) }
+        ensures by_log { IfOk result (λ p. IsPublished N.namespaces channel.now (record { body = string_bytes body; info = info }) p) }
         ensures drawn { IfOk result (λ p. Draws E.draws (stream_of self.old.streams channel.now) p.epoch self.old.epochs self.new.epochs) }
         ensures offered { IfOk result (λ p. OfferedToAll L.offers (L.nodes links.old) (carried channel.now p (record { body = string_bytes body; info = info })) links.old links.new) }
         ensures presence { self.new.presence ≡ self.old.presence }
@@ -129,6 +131,7 @@ impl<N: Naming, E: Epochs, const I: usize> Shard<N, E, I> {
         ensures streams { IfOk result (λ r. self.new.streams ≡ after_use self.old.streams channel.now r.position.epoch now) }
         ensures log { IfOk result (λ r. Adds self.old.streams self.new.streams (entries_of_use self.old.streams channel.now r.position.epoch)) }
         ensures answer { IfOk result (λ r. ReadsAt self.old.streams channel.now since r.position r.recovered r.publications.items) }
+        ensures by_log { IfOk result (λ r. IsReadAnswer N.namespaces channel.now since r.position r.recovered r.publications.items) }
         ensures drawn { IfOk result (λ r. Draws E.draws (stream_of self.old.streams channel.now) r.position.epoch self.old.epochs self.new.epochs) }
         ensures presence { self.new.presence ≡ self.old.presence }
         ensures no_epoch { IsErrOf result Refused.NoEpoch → (stream_of self.old.streams channel.now ≡ None) × DrawsNone E.draws self.old.epochs self.new.epochs }
@@ -152,6 +155,7 @@ impl<N: Naming, E: Epochs, const I: usize> Shard<N, E, I> {
         ensures streams { IfOk result (λ h. self.new.streams ≡ after_use self.old.streams channel.now h.position.epoch now) }
         ensures log { IfOk result (λ h. Adds self.old.streams self.new.streams (entries_of_use self.old.streams channel.now h.position.epoch)) }
         ensures answer { IfOk result (λ h. ListsAt self.old.streams channel.now since limit h.position h.publications.items) }
+        ensures by_log { IfOk result (λ h. IsHistoryAnswer N.namespaces channel.now since limit h.position h.publications.items) }
         ensures drawn { IfOk result (λ h. Draws E.draws (stream_of self.old.streams channel.now) h.position.epoch self.old.epochs self.new.epochs) }
         ensures presence { self.new.presence ≡ self.old.presence }
         ensures wrong_epoch { IsErrOf result Refused.WrongEpoch ↔ IsOfAnother (stream_of self.old.streams channel.now) since }
@@ -168,6 +172,7 @@ impl<N: Naming, E: Epochs, const I: usize> Shard<N, E, I> {
     /// Where a channel's stream stands, if it has one. It takes no memory and opens nothing.
     pub fn position(&self, channel: &str) -> Option<Position>
         ensures answer { StandsAt self.now.streams channel.now result }
+        ensures by_log { IsPosition N.namespaces channel.now result }
     {
         self.streams.position(channel)
     }

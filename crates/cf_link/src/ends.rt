@@ -2,11 +2,13 @@
 ghost use Rattle.std.specs.Prelude.{◌≡◌, ◌<◌, ◌++◌, ◌∷◌, [], IfOk, IfErr, OnOk, OnErr, MatchOption, IfNone};
 ghost use Rattle.cf_link.specs.Link.{IsSameLink, WasFull, WasEmpty, AreLeft};
 
+use crate::bell::Bell;
 use crate::log::{Ends, InOrder, Log, Receives, Sends, Total};
 use crossbeam_queue::{Pass, RuledArrayQueue};
 use std::alloc::{AllocError, Global};
 use std::marker::Model;
 use std::sync::{Arc, Wait};
+use std::time::{Clock, Duration};
 
 type Line<T> = RuledArrayQueue<T, Log<T>, InOrder>;
 
@@ -14,6 +16,7 @@ type Line<T> = RuledArrayQueue<T, Log<T>, InOrder>;
 #[derive(Drop)]
 pub struct Sender<T> {
     line: Arc<Line<T>>,
+    bell: Arc<Bell>,
     pass: Pass<T, Log<T>>,
 }
 
@@ -38,6 +41,7 @@ impl<T> Model for Sender<T> {
 #[derive(Drop)]
 pub struct Receiver<T> {
     line: Arc<Line<T>>,
+    bell: Arc<Bell>,
     pass: Pass<T, Log<T>>,
 }
 
@@ -69,24 +73,35 @@ pub fn pair<T: Drop>(alloc: Global, capacity: usize) -> Result<(Sender<T>, Recei
     let second = line.another::<Ends>(&mut first);
     let line = Arc::new(alloc, line)?;
     let other = Arc::try_clone(&line)?;
-    Ok((
-        Sender { line, pass: first },
-        Receiver {
-            line: other,
-            pass: second,
-        },
-    ))
+    let bell = Arc::new(alloc, Bell::new())?;
+    let heard = Arc::try_clone(&bell)?;
+    let sender = Sender {
+        line,
+        bell,
+        pass: first,
+    };
+    let receiver = Receiver {
+        line: other,
+        bell: heard,
+        pass: second,
+    };
+    Ok((sender, receiver))
 }
 
 impl<T> Sender<T> {
-    /// Sends an item. It comes back where the link was full at one moment of the call. It takes no memory.
+    /// Sends an item, and wakes a receiver that sleeps. The item comes back where the link was full at one moment of the call.
+    /// It takes no memory.
     pub fn send(&mut self, rt: &impl Wait, item: T) -> Result<(), T>
         ensures same { IsSameLink self.new self.old }
         ensures sent { OnOk result (self.new.items ≡ self.old.items ++ item ∷ []) }
         ensures refused { IfErr result (λ x. (x ≡ item) × (self.new.items ≡ self.old.items)) }
         ensures full { OnErr result (WasFull self.old.capacity self.old.items) }
     {
-        self.line.push_as::<Sends, _>(rt, &mut self.pass, item)
+        let sent = self.line.push_as::<Sends, _>(rt, &mut self.pass, item);
+        if sent.is_ok() {
+            self.bell.ring();
+        }
+        sent
     }
 }
 
@@ -99,6 +114,25 @@ impl<T> Receiver<T> {
     {
         self.line.pop_as::<Receives, _>(rt, &mut self.pass)
     }
+
+    /// The oldest item that waits. Where none does it sleeps until one is sent, or for so long at most, and looks again; it may
+    /// wake sooner. `None` where the link was empty at one moment of the call. It takes no memory.
+    pub fn receive_within<R: Wait + Clock>(&mut self, rt: &R, most: Duration) -> Option<T>
+        ensures same { IsSameLink self.new self.old }
+        ensures received { MatchOption result (self.new.items ≡ self.old.items) (λ x. self.new.items ≡ self.old.items ++ x ∷ []) }
+        ensures empty { IfNone result (WasEmpty self.old.items) }
+    {
+        if let Some(item) = self.receive(rt) {
+            return Some(item);
+        }
+        self.bell.tire();
+        if let Some(item) = self.receive(rt) {
+            self.bell.rouse();
+            return Some(item);
+        }
+        self.bell.sleep(rt, most);
+        self.receive(rt)
+    }
 }
 
 /// Ends a link: how many items were sent and not received. They are dropped.
@@ -106,9 +140,14 @@ pub fn settle<T: Drop>(rt: &impl Wait, sender: Sender<T>, receiver: Receiver<T>)
     requires { sender.link ≡ receiver.link }
     ensures { AreLeft sender.items receiver.items result }
 {
-    let Sender { line, mut pass } = sender;
+    let Sender {
+        line,
+        bell: _,
+        mut pass,
+    } = sender;
     let Receiver {
         line: _,
+        bell: _,
         pass: other,
     } = receiver;
     line.absorb::<Ends>(&mut pass, other);

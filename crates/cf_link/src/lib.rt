@@ -3,6 +3,7 @@
 //! The broker has one to each node. That a full link gives an item back, rather than wait, is this project's own rule.
 #![tactic(auto)]
 
+mod bell;
 pub mod ends;
 pub mod log;
 #[cfg(test)]

@@ -2,6 +2,7 @@ use crate::{Sender, pair, settle};
 use std::sync::Wait;
 use std::test::Fail;
 use std::thread;
+use std::time::Duration;
 
 #[test]
 fn one_place(rt: HostRuntime) -> Result<(), Fail> {
@@ -37,16 +38,31 @@ fn send_all(rt: &impl Wait, sender: &mut Sender<u32>, count: u32) {
 }
 
 #[test]
+fn none_within(rt: HostRuntime) -> Result<(), Fail> {
+    let (mut sender, mut receiver) = pair(rt.alloc(), 1)?;
+    assert_eq!(rt;
+        receiver.receive_within(&rt, Duration::from_millis(1)),
+        None
+    );
+    assert_eq!(rt; sender.send(&rt, 7u32), Ok(()));
+    assert_eq!(rt;
+        receiver.receive_within(&rt, Duration::from_millis(1)),
+        Some(7)
+    );
+    Ok(())
+}
+
+/// A receiver that would sleep for an hour is woken for each of a thousand items.
+#[test]
 fn between_two_threads(rt: HostRuntime) -> Result<(), Fail> {
     let (mut sender, mut receiver) = pair(rt.alloc(), 1)?;
     let child = thread::spawn(&rt, move || send_all(&rt, &mut sender, 1000))?;
     for number in 0..1000 {
         for _ in rt.forever() {
-            if let Some(item) = receiver.receive(&rt) {
+            if let Some(item) = receiver.receive_within(&rt, Duration::from_secs(3600)) {
                 assert_eq!(rt; item, number);
                 break;
             }
-            thread::yield_now();
         }
     }
     child.join(&rt);
