@@ -1,12 +1,12 @@
 -- Asks that are out have ids of their own.
-use Rattle.std.proofs.Common.{◌≡◌, ◌∙◌, ◌<◌, ℕ, Bool, true, false, if◌then◌else◌, Option, List, [], ◌∷◌, ◌++◌, refl, sym, ap, subst, arith, inl, inr, ◌⊎◌}
+use Rattle.std.proofs.Common.{◌≡◌, ◌∙◌, ◌<◌, ◌==◌, ◌||◌, ℕ, Bool, true, false, if◌then◌else◌, Option, List, [], ◌∷◌, ◌++◌, refl, sym, ap, subst, arith, inl, inr, ◌⊎◌}
 use Rattle.std.specs.Str.{bytes_eq}
 use Rattle.std.proofs.lemmas.Bool.Decides.{nat_tests}
 use Rattle.cf_protocol.specs.Names.{with}
 use Rattle.cf_protocol.specs.Position.{Position}
 use Rattle.cf_protocol.specs.Datum.{Placed}
 use Rattle.cf_protocol.specs.Outgoing.{Outcome, Connected, Subscribed, Unsubscribed, Published, Present, Counted, Past, Pinged, Failed, Publication, Unsubscribe, Outgoing, Ping, Answer, Push}
-use Rattle.cf_client.specs.ClientState.{Client, Mode, Idle, Asking, Live, idle}
+use Rattle.cf_client.specs.ClientState.{Client, Mode, Idle, Asking, Live, idle, is_out, without}
 use Rattle.cf_client.specs.ClientCalls.{State, asks_under, moves, answered, asked, left, called, reconnected, NoAsk, AnswersAsk, Takes, TakesAnswer, TakesPublication, TakesEnd, TakesAll}
 use Rattle.cf_client.specs.AppItem.{AppItem}
 use Rattle.cf_client.specs.OneAnswer.{AreApart, Keeps, TextsKeep, OneOutcome}
@@ -15,11 +15,17 @@ use Rattle.cf_client.proofs.Moves.{text_tells}
 -- ---- fewer asks
 
 pub fewer : (x y : Client) → ((c : List ℕ) (id : ℕ) → asks_under id (y.modes c) ≡ true → asks_under id (x.modes c) ≡ true)
-    → ((n : ℕ) → n < x.fresh → n < y.fresh) → AreApart x → AreApart y
-fewer x y sub later h = record {
+    → ((id : ℕ) → is_out id y.calls ≡ true → is_out id x.calls ≡ true) → ((n : ℕ) → n < x.fresh → n < y.fresh) → AreApart x → AreApart y
+fewer x y sub less later h = record {
   older = λ c id a. later id (h.older c id (sub c id a));
   apart = λ c d id a b. h.apart c d id (sub c id a) (sub d id b);
+  calls_older = λ id o. later id (h.calls_older id (less id o));
+  calls_apart = λ c id a. not_out (is_out id y.calls) (is_out id x.calls) (less id) (h.calls_apart c id (sub c id a));
 }
+  where
+    not_out : (a b : Bool) → (a ≡ true → b ≡ true) → b ≡ false → a ≡ false
+    not_out true b up none = let t = up refl in absurd (cc)
+    not_out false b up none = refl
 
 -- a channel that is set to a mode that asks for nothing
 with_none : (f : List ℕ → Mode) (c : List ℕ) (m : Mode) → ((id : ℕ) → asks_under id m ≡ false) → (d : List ℕ) (id : ℕ)
@@ -35,16 +41,44 @@ idle_asks_none : (m : Mode) (id : ℕ) → asks_under id (idle m) ≡ false
 idle_asks_none m id = refl
 
 pub moved_apart : (c : List ℕ) (m : Mode) (s : State) → ((id : ℕ) → asks_under id m ≡ false) → AreApart s.client → AreApart (moves c m s).client
-moved_apart c m s none h = fewer s.client (moves c m s).client (λ d id a. with_none s.client.modes c m none d id a) (λ n l. l) h
+moved_apart c m s none h = fewer s.client (moves c m s).client (λ d id a. with_none s.client.modes c m none d id a) (λ id o. o) (λ n l. l) h
 
 pub left_apart : (c : List ℕ) → Keeps (left c)
-left_apart c s h = fewer s.client (left c s).client (λ d id a. with_none s.client.modes c (idle (s.client.modes c)) (λ i. refl) d id a) (λ n l. omega arith) h
+left_apart c s h = fewer s.client (left c s).client (λ d id a. with_none s.client.modes c (idle (s.client.modes c)) (λ i. refl) d id a) (λ id o. o) (λ n l. omega arith) h
+
+either_out : (n id : ℕ) (is : List ℕ) → is_out id (n ∷ is) ≡ true → (id ≡ n) ⊎ (is_out id is ≡ true)
+either_out n id is h = by_test (n == id) refl h
+  where
+    by_test : (b : Bool) → (n == id) ≡ b → (b || is_out id is) ≡ true → (id ≡ n) ⊎ (is_out id is ≡ true)
+    by_test true e h = inl (grind (arith, nat_tests))
+    by_test false e h = inr h
+
+other_out : (n id : ℕ) (is : List ℕ) → id < n → is_out id is ≡ false → is_out id (n ∷ is) ≡ false
+other_out n id is less none = by_test (n == id) refl
+  where
+    by_test : (b : Bool) → (n == id) ≡ b → (b || is_out id is) ≡ false
+    by_test true e = absurd (grind (arith, nat_tests))
+    by_test false e = none
 
 pub called_apart : (c : List ℕ) → Keeps (called c)
-called_apart c s h = fewer s.client (called c s).client (λ d id a. a) (λ n l. omega arith) h
+called_apart c s h = record {
+  older = λ d id a. let i : id < s.client.fresh = h.older d id a in omega arith;
+  apart = h.apart;
+  calls_older = λ id o.
+      elim (either_out s.client.fresh id s.client.calls o) [
+        | inl e ↦ let i : id ≡ s.client.fresh = e in omega arith
+        | inr e ↦ let i : id < s.client.fresh = h.calls_older id e in omega arith
+      ];
+  calls_apart = λ d id a. other_out s.client.fresh id s.client.calls (h.older d id a) (h.calls_apart d id a);
+}
 
 pub reconnected_apart : Keeps reconnected
-reconnected_apart s h = record { older = λ c id a. absurd (cc); apart = λ c d id a b. absurd (cc) }
+reconnected_apart s h = record {
+  older = λ c id a. absurd (cc);
+  apart = λ c d id a b. absurd (cc);
+  calls_older = λ id o. absurd (cc);
+  calls_apart = λ c id a. absurd (cc);
+}
 
 -- ---- one ask more
 
@@ -84,7 +118,20 @@ asked_apart c from s h =
               | inr q ↦ h.apart d e id p q
             ]
           ];
+      calls_older = λ id o. let i : id < x.fresh = h.calls_older id o in omega arith;
+      calls_apart = λ d id a.
+          elim (asks_new x.modes c x.fresh from _ d id a) [
+            | inl e ↦ subst (λ n. is_out n x.calls ≡ false) (sym e.1) (never_out x.fresh x.calls (h.calls_older x.fresh))
+            | inr e ↦ h.calls_apart d id e
+          ];
     }
+  where
+    never_out : (n : ℕ) (is : List ℕ) → (is_out n is ≡ true → n < n) → is_out n is ≡ false
+    never_out n is h = by_value (is_out n is) h
+      where
+        by_value : (b : Bool) → (b ≡ true → n < n) → b ≡ false
+        by_value true h = let l = h refl in absurd (omega arith)
+        by_value false h = refl
 
 -- ---- what is taken
 
@@ -96,9 +143,25 @@ answer_apart : (id : ℕ) (b : Mode → Mode) (items : List ℕ → List AppItem
 answer_apart id b items s t told none a h =
     subst (λ (x : State). AreApart x.client) (sym a.moves) (moved_apart a.channel (b (s.client.modes a.channel)) s (none (s.client.modes a.channel)) h)
 
+later_out : (k i : ℕ) (a : Bool) (is rest : List ℕ) → (is_out k rest ≡ true → is_out k is ≡ true) → is_out k (if a then rest else i ∷ rest) ≡ true → is_out k (i ∷ is) ≡ true
+later_out k i true is rest up h = by_test (i == k) (up h)
+  where
+    by_test : (b : Bool) → is_out k is ≡ true → (b || is_out k is) ≡ true
+    by_test true o = refl
+    by_test false o = o
+later_out k i false is rest up h = by_test (i == k) h
+  where
+    by_test : (b : Bool) → (b || is_out k rest) ≡ true → (b || is_out k is) ≡ true
+    by_test true o = refl
+    by_test false o = up o
+
+out_before : (id : ℕ) (is : List ℕ) (k : ℕ) → is_out k (without id is) ≡ true → is_out k is ≡ true
+out_before id [] k h = h
+out_before id (i ∷ is) k h = later_out k i (i == id) is (without id is) (out_before id is k) h
+
 answered_apart : (id : ℕ) (s t : State) → t ≡ answered id s → AreApart s.client → AreApart t.client
 answered_apart id s t e h =
-    subst (λ (x : State). AreApart x.client) (sym e) (fewer s.client (answered id s).client (λ c i a. a) (λ n l. l) h)
+    subst (λ (x : State). AreApart x.client) (sym e) (fewer s.client (answered id s).client (λ c i a. a) (out_before id s.client.calls) (λ n l. l) h)
 
 outcome_apart : (id : ℕ) (o : Outcome) (s t : State) (told : List AppItem) → TakesAnswer id o s t told → AreApart s.client → AreApart t.client
 outcome_apart id (Subscribed at ps recovered was) s t told (inl a) h = answer_apart id _ _ s t told (λ m i. refl) a h

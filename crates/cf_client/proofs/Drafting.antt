@@ -1,6 +1,6 @@
 -- What a draft makes of what a client knows, and what contracts see of it.
-use Rattle.std.proofs.Common.{◌≡◌, ◌∙◌, ℕ, zero, suc, ◌+◌, ◌<◌, ◌≤◌, drop, get_or, drop-cons, Bool, true, false, cond, if◌then◌else◌, not, ◌==◌, ◌||◌, Option, Some, None, IsSome, is_some, List, [], ◌∷◌, ◌++◌, refl, sym, ap, subst, map, filter, length, arith}
-use Rattle.std.specs.BTreeMap.{BTreeMap, get_by_text, is_at}
+use Rattle.std.proofs.Common.{◌≡◌, ◌∙◌, ℕ, zero, suc, ◌+◌, ◌<◌, ◌≤◌, drop, get_or, drop-cons, Bool, true, false, cond, if◌then◌else◌, not, ◌==◌, ◌||◌, Option, Some, None, IsSome, is_some, List, [], ◌∷◌, ◌++◌, refl, sym, ap, subst, filter, length, arith}
+use Rattle.std.specs.BTreeMap.{get_by_text, is_at}
 use Rattle.std.specs.Cmp.Lexicographic.{slice_cmp}
 use Rattle.std.specs.List.{All, list_any}
 use Rattle.std.specs.Map.{update, lookup}

@@ -2,3 +2,4 @@ pub mod Moves
 pub mod Taking
 pub mod Apart
 pub mod Drafting
+pub mod Meaning

@@ -1,8 +1,8 @@
 -- One channel's mode changes, or all of them.
-use Rattle.std.proofs.Common.{◌≡◌, ◌∙◌, ◌≢◌, ℕ, suc, Bool, true, false, cond, if◌then◌else◌, not, MatchOption, IsSomeAnd, ◌==◌, Option, Some, None, List, [], ◌∷◌, ◌++◌, refl, sym, ap, subst, inl, inr, map, filter, IfSome, IsSome, ◌⊎◌}
+use Rattle.std.proofs.Common.{◌≡◌, ◌∙◌, ◌≢◌, ℕ, suc, Bool, true, false, cond, if◌then◌else◌, not, ◌==◌, Option, Some, None, List, [], ◌∷◌, ◌++◌, refl, sym, ap, subst, inl, inr, map, filter, IsSome, ◌⊎◌}
 use Rattle.std.specs.BTreeMap.{get_by_text, is_at}
 use Rattle.std.specs.Cmp.Lexicographic.{slice_cmp}
-use Rattle.std.specs.Ordering.{nat_cmp, is_eq}
+use Rattle.std.specs.Ordering.{nat_cmp}
 use Rattle.std.specs.String.{string_bytes}
 use Rattle.std.specs.Option.{option_map}
 use Rattle.std.specs.Map.{update, lookup}
@@ -16,7 +16,7 @@ use Rattle.std.proofs.lemmas.Slice.Eq.{bytes_eq-Decides}
 use Rattle.cf_protocol.specs.Names.{with}
 use Rattle.cf_protocol.specs.Position.{Position}
 use Rattle.cf_client.specs.ClientState.{Mode, Asking, idle, last_of, without}
-use Rattle.cf_client.specs.ClientCalls.{Call, State, asks_under, asked, moves, answered}
+use Rattle.cf_client.specs.ClientCalls.{Call, State, asked, moves, answered}
 use Rattle.cf_client.specs.ClientView.{mode_in, ids_of}
 use Rattle.cf_client.specs.Shown.{Channels, modes_of, mode_or_idle, shown_mode, SetsMode, calls_of, shown_call}
 use Rattle.cf_client.specs.declared.calls.Call.{Call as CodeCall}

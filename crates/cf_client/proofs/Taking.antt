@@ -1,5 +1,5 @@
 -- What a client takes, and what its application is told.
-use Rattle.std.proofs.Common.{◌≡◌, ◌∙◌, ℕ, Bool, true, if◌then◌else◌, Option, Some, None, List, [], ◌∷◌, ◌++◌, refl, sym, ap, subst, append_assoc, map}
+use Rattle.std.proofs.Common.{◌≡◌, ◌∙◌, ℕ, Bool, if◌then◌else◌, Option, Some, None, List, [], ◌∷◌, ◌++◌, refl, sym, ap, subst, append_assoc, map}
 use Rattle.std.proofs.lemmas.List.{append-nil, map-append}
 use Rattle.std.specs.declared.string.String.{String}
 use Rattle.std.specs.declared.alloc.Global.{Global}
@@ -7,7 +7,7 @@ use Rattle.cf_protocol.specs.Position.{Position}
 use Rattle.cf_protocol.specs.Datum.{Placed}
 use Rattle.cf_protocol.specs.Outgoing.{Outgoing}
 use Rattle.cf_client.specs.ClientState.{Mode, Idle, Asking, Live}
-use Rattle.cf_client.specs.ClientCalls.{State, asks_under, moves, asks_again, TakesPublication, TakesEnd, Takes, TakesAll}
+use Rattle.cf_client.specs.ClientCalls.{State, moves, asks_again, TakesPublication, TakesEnd, Takes, TakesAll}
 use Rattle.cf_client.specs.AppItem as item
 use Rattle.cf_client.specs.AppItem.{AppItem, published}
 use Rattle.cf_client.specs.Shown.{shown_item, shown_mode}

@@ -5,3 +5,4 @@ pub mod ClientView
 pub mod Shown
 pub mod Draft
 pub mod OneAnswer
+pub mod OneMeaning

@@ -251,6 +251,7 @@ impl Client {
         ensures ok { OnOk result ((state_of self.old).connected ≡ true) }
         ensures refused { IfErr result (TextRefused text.now (state_of self.old).connected) }
         ensures err { OnErr result (state_of self.new ≡ state_of self.old) }
+        ensures apart { AreApart (state_of self.old).client }
     {
         let outgoings = self.read(text)?;
         let (draft, events) = draft_of(self.alloc, &self.known, outgoings)?;

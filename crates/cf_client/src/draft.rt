@@ -61,7 +61,9 @@ impl Draft {
         ensures { known_state known.new ≡ drafted known.old self }
     {
         let Draft {
-            changed, answered, ..
+            changed,
+            answered,
+            ..
         } = self;
         change_all(&mut known.channels, changed);
         for id in &answered {
@@ -135,7 +137,12 @@ impl Draft {
             }
             Outgoing::Answer { id, outcome } => self.take_answer(known, id, outcome, events),
             Outgoing::Push { channel, push } => match push {
-                Pushed::Publication(publication) => self.publication(known, channel, publication, events),
+                Pushed::Publication(publication) => self.publication(
+                    known,
+                    channel,
+                    publication,
+                    events,
+                ),
                 Pushed::Unsubscribe { code } => self.unsubscribed(known, channel, code, events),
             },
         }

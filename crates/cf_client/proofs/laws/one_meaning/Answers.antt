@@ -1,0 +1,5 @@
+use Rattle.cf_client.proofs.laws.one_meaning.Goals as goal
+use Rattle.cf_client.proofs.Meaning as meaning
+
+pub returns : goal.returns
+returns c = meaning.one_meaning
