@@ -1,6 +1,8 @@
 // The members of objects.
 ghost use Rattle.std.specs.Prelude.{◌≡◌, ◌⊎◌, ◌≤◌, IfOk, IfErr, List, [], length, drop, map, true, Some, option_map};
-ghost use Rattle.std.specs.List.{AllZip};
+ghost use Rattle.std.specs.Bool.{OnTrue};
+ghost use Rattle.std.specs.List.{AllZip, list_any};
+ghost use Rattle.std.specs.Str.{bytes_eq};
 ghost use Rattle.cf_json.specs.Grammar.{object, Parts, Place, depth};
 ghost use Rattle.cf_json.specs.Reading.{text_end, key_end};
 ghost use Rattle.cf_json.specs.declared.token.Within.TheVariants as Within;
@@ -103,6 +105,37 @@ fn last_standing(
     Ok(kept)
 }
 
+/// The most members whose keys are compared one with another.
+const FEW: usize = 16;
+
+/// Whether a member has this key.
+fn has_key(members: &[(String, Span)], key: &str) -> bool
+    ensures { result ≡ list_any (λ e. bytes_eq key.now e.0) (map entry_of members.now) }
+{
+    let mut rest = members;
+    while let Some((member, more)) = rest.split_first() {
+        if key == member.0.as_str() {
+            return true;
+        }
+        rest = more;
+    }
+    false
+}
+
+/// Whether no key comes twice. Each is compared with those behind it.
+fn are_different(members: &[(String, Span)]) -> bool
+    ensures { OnTrue result (put_all [] (map entry_of members.now) ≡ map entry_of members.now) }
+{
+    let mut rest = members;
+    while let Some((first, more)) = rest.split_first() {
+        if has_key(more, first.0.as_str()) {
+            return false;
+        }
+        rest = more;
+    }
+    true
+}
+
 /// The members of an object by the characters of their keys. Of a repeated key the last member counts, and they come in
 /// the order in which these last ones stand (RFC 8259, section 4).
 ///
@@ -117,6 +150,9 @@ pub fn members(alloc: Global, text: &str, span: Span) -> Result<Vec<(String, Spa
     ensures err { IfErr result (NoMembers text.now span) }
 {
     let all = read_members(alloc, text, span)?;
+    if all.len() <= FEW && are_different(&all) {
+        return Ok(all);
+    }
     let kept = last_standing(alloc, all)?;
     Ok(kept)
 }

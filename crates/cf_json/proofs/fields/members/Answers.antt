@@ -1,6 +1,7 @@
-use Rattle.std.proofs.Common.{List, ℕ}
+use Rattle.std.proofs.Common.{◌≡◌, List, [], ℕ, map, sym, subst}
+use Rattle.std.specs.Bool.{OnTrue}
 use Rattle.std.proofs.lemmas.Result.{err_from_is_err_and}
-use Rattle.cf_json.specs.Members.{NoEntries, NoMembers}
+use Rattle.cf_json.specs.Members.{NoEntries, NoMembers, entry_of, put_all}
 use Rattle.cf_json.specs.Spans.{Span}
 use Rattle.cf_json.specs.declared.fault.Fault.{Fault}
 use Rattle.cf_json.specs.declared.fault.Fault.TheVariants.{NotJson, TooDeep, Memory}
@@ -25,3 +26,13 @@ returns-clause-ok c = λ ps at.
     let held = object_holds all ps s at in
     let shallow = at.shallow in
     members_stand all s ps at c.in_ok-kept.kept.items c.in_ok-all.all.items c.in_ok-kept.ensures.ok (c.in_ok-all.ensures.ok ps held.0 held.1 shallow)
+
+pub returns-then-are_different-clause-ok : goal.returns-then-are_different-clause-ok
+returns-then-are_different-clause-ok c = λ ps at.
+    let all = c.args.text.now in let s = c.args.span in
+    let held = object_holds all ps s at in
+    let shallow = at.shallow in
+    let given = c.deref.result.now in
+    let same = subst (λ b. OnTrue b (put_all [] (map entry_of given) ≡ map entry_of given)) c.if-are_different.true c.are_different.ensures in
+    let kept = sym (subst (λ ms. put_all [] (map entry_of ms) ≡ map entry_of ms) c.deref.ensures.value same) in
+    members_stand all s ps at c.in_ok-all.all.items c.in_ok-all.all.items kept (c.in_ok-all.ensures.ok ps held.0 held.1 shallow)
