@@ -11,6 +11,8 @@ mod refused;
 mod replied;
 mod session;
 mod stage;
+#[cfg(test)]
+mod tests;
 
 pub use action::{Action, Answer};
 pub use kind::Kind;

@@ -1,0 +1,4 @@
+pub mod Reason
+pub mod Gathered
+pub mod Stages
+pub mod Turn

@@ -1,0 +1,342 @@
+//! A WebSocket, turn by turn.
+ghost use Rattle.std.specs.Prelude.{◌≡◌, ◌⊎◌, true, false, None, Some, OnOk, IfErr};
+ghost use Rattle.tungstenite.specs.Failure.{IsIo};
+ghost use Rattle.tungstenite.specs.Content.{close};
+ghost use Rattle.tungstenite.specs.Socket.{Flushed, close_of};
+ghost use Rattle.cf_queue.specs.declared.queue.Out.TheVariants as out;
+ghost use Rattle.cf_wire.specs.Reason.{reason_by};
+ghost use Rattle.cf_wire.specs.Stages.{is_unflushed, is_over, has_failed, settled, told, Agrees, Halts, Stops};
+ghost use Rattle.cf_wire.specs.Turn.{Turns, Settles, FlushLeaves, place, most_reads, least, least_in, taken_in, end_in, code_in};
+
+use crate::desk::Desk;
+use crate::end::{Stage, TurnEnd, WireEnd};
+use cf_protocol::CloseCode;
+use cf_queue::Out;
+use std::alloc::Global;
+use std::io::{ErrorKind, Read, Write};
+use std::marker::Model;
+use tungstenite::{
+    CloseCode as FrameCode, CloseFrame, Error, Message, NoMask, Utf8Bytes, WebSocket,
+};
+
+/// The most messages that a turn reads.
+const MOST_READS: usize = 64;
+/// The most that is sent before the next message is read.
+const MOST_SENDS: usize = 1_024;
+/// The code of a close frame that has none.
+const NO_CODE: u16 = 1_005;
+
+/// The WebSocket of one client, on any stream. At most one message waits for the stream, and then nothing is read and nothing
+/// taken from the desk.
+#[derive(Drop)]
+pub struct Wire<S> {
+    pub(crate) alloc: Global,
+    pub(crate) socket: WebSocket<S, NoMask>,
+    pub(crate) stage: Stage,
+}
+
+impl<S> Model for Wire<S> {
+    ghost use Rattle.cf_wire.specs.Stages.{WireState};
+
+    ghost Value = { WireState S };
+
+    ghost view = { λ w. record { socket = w.socket; stage = w.stage } };
+}
+
+/// The reason that stands beside a close code; empty for a code that isn't one of ours.
+fn reason_of(code: u16) -> &'static str
+    ensures { result.now ≡ reason_by code }
+{
+    if code == CloseCode::Shutdown.code() {
+        return CloseCode::Shutdown.reason();
+    }
+    if code == CloseCode::InternalError.code() {
+        return CloseCode::InternalError.reason();
+    }
+    if code == CloseCode::Slow.code() {
+        return CloseCode::Slow.reason();
+    }
+    if code == CloseCode::NoPong.code() {
+        return CloseCode::NoPong.reason();
+    }
+    if code == CloseCode::InvalidToken.code() {
+        return CloseCode::InvalidToken.reason();
+    }
+    if code == CloseCode::BadRequest.code() {
+        return CloseCode::BadRequest.reason();
+    }
+    ""
+}
+
+/// The end of a wire whose socket failed.
+fn end_of(error: &Error) -> WireEnd
+    ensures { has_failed (Stage.Over result) ≡ true }
+{
+    match error {
+        Error::OutOfMemory => WireEnd::Memory,
+        Error::Io(cause) => match cause.kind() {
+            ErrorKind::OutOfMemory => WireEnd::Memory,
+            _ => WireEnd::StreamFault,
+        },
+        _ => WireEnd::StreamFault,
+    }
+}
+
+/// Whether the stream would block, so that the same is to be tried again.
+fn would_block(error: &Error) -> bool
+    ensures { result ≡ true → IsIo error.now }
+{
+    match error {
+        Error::Io(cause) => cause.kind() == ErrorKind::WouldBlock,
+        _ => false,
+    }
+}
+
+/// The code of the peer's close.
+fn code_of(frame: &Option<CloseFrame>) -> u16
+    ensures { code_in (close (close_of frame.now)) ≡ Some result }
+{
+    match frame {
+        Some(frame) => u16::from(frame.code),
+        None => NO_CODE,
+    }
+}
+
+impl<S: Read + Write + Drop> Wire<S> {
+    /// Reads what the peer sent, at most 64 messages, and sends what the desk gives: before the first, after each, and at the
+    /// end. A text is heard by the desk, a ping or pong is passed over, and a binary message, or one of more than 131,072
+    /// bytes, closes with 3501. Of a spent wire each turn ends as the one did by which it was.
+    pub fn turn<D: Desk>(&mut self, desk: &mut D) -> TurnEnd
+        ensures turns { is_over self.old.stage ≡ false →
+            Turns D.hears D.gives S.remaining S.contents (least result) most_reads (Some result)
+            (place desk.old self.old) (place desk.new self.new) }
+        ensures ends { Agrees result self.new.stage }
+        ensures spent { is_over self.old.stage ≡ true → (self.new ≡ self.old) × (desk.new ≡ desk.old) }
+    {
+        match self.stage {
+            Stage::Over(end) => end.told(),
+            Stage::Unflushed(close) => match self.flush(close) {
+                Ok(()) => self.exchange(desk),
+                Err(end) => end,
+            },
+            Stage::Open => self.exchange(desk),
+        }
+    }
+
+    /// Whether a message waits for the stream.
+    pub fn is_unflushed(&self) -> bool
+        ensures { result ≡ is_unflushed self.now.stage }
+    {
+        match self.stage {
+            Stage::Unflushed(_) => true,
+            _ => false,
+        }
+    }
+
+    /// The stream.
+    pub fn stream(&self) -> &S
+        ensures { result.now ≡ self.now.socket.stream }
+    {
+        self.socket.get_ref()
+    }
+
+    /// The stream, to be changed: what is promised of a turn speaks of the stream that it finds.
+    pub fn stream_mut(&mut self) -> &mut S {
+        self.socket.get_mut()
+    }
+
+    /// Lets go of the wire, and gives its stream.
+    pub fn into_stream(self) -> S
+        ensures { result ≡ self.socket.stream }
+    {
+        let Wire { socket, .. } = self;
+        socket.into_inner()
+    }
+
+    fn exchange<D: Desk>(&mut self, desk: &mut D) -> TurnEnd
+        requires { self.old.stage ≡ Stage.Open }
+        ensures turns { Turns D.hears D.gives S.remaining S.contents (least result) most_reads
+            (Some result) (place desk.old self.old) (place desk.new self.new) }
+        ensures ends { Agrees result self.new.stage }
+    {
+        for index in 0..MOST_READS {
+            if let Err(end) = self.give_all(desk) {
+                return end;
+            }
+            if let Err(end) = self.hear(desk) {
+                return end;
+            }
+        }
+        match self.give_all(desk) {
+            Ok(()) => TurnEnd::More,
+            Err(end) => end,
+        }
+    }
+
+    /// Sends what the desk gives, until it gives nothing.
+    fn give_all<D: Desk>(&mut self, desk: &mut D) -> Result<(), TurnEnd>
+        requires { self.old.stage ≡ Stage.Open }
+        ensures turns { Turns D.hears D.gives S.remaining S.contents (least_in 0 result) 0
+            (end_in result) (place desk.old self.old) (place desk.new self.new) }
+        ensures open { OnOk result (self.new.stage ≡ Stage.Open) }
+        ensures ends { IfErr result (λ end. Agrees end self.new.stage) }
+    {
+        for index in 0..MOST_SENDS {
+            match self.give(desk) {
+                Ok(true) => {}
+                Ok(false) => return Ok(()),
+                Err(end) => return Err(end),
+            }
+        }
+        Err(TurnEnd::More)
+    }
+
+    /// Takes what goes out next, and sends it. Ok says whether there was something.
+    fn give<D: Desk>(&mut self, desk: &mut D) -> Result<bool, TurnEnd>
+        requires { self.old.stage ≡ Stage.Open }
+        ensures turns { Turns D.hears D.gives S.remaining S.contents (taken_in result) 0
+            (end_in result) (place desk.old self.old) (place desk.new self.new) }
+        ensures open { OnOk result (self.new.stage ≡ Stage.Open) }
+        ensures ends { IfErr result (λ end. Halts end self.new.stage) }
+    {
+        match desk.next() {
+            None => Ok(false),
+            Some(out) => match self.put(out) {
+                Ok(()) => Ok(true),
+                Err(end) => Err(end),
+            },
+        }
+    }
+
+    /// Reads a message, and does what it asks for.
+    fn hear<D: Desk>(&mut self, desk: &mut D) -> Result<(), TurnEnd>
+        requires { self.old.stage ≡ Stage.Open }
+        ensures turns { Turns D.hears D.gives S.remaining S.contents (least_in 1 result) 1
+            (end_in result) (place desk.old self.old) (place desk.new self.new) }
+        ensures open { OnOk result (self.new.stage ≡ Stage.Open) }
+        ensures ends { IfErr result (λ end. Halts end self.new.stage) }
+    {
+        match self.socket.read() {
+            Ok(Message::Text(text)) => {
+                desk.heard(text.as_str());
+                Ok(())
+            }
+            Ok(Message::Binary(_)) => self.shut(CloseCode::BadRequest.code()),
+            Ok(Message::Ping(_)) => Ok(()),
+            Ok(Message::Pong(_)) => Ok(()),
+            Ok(Message::Close(frame)) => {
+                let code = code_of(&frame);
+                self.stage = Stage::Unflushed(Some(code));
+                self.flush(Some(code))
+            }
+            Err(Error::Capacity(_)) => self.shut(CloseCode::BadRequest.code()),
+            Err(error) => Err(self.pause(&error, Stage::Open)),
+        }
+    }
+
+    fn put(&mut self, out: Out) -> Result<(), TurnEnd>
+        ensures put { Settles S.contents self.old.socket out self.new.socket self.new.stage }
+        ensures open { OnOk result (self.new.stage ≡ Stage.Open) }
+        ensures ends { IfErr result (λ end. Stops end self.new.stage) }
+    {
+        match out {
+            Out::Text(text) => self.send(text),
+            Out::Close(code) => self.shut(code),
+        }
+    }
+
+    fn send(&mut self, text: String) -> Result<(), TurnEnd>
+        ensures put { Settles S.contents self.old.socket (out.Text text) self.new.socket self.new.stage }
+        ensures open { OnOk result (self.new.stage ≡ Stage.Open) }
+        ensures ends { IfErr result (λ end. Stops end self.new.stage) }
+    {
+        match Message::text(self.alloc, text.as_str()) {
+            Ok(message) => {
+                let answer = self.socket.send(message);
+                self.settle(answer, None)
+            }
+            Err(_) => Err(self.stop(WireEnd::Memory)),
+        }
+    }
+
+    fn shut(&mut self, code: u16) -> Result<(), TurnEnd>
+        ensures put { Settles S.contents self.old.socket (out.Close code) self.new.socket self.new.stage }
+        ensures open { OnOk result (self.new.stage ≡ Stage.Open) }
+        ensures ends { IfErr result (λ end. Stops end self.new.stage) }
+    {
+        let frame = CloseFrame {
+            code: FrameCode::from(code),
+            reason: Utf8Bytes::from_static(reason_of(code)),
+        };
+        let answer = self.socket.close(Some(frame));
+        self.settle(answer, Some(code))
+    }
+
+    /// What waits goes to the stream. Ok: the wire is open again.
+    fn flush(&mut self, close: Option<u16>) -> Result<(), TurnEnd>
+        requires { self.old.stage ≡ Stage.Unflushed close }
+        ensures flushed { Flushed S.contents self.old.socket self.new.socket }
+        ensures leaves { FlushLeaves close self.new.socket self.new.stage }
+        ensures open { OnOk result (self.new.stage ≡ Stage.Open) }
+        ensures ends { IfErr result (λ end. Stops end self.new.stage) }
+    {
+        match self.socket.flush() {
+            Ok(()) => self.reopen(close),
+            Err(error) => Err(self.pause(&error, Stage::Unflushed(close))),
+        }
+    }
+
+    /// What a `send` or a `close` answered, the latter with this code.
+    fn settle(&mut self, answer: Result<(), Error>, close: Option<u16>) -> Result<(), TurnEnd>
+        ensures same { self.new.socket ≡ self.old.socket }
+        ensures ok { OnOk answer (self.new.stage ≡ settled close) }
+        ensures err { IfErr answer (λ e. (IsIo e × (self.new.stage ≡ Stage.Unflushed close))
+            ⊎ (has_failed self.new.stage ≡ true)) }
+        ensures open { OnOk result (self.new.stage ≡ Stage.Open) }
+        ensures ends { IfErr result (λ end. Stops end self.new.stage) }
+    {
+        match answer {
+            Ok(()) => self.reopen(close),
+            Err(error) => Err(self.pause(&error, Stage::Unflushed(close))),
+        }
+    }
+
+    /// All that waited is on the stream.
+    fn reopen(&mut self, close: Option<u16>) -> Result<(), TurnEnd>
+        ensures same { self.new.socket ≡ self.old.socket }
+        ensures stage { self.new.stage ≡ settled close }
+        ensures open { OnOk result (self.new.stage ≡ Stage.Open) }
+        ensures ends { IfErr result (λ end. Stops end self.new.stage) }
+    {
+        match close {
+            Some(code) => Err(self.stop(WireEnd::Closed(code))),
+            None => {
+                self.stage = Stage::Open;
+                Ok(())
+            }
+        }
+    }
+
+    /// The socket failed: where the stream would block the wire is left at this stage, else it is spent.
+    fn pause(&mut self, error: &Error, stage: Stage) -> TurnEnd
+        requires { is_over stage ≡ false }
+        ensures same { self.new.socket ≡ self.old.socket }
+        ensures left { (IsIo error.now × (self.new.stage ≡ stage)) ⊎ (has_failed self.new.stage ≡ true) }
+        ensures halts { Halts result self.new.stage }
+    {
+        if would_block(error) {
+            self.stage = stage;
+            return TurnEnd::Idle;
+        }
+        self.stop(end_of(error))
+    }
+
+    fn stop(&mut self, end: WireEnd) -> TurnEnd
+        ensures same { self.new.socket ≡ self.old.socket }
+        ensures over { self.new.stage ≡ Stage.Over end }
+        ensures halts { Halts result self.new.stage }
+    {
+        self.stage = Stage::Over(end);
+        end.told()
+    }
+}
