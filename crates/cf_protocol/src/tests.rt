@@ -1,5 +1,6 @@
 //! Texts read and written, as vectors.
 mod commands;
+mod large;
 mod replies;
 
 use crate::{
