@@ -148,6 +148,90 @@ fn a_conversation(rt: HostRuntime) -> Result<(), Fail> {
     Ok(())
 }
 
+/// Every kind of reply and push, to a client that is live on `news` with a history under id 3.
+#[test]
+fn every_kind(rt: HostRuntime) -> Result<(), Fail> {
+    let alloc = rt.alloc();
+    let mut client = live(alloc)?;
+    client.list("news", -1)?;
+    for (text, expected) in [
+        ("{\"connect\":{\"client\":\"0-1-1\"},\"id\":1}", ""),
+        ("{\"id\":9,\"publish\":{}}{\"id\":9,\"unsubscribe\":{}}", ""),
+        (
+            "{\"id\":9,\"presence\":{\"presence\":{\"0-1-1\":{\"client\":\"0-1-1\"}}}}",
+            "",
+        ),
+        (
+            "{\"id\":9,\"presence_stats\":{\"num_clients\":1,\"num_users\":1}}",
+            "",
+        ),
+        ("{\"id\":9,\"ping\":{}}", ""),
+        ("{\"error\":{\"code\":100},\"id\":9}", ""),
+        (
+            "{\"history\":{\"epoch\":\"aaaa\",\"offset\":7},\"id\":3}",
+            "listed news aaaa 7 0;",
+        ),
+        (
+            "{\"history\":{\"epoch\":\"aaaa\",\"offset\":7},\"id\":3}",
+            "",
+        ),
+        (
+            "{\"push\":{\"channel\":\"news\",\"join\":{\"info\":{}}}}",
+            "",
+        ),
+        (
+            "{\"push\":{\"channel\":\"other\",\"pub\":{\"data\":1,\"offset\":1}}}",
+            "",
+        ),
+        ("{}{}", "pong due;pong due;"),
+        (
+            "{\"push\":{\"channel\":\"news\",\"unsubscribe\":{\"code\":2499}}}",
+            "",
+        ),
+    ] {
+        assert_eq!(rt; told(alloc, &mut client, text)?.as_str(), expected);
+    }
+    assert!(rt; client.is_idle("news"));
+    client.ask("news")?;
+    let refusal = "{\"error\":{\"code\":105},\"id\":4}";
+    assert_eq!(rt;
+        told(alloc, &mut client, refusal)?.as_str(),
+        "refused news 105;"
+    );
+    Ok(())
+}
+
+#[test]
+fn largest_reply(rt: HostRuntime) -> Result<(), Fail> {
+    let alloc = rt.alloc();
+    let mut client = Client::new(alloc);
+    client.connect("")?;
+    client.ask("news")?;
+    let mut text = String::from_str(
+        alloc,
+        "{\"id\":2,\"subscribe\":{\"epoch\":\"aaaa\",\"offset\":300,\"recovered\":true,\"publications\":[",
+    )?;
+    for offset in 1..300 {
+        text.push_str(format!(in alloc; "{{\"data\":1,\"offset\":{offset}}},")?.as_str())?;
+    }
+    text.push_str("{\"data\":1,\"offset\":300}]}}")?;
+    assert_eq!(rt; client.on_text(text.as_str())?.len(), 301);
+    Ok(())
+}
+
+#[test]
+fn faults_in_words(rt: HostRuntime) -> Result<(), Fail> {
+    for (fault, words) in [
+        (ClientFault::Bad, "unreadable"),
+        (ClientFault::NotNow, "not now"),
+        (ClientFault::AtLastId, "no command id is left"),
+        (ClientFault::Memory, "out of memory"),
+    ] {
+        assert_eq!(rt; fault.to_string(rt.alloc())?.as_str(), words);
+    }
+    Ok(())
+}
+
 #[test]
 fn comes_back(rt: HostRuntime) -> Result<(), Fail> {
     let alloc = rt.alloc();

@@ -35,3 +35,34 @@ fn limit_and_close(rt: HostRuntime) -> Result<(), Fail> {
     assert!(rt; queue.is_closed());
     Ok(())
 }
+
+#[test]
+fn whole_limit(rt: HostRuntime) -> Result<(), Fail> {
+    let alloc = rt.alloc();
+    let text = "x".repeat(alloc, 1048576)?;
+    let mut queue = OutQueue::new(alloc, 1048576);
+    assert!(rt; queue.is_empty());
+    assert_eq!(rt; queue.push_copy(text.as_str()), Ok(()));
+    assert_eq!(rt; queue.push_copy("x"), Err(QueueRefusal::Slow));
+    assert_eq!(rt; queue.take(), Some(Out::Text(text.clone()?)));
+    assert!(rt; queue.push(text).is_ok());
+    queue.close(3008);
+    assert_eq!(rt; queue.push_copy(""), Err(QueueRefusal::Closed));
+    queue.take();
+    assert!(rt; !queue.is_empty());
+    queue.take();
+    assert!(rt; queue.is_empty());
+    Ok(())
+}
+
+#[test]
+fn refusals_in_words(rt: HostRuntime) -> Result<(), Fail> {
+    for (refusal, words) in [
+        (QueueRefusal::Closed, "the queue is closed"),
+        (QueueRefusal::Slow, "the queue is at its limit"),
+        (QueueRefusal::Memory, "out of memory"),
+    ] {
+        assert_eq!(rt; refusal.to_string(rt.alloc())?.as_str(), words);
+    }
+    Ok(())
+}

@@ -12,14 +12,14 @@ use cf_protocol::{Epoch, Position, Publication};
 fn is_ahead(epoch: &Epoch, publication: &Publication, at: &Position, ahead: u64) -> bool
     ensures { result ≡ (bytes_eq epoch.now at.now.epoch && (publication.now.offset == at.now.offset + ahead)) }
 {
-    publication.offset.checked_sub(at.offset) == Some(ahead) && epoch.as_str() == at.epoch.as_str()
+    publication.offset.checked_sub(at.offset) == Some(ahead) && *epoch == at.epoch
 }
 
 /// Whether a publication of this epoch is at most `ahead` offsets above a position, or not above it, in its epoch.
 fn is_within(epoch: &Epoch, publication: &Publication, at: &Position, ahead: u64) -> bool
     ensures { result ≡ (bytes_eq epoch.now at.now.epoch && nat_le publication.now.offset (at.now.offset + ahead)) }
 {
-    epoch.as_str() == at.epoch.as_str() && publication.offset.saturating_sub(at.offset) <= ahead
+    *epoch == at.epoch && publication.offset.saturating_sub(at.offset) <= ahead
 }
 
 /// Where, from the index `from` on, the publication `ahead` offsets above a position stands.

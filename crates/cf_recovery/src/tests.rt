@@ -1,7 +1,7 @@
 ghost use Rattle.std.specs.Prelude.{◌≤◌};
 
 use crate::{Released, Verdict, Waiting, check};
-use cf_protocol::{Epoch, Position, Publication};
+use cf_protocol::{Epoch, Info, Position, Publication};
 use std::alloc::{AllocError, Global};
 use std::test::Fail;
 
@@ -61,5 +61,34 @@ fn buffer_limit(rt: HostRuntime) -> Result<(), Fail> {
     let too_many = released(rt.alloc(), 1001)?;
     assert!(rt; too_many.insufficient);
     assert_eq!(rt; too_many.run.len(), 0);
+    Ok(())
+}
+
+#[test]
+fn two_epochs_with_info(rt: HostRuntime) -> Result<(), Fail> {
+    let alloc = rt.alloc();
+    let mut waiting = Waiting::new(alloc);
+    for epoch in ["aaaa", "bbbb"] {
+        for offset in 1..501 {
+            let info = Info {
+                user: String::from_str(alloc, "ann")?,
+                client: String::from_str(alloc, "0-1-1")?,
+            };
+            let publication = Publication {
+                offset,
+                body: String::from_str(alloc, "1")?,
+                info: Some(info),
+            };
+            waiting.keep(&Epoch::from_text(epoch), &publication);
+        }
+    }
+    assert!(rt; !waiting.short());
+    let half = waiting.release(&at("bbbb", 0));
+    assert!(rt; half.insufficient);
+    assert_eq!(rt; half.run.len(), 500);
+    for publication in &half.run {
+        let info = publication.info.as_ref();
+        assert!(rt; info.is_some_and(|i| i.user.as_str() == "ann" && i.client.as_str() == "0-1-1"));
+    }
     Ok(())
 }

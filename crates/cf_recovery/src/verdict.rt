@@ -24,7 +24,7 @@ pub enum Verdict {
 pub fn check(at: &Position, epoch: &Epoch, offset: u64) -> Verdict
     ensures { meaning result ≡ verdict at.now (record { epoch = epoch.now; offset = offset }) }
 {
-    if epoch.as_str() == at.epoch.as_str() {
+    if *epoch == at.epoch {
         if offset <= at.offset {
             return Verdict::Drop;
         }

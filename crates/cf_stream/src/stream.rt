@@ -181,7 +181,7 @@ impl Stream {
         ensures { SomeIff result (RecoversFrom self.now since) (missed_from self.now since) }
     {
         let since = since?;
-        if !same_epoch(since.epoch, self.epoch) || since.offset > self.top {
+        if since.epoch != self.epoch || since.offset > self.top {
             return None;
         }
         let missed = self.top - since.offset;
@@ -203,7 +203,7 @@ impl Stream {
         match since {
             None => Some(held),
             Some(since) => {
-                if same_epoch(since.epoch, self.epoch) {
+                if since.epoch == self.epoch {
                     Some(self.top.saturating_sub(since.offset).min(held as u64) as usize)
                 } else {
                     None
@@ -339,13 +339,6 @@ fn has_passed(moment: u64, seconds: u64, now: u64) -> bool
     ensures { result ≡ is_over moment seconds now }
 {
     moment <= now && now - moment >= seconds
-}
-
-/// Whether these are one epoch.
-pub(crate) fn same_epoch(first: Epoch, second: Epoch) -> bool
-    ensures { IsTrue result ↔ (first ≡ second) }
-{
-    first.as_str() == second.as_str()
 }
 
 /// How many publications a limit allows.

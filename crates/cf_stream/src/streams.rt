@@ -17,7 +17,7 @@ use crate::answer::{History, Recovery};
 use crate::due::DueWalk;
 use crate::opening::{Epochs, open_idle, publish_new};
 use crate::refusal::StreamRefusal;
-use crate::stream::{LARGEST_SIZE, LAST_OFFSET, Stream, same_epoch};
+use crate::stream::{LARGEST_SIZE, LAST_OFFSET, Stream};
 use cf_protocol::{Epoch, Info, Namespaces, Position, Publication};
 use std::alloc::{AllocError, Global};
 use std::collections::BTreeMap;
@@ -317,7 +317,7 @@ fn is_start(since: Option<Position>, epoch: Epoch) -> bool
 {
     match since {
         None => false,
-        Some(since) => since.offset == 0 && same_epoch(since.epoch, epoch),
+        Some(since) => since.offset == 0 && since.epoch == epoch,
     }
 }
 

@@ -57,19 +57,57 @@ fn filled(alloc: Global, size: usize, count: u64) -> Result<Stream, StreamRefusa
 
 #[test]
 fn recovery_limit(rt: HostRuntime) -> Result<(), Fail> {
-    let mut stream = filled(rt.alloc(), 1000, 301)?;
-    let found = stream.recover(at(1), 0)?;
-    assert!(rt; found.recovered);
-    assert_eq!(rt; found.publications.len(), 300);
-    let offsets = found.publications.iter().map(|p| p.offset);
-    assert!(rt; offsets.eq(2..=301));
-    let lost = stream.recover(at(0), 0)?;
-    assert!(rt; !lost.recovered && lost.publications.is_empty());
-    assert_eq!(rt; lost.position.offset, 301);
-    let none = stream.recover(at(301), 0)?;
-    assert!(rt; none.recovered && none.publications.is_empty());
-    let above = stream.recover(at(302), 0)?;
+    let mut stream = filled(rt.alloc(), 1000, 1000)?;
+    for (missed, recovered) in [(0, true), (1, true), (299, true), (300, true), (301, false)] {
+        let found = stream.recover(at(1000 - missed), 0)?;
+        assert_eq!(rt; found.recovered, recovered);
+        assert_eq!(rt; found.position.offset, 1000);
+        let first = if recovered { 1001 - missed } else { 1001 };
+        let offsets = found.publications.iter().map(|p| p.offset);
+        assert!(rt; offsets.eq(first..1001), "{missed} missed");
+    }
+    let above = stream.recover(at(1001), 0)?;
     assert!(rt; !above.recovered);
+    Ok(())
+}
+
+#[test]
+fn history_limits(rt: HostRuntime) -> Result<(), Fail> {
+    let mut stream = filled(rt.alloc(), 1000, 1000)?;
+    for (limit, count) in [
+        (i32::MIN, 300),
+        (-1, 300),
+        (0, 0),
+        (1, 1),
+        (299, 299),
+        (300, 300),
+        (301, 300),
+        (i32::MAX, 300),
+    ] {
+        let history = stream.history(None, limit, 0)?;
+        let offsets = history.publications.iter().map(|p| p.offset);
+        assert!(rt; offsets.eq(1..count + 1), "limit {limit}");
+    }
+    Ok(())
+}
+
+#[test]
+fn refusals_in_words(rt: HostRuntime) -> Result<(), Fail> {
+    let refusals = [
+        StreamRefusal::AtLastOffset,
+        StreamRefusal::WrongEpoch,
+        StreamRefusal::NoEpoch,
+        StreamRefusal::Memory,
+    ];
+    let words = [
+        "the stream is at its last offset",
+        "the position is of another epoch",
+        "there is no epoch for a new stream",
+        "out of memory",
+    ];
+    for (refusal, words) in refusals.iter().zip(words.iter()) {
+        assert_eq!(rt; refusal.to_string(rt.alloc())?.as_str(), *words);
+    }
     Ok(())
 }
 
@@ -188,6 +226,30 @@ fn opens_in_drawn_epochs(rt: HostRuntime) -> Result<(), Fail> {
     let none = lists(&mut streams, &mut epochs, "chat:x", None);
     assert!(rt; matches!(none, Err(StreamRefusal::NoEpoch)));
     assert!(rt; streams.position("chat:x").is_none());
+    Ok(())
+}
+
+#[test]
+fn long_names_and_empty_bodies(rt: HostRuntime) -> Result<(), Fail> {
+    let alloc = rt.alloc();
+    let mut epochs = Waiting(Vec::from_array(alloc, [aaaa()])?);
+    let namespaces = read_namespaces(alloc, "=1000,300,phs")?;
+    let mut streams = Streams::new(alloc, &namespaces)?;
+    let channel = "x".repeat(alloc, 65536)?;
+    for offset in 1..1001 {
+        let body = String::new(alloc);
+        assert_eq!(rt;
+            publish(&mut streams, &mut epochs, channel.as_str(), body, 0)?,
+            offset
+        );
+    }
+    assert!(rt; reads(&mut streams, &mut epochs, channel.as_str(), at(700))?);
+    assert!(rt; !reads(&mut streams, &mut epochs, channel.as_str(), at(699))?);
+    assert!(rt;
+        streams
+            .last(channel.as_str())
+            .is_some_and(|p| p.body.is_empty())
+    );
     Ok(())
 }
 
