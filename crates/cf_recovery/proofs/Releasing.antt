@@ -1,5 +1,5 @@
 -- What a release passes on, as it is gathered at the front of what is stored.
-use Rattle.std.proofs.Common.{◌≡◌, ℕ, zero, suc, ◌+◌, ◌≤◌, ◌<◌, ◌==◌, ◌&&◌, ◌||◌, Bool, true, false, not, List, [], ◌∷◌, length, map, reverse, take, length-take-le, refl, sym, ap, subst, arith, ◌∙◌}
+use Rattle.std.proofs.Common.{◌≡◌, ℕ, zero, suc, ◌+◌, ◌≤◌, ◌<◌, ◌==◌, ◌&&◌, ◌||◌, Bool, true, false, not, List, [], ◌∷◌, length, map, reverse, take, length-take-le, nat_le, inl, inr, refl, sym, ap, subst, arith, ◌∙◌}
 use Rattle.std.specs.Str.{bytes_eq}
 use Rattle.std.specs.List.{All, Contains}
 use Rattle.std.specs.List.Sorted.{IsPermutation}
@@ -10,12 +10,12 @@ use Rattle.std.proofs.lemmas.List.Sorted.{length_permutation, Contains-permutati
 use Rattle.cf_protocol.specs.Datum.{Placed, numbered}
 use Rattle.cf_protocol.specs.Position.{Position}
 use Rattle.cf_recovery.specs.Arrivals.{has, highest, overfull, all_within}
-use Rattle.cf_recovery.specs.Release.{unbroken, run_length, falls_short}
+use Rattle.cf_recovery.specs.Release.{all_arrived, greatest, run_length, falls_short}
 use Rattle.cf_recovery.specs.Kept.{Arrival, arrival, places, Kept, IsWithin, IsRun, StandsFor, ended_at}
 use Rattle.cf_recovery.specs.Stored.{stored, is_at}
 use Rattle.cf_recovery.proofs.Keeping.{has-permutation, has-reverse, has-at, has-none}
 use Rattle.cf_recovery.proofs.Storing.{length-stored}
-use Rattle.cf_recovery.proofs.Runs.{below-highest, lies-within, within-lies, text_tells}
+use Rattle.cf_recovery.proofs.Runs.{below-highest, all_true, all_made, passes, at_most, lies-within, within-lies, text_tells}
 
 -- the same places are kept and stored
 pub same_places : (old new : List Arrival) (e : List ℕ) (o : ℕ) → IsPermutation old new → has (places (reverse old)) e o ≡ has (places new) e o
@@ -23,16 +23,24 @@ same_places old new e o h = has-reverse old e o ∙ has-permutation old new e o 
 
 -- ---- how many
 
-pub unbroken-is : (ps : List Position) (e : List ℕ) (o n k : ℕ) → ((j : ℕ) → j < k → has ps e (o + 1 + j) ≡ true) → has ps e (o + 1 + k) ≡ false → k ≤ n → unbroken ps e o n ≡ k
-unbroken-is ps e o zero k h g l = omega arith
-unbroken-is ps e o (suc n) zero h g l =
-    let same : o + 1 + 0 ≡ o + 1 = omega arith in
-    let none = rw same at g in rw none refl
-unbroken-is ps e o (suc n) (suc k) h g l =
-    let same : o + 1 + 0 ≡ o + 1 = omega arith in
-    let there : has ps e (o + 1) ≡ true = subst (λ x. has ps e x ≡ true) same (h 0 (omega arith)) in
-    let last : o + 1 + suc k ≡ o + 1 + 1 + k = omega arith in
-    rw there (ap suc (unbroken-is ps e (o + 1) n k (λ j m. let at : o + 1 + suc j ≡ o + 1 + 1 + j = omega arith in subst (λ x. has ps e x ≡ true) at (h (suc j) (omega arith))) (subst (λ x. has ps e x ≡ false) last g) (omega arith)))
+-- the greatest is this number, where so many follow and the next does not
+greatest-is : (ps : List Position) (e : List ℕ) (o n k : ℕ) → ((j : ℕ) → j < k → has ps e (o + 1 + j) ≡ true) → has ps e (o + 1 + k) ≡ false → k ≤ n → greatest (all_arrived ps e o) n ≡ k
+greatest-is ps e o n k h g l =
+    let low : k ≤ greatest (all_arrived ps e o) n = at_most (all_arrived ps e o) n k l (all_made ps e o k h) in
+    let high : greatest (all_arrived ps e o) n ≤ k = elim (passes (all_arrived ps e o) n) [
+      | inl none ↦ omega arith
+      | inr all ↦ no_more (nat_le (greatest (all_arrived ps e o) n) k) refl all
+    ] in
+    omega arith
+  where
+    false-true : (b : Bool) → b ≡ true → b ≡ false → ⊥
+    false-true b x y = cc
+
+    no_more : (b : Bool) → nat_le (greatest (all_arrived ps e o) n) k ≡ b → all_arrived ps e o (greatest (all_arrived ps e o) n) ≡ true → greatest (all_arrived ps e o) n ≤ k
+    no_more true x all = grind (arith, nat_tests)
+    no_more false x all =
+        let above : k < greatest (all_arrived ps e o) n = grind (arith, nat_tests) in
+        absurd (false-true _ (all_true ps e o (greatest (all_arrived ps e o) n) k all above) g)
 
 -- so many are not above the highest
 few_enough : (ps : List Position) (e : List ℕ) (o k : ℕ) → ((j : ℕ) → j < k → has ps e (o + 1 + j) ≡ true) → k ≤ highest ps
@@ -41,7 +49,7 @@ few_enough ps e o (suc k) h = let b = below-highest ps e (o + 1 + k) (h k (omega
 
 pub run_counted : (old new : List Arrival) (p : Position) (n : ℕ) → overfull (places (reverse old)) ≡ false → IsPermutation old new → ((k : ℕ) → k < n → is_at new p.epoch (p.offset + 1 + k) k ≡ true) → ((i : ℕ) → is_at new p.epoch (p.offset + 1 + n) i ≡ false) → run_length (places (reverse old)) (ended_at p) ≡ n
 run_counted old new p n few moved front gap =
-    rw few (unbroken-is (places (reverse old)) p.epoch p.offset (highest (places (reverse old))) n reached
+    rw few (greatest-is (places (reverse old)) p.epoch p.offset (highest (places (reverse old))) n reached
     (same_places old new p.epoch (p.offset + 1 + n) moved ∙ has-none new p.epoch (p.offset + 1 + n) gap)
     (few_enough (places (reverse old)) p.epoch p.offset n reached))
   where

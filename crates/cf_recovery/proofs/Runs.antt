@@ -6,7 +6,7 @@ use Rattle.std.proofs.lemmas.Bool.Decides.{nat_tests}
 use Rattle.cf_protocol.specs.Position.{Position}
 use Rattle.cf_protocol.specs.Note.{Reading}
 use Rattle.cf_recovery.specs.Arrivals.{has, arrives, overfull, highest, all_within, AreOnce}
-use Rattle.cf_recovery.specs.Release.{unbroken, run_length, falls_short, Reaches, LiesWithin}
+use Rattle.cf_recovery.specs.Release.{all_arrived, greatest, run_length, falls_short, Reaches, LiesWithin}
 
 -- which way a test of two names went
 pub text_tells : (a b : List ℕ) → ((bytes_eq a b ≡ true) × (a ≡ b)) ⊎ ((bytes_eq a b ≡ false) × (a ≢ b))
@@ -53,59 +53,83 @@ below-highest (p ∷ ps) e o h =
       | inr i ↦ let j = below-highest ps e o i in omega arith
     ]
 
-unbroken-if : (t : Bool) (n k : ℕ) → k < (if t then suc n else 0) → (t ≡ true) × (k ≤ n)
-unbroken-if true n k h = (refl, omega arith)
-unbroken-if false n k h = absurd (omega arith)
+and-parts : (a b : Bool) → (a && b) ≡ true → (a ≡ true) × (b ≡ true)
+and-parts a b h = grind arith
 
--- each place of the run arrived
-unbroken-all : (ps : List Position) (e : List ℕ) (o n k : ℕ) → k < unbroken ps e o n → has ps e (o + 1 + k) ≡ true
-unbroken-all ps e o zero k h = absurd (omega arith)
-unbroken-all ps e o (suc n) zero h =
-    let i = unbroken-if (has ps e (o + 1)) (unbroken ps e (o + 1) n) zero h in
-    let z : o + 1 + zero ≡ o + 1 = omega arith in rw z i.0
-unbroken-all ps e o (suc n) (suc k) h =
-    let i = unbroken-if (has ps e (o + 1)) (unbroken ps e (o + 1) n) (suc k) h in
-    let z : o + 1 + suc k ≡ o + 1 + 1 + k = omega arith in rw z (unbroken-all ps e (o + 1) n k i.1)
+both : (a b : Bool) → a ≡ true → b ≡ true → (a && b) ≡ true
+both a b h k = grind arith
 
-not-true : (b : Bool) → (b ≡ true → ⊥) → b ≡ false
-not-true true h = absurd (h refl)
-not-true false h = refl
+parted : (k n : ℕ) → k < suc n → (k < n) ⊎ (k ≡ n)
+parted k n h = grind (arith, nat_tests)
 
--- and the place after it did not
-unbroken-greatest : (ps : List Position) (e : List ℕ) (o n : ℕ) → highest ps ≤ o + n → has ps e (o + unbroken ps e o n + 1) ≡ false
-unbroken-greatest ps e o zero h =
-    not-true (has ps e (o + 0 + 1)) (λ i. let j = below-highest ps e (o + 0 + 1) i in omega arith)
-unbroken-greatest ps e o (suc n) h =
-    by_test (λ v. has ps e (o + v + 1) ≡ false) (has ps e (o + 1)) (suc (unbroken ps e (o + 1) n)) 0
-    (λ i. let z : o + suc (unbroken ps e (o + 1) n) + 1 ≡ o + 1 + unbroken ps e (o + 1) n + 1 = omega arith in
-    rw z (unbroken-greatest ps e (o + 1) n (omega arith)))
-    (λ i. let z : o + 0 + 1 ≡ o + 1 = omega arith in rw z i)
+-- all n arrived exactly where each did
+pub all_true : (ps : List Position) (e : List ℕ) (o n k : ℕ) → all_arrived ps e o n ≡ true → k < n → has ps e (o + 1 + k) ≡ true
+all_true ps e o zero k h l = absurd (omega arith)
+all_true ps e o (suc n) k h l =
+    let a = and-parts (all_arrived ps e o n) (has ps e (o + suc n)) h in
+    elim (parted k n l) [
+      | inl i ↦ all_true ps e o n k a.0 i
+      | inr i ↦ let z : o + 1 + k ≡ o + suc n = omega arith in rw z a.1
+    ]
+
+pub all_made : (ps : List Position) (e : List ℕ) (o n : ℕ) → ((k : ℕ) → k < n → has ps e (o + 1 + k) ≡ true) → all_arrived ps e o n ≡ true
+all_made ps e o zero h = refl
+all_made ps e o (suc n) h =
+    both (all_arrived ps e o n) (has ps e (o + suc n)) (all_made ps e o n (λ k l. h k (omega arith)))
+    (let z : o + 1 + n ≡ o + suc n = omega arith in subst (λ x. has ps e x ≡ true) z (h n (omega arith)))
+
+-- the greatest passes, unless it is 0, and none that passes is above it
+pub passes : (test : ℕ → Bool) (n : ℕ) → (greatest test n ≡ 0) ⊎ (test (greatest test n) ≡ true)
+passes test zero = inl refl
+passes test (suc n) = by_value (test (suc n)) refl (passes test n)
+  where
+    by_value : (b : Bool) → test (suc n) ≡ b → (greatest test n ≡ 0) ⊎ (test (greatest test n) ≡ true) → ((if b then suc n else greatest test n) ≡ 0) ⊎ (test (if b then suc n else greatest test n) ≡ true)
+    by_value true e h = inr e
+    by_value false e h = h
+
+pub at_most : (test : ℕ → Bool) (n m : ℕ) → m ≤ n → test m ≡ true → m ≤ greatest test n
+at_most test zero m l h = l
+at_most test (suc n) m l h = by_value (test (suc n)) refl (λ i. at_most test n m i h)
+  where
+    false-true : (b : Bool) → b ≡ true → b ≡ false → ⊥
+    false-true b x y = cc
+
+    by_value : (b : Bool) → test (suc n) ≡ b → (m ≤ n → m ≤ greatest test n) → m ≤ (if b then suc n else greatest test n)
+    by_value true e g = l
+    by_value false e g =
+        let less : m < suc (suc n) = omega arith in
+        elim (parted m (suc n) less) [
+          | inl i ↦ g (omega arith)
+          | inr i ↦ absurd (false-true (test (suc n)) (subst (λ x. test x ≡ true) i h) e)
+        ]
 
 pub reached : (arrived : List Position) (r : Reading) → Reaches arrived r.epoch r.top (r.top + run_length arrived r)
 reached ps r i h k =
     by_test (λ v. i ≤ r.top + v → has ps r.epoch i ≡ true) (overfull ps) _ _
     (λ x y. absurd (omega arith)) (λ x y. found y) k
   where
-    found : i ≤ r.top + unbroken ps r.epoch r.top (highest ps) → has ps r.epoch i ≡ true
+    found : i ≤ r.top + greatest (all_arrived ps r.epoch r.top) (highest ps) → has ps r.epoch i ≡ true
     found y =
-        let less : i - (r.top + 1) < unbroken ps r.epoch r.top (highest ps) = omega arith in
-        let at : r.top + 1 + (i - (r.top + 1)) ≡ i = omega arith in
-        subst (λ x. has ps r.epoch x ≡ true) at (unbroken-all ps r.epoch r.top (highest ps) (i - (r.top + 1)) less)
+        elim (passes (all_arrived ps r.epoch r.top) (highest ps)) [
+          | inl none ↦ absurd (omega arith)
+          | inr all ↦
+              let less : i - (r.top + 1) < greatest (all_arrived ps r.epoch r.top) (highest ps) = omega arith in
+              let at : r.top + 1 + (i - (r.top + 1)) ≡ i = omega arith in
+              subst (λ x. has ps r.epoch x ≡ true) at (all_true ps r.epoch r.top _ (i - (r.top + 1)) all less)
+        ]
 
-pub greatest : (arrived : List Position) (r : Reading) (n : ℕ) → overfull arrived ≡ false → Reaches arrived r.epoch r.top n → n ≤ r.top + run_length arrived r
-greatest ps r n h reaches =
-    by_test (λ v. n ≤ r.top + v) (overfull ps) _ _ (λ x. absurd (cc))
-    (λ x. no_further (nat_le n (r.top + unbroken ps r.epoch r.top (highest ps))) refl)
+pub furthest : (arrived : List Position) (r : Reading) (n : ℕ) → overfull arrived ≡ false → Reaches arrived r.epoch r.top n → n ≤ r.top + run_length arrived r
+furthest ps r n h reaches =
+    by_test (λ v. n ≤ r.top + v) (overfull ps) _ _ (λ x. absurd (cc)) (λ x. beyond (nat_le n r.top) refl)
   where
-    false-true : (b : Bool) → b ≡ true → b ≡ false → ⊥
-    false-true b x y = cc
-
-    no_further : (b : Bool) → nat_le n (r.top + unbroken ps r.epoch r.top (highest ps)) ≡ b → n ≤ r.top + unbroken ps r.epoch r.top (highest ps)
-    no_further true e = grind (arith, nat_tests)
-    no_further false e =
-        let above : r.top + unbroken ps r.epoch r.top (highest ps) < n = grind (arith, nat_tests) in
-        absurd (false-true _ (reaches (r.top + unbroken ps r.epoch r.top (highest ps) + 1) (omega arith) (omega arith))
-        (unbroken-greatest ps r.epoch r.top (highest ps) (omega arith)))
+    beyond : (b : Bool) → nat_le n r.top ≡ b → n ≤ r.top + greatest (all_arrived ps r.epoch r.top) (highest ps)
+    beyond true e = grind (arith, nat_tests)
+    beyond false e =
+        let above : r.top < n = grind (arith, nat_tests) in
+        let high : n ≤ highest ps = below-highest ps r.epoch n (reaches n above (omega arith)) in
+        let all : all_arrived ps r.epoch r.top (n - r.top) ≡ true = all_made ps r.epoch r.top (n - r.top) (λ k l. reaches (r.top + 1 + k) (omega arith) (omega arith)) in
+        let far : n - r.top ≤ greatest (all_arrived ps r.epoch r.top) (highest ps) = at_most (all_arrived ps r.epoch r.top) (highest ps) (n - r.top) (omega arith) all in
+        omega arith
 
 pub none : (arrived : List Position) (r : Reading) → overfull arrived ≡ true → run_length arrived r ≡ 0
 none ps r h = rw h refl

@@ -1,18 +1,24 @@
 -- What follows the reply to a subscribe: the publications that came meanwhile and go on where the reply ends.
 -- (Centrifugo, history and recovery: a subscriber that may have missed something is told so and asks again.)
-use Rattle.std.specs.Prelude.{◌≡◌, ℕ, suc, zero, ◌+◌, ◌<◌, ◌≤◌, true, ◌||◌, not, Bool, if◌then◌else◌, List}
+use Rattle.std.specs.Prelude.{◌≡◌, ℕ, suc, zero, ◌+◌, ◌<◌, ◌≤◌, true, ◌&&◌, ◌||◌, not, Bool, if◌then◌else◌, List}
 use Rattle.cf_protocol.specs.Position.{Position}
 use Rattle.cf_protocol.specs.Note.{Reading}
 use Rattle.cf_recovery.specs.Arrivals.{has, highest, overfull, all_within}
 
--- how many positions, at most n, follow the offset without a gap
-abbrev pub unbroken : List Position → List ℕ → ℕ → ℕ → ℕ
-unbroken arrived e o zero = 0
-unbroken arrived e o (suc n) = if has arrived e (o + 1) then suc (unbroken arrived e (o + 1) n) else 0
+-- whether the n positions of this epoch that follow the offset all arrived
+abbrev pub all_arrived : List Position → List ℕ → ℕ → ℕ → Bool
+all_arrived arrived e o zero = true
+all_arrived arrived e o (suc n) = all_arrived arrived e o n && has arrived e (o + suc n)
 
--- How many are passed on after a reply that ends at the reading's top; none where more came than are kept.
+-- the greatest number up to this one that passes the test, or 0
+abbrev pub greatest : (ℕ → Bool) → ℕ → ℕ
+greatest test zero = 0
+greatest test (suc n) = if test (suc n) then suc n else greatest test n
+
+-- How many are passed on after a reply that ends at the reading's top: the greatest number such that everything from there up
+-- to it arrived; none where more came than are kept.
 abbrev pub run_length : List Position → Reading → ℕ
-run_length arrived r = if overfull arrived then 0 else unbroken arrived r.epoch r.top (highest arrived)
+run_length arrived r = if overfull arrived then 0 else greatest (all_arrived arrived r.epoch r.top) (highest arrived)
 
 -- Whether something came that the run does not reach, or of another epoch: the subscription then ends.
 abbrev pub falls_short : List Position → Reading → Bool

@@ -1,11 +1,11 @@
-use Rattle.cf_recovery.proofs.Runs.{reached, greatest, none, sufficient}
+use Rattle.cf_recovery.proofs.Runs.{reached, furthest, none, sufficient}
 use Rattle.cf_recovery.proofs.laws.run_ends_at_the_greatest.Goals as goal
 
 pub returns-clause-reached : goal.returns-clause-reached
 returns-clause-reached c = reached
 
 pub returns-clause-greatest : goal.returns-clause-greatest
-returns-clause-greatest c = greatest
+returns-clause-greatest c = furthest
 
 pub returns-clause-overfull : goal.returns-clause-overfull
 returns-clause-overfull c = none
