@@ -7,7 +7,7 @@ use Rattle.cf_protocol.specs.Note.{Lists, Reading, Note, Reply, Pub, End, Fails,
 use Rattle.cf_stream.specs.StreamState.{StreamState}
 use Rattle.cf_stream.specs.StreamAnswer.{read_of, still_held}
 use Rattle.cf_recovery.specs.Arrivals.{has, arrives, highest, overfull}
-use Rattle.cf_recovery.specs.Release.{unbroken, run_length, falls_short}
+use Rattle.cf_recovery.specs.Release.{all_arrived, greatest, run_length, falls_short}
 use Rattle.cf_recovery.specs.Verdict.{next}
 use Rattle.cf_hub.specs.PositionCheck.{Checked, Fine, Behind, Ended, position_check}
 use Rattle.cf_hub.specs.Connection.{Sub, Off, Asked, Ready, On, Line, closes, push, most_waiting, put_sub, pass_at, passes, end_at, ends, come_at, comes, finish_at, finishes, by_check, check_at, checks}
@@ -64,12 +64,15 @@ has-within top (p ∷ ps) e o h k =
 within-arrives : (top : List ℕ → ℕ) (q : Position) (ps : List Position) → IsWithin top q → AreWithin top ps → AreWithin top (arrives q ps)
 within-arrives top q ps h k = by_test (AreWithin top) (has ps q.epoch q.offset) _ _ (λ e. k) (λ e. (h, k))
 
-within-unbroken : (top : List ℕ → ℕ) (ps : List Position) (e : List ℕ) (o n : ℕ) → AreWithin top ps → o ≤ top e → o + unbroken ps e o n ≤ top e
-within-unbroken top ps e o zero h k = omega arith
-within-unbroken top ps e o (suc n) h k =
-    by_test (λ v. o + v ≤ top e) (has ps e (o + 1)) _ _
-    (λ i. let j = within-unbroken top ps e (o + 1) n h (has-within top ps e (o + 1) h i) in omega arith)
-    (λ i. omega arith)
+within-greatest : (top : List ℕ → ℕ) (ps : List Position) (e : List ℕ) (o n : ℕ) → AreWithin top ps → o ≤ top e → o + greatest (all_arrived ps e o) n ≤ top e
+within-greatest top ps e o zero h k = omega arith
+within-greatest top ps e o (suc n) h k =
+    by_test (λ v. o + v ≤ top e) (all_arrived ps e o (suc n)) _ _
+    (λ i. has-within top ps e (o + suc n) h (last (all_arrived ps e o n) (has ps e (o + suc n)) i))
+    (λ i. within-greatest top ps e o n h k)
+  where
+    last : (a b : Bool) → (a && b) ≡ true → b ≡ true
+    last a b h = grind arith
 
 -- a subscription has room for n further places
 abbrev Room : (List ℕ → ℕ) → ℕ → Sub → Type 0
@@ -173,7 +176,7 @@ module _ (tops : List ℕ → List ℕ → ℕ) (lists : Lists) where
 
   within-run : (top : List ℕ → ℕ) (arrived : List Position) (r : Reading) → AreWithin top arrived → IsWithin top (read_to r) → r.top + run_length arrived r ≤ top r.epoch
   within-run top arrived r a h =
-      by_test (λ v. r.top + v ≤ top r.epoch) (overfull arrived) _ _ (λ i. omega arith) (λ i. within-unbroken top arrived r.epoch r.top (highest arrived) a h)
+      by_test (λ v. r.top + v ≤ top r.epoch) (overfull arrived) _ _ (λ i. omega arith) (λ i. within-greatest top arrived r.epoch r.top (highest arrived) a h)
 
   bounded-finish_at : (l : Link) (c : List ℕ) (s : Sub) → IsBounded tops l → l.line.subs c ≡ s → IsBounded tops (with_line (finish_at (wording lists) c s l.line) l)
   bounded-finish_at l c Off g e = g

@@ -1,4 +1,5 @@
 pub mod Scripts
+pub mod RuleScripts
 pub mod Schedules
 pub mod Sentences
 pub mod Spacing

@@ -9,7 +9,7 @@ use Rattle.cf_protocol.specs.declared.fault.ReadFault.TheVariants as fault
 use Rattle.cf_schedule.specs.declared.halt.Halt.{Halt}
 use Rattle.cf_schedule.specs.declared.halt.Halt.TheVariants.{NotYet}
 use Rattle.std.specs.Result.{IsErrAnd}
-use Rattle.cf_schedule.specs.Refusals.{longest_command}
+use Rattle.cf_protocol.specs.Checks.{longest_text}
 use Rattle.cf_schedule.specs.SessionCalls.{halt_of}
 use Rattle.cf_protocol.specs.declared.command.Command.{Command as CodeCommand}
 
@@ -58,6 +58,6 @@ unread text fault.Memory h k P bad gives is r = absurd (cc)
 
 pub unread_yet : {A : Type 0} (r : Result A Halt) (text : List ℕ) (f : ReadFault) (is : Command → Bool)
     → IsErrAnd r (λ h. h ≡ halt_of f) → (f ≡ fault.Bad → (ks : List Command) → IsCommands text ks → ⊥)
-    → IfErr r (λ h. h ≡ NotYet → length text ≤ longest_command → (k : Command) → IsCommands text (k ∷ []) → is k ≡ false)
+    → IfErr r (λ h. h ≡ NotYet → length text ≤ longest_text → (k : Command) → IsCommands text (k ∷ []) → is k ≡ false)
 unread_yet (Ok a) text f is gives bad = tt
 unread_yet (Err h) text f is gives bad = λ yet _ k r. unread text f h k (is k ≡ false) bad gives yet r

@@ -21,7 +21,10 @@ use Rattle.cf_schedule.specs.IntervalMachine.{allows, effect, sent, heard_as, an
 use Rattle.cf_schedule.specs.Link.{Link, no_link, with_line, sends, is_heard, hears, hears_subscribe}
 use Rattle.cf_schedule.specs.NodeState.{line_on, kept_on, subscriptions_on, holds_on, rows_on, OneOn, BeginsOn}
 use Rattle.cf_schedule.specs.NotYet.{IsNotYet}
-use Rattle.cf_schedule.specs.Refusals.{Judgement, Unheard, TooLong, Refused, Accepted, judged, judged_in, refused_if, is_bad, has_no_room, node_is_full, longest_command, most_channels, most_rows, last_id, bad_request, already_subscribed, limit_exceeded}
+use Rattle.cf_protocol.specs.Checks.{longest_text, is_bad_channel, refusal_code}
+use Rattle.cf_protocol.specs.declared.codes.ErrorCode.{ErrorCode}
+use Rattle.cf_protocol.specs.declared.codes.ErrorCode.TheVariants as error
+use Rattle.cf_schedule.specs.Refusals.{Judgement, Unheard, TooLong, Refused, Accepted, judged, refused_with, subscribe_refusal, has_no_room, node_is_full, most_channels, most_rows, last_id}
 use Rattle.cf_schedule.specs.SessionCalls.{is_answered, is_served}
 use Rattle.cf_schedule.specs.TextLine.{IsLine, Both}
 use Rattle.cf_schedule.specs.Tie.{halt_by_hub, ShowsLine, ShowsAt, ShowsPeer, AreTied}
@@ -85,27 +88,29 @@ both-same n k (Some a) false = record { subs = λ c. refl; notes = refl; closed 
 
 -- ---- what a node makes of it
 
-refused-by : (t : Bool) (j : Judgement) (code : ℕ) → is_refused j ≡ true → is_refused (refused_if t code j) ≡ true
-refused-by true j code h = refl
-refused-by false j code h = h
+-- of a subscribe: by what its channel's name and settings are, and by what the hub says
+abbrev checked : Bool → Bool → Option ErrorCode
+checked bad set = if bad then Some error.BadRequest else if not set then Some error.UnknownChannel else None
 
-no-settings : (o : Option Settings) (c : List ℕ) (l : Link) (w : World) → is_some o ≡ false → is_refused (judged_in o (Subscribe c None) l w) ≡ true
-no-settings None c l w h = refl
-no-settings (Some s) c l w h = absurd (cc)
+abbrev judged_by : Bool → Bool → Bool → Bool → Judgement
+judged_by bad set off full = refused_with (checked bad set) (refused_with (option_map refusal_code (subscribe_refusal off full)) Accepted)
 
-no-room : (off full : Bool) → (off && not full) ≡ false → is_refused (refused_if (not off) already_subscribed (refused_if full limit_exceeded Accepted)) ≡ true
-no-room true true h = refl
-no-room true false h = absurd (cc)
-no-room false full h = refl
+not-served : (bad set off full : Bool) → (not bad && set) ≡ false → is_refused (judged_by bad set off full) ≡ true
+not-served true set off full h = refl
+not-served false true off full h = absurd (cc)
+not-served false false off full h = refl
+
+no-room-by : (bad set off full : Bool) → (off && not full) ≡ false → is_refused (judged_by bad set off full) ≡ true
+no-room-by true set off full h = refl
+no-room-by false false off full h = refl
+no-room-by false true false full h = refl
+no-room-by false true true true h = refl
+no-room-by false true true false h = absurd (cc)
 
 has-room : (off full : Bool) → (off && not full) ≡ true → (off ≡ true) × (full ≡ false)
 has-room true true h = absurd (cc)
 has-room true false h = (refl, refl)
 has-room false full h = absurd (cc)
-
-no-settings-at : (o : Option Settings) (c : List ℕ) (l : Link) (w : World) → is_refused (refused_if (not (is_off (l.line.subs c))) already_subscribed (refused_if (has_no_room l w) limit_exceeded Accepted)) ≡ true → is_refused (judged_in o (Subscribe c None) l w) ≡ true
-no-settings-at None c l w h = refl
-no-settings-at (Some s) c l w h = h
 
 module _ {cfg : Config} {table : NamespaceTable} {code : Code} {ns : Nodes} {peers : List ℕ → Option Peer} {m : World} (t : AreTied cfg table code ns peers m) (x c : List ℕ) (p : Peer) (is : peers x ≡ Some p) where
   shown : ShowsPeer cfg.namespaces m.broker.lists ns p (m.links x)
@@ -199,28 +204,28 @@ module _ {cfg : Config} {table : NamespaceTable} {code : Code} {ns : Nodes} {pee
       by_line None s = absurd s
       by_line (Some v) s = s.note_open
 
+  -- what is made of the subscribe where its session is open and its text not too long
+  abbrev asked-as : Judgement
+  asked-as = judged_by (is_bad_channel c) (is_some (settings_of cfg.namespaces c)) (is_off ((m.links x).line.subs c)) (has_no_room (m.links x) m)
+
   -- a text that is too long, and a channel that isn't served
-  pub judged-long : suc longest_command ≤ length (command_text (command_of (command_by x (Subscribe c None) m))) → is_refused (judgement cfg x (Subscribe c None) m) ≡ true
+  pub judged-long : suc longest_text ≤ length (command_text (command_of (command_by x (Subscribe c None) m))) → is_refused (judgement cfg x (Subscribe c None) m) ≡ true
   unfolding command_length
   judged-long h =
-      let long : nat_lt longest_command (length (command_text (command_of (command_by x (Subscribe c None) m)))) ≡ true = grind (arith, nat_tests) in
-      λ i. is_refused (if closed-is i then Unheard else if long i then TooLong else refused_if (is_bad c) bad_request (judged_in (settings_of cfg.namespaces c) (Subscribe c None) (m.links x) m))
+      let long : nat_lt longest_text (length (command_text (command_of (command_by x (Subscribe c None) m)))) ≡ true = grind (arith, nat_tests) in
+      λ i. is_refused (if closed-is i then Unheard else if long i then TooLong else asked-as)
 
   by-long : (b : Bool) (j : Judgement) → is_refused j ≡ true → is_refused (if b then TooLong else j) ≡ true
   by-long true j h = refl
   by-long false j h = h
 
-  judged-else : is_refused (refused_if (is_bad c) bad_request (judged_in (settings_of cfg.namespaces c) (Subscribe c None) (m.links x) m)) ≡ true → is_refused (judgement cfg x (Subscribe c None) m) ≡ true
+  judged-else : is_refused asked-as ≡ true → is_refused (judgement cfg x (Subscribe c None) m) ≡ true
   judged-else h =
-      ap (λ (b : Bool). is_refused (if b then Unheard else if nat_lt longest_command (command_length (command_of (command_by x (Subscribe c None) m))) then TooLong else refused_if (is_bad c) bad_request (judged_in (settings_of cfg.namespaces c) (Subscribe c None) (m.links x) m))) closed-is
-      ∙ by-long (nat_lt longest_command (command_length (command_of (command_by x (Subscribe c None) m)))) _ h
+      ap (λ (b : Bool). is_refused (if b then Unheard else if nat_lt longest_text (command_length (command_of (command_by x (Subscribe c None) m))) then TooLong else asked-as)) closed-is
+      ∙ by-long (nat_lt longest_text (command_length (command_of (command_by x (Subscribe c None) m)))) _ h
 
   pub judged-unserved : is_served cfg.namespaces c ≡ false → is_refused (judgement cfg x (Subscribe c None) m) ≡ true
-  judged-unserved h = judged-else (by_bad (is_bad c) refl)
-    where
-      by_bad : (b : Bool) → is_bad c ≡ b → is_refused (refused_if b bad_request (judged_in (settings_of cfg.namespaces c) (Subscribe c None) (m.links x) m)) ≡ true
-      by_bad true e = refl
-      by_bad false e = no-settings (settings_of cfg.namespaces c) c (m.links x) m (sym (ap (λ (b : Bool). not b && is_some (settings_of cfg.namespaces c)) e) ∙ h)
+  judged-unserved h = judged-else (not-served (is_bad_channel c) (is_some (settings_of cfg.namespaces c)) (is_off ((m.links x).line.subs c)) (has_no_room (m.links x) m) h)
 
   full-is : (v : Line (List ℕ)) → ShowsLine cfg.namespaces m.broker.lists v (m.links x).line → (nat_le most_channels (rows v) || nat_le most_rows (subscriptions_on ns p.node)) ≡ has_no_room (m.links x) m
   full-is v s =
@@ -235,27 +240,24 @@ module _ {cfg : Config} {table : NamespaceTable} {code : Code} {ns : Nodes} {pee
   pub judged-full : holds_on ns p.node p.session (λ l. is_off (l.subs c) && not (nat_le most_channels (rows l) || nat_le most_rows (subscriptions_on ns p.node))) ≡ false
       → is_refused (judgement cfg x (Subscribe c None) m) ≡ true
   judged-full h =
-      judged-else (refused-by (is_bad c) _ bad_request
-      (no-settings-at (settings_of cfg.namespaces c) c (m.links x) m
-      (no-room (is_off ((m.links x).line.subs c)) (has_no_room (m.links x) m) (sym room-is ∙ h))))
+      judged-else (no-room-by (is_bad_channel c) (is_some (settings_of cfg.namespaces c)) (is_off ((m.links x).line.subs c)) (has_no_room (m.links x) m) (sym room-is ∙ h))
 
   pub ask-not-yet : allows cfg m (Ask x c) ≡ true → is_refused (judgement cfg x (Subscribe c None) m) ≡ true → IsNotYet cfg m (Ask x c)
   ask-not-yet a j = λ i. a i && j i
 
   -- ---- accepted: the command is sent, heard and begun
 
-  accepted-by : (w : World) (l : Link) → l.line.closed ≡ false → nat_lt longest_command (command_length (command_of (command_by x (Subscribe c None) m))) ≡ false → is_bad c ≡ false → (s : Settings) → settings_of cfg.namespaces c ≡ Some s
+  accepted-by : (w : World) (l : Link) → l.line.closed ≡ false → nat_lt longest_text (command_length (command_of (command_by x (Subscribe c None) m))) ≡ false → is_bad_channel c ≡ false → (s : Settings) → settings_of cfg.namespaces c ≡ Some s
       → is_off (l.line.subs c) ≡ true → has_no_room l w ≡ false → judged cfg w l (command_by x (Subscribe c None) m) ≡ Accepted
   accepted-by w l closed short good s set off room =
-      (λ i. if closed i then Unheard else if short i then TooLong else refused_if (good i) bad_request (judged_in (set i) (Subscribe c None) l w))
-      ∙ (λ i. refused_if (not (off i)) already_subscribed (refused_if (room i) limit_exceeded Accepted))
+      λ i. if closed i then Unheard else if short i then TooLong else judged_by (good i) (is_some (set i)) (off i) (room i)
 
-  short-is : length (command_text (command_of (command_by x (Subscribe c None) m))) ≤ longest_command → nat_lt longest_command (command_length (command_of (command_by x (Subscribe c None) m))) ≡ false
+  short-is : length (command_text (command_of (command_by x (Subscribe c None) m))) ≤ longest_text → nat_lt longest_text (command_length (command_of (command_by x (Subscribe c None) m))) ≡ false
   unfolding command_length
-  short-is h = lt-no longest_command (length (command_text (command_of (command_by x (Subscribe c None) m)))) h
+  short-is h = lt-no longest_text (length (command_text (command_of (command_by x (Subscribe c None) m)))) h
 
-  served-good : is_served cfg.namespaces c ≡ true → (is_bad c ≡ false) × (s : Settings) × (settings_of cfg.namespaces c ≡ Some s)
-  served-good h = by_parts (is_bad c) (settings_of cfg.namespaces c) h
+  served-good : is_served cfg.namespaces c ≡ true → (is_bad_channel c ≡ false) × (s : Settings) × (settings_of cfg.namespaces c ≡ Some s)
+  served-good h = by_parts (is_bad_channel c) (settings_of cfg.namespaces c) h
     where
       by_parts : (b : Bool) (o : Option Settings) → (not b && is_some o) ≡ true → (b ≡ false) × (s : Settings) × (o ≡ Some s)
       by_parts true o h = absurd (cc)
@@ -313,7 +315,7 @@ module _ {cfg : Config} {table : NamespaceTable} {code : Code} {ns : Nodes} {pee
 
   pub ask-goes : (new : CodeClient) (more : Nodes) (after : List ℕ → Option Peer) → ((y : List ℕ) → after y ≡ with peers x (Some (record p { client = new })) y)
       → IsSame (client_of new) (asks c None (client_of p.client)) → is_connected new ≡ is_connected p.client → ask_fault c true (client_of p.client) ≡ None
-      → length (command_text (command_of (command_by x (Subscribe c None) m))) ≤ longest_command → is_served cfg.namespaces c ≡ true
+      → length (command_text (command_of (command_by x (Subscribe c None) m))) ≤ longest_text → is_served cfg.namespaces c ≡ true
       → holds_on ns p.node p.session (λ l. is_off (l.subs c) && not (nat_le most_channels (rows l) || nat_le most_rows (subscriptions_on ns p.node))) ≡ true
       → OneOn p.node p.session (begins c (m.links x).client.fresh None) ns more → BeginsOn p.node p.session ns more → ((n j : ℕ) (d : List ℕ) → kept_on more n j d ≡ [])
       → (judgement cfg x (Subscribe c None) m ≡ Accepted) × AreTied cfg table code more after (effect cfg m (Ask x c))
@@ -373,15 +375,15 @@ module _ {cfg : Config} {table : NamespaceTable} {code : Code} {ns : Nodes} {pee
 
   -- it can't carry it out yet: the text is too long, or the channel is not served
   pub ask-unheard : (text : List ℕ) → text ≡ command_text (command_of (record { id = (client_of p.client).fresh; errand = Subscribe c None }))
-      → (length text ≤ longest_command → is_answered table (command_of (command_by x (Subscribe c None) m)) ≡ false) → is_refused (judgement cfg x (Subscribe c None) m) ≡ true
-  ask-unheard text h refused = by_length (nat_le (length text) longest_command) refl
+      → (length text ≤ longest_text → is_answered table (command_of (command_by x (Subscribe c None) m)) ≡ false) → is_refused (judgement cfg x (Subscribe c None) m) ≡ true
+  ask-unheard text h refused = by_length (nat_le (length text) longest_text) refl
     where
-      by_length : (b : Bool) → nat_le (length text) longest_command ≡ b → is_refused (judgement cfg x (Subscribe c None) m) ≡ true
+      by_length : (b : Bool) → nat_le (length text) longest_text ≡ b → is_refused (judgement cfg x (Subscribe c None) m) ≡ true
       by_length true e =
-          judged-unserved (sym (ap (λ (z : NamespaceTable). is_served z c) t.namespaces) ∙ refused (le-is (length text) longest_command e))
+          judged-unserved (sym (ap (λ (z : NamespaceTable). is_served z c) t.namespaces) ∙ refused (le-is (length text) longest_text e))
       by_length false e =
-          let over : suc longest_command ≤ length text = le-over (length text) longest_command e in
-          judged-long (subst (λ (z : List ℕ). suc longest_command ≤ length z) (ask-command text h) over)
+          let over : suc longest_text ≤ length text = le-over (length text) longest_text e in
+          judged-long (subst (λ (z : List ℕ). suc longest_text ≤ length z) (ask-command text h) over)
 
   pub ask-served : is_answered table (command_of (command_by x (Subscribe c None) m)) ≡ true → is_served cfg.namespaces c ≡ true
   ask-served h = sym (ap (λ (z : NamespaceTable). is_served z c) t.namespaces) ∙ h

@@ -25,7 +25,8 @@ use Rattle.cf_schedule.specs.IntervalMachine.{allows, connects, client_id}
 use Rattle.cf_schedule.specs.Link.{Link, no_link}
 use Rattle.cf_schedule.specs.NodeState.{node_count, line_on, sessions_on, OpensOn}
 use Rattle.cf_schedule.specs.NotYet.{IsNotYet}
-use Rattle.cf_schedule.specs.Refusals.{most_sessions, last_counter, longest_command}
+use Rattle.cf_protocol.specs.Checks.{longest_text}
+use Rattle.cf_schedule.specs.Refusals.{most_sessions, last_counter}
 use Rattle.cf_schedule.specs.Tie.{ShowsLine, ShowsAt, ShowsPeer, ShowsLink, IsSeated, AreTied}
 use Rattle.cf_schedule.specs.World.{World, with_at, sessions_of, is_connected as is_on}
 use Rattle.cf_schedule.specs.declared.broker.Broker.{Broker as Code}
@@ -251,15 +252,15 @@ le-is a b h = grind (arith, nat_tests)
 abbrev first-tree : List ℕ → Tree
 first-tree ds = object (part (codes "connect") (object no_parts) (part (codes "id") (number ds) no_parts))
 
-short-by : (ds : List ℕ) → ds ≡ 49 ∷ [] → nat_le (length (compact_text (first-tree ds))) longest_command ≡ true
-short-by ds e = subst (λ (z : List ℕ). nat_le (length (compact_text (first-tree z))) longest_command ≡ true) (sym e) refl
+short-by : (ds : List ℕ) → ds ≡ 49 ∷ [] → nat_le (length (compact_text (first-tree ds))) longest_text ≡ true
+short-by ds e = subst (λ (z : List ℕ). nat_le (length (compact_text (first-tree z))) longest_text ≡ true) (sym e) refl
 
-short-first : nat_le (length (command_text asked-first)) longest_command ≡ true
+short-first : nat_le (length (command_text asked-first)) longest_text ≡ true
 unfolding command_text
 short-first = short-by (decimal 1) (decimal_digit 1 (omega arith))
 
-pub connect-short : (text : List ℕ) → text ≡ command_text asked-first → length text ≤ longest_command
-connect-short text h = le-is (length text) longest_command (ap (λ (z : List ℕ). nat_le (length z) longest_command) h ∙ short-first)
+pub connect-short : (text : List ℕ) → text ≡ command_text asked-first → length text ≤ longest_text
+connect-short text h = le-is (length text) longest_text (ap (λ (z : List ℕ). nat_le (length z) longest_text) h ∙ short-first)
 
 abbrev first-id : List Command → ℕ
 first-id [] = 1

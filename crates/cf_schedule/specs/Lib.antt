@@ -6,6 +6,7 @@ pub mod ScheduleLine
 pub mod Trace
 pub mod TraceLine
 pub mod WorkedRows
+pub mod RuleRows
 pub mod Word
 pub mod Config
 pub mod Errand

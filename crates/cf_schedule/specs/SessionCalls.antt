@@ -3,7 +3,7 @@ use Rattle.std.specs.Prelude.{ℕ, ◌==◌, ◌&&◌, not, is_some, Bool, false
 use Rattle.std.specs.String.{string_bytes}
 use Rattle.cf_protocol.specs.Request.{Command, Request, Pong, Connect, Subscribe, Unsubscribe, Publish, Presence, PresenceStats, History, Ping, Send, Other}
 use Rattle.cf_protocol.specs.Settings.{NamespaceTable, settings_of}
-use Rattle.cf_schedule.specs.Refusals.{is_bad}
+use Rattle.cf_protocol.specs.Checks.{is_bad_channel}
 use Rattle.cf_protocol.specs.declared.fault.ReadFault.{ReadFault}
 use Rattle.cf_protocol.specs.declared.fault.ReadFault.TheVariants as unread
 use Rattle.cf_schedule.specs.declared.halt.Halt.{Halt}
@@ -23,7 +23,7 @@ command_asked (Begin id channel since) = record { id = id; request = Subscribe (
 
 -- a channel's name is well formed, and its namespace is set up
 abbrev pub is_served : NamespaceTable → List ℕ → Bool
-is_served table c = not (is_bad c) && is_some (settings_of table c)
+is_served table c = not (is_bad_channel c) && is_some (settings_of table c)
 
 abbrev pub is_answered_request : NamespaceTable → Request → Bool
 is_answered_request table (Connect token) = length token == 0

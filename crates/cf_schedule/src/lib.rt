@@ -16,6 +16,7 @@ mod nodes;
 mod number;
 mod queue;
 pub mod rows;
+pub mod rules;
 mod session;
 mod subscription;
 mod trace;

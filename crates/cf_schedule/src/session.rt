@@ -3,7 +3,7 @@ ghost use Rattle.std.specs.Prelude.{List, [], ◌∷◌, length, ◌≡◌, ◌�
 ghost use Rattle.cf_protocol.specs.Frame.{IsCommands};
 ghost use Rattle.cf_protocol.specs.Request as request;
 ghost use Rattle.cf_protocol.specs.Shown.{shown_command};
-ghost use Rattle.cf_schedule.specs.Refusals.{longest_command};
+ghost use Rattle.cf_protocol.specs.Checks.{longest_text};
 ghost use Rattle.cf_schedule.specs.SessionCalls.{command_asked, is_answered, is_served};
 
 use crate::halt::Halt;
@@ -36,8 +36,8 @@ pub(crate) fn on_text(alloc: Global, namespaces: &Namespaces, text: &str) -> Res
     ensures asked { IfOk result (λ action. IsCommands text.now (command_asked action ∷ [])) }
     ensures only { IfOk result (λ action. (ks : List request.Command) → IsCommands text.now ks → ks ≡ command_asked action ∷ []) }
     ensures answered { IfOk result (λ action. is_answered namespaces.now (command_asked action) ≡ true) }
-    ensures short { OnOk result (length text.now ≤ longest_command) }
-    ensures not_yet { IfErr result (λ e. e ≡ Halt.NotYet → length text.now ≤ longest_command → (k : request.Command) → IsCommands text.now (k ∷ []) → is_answered namespaces.now k ≡ false) }
+    ensures short { OnOk result (length text.now ≤ longest_text) }
+    ensures not_yet { IfErr result (λ e. e ≡ Halt.NotYet → length text.now ≤ longest_text → (k : request.Command) → IsCommands text.now (k ∷ []) → is_answered namespaces.now k ≡ false) }
 {
     if text.len() > MAX_TEXT {
         return Err(Halt::NotYet);

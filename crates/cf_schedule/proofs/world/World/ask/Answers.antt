@@ -8,7 +8,8 @@ use Rattle.cf_schedule.specs.Errand.{Subscribe, command_of}
 use Rattle.cf_schedule.specs.Event as said
 use Rattle.cf_schedule.specs.IntervalMachine.{run, allows, command_by}
 use Rattle.cf_schedule.specs.NodeState.{line_on, holds_on, subscriptions_on, OneOn}
-use Rattle.cf_schedule.specs.Refusals.{most_channels, most_rows, longest_command}
+use Rattle.cf_protocol.specs.Checks.{longest_text}
+use Rattle.cf_schedule.specs.Refusals.{most_channels, most_rows}
 use Rattle.cf_schedule.specs.SessionCalls.{command_asked, is_answered}
 use Rattle.cf_schedule.specs.Tie.{AsksOrNot, AskMade, AskRefused, halt_by_hub}
 use Rattle.cf_schedule.specs.World.{World, start}
@@ -116,7 +117,7 @@ returns-clause-ok c = λ cfg past t.
     ap (is_answered c.args.self.now.namespaces) (head-same (command_of (command_by x (Subscribe d None) w)) (command_asked (action.Begin c.in-Begin.id c.in-Begin.channel c.in-Begin.since)) only)
     ∙ subst (λ (a : Action). is_answered c.args.self.now.namespaces (command_asked a) ≡ true) begin c.in_ok-id.ensures.answered in
     let served = ask-served t x d p at answered in
-    let short = subst (λ (z : List ℕ). length z ≤ longest_command) text c.in_ok-id.ensures.short in
+    let short = subst (λ (z : List ℕ). length z ≤ longest_text) text c.in_ok-id.ensures.short in
     let room =
     subst (λ (k : List ℕ). holds_on c.args.self.now.nodes p.node p.session (λ (l : Line (List ℕ)). is_off (l.subs k) && not (nat_le most_channels (rows l) || nat_le most_rows (subscriptions_on c.args.self.now.nodes p.node))) ≡ true) channel
     c.in_ok-begin.ensures.fits in
