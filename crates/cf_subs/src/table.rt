@@ -1,10 +1,11 @@
 //! The table of rows.
 ghost use Rattle.std.specs.Prelude.{◌≡◌, ◌≢◌, ◌≤◌, ◌↔◌, ℕ, [], length, slice_get, false, OnOk, OnErr, IsErrOf};
 ghost use Rattle.cf_subs.specs.Rows.{AreRows, HasEachOnce, OnlyDetaches, OnlyJoins, OnlyLeaves, after_in, channels_of, follows};
-ghost use Rattle.cf_subs.specs.Rows.{has_channel, is_among, is_of, most_rows, sessions_of, with_row, without, without_row};
+ghost use Rattle.cf_subs.specs.Rows.{has_channel, is_among, most_rows, sessions_of, with_row, without, without_row};
 ghost use Rattle.cf_subs.specs.Rows.{without_session};
 
 use crate::channel_walk::ChannelWalk;
+use crate::linked_rows::LinkedRows;
 use crate::refusal::SubRefusal;
 use crate::walk::Walk;
 use std::alloc::Global;
@@ -22,19 +23,13 @@ pub struct Row {
     pub session: u32,
 }
 
-impl Row {
-    /// Whether it is the row of this channel and this session.
-    fn is_of(&self, channel: u32, session: u32) -> bool
-        ensures { result ≡ is_of channel session self.now }
-    {
-        self.channel == channel && self.session == session
-    }
-}
-
 /// The rows of one node, in order of adding: each at most once, and at most 65,536.
-#[derive(Drop)]
+///
+/// Each row is a block of its own in two lists, its channel's and its session's, so that a walk costs what it gives.
 pub struct SubTable {
-    rows: Vec<Row>,
+    rows: LinkedRows,
+    count: usize,
+    alloc: Global,
 }
 
 impl Model for SubTable {
@@ -43,11 +38,23 @@ impl Model for SubTable {
 
     ghost Value = { List Row };
 
-    ghost use Rattle.cf_subs.specs.Rows.{AreRows};
+    ghost use Rattle.cf_subs.specs.Seats.{rows_of};
+    ghost use Rattle.cf_subs.specs.Whole.{IsTable};
 
-    ghost view = { λ t. t.rows.items };
+    ghost view = { λ t. rows_of t.rows.seats.blocks.held };
 
-    ghost invariant = { λ t. AreRows t.rows.items };
+    ghost invariant = { λ t. IsTable t.rows t.count };
+}
+
+impl Drop for SubTable {
+    fn drop(self) {
+        let SubTable {
+            rows,
+            count: _,
+            alloc,
+        } = self;
+        rows.end(alloc);
+    }
 }
 
 impl SubTable {
@@ -56,7 +63,9 @@ impl SubTable {
         ensures { result ≡ [] }
     {
         SubTable {
-            rows: Vec::new(alloc),
+            rows: LinkedRows::new(alloc),
+            count: 0,
+            alloc,
         }
     }
 
@@ -72,10 +81,11 @@ impl SubTable {
         ensures back { OnOk result (without_row self.new channel session ≡ self.old) }
         ensures rows { AreRows self.new }
     {
-        if self.rows.len() >= MOST_ROWS {
+        if self.count >= MOST_ROWS {
             return Err(SubRefusal::Full);
         }
-        self.rows.push(Row { channel, session })?;
+        self.rows.push(Row { channel, session }, self.alloc)?;
+        self.count += 1;
         Ok(())
     }
 
@@ -85,14 +95,7 @@ impl SubTable {
         ensures in_channel { result ≡ is_among session (sessions_of self.now channel) }
         ensures in_session { result ≡ is_among channel (channels_of self.now session) }
     {
-        self.finds(channel, session)
-    }
-
-    /// Whether this row is there.
-    fn finds(&self, channel: u32, session: u32) -> bool
-        ensures { result ≡ follows self.now channel session }
-    {
-        self.rows.iter().any(|row| row.is_of(channel, session))
+        self.rows.find(channel, session).is_some()
     }
 
     /// Removes the row of a channel and a session, and says whether there was one. It takes no memory.
@@ -104,9 +107,12 @@ impl SubTable {
         ensures others { (c : ℕ) → c ≢ channel → sessions_of self.new c ≡ sessions_of self.old c }
         ensures rows { AreRows self.new }
     {
-        let count = self.rows.len();
-        self.rows.retain(|row| !row.is_of(channel, session));
-        self.rows.len() < count
+        let Some(at) = self.rows.find(channel, session) else {
+            return false;
+        };
+        self.rows.unlink(at, self.alloc);
+        self.count -= 1;
+        true
     }
 
     /// Removes all rows of a session, and says how many they were. It takes no memory.
@@ -117,9 +123,9 @@ impl SubTable {
         ensures walked { (c : ℕ) → sessions_of self.new c ≡ without session (sessions_of self.old c) }
         ensures rows { AreRows self.new }
     {
-        let count = self.rows.len();
-        self.rows.retain(|row| row.session != session);
-        count - self.rows.len()
+        let gone = self.rows.detach(session, self.alloc);
+        self.count -= gone;
+        gone
     }
 
     /// The sessions that follow a channel, in order of adding. It takes no memory.
@@ -129,7 +135,8 @@ impl SubTable {
         ensures rows { AreRows self.now }
     {
         Walk {
-            rest: self.rows.iter(),
+            seats: &self.rows.seats,
+            next: self.rows.first_in_channel(channel),
             channel,
         }
     }
@@ -151,13 +158,15 @@ impl SubTable {
         ensures next { result ≡ after_in session (sessions_of self.now channel) }
         ensures rows { AreRows self.now }
     {
-        let mut walk = self.walk(channel);
-        while let Some(follower) = walk.next() {
-            if follower == session {
-                return walk.next();
-            }
-        }
-        None
+        let Some(at) = self.rows.find(channel, session) else {
+            return None;
+        };
+        let mut rest = Walk {
+            seats: &self.rows.seats,
+            next: self.rows.seats.next_in_channel(at),
+            channel,
+        };
+        rest.next()
     }
 
     /// Whether any session follows a channel. It takes no memory.
@@ -181,7 +190,7 @@ impl SubTable {
         ensures counted { result ≡ length self.now }
         ensures most { length self.now ≤ most_rows }
     {
-        self.rows.len()
+        self.count
     }
 
     /// The channels that a session follows, in order of adding. It takes no memory.
@@ -191,7 +200,8 @@ impl SubTable {
         ensures rows { AreRows self.now }
     {
         ChannelWalk {
-            rest: self.rows.iter(),
+            seats: &self.rows.seats,
+            next: self.rows.first_in_session(session),
             session,
         }
     }

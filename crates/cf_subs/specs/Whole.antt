@@ -1,0 +1,36 @@
+-- What always holds of a table's rows in their lists, and of the ends of these.
+use Rattle.std.specs.Prelude.{◌≡◌, ℕ, ◌<◌, List, None, length}
+use Rattle.std.specs.HashMap.{spare}
+use Rattle.cf_subs.specs.declared.linked_rows.LinkedRows.{LinkedRows}
+use Rattle.cf_subs.specs.declared.seat.Seat.{Seat}
+use Rattle.cf_subs.specs.declared.table.Row.{Row}
+use Rattle.cf_subs.specs.Ends.{IsHeaded}
+use Rattle.cf_subs.specs.Held.{Held}
+use Rattle.cf_subs.specs.Rows.{AreRows}
+use Rattle.cf_subs.specs.Threads.{last_of, nowhere}
+use Rattle.cf_subs.specs.Seats.{AreLinked, channel_of, session_of, rows_of}
+
+-- the blocks are linked, and each list has its ends in its map
+pub record IsWhole (r : LinkedRows) : Type 0 where
+  pub linked : AreLinked r.seats.blocks.held
+  pub channels : IsHeaded channel_of r.channels r.seats.blocks.held
+  pub sessions : IsHeaded session_of r.sessions r.seats.blocks.held
+
+-- no more memory is needed for the ends of one more list of each kind
+pub record HasRoom (r : LinkedRows) : Type 0 where
+  pub channels : 0 < spare r.channels
+  pub sessions : 0 < spare r.sessions
+
+-- a row that leads back to the last ones of its channel and of its session, and on to none
+pub record IsUnlinked (hs : List (Held Seat)) (row : Row) (s : Seat) : Type 0 where
+  pub row_is : s.row ≡ row
+  pub channel : s.before_in_channel ≡ last_of channel_of nowhere hs row.channel
+  pub channel_ends : s.after_in_channel ≡ None
+  pub session : s.before_in_session ≡ last_of session_of nowhere hs row.session
+  pub session_ends : s.after_in_session ≡ None
+
+-- what always holds of a table
+pub record IsTable (r : LinkedRows) (count : ℕ) : Type 0 where
+  pub whole : IsWhole r
+  pub rows : AreRows (rows_of r.seats.blocks.held)
+  pub counted : count ≡ length (rows_of r.seats.blocks.held)

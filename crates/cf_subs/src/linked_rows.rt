@@ -1,0 +1,181 @@
+//! The rows of a table in the lists of their channels and of their sessions.
+ghost use Rattle.std.specs.Prelude.{◌≡◌, ◌+◌, ◌≤◌, [], ◌∷◌, ◌++◌, length, IsSome, OnOk, OnErr, IsErrOf, IsNone, IfSome};
+ghost use Rattle.cf_subs.specs.Held.{found, without};
+ghost use Rattle.cf_subs.specs.Rows.{most_rows, without_session};
+ghost use Rattle.cf_subs.specs.Seats.{channel_of, place_of, rows_of, session_of};
+ghost use Rattle.cf_subs.specs.Threads.{first_of};
+ghost use Rattle.cf_subs.specs.Whole.{HasRoom, IsUnlinked, IsWhole};
+
+use crate::blocks::At;
+use crate::ends;
+use crate::ends::EndsByNumber;
+use crate::refusal::SubRefusal;
+use crate::seat::Seat;
+use crate::seats::Seats;
+use crate::table::Row;
+use std::alloc::{AllocError, Global};
+use std::collections::HashMap;
+
+/// The rows' blocks, and where the list of each channel and of each session begins and ends.
+pub struct LinkedRows {
+    pub(crate) seats: Seats,
+    pub(crate) channels: EndsByNumber,
+    pub(crate) sessions: EndsByNumber,
+}
+
+impl LinkedRows {
+    /// No rows. It takes no memory.
+    pub(crate) fn new(alloc: Global) -> LinkedRows
+        ensures whole { IsWhole result }
+        ensures rows { rows_of result.seats.blocks.held ≡ [] }
+    {
+        LinkedRows {
+            seats: Seats::new(),
+            channels: HashMap::new(alloc),
+            sessions: HashMap::new(alloc),
+        }
+    }
+
+    /// Makes room for the ends of one more list of each kind.
+    fn reserve(&mut self) -> Result<(), AllocError>
+        requires whole { IsWhole self.old }
+        ensures whole { IsWhole self.new }
+        ensures held { self.new.seats.blocks.held ≡ self.old.seats.blocks.held }
+        ensures room { OnOk result (HasRoom self.new) }
+    {
+        self.channels.reserve(1)?;
+        self.sessions.reserve(1)
+    }
+
+    /// What the block of a row will hold that is linked in behind all others.
+    fn unlinked(&self, row: Row) -> Seat
+        requires whole { IsWhole self.now }
+        ensures { IsUnlinked self.now.seats.blocks.held row result }
+    {
+        Seat {
+            row,
+            before_in_channel: ends::last(&self.channels, row.channel),
+            after_in_channel: None,
+            before_in_session: ends::last(&self.sessions, row.session),
+            after_in_session: None,
+        }
+    }
+
+    /// Adds a row behind all others. All that takes memory comes before the first link.
+    pub(crate) fn push(&mut self, row: Row, alloc: Global) -> Result<(), SubRefusal>
+        requires whole { IsWhole self.old }
+        ensures whole { IsWhole self.new }
+        ensures ok { OnOk result (rows_of self.new.seats.blocks.held ≡ rows_of self.old.seats.blocks.held ++ row ∷ []) }
+        ensures err { OnErr result (rows_of self.new.seats.blocks.held ≡ rows_of self.old.seats.blocks.held) }
+        ensures memory { OnErr result (IsErrOf result SubRefusal.Memory) }
+    {
+        self.reserve()?;
+        let block = Box::new(alloc, self.unlinked(row))?;
+        self.link(block);
+        Ok(())
+    }
+
+    /// Links a row in behind all others. It takes no memory.
+    fn link(&mut self, block: Box<Seat>)
+        requires whole { IsWhole self.old }
+        requires room { HasRoom self.old }
+        requires unlinked { IsUnlinked self.old.seats.blocks.held block.value.row block.value }
+        ensures whole { IsWhole self.new }
+        ensures rows { rows_of self.new.seats.blocks.held ≡ rows_of self.old.seats.blocks.held ++ block.value.row ∷ [] }
+    {
+        let row = block.row;
+        let at = self.seats.link(block);
+        ends::grow(&mut self.channels, row.channel, at);
+        ends::grow(&mut self.sessions, row.session, at);
+    }
+
+    /// Unlinks a row and frees its block. It takes no memory.
+    pub(crate) fn unlink(&mut self, at: At, alloc: Global)
+        requires whole { IsWhole self.old }
+        requires held { IsSome (found self.old.seats.blocks.held at.ptr) }
+        ensures whole { IsWhole self.new }
+        ensures rows { rows_of self.new.seats.blocks.held ≡ rows_of (without self.old.seats.blocks.held at.ptr) }
+    {
+        let seat = self.seats.unlink(at, alloc);
+        let row = seat.row;
+        ends::shrink(&mut self.channels, row.channel, seat.before_in_channel, seat.after_in_channel);
+        ends::shrink(&mut self.sessions, row.session, seat.before_in_session, seat.after_in_session);
+    }
+
+    /// The first row of a channel.
+    pub(crate) fn first_in_channel(&self, channel: u32) -> Option<At>
+        requires whole { IsWhole self.now }
+        ensures { result ≡ first_of channel_of channel self.now.seats.blocks.held }
+    {
+        ends::first(&self.channels, channel)
+    }
+
+    /// The first row of a session.
+    pub(crate) fn first_in_session(&self, session: u32) -> Option<At>
+        requires whole { IsWhole self.now }
+        ensures { result ≡ first_of session_of session self.now.seats.blocks.held }
+    {
+        ends::first(&self.sessions, session)
+    }
+
+    /// Where a row lies. It goes along the session's list.
+    pub(crate) fn find(&self, channel: u32, session: u32) -> Option<At>
+        requires whole { IsWhole self.now }
+        ensures { result ≡ place_of channel session self.now.seats.blocks.held }
+    {
+        let mut next = self.first_in_session(session);
+        while let Some(here) = next {
+            if self.seats.row(here).channel == channel {
+                return Some(here);
+            }
+            next = self.seats.next_in_session(here);
+        }
+        None
+    }
+
+    /// Unlinks all rows of a session, and says how many they were.
+    pub(crate) fn detach(&mut self, session: u32, alloc: Global) -> usize
+        requires whole { IsWhole self.old }
+        requires few { length (rows_of self.old.seats.blocks.held) ≤ most_rows }
+        ensures whole { IsWhole self.new }
+        ensures rows { rows_of self.new.seats.blocks.held ≡ without_session (rows_of self.old.seats.blocks.held) session }
+        ensures counted { result + length (rows_of self.new.seats.blocks.held) ≡ length (rows_of self.old.seats.blocks.held) }
+    {
+        let mut gone = 0;
+        while let Some(here) = self.first_in_session(session) {
+            self.unlink(here, alloc);
+            gone += 1;
+        }
+        gone
+    }
+
+    /// The first row of some channel, while there is a row.
+    fn any(&self) -> Option<At>
+        requires whole { IsWhole self.now }
+        ensures none { IsNone result → self.now.seats.blocks.held ≡ [] }
+        ensures held { IfSome result (λ at. IsSome (found self.now.seats.blocks.held at.ptr)) }
+    {
+        match self.channels.keys().next() {
+            Some(number) => self.first_in_channel(*number),
+            None => None,
+        }
+    }
+
+    /// Frees all blocks.
+    pub(crate) fn end(self, alloc: Global)
+        requires whole { IsWhole self }
+    {
+        let mut rows = self;
+        while let Some(here) = rows.any() {
+            rows.unlink(here, alloc);
+        }
+        let LinkedRows {
+            seats,
+            channels,
+            sessions,
+        } = rows;
+        seats.finish();
+        drop(channels);
+        drop(sessions);
+    }
+}

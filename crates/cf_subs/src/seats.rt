@@ -1,0 +1,150 @@
+//! The links between the rows' blocks.
+ghost use Rattle.std.specs.Prelude.{◌≡◌, [], ◌∷◌, ◌++◌, None, Some, IsSome, option_map};
+ghost use Rattle.cf_subs.specs.Held.{found, held, without};
+ghost use Rattle.cf_subs.specs.Threads.{IsHeld, changed, last_of, nowhere};
+ghost use Rattle.cf_subs.specs.Seats.{AreLinked, before_in_channel, after_in_channel, before_in_session, after_in_session, channel_of, session_of, rows_of, SameEnds};
+
+use crate::blocks::{At, Blocks};
+use crate::loose::Loose;
+use crate::seat::Seat;
+use crate::table::Row;
+use std::alloc::Global;
+
+/// The rows' blocks.
+pub struct Seats {
+    pub(crate) blocks: Blocks<Seat>,
+}
+
+impl Seats {
+    /// No rows.
+    pub(crate) fn new() -> Seats
+        ensures { result.blocks.held ≡ [] }
+    {
+        Seats {
+            blocks: Blocks::new(),
+        }
+    }
+
+    /// Ends the rows' blocks, of which none is left.
+    pub(crate) fn finish(self)
+        requires { self.blocks.held ≡ [] }
+    {
+        let Seats { blocks } = self;
+        blocks.finish();
+    }
+
+    /// The row of a block.
+    pub(crate) fn row(&self, at: At) -> Row
+        requires { IsSome (found self.now.blocks.held at.ptr) }
+        ensures { Some result ≡ option_map (λ s. s.row) (found self.now.blocks.held at.ptr) }
+    {
+        self.blocks.get(at).row
+    }
+
+    /// The next row of the same channel.
+    pub(crate) fn next_in_channel(&self, at: At) -> Option<At>
+        requires { IsSome (found self.now.blocks.held at.ptr) }
+        ensures { Some result ≡ option_map (λ s. s.after_in_channel) (found self.now.blocks.held at.ptr) }
+    {
+        self.blocks.get(at).after_in_channel
+    }
+
+    /// The next row of the same session.
+    pub(crate) fn next_in_session(&self, at: At) -> Option<At>
+        requires { IsSome (found self.now.blocks.held at.ptr) }
+        ensures { Some result ≡ option_map (λ s. s.after_in_session) (found self.now.blocks.held at.ptr) }
+    {
+        self.blocks.get(at).after_in_session
+    }
+
+    fn set_before_in_channel(&mut self, at: Option<At>, before: Option<At>)
+        requires { IsHeld self.old.blocks.held at }
+        ensures { self.new.blocks.held ≡ changed (before_in_channel before) at self.old.blocks.held }
+    {
+        if let Some(at) = at {
+            let mut seat = *self.blocks.get(at);
+            seat.before_in_channel = before;
+            self.blocks.put(at, seat);
+        }
+    }
+
+    fn set_after_in_channel(&mut self, at: Option<At>, after: Option<At>)
+        requires { IsHeld self.old.blocks.held at }
+        ensures { self.new.blocks.held ≡ changed (after_in_channel after) at self.old.blocks.held }
+    {
+        if let Some(at) = at {
+            let mut seat = *self.blocks.get(at);
+            seat.after_in_channel = after;
+            self.blocks.put(at, seat);
+        }
+    }
+
+    fn set_before_in_session(&mut self, at: Option<At>, before: Option<At>)
+        requires { IsHeld self.old.blocks.held at }
+        ensures { self.new.blocks.held ≡ changed (before_in_session before) at self.old.blocks.held }
+    {
+        if let Some(at) = at {
+            let mut seat = *self.blocks.get(at);
+            seat.before_in_session = before;
+            self.blocks.put(at, seat);
+        }
+    }
+
+    fn set_after_in_session(&mut self, at: Option<At>, after: Option<At>)
+        requires { IsHeld self.old.blocks.held at }
+        ensures { self.new.blocks.held ≡ changed (after_in_session after) at self.old.blocks.held }
+    {
+        if let Some(at) = at {
+            let mut seat = *self.blocks.get(at);
+            seat.after_in_session = after;
+            self.blocks.put(at, seat);
+        }
+    }
+
+    /// Links a row in behind all others, where its neighbours before it are the last of its channel and of its session.
+    pub(crate) fn link(&mut self, block: Box<Seat>) -> At
+        requires linked { AreLinked self.old.blocks.held }
+        requires channel { (block.value.before_in_channel ≡ last_of channel_of nowhere self.old.blocks.held block.value.row.channel) × (block.value.after_in_channel ≡ None) }
+        requires session { (block.value.before_in_session ≡ last_of session_of nowhere self.old.blocks.held block.value.row.session) × (block.value.after_in_session ≡ None) }
+        ensures linked { AreLinked self.new.blocks.held }
+        ensures rows { rows_of self.new.blocks.held ≡ rows_of self.old.blocks.held ++ block.value.row ∷ [] }
+        ensures channels { SameEnds channel_of self.new.blocks.held (self.old.blocks.held ++ held result.ptr block.value ∷ []) }
+        ensures sessions { SameEnds session_of self.new.blocks.held (self.old.blocks.held ++ held result.ptr block.value ∷ []) }
+    {
+        let (before_in_channel, before_in_session) = (
+            block.before_in_channel,
+            block.before_in_session,
+        );
+        let at = self.blocks.hold(Loose::of(block));
+        self.set_after_in_channel(before_in_channel, Some(at));
+        self.set_after_in_session(before_in_session, Some(at));
+        at
+    }
+
+    /// Unlinks a row and frees its block.
+    pub(crate) fn unlink(&mut self, at: At, alloc: Global) -> Seat
+        requires linked { AreLinked self.old.blocks.held }
+        requires held { IsSome (found self.old.blocks.held at.ptr) }
+        ensures linked { AreLinked self.new.blocks.held }
+        ensures seat { Some result ≡ found self.old.blocks.held at.ptr }
+        ensures rows { rows_of self.new.blocks.held ≡ rows_of (without self.old.blocks.held at.ptr) }
+        ensures channels { SameEnds channel_of self.new.blocks.held (without self.old.blocks.held at.ptr) }
+        ensures sessions { SameEnds session_of self.new.blocks.held (without self.old.blocks.held at.ptr) }
+    {
+        let seat = self.free(at, alloc);
+        self.set_after_in_channel(seat.before_in_channel, seat.after_in_channel);
+        self.set_before_in_channel(seat.after_in_channel, seat.before_in_channel);
+        self.set_after_in_session(seat.before_in_session, seat.after_in_session);
+        self.set_before_in_session(seat.after_in_session, seat.before_in_session);
+        seat
+    }
+
+    /// Frees a row's block, and says what it held.
+    fn free(&mut self, at: At, alloc: Global) -> Seat
+        requires { IsSome (found self.old.blocks.held at.ptr) }
+        ensures value { Some result ≡ found self.old.blocks.held at.ptr }
+        ensures held { self.new.blocks.held ≡ without self.old.blocks.held at.ptr }
+    {
+        *self.blocks.release(at, alloc).into_box()
+    }
+}
