@@ -318,13 +318,13 @@ behind c s hs a o e linked d g =
     let at_a = found_placed c s hs a p d in let walk : IsChannelWalk hs c (Some a) = (linked, (n.value, at_a, same.0)) in
     let step = channel_step hs c a n.value.row o walk d (sym (ap (option_map (λ (x : Seat). x.row)) at_a)) g in
     let here : onward hs (Some a) ≡ n ∷ p.after =
-        (λ i. onward (p.cut i) (Some (sym p.place i))) ∙ from_here channel_of (λ x. x.before_in_channel) (λ x. x.after_in_channel) c p.before n p.after (subst AreLinkedByChannel p.cut linked) (subst (λ l. IsApart (places l)) p.cut d) same.0 in
+    (λ i. onward (p.cut i) (Some (sym p.place i))) ∙ from_here channel_of (λ x. x.before_in_channel) (λ x. x.after_in_channel) c p.before n p.after (subst AreLinkedByChannel p.cut linked) (subst (λ l. IsApart (places l)) p.cut d) same.0 in
     let first : List ℕ = map (λ (h : H). h.value.row.session) (of_number channel_of c p.before) in
     let split : sessions_of (rows_of hs) c ≡ first ++ s ∷ sessions_onward hs c o =
-        sym (channel_walk hs c) ∙ ap (λ l. map (λ (h : H). h.value.row.session) (of_number channel_of c l)) p.cut
-        ∙ ap (map (λ (h : H). h.value.row.session)) (filter_append (λ (h : H). h.value.row.channel == c) p.before (n ∷ p.after))
-        ∙ map-append (λ (h : H). h.value.row.session) (of_number channel_of c p.before) (of_number channel_of c (n ∷ p.after))
-        ∙ ap (λ l. first ++ map (λ (h : H). h.value.row.session) (of_number channel_of c l)) (sym here) ∙ ap (λ l. first ++ l) step.left ∙ ap (λ k. first ++ k ∷ sessions_onward hs c o) same.1 in
+    sym (channel_walk hs c) ∙ ap (λ l. map (λ (h : H). h.value.row.session) (of_number channel_of c l)) p.cut
+    ∙ ap (map (λ (h : H). h.value.row.session)) (filter_append (λ (h : H). h.value.row.channel == c) p.before (n ∷ p.after))
+    ∙ map-append (λ (h : H). h.value.row.session) (of_number channel_of c p.before) (of_number channel_of c (n ∷ p.after))
+    ∙ ap (λ l. first ++ map (λ (h : H). h.value.row.session) (of_number channel_of c l)) (sym here) ∙ ap (λ l. first ++ l) step.left ∙ ap (λ k. first ++ k ∷ sessions_onward hs c o) same.1 in
     let absent : is_among s first ≡ false = ap (is_among s) (channel_walk p.before c) ∙ among_sessions (rows_of p.before) c s ∙ follows_none c s p.before p.none in record {
       walk = step.stands;
       next = sym (ap (after_in s) split ∙ after_here s first (sessions_onward hs c o) absent);

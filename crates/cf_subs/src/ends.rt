@@ -60,12 +60,7 @@ fn put(ends: &mut EndsByNumber, number: u32, changed: Ends)
 }
 
 /// A block is unlinked from a number's list, where these lie before it and after it. It takes no memory.
-pub(crate) fn shrink(
-    ends: &mut EndsByNumber,
-    number: u32,
-    before: Option<At>,
-    after: Option<At>,
-)
+pub(crate) fn shrink(ends: &mut EndsByNumber, number: u32, before: Option<At>, after: Option<At>)
     ensures { (k : ℕ) → get nat_eq ends.new k ≡ (if number == k then shrunk (get nat_eq ends.old number) before after else get nat_eq ends.old k) }
 {
     let Some(old) = ends.get(&number).copied() else {
@@ -75,8 +70,22 @@ pub(crate) fn shrink(
         (None, None) => {
             ends.remove(&number);
         }
-        (None, Some(first)) => put(ends, number, Ends { first, last: old.last }),
-        (Some(last), None) => put(ends, number, Ends { first: old.first, last }),
+        (None, Some(first)) => put(
+            ends,
+            number,
+            Ends {
+                first,
+                last: old.last,
+            },
+        ),
+        (Some(last), None) => put(
+            ends,
+            number,
+            Ends {
+                first: old.first,
+                last,
+            },
+        ),
         (Some(_), Some(_)) => {}
     }
 }

@@ -98,8 +98,18 @@ impl LinkedRows {
     {
         let seat = self.seats.unlink(at, alloc);
         let row = seat.row;
-        ends::shrink(&mut self.channels, row.channel, seat.before_in_channel, seat.after_in_channel);
-        ends::shrink(&mut self.sessions, row.session, seat.before_in_session, seat.after_in_session);
+        ends::shrink(
+            &mut self.channels,
+            row.channel,
+            seat.before_in_channel,
+            seat.after_in_channel,
+        );
+        ends::shrink(
+            &mut self.sessions,
+            row.session,
+            seat.before_in_session,
+            seat.after_in_session,
+        );
     }
 
     /// The first row of a channel.

@@ -15,7 +15,7 @@ pub returns-in-Some-clause-none : goal.returns-in-Some-clause-none
 returns-in-Some-clause-none c =
     let r = c.args.self.now in let hs = r.seats.blocks.held in let k = c.in-Some.number.now in
     let there : is_some c.first_in_channel.result ≡ true =
-        ap is_some c.first_in_channel.ensures ∙ first_there channel_of r.channels hs k c.next.new.self c.requires.whole.channels (c.keys.ensures.has k ∙ ap (λ ks. list_any (nat_eq k) ks) c.in-Some.ensures.steps) in
+    ap is_some c.first_in_channel.ensures ∙ first_there channel_of r.channels hs k c.next.new.self c.requires.whole.channels (c.keys.ensures.has k ∙ ap (λ ks. list_any (nat_eq k) ks) c.in-Some.ensures.steps) in
     λ none. absurd cc
 
 pub returns-in-None-clause-none : goal.returns-in-None-clause-none
