@@ -1,6 +1,6 @@
 -- Only an opening bracket stops a reading for its depth.
-use Rattle.std.proofs.Common.{◌≡◌, ◌⊎◌, ℕ, zero, suc, List, [], ◌∷◌, length, drop, Bool, true, false, cond, ◌==◌, nat_lt, Ok, Err, refl, sym, ap, ◌∙◌, subst, inl, inr}
-use Rattle.std.specs.Prelude.{codes, nat_eq}
+use Rattle.std.proofs.Common.{◌≡◌, ◌⊎◌, ℕ, zero, suc, List, [], ◌∷◌, length, Bool, true, false, cond, ◌==◌, nat_lt, Ok, Err, refl, sym, ap, ◌∙◌, subst, inl, inr}
+use Rattle.std.specs.Prelude.{codes}
 use Rattle.std.proofs.lemmas.Bool.{eqb-true}
 use Rattle.cf_json.specs.Bytes.{is_digit, is_hex, is_escape, is_exponent_mark}
 use Rattle.cf_json.specs.Grammar.{Parts, no_parts, part, Space, Key}

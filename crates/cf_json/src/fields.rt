@@ -15,11 +15,12 @@ use crate::span::Span;
 use crate::stop::Stop;
 use crate::text::read_text;
 use crate::token::{after_space, text_end};
-use crate::value::{key_end, value_end};
+use crate::value::{colon_end, value_end};
 use std::alloc::Global;
 use std::collections::BTreeSet;
 
 /// What follows a key's closing quote, and the value behind the colon.
+#[tactic(auto, unfolding(crate::specs::Reading::key_end))]
 fn key_ends(text: &[u8]) -> Result<(&[u8], &[u8]), Stop>
     ensures ok { IfOk result
         (λ r. (text_end Within.Plain (drop 1 text.now) ≡ Ok r.0.now) × (key_end true text.now ≡ Ok r.1.now)) }
@@ -28,11 +29,14 @@ fn key_ends(text: &[u8]) -> Result<(&[u8], &[u8]), Stop>
     ensures err { IfErr result
         (λ e. (text_end Within.Plain (drop 1 text.now) ≡ Err e) ⊎ (key_end true text.now ≡ Err e)) }
 {
-    let Some((_, more)) = text.split_first() else {
+    let Some((quote, more)) = text.split_first() else {
         return Err(Stop::NotJson(0));
     };
+    if *quote != b'"' {
+        return Err(Stop::NotJson(text.len()));
+    }
     let end = text_end(more)?;
-    let value = key_end(true, text)?;
+    let value = colon_end(end)?;
     Ok((end, value))
 }
 

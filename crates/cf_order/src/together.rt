@@ -90,6 +90,7 @@ fn publish_as<'a, N: Naming, R: Wait>(
     requires pass { pass.word ≡ N.word }
     ensures same { result.0.word ≡ pass.word }
     ensures begins { IsPrefix pass.log result.0.log }
+    ensures full { result.1 ≡ false → 2 ^ 62 ≤ length result.0.log }
     ensures published { result.1 ≡ true → (result.0.share ≡ pass.share + 1) × Gains pass.log result.0.log (publication channel.now body.now) }
 {
     let published = owner
@@ -99,8 +100,9 @@ fn publish_as<'a, N: Naming, R: Wait>(
 }
 
 /// Two threads publish a body each to one channel, with passes that are lent to them and handed back. Where both did, the
-/// pass has seen both publications, behind all that it had seen before, and two publishes more are its own.
-#[tactic(auto, using(crate::proofs::Gaining::gains_more))]
+/// pass has seen both publications, behind all that it had seen before, and two publishes more are its own. Where one did not, the
+/// pass has seen a log that is full.
+#[tactic(auto, using(crate::proofs::Gaining::gains_more, crate::proofs::Prefixes::prefix_length))]
 pub fn publish_both<N: Naming + Send + Sync, R: Threads + Wait + Sync>(
     rt: &R,
     word: &ShardWord,
@@ -114,6 +116,7 @@ pub fn publish_both<N: Naming + Send + Sync, R: Threads + Wait + Sync>(
     requires pass { pass.old.word ≡ N.word }
     ensures same { pass.new.word ≡ pass.old.word }
     ensures begins { IsPrefix pass.old.log pass.new.log }
+    ensures full { result ≡ false → 2 ^ 62 ≤ length pass.new.log }
     ensures share { result ≡ true → pass.new.share ≡ pass.old.share + 2 }
     ensures both { result ≡ true → Gains pass.old.log pass.new.log (publication channel.now first.now)
         × Gains pass.old.log pass.new.log (publication channel.now second.now) }
@@ -124,11 +127,11 @@ pub fn publish_both<N: Naming + Send + Sync, R: Threads + Wait + Sync>(
         rt,
         || -> (Pass, bool)
             requires { (word.now ≡ N.word) × (one.word ≡ N.word) × (one.share ≡ 0) }
-            ensures { (result.0.word ≡ N.word) × (result.1 ≡ true → (result.0.share ≡ 1) × Gains one.log result.0.log (publication channel.entry.now first.entry.now)) }
+            ensures { (result.0.word ≡ N.word) × (result.1 ≡ false → 2 ^ 62 ≤ length result.0.log) × (result.1 ≡ true → (result.0.share ≡ 1) × Gains one.log result.0.log (publication channel.entry.now first.entry.now)) }
         { publish_as(rt, word, owner, one, channel, first) },
         || -> (Pass, bool)
             requires { (word.now ≡ N.word) × (two.word ≡ N.word) × (two.share ≡ 0) }
-            ensures { (result.0.word ≡ N.word) × (result.1 ≡ true → (result.0.share ≡ 1) × Gains two.log result.0.log (publication channel.entry.now second.entry.now)) }
+            ensures { (result.0.word ≡ N.word) × (result.1 ≡ false → 2 ^ 62 ≤ length result.0.log) × (result.1 ≡ true → (result.0.share ≡ 1) × Gains two.log result.0.log (publication channel.entry.now second.entry.now)) }
         { publish_as(rt, word, owner, two, channel, second) },
     );
     word.join(pass, one);

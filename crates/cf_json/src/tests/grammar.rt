@@ -209,6 +209,65 @@ fn texts_of_no_value(rt: HostRuntime) -> Result<(), Fail> {
     Ok(())
 }
 
+/// Where a text is refused: the first byte at which what was read so far can't go on, or the text's end.
+#[test]
+fn places_of_faults(rt: HostRuntime) -> Result<(), Fail> {
+    let texts = [
+        ("", 0),
+        (" ", 1),
+        ("\t\n x", 3),
+        ("nulx", 3),
+        ("nul", 3),
+        (" trux", 4),
+        ("falsy", 4),
+        ("nulll", 4),
+        ("-", 1),
+        ("-a", 1),
+        ("01", 1),
+        ("1.x", 2),
+        ("1e+", 3),
+        ("1e5.", 3),
+        ("1 2", 2),
+        ("{} x", 3),
+        ("[1]]", 3),
+        ("\"a\nb\"", 2),
+        ("\"\\x\"", 2),
+        ("\"\\u12g4\"", 5),
+        ("\"a", 2),
+        ("[1 ;2]", 3),
+        ("[,1]", 1),
+        ("[1,]", 3),
+        ("[1", 2),
+        ("{a:1}", 1),
+        ("{\"a\" 1}", 5),
+        ("{\"a\":}", 5),
+        ("{\"a\":1,}", 7),
+        ("{\"a\":nil}", 6),
+        ("{\"a\":1]", 6),
+    ];
+    for (text, place) in texts {
+        assert_eq!(rt; scan(text), Err(Fault::NotJson(place)), "{text}");
+    }
+    let frames = [
+        ("{}x", 2),
+        ("1-2", 1),
+        ("1 01", 3),
+        ("1nul", 4),
+        ("{},{}", 2),
+    ];
+    for (text, place) in frames {
+        assert!(rt; is_at(split_frame(rt.alloc(), text), place), "{text}");
+    }
+    Ok(())
+}
+
+fn is_at<T: Drop>(found: Result<T, Fault>, place: usize) -> bool {
+    match found {
+        Err(Fault::NotJson(at)) => at == place,
+        _ => false,
+    }
+}
+
 #[test]
 fn frames(rt: HostRuntime) -> Result<(), Fail> {
     let texts = [

@@ -24,21 +24,21 @@ fn span_of(text: &str, wanted: Kind) -> Option<Span>
     None
 }
 
-fn members_of(alloc: Global, text: &str) -> Result<Vec<(String, Span)>, Fault> {
+pub(super) fn members_of(alloc: Global, text: &str) -> Result<Vec<(String, Span)>, Fault> {
     match span_of(text, Kind::Object) {
         Some(span) => members(alloc, text, span),
         None => Err(Fault::Memory),
     }
 }
 
-fn items_of(alloc: Global, text: &str) -> Result<Vec<Span>, Fault> {
+pub(super) fn items_of(alloc: Global, text: &str) -> Result<Vec<Span>, Fault> {
     match span_of(text, Kind::Array) {
         Some(span) => items(alloc, text, span),
         None => Err(Fault::Memory),
     }
 }
 
-fn text_of(alloc: Global, text: &str) -> Result<String, Fault> {
+pub(super) fn text_of(alloc: Global, text: &str) -> Result<String, Fault> {
     match span_of(text, Kind::Text) {
         Some(span) => read_text(alloc, text, span),
         None => Err(Fault::Memory),

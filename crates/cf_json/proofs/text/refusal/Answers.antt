@@ -24,7 +24,7 @@ returns-then-has_characters c = λ d h none.
 
 pub returns-else-has_characters : goal.returns-else-has_characters
 returns-else-has_characters c = (
-  c.requires.1.begins,
+  refl,
   λ d h.
       let spelled = ap (λ b. take (c.args.span.to - 1 - (c.args.span.from + 1)) (drop (c.args.span.from + 1) b)) c.as_bytes.ensures.value ∙ (cut c.args.text.now d c.args.span c.utf8.text h).spelling in
       none_from (characters d) (sym (ap (λ t. is_some (characters t)) spelled) ∙ sym c.has_characters.ensures ∙ c.if-has_characters.false),
