@@ -11,6 +11,7 @@ use Rattle.cf_json.specs.Characters.{characters, pieces, joined}
 use Rattle.cf_json.specs.Members.{Fields, put, members_onto}
 use Rattle.cf_protocol.specs.Fields.{object_as, look_up, unless_null, each_of}
 use Rattle.cf_protocol.specs.Written.{Member, parts_of, object_of}
+use Rattle.cf_protocol.specs.Writing.{is_plain as stands_for_itself}
 use Rattle.cf_protocol.proofs.Spellings.{is_plain}
 
 -- ---- keys
@@ -18,7 +19,10 @@ use Rattle.cf_protocol.proofs.Spellings.{is_plain}
 pub plain_characters : (s : List ℕ) → is_plain s ≡ true → characters s ≡ Some s
 unfolding pieces joined
 plain_characters [] h = refl
-plain_characters (x ∷ xs) h = let p = and_parts (not (x == 92)) (is_plain xs) (and_parts (nat_le 32 x && not (x == 34)) (not (x == 92) && is_plain xs) h).1 in rw (not-true (x == 92) p.0, plain_characters xs p.1) refl
+plain_characters (x ∷ xs) h =
+    let p = and_parts (stands_for_itself x) (is_plain xs) h in
+    let q = and_parts (nat_le 32 x && not (x == 34)) (not (x == 92)) p.0 in
+    rw (not-true (x == 92) q.1, plain_characters xs p.1) refl
 
 abbrev pub are_plain : List Member → Bool
 are_plain [] = true

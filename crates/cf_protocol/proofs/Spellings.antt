@@ -3,7 +3,9 @@ use Rattle.std.proofs.Common.{◌≡◌, ◌≢◌, ◌⊎◌, inl, inr, ℕ, ze
 use Rattle.std.specs.Prelude.{◌==◌, nat_le, decimal}
 use Rattle.std.proofs.lemmas.Bool.{and_parts, not-true, eqb-false}
 use Rattle.std.proofs.lemmas.Fmt.{decimal_by_steps}
+use Rattle.std.specs.List.{list_all}
 use Rattle.cf_json.specs.Bytes.{is_digit}
+use Rattle.cf_protocol.specs.Writing.{is_plain as stands_for_itself}
 use Rattle.cf_json.specs.Grammar.{IsText, plain, nothing, AllDigits, IsWhole, IsNumber}
 
 -- ---- numbers
@@ -51,13 +53,12 @@ is_negative_number n h = (45 ∷ [], decimal n, [], [], ap (λ s. 45 ∷ s) (sym
 
 -- a text that is spelled as it stands
 abbrev pub is_plain : List ℕ → Bool
-is_plain [] = true
-is_plain (x ∷ xs) = (nat_le 32 x && not (x == 34)) && (not (x == 92) && is_plain xs)
+is_plain s = list_all stands_for_itself s
 
 pub plain_text : (s : List ℕ) → is_plain s ≡ true → IsText s
 plain_text [] h = nothing
 plain_text (x ∷ xs) h =
-    let p = and_parts (nat_le 32 x && not (x == 34)) (not (x == 92) && is_plain xs) h in
-    let q = and_parts (nat_le 32 x) (not (x == 34)) p.0 in
-    let r = and_parts (not (x == 92)) (is_plain xs) p.1 in
-    plain (leb-true 32 x q.0) (eqb-false x 34 (not-true (x == 34) q.1)) (eqb-false x 92 (not-true (x == 92) r.0)) (plain_text xs r.1)
+    let p = and_parts (stands_for_itself x) (is_plain xs) h in
+    let q = and_parts (nat_le 32 x && not (x == 34)) (not (x == 92)) p.0 in
+    let r = and_parts (nat_le 32 x) (not (x == 34)) q.0 in
+    plain (leb-true 32 x r.0) (eqb-false x 34 (not-true (x == 34) r.1)) (eqb-false x 92 (not-true (x == 92) q.1)) (plain_text xs p.1)

@@ -117,6 +117,8 @@ fn lent_parts(rt: HostRuntime) -> Result<(), Fail> {
         end.as_str()
             == "{\"push\":{\"channel\":\"news\",\"unsubscribe\":{\"code\":2500,\"reason\":\"insufficient state\"}}}"
     );
+    let other = write_unsubscribe(alloc, "", 1)?;
+    assert!(rt; other.as_str() == "{\"push\":{\"unsubscribe\":{\"code\":1}}}");
     assert!(rt; write_unsubscribe(alloc, "", 0)?.as_str() == "{}");
     Ok(())
 }
