@@ -37,9 +37,6 @@ with_none f c m none d id h =
     by_test true h = let n = none id in absurd (cc)
     by_test false h = h
 
-idle_asks_none : (m : Mode) (id : ℕ) → asks_under id (idle m) ≡ false
-idle_asks_none m id = refl
-
 pub moved_apart : (c : List ℕ) (m : Mode) (s : State) → ((id : ℕ) → asks_under id m ≡ false) → AreApart s.client → AreApart (moves c m s).client
 moved_apart c m s none h = fewer s.client (moves c m s).client (λ d id a. with_none s.client.modes c m none d id a) (λ id o. o) (λ n l. l) h
 

@@ -154,10 +154,6 @@ carried_out_one base new all rest k m each less here c =
     ∙ one_more (bytes_eq k c) m (get_by_text all c) (get_by_text base c)
     ∙ ap (λ o. option_map (changed_or o) (get_by_text base c)) (told_apart (bytes_eq k c) m (get_by_text all c) (λ e. subst (λ x. get_by_text all x ≡ Some m) ((bytes_eq-Decides k c).0 e) here))
 
-pub none_to_come : (base rest : Channels) → rest.entries ≡ [] → (c : List ℕ) → drafted_code base rest c ≡ get_by_text base c
-none_to_come base rest none c =
-    ap (λ o. option_map (changed_or o) (get_by_text base c)) (ap (lookup (is_at (λ x. slice_cmp nat_cmp c (string_bytes x)))) none) ∙ unchanged (get_by_text base c)
-
 -- ---- calls
 
 pub drafted_calls-append : (is js : List ℕ) (ks : List Call) → drafted_calls (is ++ js) ks ≡ drafted_calls js (drafted_calls is ks)

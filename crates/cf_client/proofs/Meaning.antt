@@ -2,7 +2,6 @@
 use Rattle.std.proofs.Common.{◌≡◌, ◌∙◌, ℕ, zero, suc, ◌-◌, ◌==◌, ◌&&◌, ◌||◌, Bool, true, false, if◌then◌else◌, Option, Some, None, is_some, List, [], ◌∷◌, ◌++◌, refl, sym, ap, subst, inl, inr, map, length}
 use Rattle.std.specs.Prelude.{option_to_list, option_map, unwrap_or, slice_get}
 use Rattle.std.specs.Str.{bytes_eq}
-use Rattle.std.proofs.lemmas.List.{reverse-append}
 use Rattle.std.proofs.lemmas.Slice.Eq.{bytes_eq-Decides}
 use Rattle.cf_protocol.specs.Names.{with}
 use Rattle.cf_protocol.specs.Position.{Position}
@@ -16,7 +15,7 @@ use Rattle.cf_client.specs.ClientView.{ids_of}
 use Rattle.cf_client.specs.AppItem.{AppItem, Subscribed, Refused, Listed, published}
 use Rattle.cf_client.specs.OneAnswer.{AreApart}
 use Rattle.cf_client.specs.OneMeaning.{reply_items, pub_items, end_items, items_of, AsksAt, CallsAt, OneMeaning}
-use Rattle.cf_client.proofs.Moves.{either_way, text_tells}
+use Rattle.cf_client.proofs.Moves.{either_way, text_tells, ids_of-cons}
 
 some_is : {A : Type 0} (d x y : A) → Some x ≡ Some y → x ≡ y
 some_is d x y h = ap (λ o. unwrap_or o d) h
@@ -123,9 +122,6 @@ is_out-append id (i ∷ is) k = ap (λ b. (i == id) || b) (is_out-append id is k
     turned true true c = refl
     turned true false c = refl
     turned false b c = refl
-
-ids_of-cons : (k : Call) (ks : List Call) → ids_of (k ∷ ks) ≡ ids_of ks ++ k.id ∷ []
-ids_of-cons k ks = reverse-append (k.id ∷ []) (map (λ (x : Call). x.id) ks)
 
 -- the id of a call is out where the call is
 out_is : (id : ℕ) (ks : List Call) → is_out id (ids_of ks) ≡ is_some (channel_under id ks)

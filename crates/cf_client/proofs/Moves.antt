@@ -139,11 +139,6 @@ calls-filter id (k ∷ ks) =
 
 -- ---- states
 
--- one channel's mode is set
-pub moved_here : (s : State) (new : List ℕ → Mode) (c : List ℕ) (m : Mode) → ((d : List ℕ) → new d ≡ with s.client.modes c m d)
-    → record s { client = record s.client { modes = new } } ≡ moves c m s
-moved_here s new c m h = λ i. record s { client = record s.client { modes = λ d. h d i } }
-
 pub asked_here : (s : State) (id : ℕ) (new : List ℕ → Mode) (c : List ℕ) (from : Option Position) → id ≡ s.client.fresh
     → ((d : List ℕ) → new d ≡ with s.client.modes c (Asking id from (last_of (s.client.modes c))) d)
     → record s { client = record s.client { fresh = suc id; modes = new } } ≡ asked c from s
@@ -161,7 +156,7 @@ without-append id (x ∷ xs) ys =
       | false ↦ ap (λ (zs : List ℕ). x ∷ zs) (without-append id xs ys)
     ]
 
-ids_of-cons : (k : Call) (ks : List Call) → ids_of (k ∷ ks) ≡ ids_of ks ++ k.id ∷ []
+pub ids_of-cons : (k : Call) (ks : List Call) → ids_of (k ∷ ks) ≡ ids_of ks ++ k.id ∷ []
 ids_of-cons k ks = reverse-append (k.id ∷ []) (map (λ (x : Call). x.id) ks)
 
 pub ids_of-filter : (id : ℕ) (ks : List Call) → ids_of (filter (λ k. not (k.id == id)) ks) ≡ without id (ids_of ks)
