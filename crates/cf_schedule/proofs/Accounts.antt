@@ -1,14 +1,14 @@
--- The account that a trace gives is what befell: the entries of each event are those that it wrote.
+-- The befell_from that a trace gives is what befell: the entries of each event are those that it wrote.
 use Rattle.std.proofs.Common.{◌≡◌, ℕ, suc, ◌+◌, ◌≤◌, ◌<◌, ◌==◌, Bool, true, false, List, [], ◌∷◌, ◌++◌, length, refl, sym, ap, subst, arith, append_assoc, ◌≢◌, if◌then◌else◌}
 use Rattle.std.proofs.lemmas.List.{append-nil}
 use Rattle.std.proofs.lemmas.Bool.Decides.{nat_tests}
 use Rattle.cf_schedule.specs.Config.{Config}
 use Rattle.cf_schedule.specs.Event.{Event, Take}
 use Rattle.cf_schedule.specs.World.{World, start}
-use Rattle.cf_schedule.specs.LooseRun.{Happening, Line, Receive, loosely_allows, befalls, loose_run}
+use Rattle.cf_schedule.specs.LooseRun.{Happening, Scheduled, Receive, loosely_allows, befalls, loose_run}
 use Rattle.cf_schedule.specs.Trace.{Item, Entry}
 use Rattle.cf_schedule.specs.Told.{entries, tells, loosely_tells, loosely_writes, loose_trace}
-use Rattle.cf_schedule.specs.Marks.{Mark, entry_marks, allowed_marks, numbered, account}
+use Rattle.cf_schedule.specs.Marks.{Mark, entry_marks, allowed_marks, numbered, befell_from}
 use Rattle.cf_schedule.specs.StreamSafety.{AreNumbered, befell, Safe}
 use Rattle.cf_schedule.proofs.Automaton.{IsSafe, nothing_seen}
 use Rattle.cf_schedule.proofs.Sentences.{one_datum_of, unbroken_of, recovered_of, honest_of}
@@ -63,7 +63,7 @@ at-tells n w (Take x) = at-entries n x _
 at-tells n w e = tt
 
 at-loosely : (n : ℕ) (w : World) (h : Happening) → AreAt n (loosely_tells n w h)
-at-loosely n w (Line e) = at-tells n w e
+at-loosely n w (Scheduled e) = at-tells n w e
 at-loosely n w (Receive x) = at-entries n x _
 at-loosely n w h = tt
 
@@ -88,10 +88,10 @@ below-append n [] [] h k = tt
 below-append n [] (y ∷ ys) h k = (omega (arith, k.0), below-append n [] ys tt k.1)
 below-append n (x ∷ xs) ys h k = (omega (arith, h.0), below-append n xs ys h.1 k)
 
-account-tale : (cfg : Config) (x c : List ℕ) (hs : List Happening) (n : ℕ) (w : World) (before : List Entry) → AreBelow n before
-    → account cfg x c (before ++ loose_trace cfg n w hs) n w hs ≡ tale cfg x c n w hs
-account-tale cfg x c [] n w before b = refl
-account-tale cfg x c (h ∷ hs) n w before b =
+befell_from-tale : (cfg : Config) (x c : List ℕ) (hs : List Happening) (n : ℕ) (w : World) (before : List Entry) → AreBelow n before
+    → befell_from cfg x c (before ++ loose_trace cfg n w hs) n w hs ≡ tale cfg x c n w hs
+befell_from-tale cfg x c [] n w before b = refl
+befell_from-tale cfg x c (h ∷ hs) n w before b =
     let here : numbered n (before ++ (loosely_writes cfg n w h ++ loose_trace cfg (suc n) (befalls cfg w h) hs)) ≡ loosely_writes cfg n w h =
     rw (
       numbered-append n before (loosely_writes cfg n w h ++ loose_trace cfg (suc n) (befalls cfg w h) hs),
@@ -101,14 +101,14 @@ account-tale cfg x c (h ∷ hs) n w before b =
       none-from n (loose_trace cfg (suc n) (befalls cfg w h) hs) (from-trace cfg hs (suc n) (befalls cfg w h)),
     )
     (append-nil (loosely_writes cfg n w h)) in
-    let later : account cfg x c ((before ++ loosely_writes cfg n w h) ++ loose_trace cfg (suc n) (befalls cfg w h) hs) (suc n) (befalls cfg w h) hs ≡ tale cfg x c (suc n) (befalls cfg w h) hs =
-    account-tale cfg x c hs (suc n) (befalls cfg w h) (before ++ loosely_writes cfg n w h) (below-append n before (loosely_writes cfg n w h) b (at-writes cfg n w h)) in
+    let later : befell_from cfg x c ((before ++ loosely_writes cfg n w h) ++ loose_trace cfg (suc n) (befalls cfg w h) hs) (suc n) (befalls cfg w h) hs ≡ tale cfg x c (suc n) (befalls cfg w h) hs =
+    befell_from-tale cfg x c hs (suc n) (befalls cfg w h) (before ++ loosely_writes cfg n w h) (below-append n before (loosely_writes cfg n w h) b (at-writes cfg n w h)) in
     rw here (ap (λ (rest : List (List Mark)). (allowed_marks cfg x c w h ++ entry_marks x c (loosely_writes cfg n w h)) ∷ rest)
-    (subst (λ (t : List Entry). account cfg x c t (suc n) (befalls cfg w h) hs ≡ tale cfg x c (suc n) (befalls cfg w h) hs)
+    (subst (λ (t : List Entry). befell_from cfg x c t (suc n) (befalls cfg w h) hs ≡ tale cfg x c (suc n) (befalls cfg w h) hs)
     (append_assoc before (loosely_writes cfg n w h) (loose_trace cfg (suc n) (befalls cfg w h) hs)) later))
 
-safe-account : (cfg : Config) (hs : List Happening) (x c : List ℕ) → IsSafe nothing_seen (befell cfg hs (loose_trace cfg 1 start hs) x c)
-safe-account cfg hs x c = subst (λ (m : List (List Mark)). IsSafe nothing_seen m) (sym (account-tale cfg x c hs 1 start [] tt)) (safe_tale cfg hs x c)
+safe-befell_from : (cfg : Config) (hs : List Happening) (x c : List ℕ) → IsSafe nothing_seen (befell cfg hs (loose_trace cfg 1 start hs) x c)
+safe-befell_from cfg hs x c = subst (λ (m : List (List Mark)). IsSafe nothing_seen m) (sym (befell_from-tale cfg x c hs 1 start [] tt)) (safe_tale cfg hs x c)
 
 -- numbers never fall
 numbered-at : (low n high : ℕ) (xs ys : List Entry) → low ≤ n → n ≤ high → AreAt n xs → AreNumbered n high ys → AreNumbered low high (xs ++ ys)
@@ -135,7 +135,7 @@ safe_loose cfg hs = record {
   numbered = numbered-from cfg hs 1 start (length hs) (omega arith);
   true_to = true_when_told cfg hs;
   one_datum = one_datum_of (loose_run cfg start hs).broker.lists (loose_trace cfg 1 start hs) (true_ever_after cfg hs);
-  unbroken = λ x c. unbroken_of (befell cfg hs (loose_trace cfg 1 start hs) x c) (safe-account cfg hs x c);
-  recovered_run = λ x c. recovered_of (befell cfg hs (loose_trace cfg 1 start hs) x c) (safe-account cfg hs x c);
-  honest_recovery = λ x c. honest_of (befell cfg hs (loose_trace cfg 1 start hs) x c) (safe-account cfg hs x c);
+  unbroken = λ x c. unbroken_of (befell cfg hs (loose_trace cfg 1 start hs) x c) (safe-befell_from cfg hs x c);
+  recovered_run = λ x c. recovered_of (befell cfg hs (loose_trace cfg 1 start hs) x c) (safe-befell_from cfg hs x c);
+  honest_recovery = λ x c. honest_of (befell cfg hs (loose_trace cfg 1 start hs) x c) (safe-befell_from cfg hs x c);
 }

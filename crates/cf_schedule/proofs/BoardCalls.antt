@@ -14,7 +14,7 @@ use Rattle.cf_stream.specs.PublicationList.{Life, kept_newest, state_of, IsRead}
 use Rattle.cf_stream.specs.ChannelLists.{AreShown, ChangesAt, ReadsAt, life_or}
 use Rattle.cf_stream.specs.FreshEpochs.{Draws}
 use Rattle.cf_stream.specs.declared.answer.Recovery.{Recovery}
-use Rattle.cf_schedule.specs.BrokerTie.{IsAccepted, IsStanding, ShowsBroker, Brings, Finds, life_at}
+use Rattle.cf_schedule.specs.Running.BrokerTie.{IsAccepted, IsStanding, ShowsBroker, Brings, Finds, life_at}
 use Rattle.cf_schedule.specs.Config.{Config}
 use Rattle.cf_schedule.specs.Event.{Event, Trim, Forget}
 use Rattle.cf_schedule.specs.FreshEpochs.{AreFresh}

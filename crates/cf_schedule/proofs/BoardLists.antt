@@ -6,7 +6,7 @@ use Rattle.std.proofs.lemmas.List.{append-nil}
 use Rattle.cf_protocol.specs.Datum.{Datum, Placed}
 use Rattle.cf_protocol.specs.Note.{Lists, placed_at}
 use Rattle.cf_protocol.specs.Regular.{IsPlaced, IsBody}
-use Rattle.cf_schedule.specs.BrokerTie.{Grown, IsAccepted, Stands}
+use Rattle.cf_schedule.specs.Running.BrokerTie.{Grown, IsAccepted, Stands}
 use Rattle.cf_schedule.specs.PublicationList.{Place, Broker, list_with, publication}
 use Rattle.cf_schedule.specs.declared.broker.Accepted.{Accepted}
 use Rattle.cf_schedule.proofs.Names.{itself, with-two}

@@ -17,7 +17,7 @@ use Rattle.cf_stream.specs.Streams.{stream_of, stood_or, size_at, size_of as str
 use Rattle.cf_stream.specs.PublicationList.{Life, Shows, published}
 use Rattle.cf_stream.specs.ChannelLists.{ChangesAt, life_or}
 use Rattle.cf_stream.specs.FreshEpochs.{Draws, DrawsNone, IsNoEpoch}
-use Rattle.cf_schedule.specs.BrokerTie.{IsAccepted, ShowsBroker, FindsNone, life_at}
+use Rattle.cf_schedule.specs.Running.BrokerTie.{IsAccepted, ShowsBroker, FindsNone, life_at}
 use Rattle.cf_schedule.specs.Config.{Config}
 use Rattle.cf_schedule.specs.Event.{Publish}
 use Rattle.cf_schedule.specs.FreshEpochs.{AreFresh}

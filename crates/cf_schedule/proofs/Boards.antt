@@ -14,7 +14,7 @@ use Rattle.cf_stream.specs.Streams.{Kept, stream_of, stood_or, size_at}
 use Rattle.cf_stream.specs.PublicationList.{Life, Shows, opened as opened_life}
 use Rattle.cf_stream.specs.ChannelLists.{ShowsAt, AreShown, ChangesAt, life_or}
 use Rattle.cf_stream.specs.FreshEpochs.{Draws}
-use Rattle.cf_schedule.specs.BrokerTie.{IsAccepted, IsStanding, ShowsBroker, life_at}
+use Rattle.cf_schedule.specs.Running.BrokerTie.{IsAccepted, IsStanding, ShowsBroker, life_at}
 use Rattle.cf_schedule.specs.FreshEpochs.{AreFresh}
 use Rattle.cf_schedule.specs.PublicationList.{Broker, open_at, opened, is_full, stands_or_opens, can_open}
 use Rattle.cf_schedule.specs.declared.broker.Broker.{Broker as Code}

@@ -12,11 +12,11 @@ use Rattle.cf_recovery.specs.Verdict.{next}
 use Rattle.cf_hub.specs.PositionCheck.{Checked, Fine, Behind, Ended, position_check}
 use Rattle.cf_hub.specs.Connection.{Sub, Off, Asked, Ready, On, Line, closes, push, most_waiting, put_sub, pass_at, passes, end_at, ends, come_at, comes, finish_at, finishes, by_check, check_at, checks}
 use Rattle.cf_client.specs.ClientState.{Mode, Idle, Asking, Live, last_of, takes, read_to, hears as takes_note}
-use Rattle.cf_schedule.specs.Errand.{Errand, Sent, Subscribe, Unsubscribe, Publish, History, channel_of}
+use Rattle.cf_schedule.specs.ClientRequest.{ClientRequest, SentCommand, Subscribe, Unsubscribe, Publish, History, channel_of}
 use Rattle.cf_schedule.specs.Weights.{wording}
-use Rattle.cf_schedule.specs.Link.{Link, with_line, sends, is_heard, hears_subscribe, hears_errand, hears, is_waiting, errs, find, errs_for, errs_late, says, fail_at, fails, over_at, finishes_over, closes_with, breaks, gets, hold_first, holds, receive_first}
+use Rattle.cf_schedule.specs.ClientLink.{ClientLink, with_line, sends, is_heard, hears_subscribe, hears_request, hears, is_waiting, errs, find, errs_for, errs_late, says, fail_at, fails, over_at, finishes_over, closes_with, breaks, gets, hold_first, holds, receive_first}
 use Rattle.cf_schedule.specs.Leading.{coming}
-use Rattle.cf_schedule.proofs.Within.{IsWithin, LastWithin, AreWithin, ModeWithin, SubWithin, NoteWithin, NotesWithin, ErrandWithin, UpsWithin, IsBoundedWith, IsBounded}
+use Rattle.cf_schedule.proofs.Within.{IsWithin, LastWithin, AreWithin, ModeWithin, SubWithin, NoteWithin, NotesWithin, RequestWithin, UpsWithin, IsBoundedWith, IsBounded}
 use Rattle.cf_schedule.proofs.Names.{text_tells, by_two, by_test, with-all, with-same}
 use Rattle.cf_schedule.proofs.Leading.{IsNext, own-epoch}
 use Rattle.cf_schedule.proofs.Keeping.{by_verdict_lem}
@@ -87,24 +87,24 @@ within-read_of top (Some p) s h = by_test (λ r. IsWithin top (read_to r)) (stil
 
 module _ (tops : List ℕ → List ℕ → ℕ) (lists : Lists) where
   -- one note more, or a session's end
-  bounded-more : (l : Link) (v : Line Note) (n : Note) → v.notes ≡ l.line.notes ++ n ∷ []
+  bounded-more : (l : ClientLink) (v : Line Note) (n : Note) → v.notes ≡ l.line.notes ++ n ∷ []
       → IsBounded tops l → NoteWithin tops n → ((c : List ℕ) → SubWithin (tops c) (v.subs c)) → IsBounded tops (with_line v l)
   bounded-more l v n e g h s =
       subst (λ ns. IsBoundedWith tops (l.way ++ ns) (with_line v l)) (sym e)
       (subst (λ ns. IsBoundedWith tops ns (with_line v l)) (append_assoc l.way l.line.notes (n ∷ []))
       (record { modes = g.modes; notes = NotesWithin-more tops (coming l) n g.notes h; subs = s; ups = g.ups }))
 
-  bounded-closes : (l : Link) (code : ℕ) → IsBounded tops l → IsBounded tops (with_line (closes (Close code) l.line) l)
+  bounded-closes : (l : ClientLink) (code : ℕ) → IsBounded tops l → IsBounded tops (with_line (closes (Close code) l.line) l)
   bounded-closes l code g = bounded-more l (closes (Close code) l.line) (Close code) refl g tt (λ c. tt)
 
-  pub bounded-push : (l : Link) (n : Note) → IsBounded tops l → NoteWithin tops n → IsBounded tops (with_line (push (wording lists) n l.line) l)
+  pub bounded-push : (l : ClientLink) (n : Note) → IsBounded tops l → NoteWithin tops n → IsBounded tops (with_line (push (wording lists) n l.line) l)
   bounded-push l n g h =
       by_test (λ (v : Line Note). IsBounded tops (with_line v l)) l.line.closed _ _ (λ e. g)
       (λ e. by_test (λ (v : Line Note). IsBounded tops (with_line v l)) (nat_le (sum_by (wording lists).weight l.line.notes + (wording lists).weight n) most_waiting) _ _
       (λ i. bounded-more l (record (l.line) { notes = l.line.notes ++ n ∷ [] }) n refl g h g.subs)
       (λ i. bounded-closes l 3008 g))
 
-  pub bounded-put : (l : Link) (c : List ℕ) (t : Sub) → IsBounded tops l → SubWithin (tops c) t → IsBounded tops (with_line (put_sub c t l.line) l)
+  pub bounded-put : (l : ClientLink) (c : List ℕ) (t : Sub) → IsBounded tops l → SubWithin (tops c) t → IsBounded tops (with_line (put_sub c t l.line) l)
   bounded-put l c t g h = record {
     modes = g.modes;
     notes = g.notes;
@@ -113,11 +113,11 @@ module _ (tops : List ℕ → List ℕ → ℕ) (lists : Lists) where
   }
 
   -- a note with a subscription's change
-  bounded-say : (l : Link) (c : List ℕ) (t : Sub) (n : Note) → IsBounded tops l → SubWithin (tops c) t → NoteWithin tops n
+  bounded-say : (l : ClientLink) (c : List ℕ) (t : Sub) (n : Note) → IsBounded tops l → SubWithin (tops c) t → NoteWithin tops n
       → IsBounded tops (with_line (push (wording lists) n (put_sub c t l.line)) l)
   bounded-say l c t n g h k = bounded-push (with_line (put_sub c t l.line) l) n (bounded-put l c t g h) k
 
-  bounded-pass_at : (l : Link) (c : List ℕ) (s : Sub) → IsBounded tops l → Room (tops c) 1 s → IsBounded tops (with_line (pass_at (wording lists) c s l.line) l)
+  bounded-pass_at : (l : ClientLink) (c : List ℕ) (s : Sub) → IsBounded tops l → Room (tops c) 1 s → IsBounded tops (with_line (pass_at (wording lists) c s l.line) l)
   bounded-pass_at l c Off g r = g
   bounded-pass_at l c (Asked k since arrived) g r = g
   bounded-pass_at l c (Ready k was x arrived) g r = g
@@ -143,23 +143,23 @@ module _ (tops : List ℕ → List ℕ → ℕ) (lists : Lists) where
   room-less top (Ready k was r arrived) n h = tt
   room-less top (On p mark) n h = omega arith
 
-  bounded-passes : (n : ℕ) (l : Link) (c : List ℕ) → IsBounded tops l → Room (tops c) n (l.line.subs c) → IsBounded tops (with_line (passes (wording lists) c n l.line) l)
+  bounded-passes : (n : ℕ) (l : ClientLink) (c : List ℕ) → IsBounded tops l → Room (tops c) n (l.line.subs c) → IsBounded tops (with_line (passes (wording lists) c n l.line) l)
   bounded-passes zero l c g r = g
   bounded-passes (suc n) l c g r =
       bounded-passes n (with_line (pass_at (wording lists) c (l.line.subs c) l.line) l) c
       (bounded-pass_at l c (l.line.subs c) g (room-less (tops c) (l.line.subs c) n r))
       (room-passed l.line c (l.line.subs c) n refl r)
 
-  bounded-end_at : (l : Link) (c : List ℕ) (s : Sub) → IsBounded tops l → IsBounded tops (with_line (end_at (wording lists) c s l.line) l)
+  bounded-end_at : (l : ClientLink) (c : List ℕ) (s : Sub) → IsBounded tops l → IsBounded tops (with_line (end_at (wording lists) c s l.line) l)
   bounded-end_at l c Off g = g
   bounded-end_at l c (Asked k since arrived) g = g
   bounded-end_at l c (Ready k was x arrived) g = g
   bounded-end_at l c (On p mark) g = bounded-say l c Off (End c) g tt tt
 
-  bounded-ends : (l : Link) (c : List ℕ) → IsBounded tops l → IsBounded tops (with_line (ends (wording lists) c l.line) l)
+  bounded-ends : (l : ClientLink) (c : List ℕ) → IsBounded tops l → IsBounded tops (with_line (ends (wording lists) c l.line) l)
   bounded-ends l c g = bounded-end_at l c (l.line.subs c) g
 
-  bounded-come_at : (l : Link) (c : List ℕ) (q : Position) (s : Sub) → IsBounded tops l → l.line.subs c ≡ s → IsWithin (tops c) q
+  bounded-come_at : (l : ClientLink) (c : List ℕ) (q : Position) (s : Sub) → IsBounded tops l → l.line.subs c ≡ s → IsWithin (tops c) q
       → IsBounded tops (with_line (come_at (wording lists) c q s l.line) l)
   bounded-come_at l c q Off g e h = g
   bounded-come_at l c q (Asked k since arrived) g e h =
@@ -171,31 +171,31 @@ module _ (tops : List ℕ → List ℕ → ℕ) (lists : Lists) where
       (λ i. bounded-say l c (On q mark) (Pub c q) g h h)
       (bounded-say l c Off (End c) g tt tt)
 
-  pub bounded-comes : (l : Link) (c : List ℕ) (q : Position) → IsBounded tops l → IsWithin (tops c) q → IsBounded tops (with_line (comes (wording lists) c q l.line) l)
+  pub bounded-comes : (l : ClientLink) (c : List ℕ) (q : Position) → IsBounded tops l → IsWithin (tops c) q → IsBounded tops (with_line (comes (wording lists) c q l.line) l)
   bounded-comes l c q g h = bounded-come_at l c q (l.line.subs c) g refl h
 
   within-run : (top : List ℕ → ℕ) (arrived : List Position) (r : Reading) → AreWithin top arrived → IsWithin top (read_to r) → r.top + run_length arrived r ≤ top r.epoch
   within-run top arrived r a h =
       by_test (λ v. r.top + v ≤ top r.epoch) (overfull arrived) _ _ (λ i. omega arith) (λ i. within-greatest top arrived r.epoch r.top (highest arrived) a h)
 
-  bounded-finish_at : (l : Link) (c : List ℕ) (s : Sub) → IsBounded tops l → l.line.subs c ≡ s → IsBounded tops (with_line (finish_at (wording lists) c s l.line) l)
+  bounded-finish_at : (l : ClientLink) (c : List ℕ) (s : Sub) → IsBounded tops l → l.line.subs c ≡ s → IsBounded tops (with_line (finish_at (wording lists) c s l.line) l)
   bounded-finish_at l c Off g e = g
   bounded-finish_at l c (Asked k since arrived) g e = g
   bounded-finish_at l c (On p mark) g e = g
   bounded-finish_at l c (Ready k was r arrived) g e =
       let a : IsWithin (tops c) (read_to r) × AreWithin (tops c) arrived = subst (SubWithin (tops c)) e (g.subs c) in
       let put : Line Note = put_sub c (On (read_to r) None) l.line in
-      let answered : Link = with_line (push (wording lists) (Reply c k was r) put) l in
+      let answered : ClientLink = with_line (push (wording lists) (Reply c k was r) put) l in
       let room = room-pushed put (Reply c k was r) c (run_length arrived r)
       (subst (Room (tops c) (run_length arrived r)) (sym (with-same l.line.subs c (On (read_to r) None))) (within-run (tops c) arrived r a.1 a.0)) in
       let passed = bounded-passes (run_length arrived r) answered c (bounded-say l c (On (read_to r) None) (Reply c k was r) g a.0 a.0) room in
       by_test (λ (v : Line Note). IsBounded tops (with_line v l)) (falls_short arrived r) _ _
       (λ h. bounded-ends (with_line (passes (wording lists) c (run_length arrived r) answered.line) l) c passed) (λ h. passed)
 
-  pub bounded-finishes : (l : Link) (c : List ℕ) → IsBounded tops l → IsBounded tops (with_line (finishes (wording lists) c l.line) l)
+  pub bounded-finishes : (l : ClientLink) (c : List ℕ) → IsBounded tops l → IsBounded tops (with_line (finishes (wording lists) c l.line) l)
   bounded-finishes l c g = bounded-finish_at l c (l.line.subs c) g refl
 
-  bounded-over_at : (l : Link) (c : List ℕ) (s : Sub) → IsBounded tops l → l.line.subs c ≡ s → IsBounded tops (with_line (over_at (wording lists) c s l.line) l)
+  bounded-over_at : (l : ClientLink) (c : List ℕ) (s : Sub) → IsBounded tops l → l.line.subs c ≡ s → IsBounded tops (with_line (over_at (wording lists) c s l.line) l)
   bounded-over_at l c Off g e = g
   bounded-over_at l c (Asked k since arrived) g e = g
   bounded-over_at l c (On q mark) g e = g
@@ -204,34 +204,34 @@ module _ (tops : List ℕ → List ℕ → ℕ) (lists : Lists) where
       bounded-ends (with_line (push (wording lists) (Reply c k was r) (put_sub c (On (read_to r) None) l.line)) l) c
       (bounded-say l c (On (read_to r) None) (Reply c k was r) g a.0 a.0)
 
-  pub bounded-finishes_over : (l : Link) (c : List ℕ) → IsBounded tops l → IsBounded tops (with_line (finishes_over (wording lists) c l.line) l)
+  pub bounded-finishes_over : (l : ClientLink) (c : List ℕ) → IsBounded tops l → IsBounded tops (with_line (finishes_over (wording lists) c l.line) l)
   bounded-finishes_over l c g = bounded-over_at l c (l.line.subs c) g refl
 
-  pub bounded-closes_with : (l : Link) (code : ℕ) → IsBounded tops l → IsBounded tops (closes_with code l)
+  pub bounded-closes_with : (l : ClientLink) (code : ℕ) → IsBounded tops l → IsBounded tops (closes_with code l)
   bounded-closes_with l code g = by_test (λ (v : Line Note). IsBounded tops (with_line v l)) l.line.closed _ _ (λ h. g) (λ h. bounded-closes l code g)
 
   -- commands
-  ups-more : (ks : List Sent) (k : Sent) → UpsWithin tops ks → ErrandWithin tops k.errand → UpsWithin tops (ks ++ k ∷ [])
+  ups-more : (ks : List SentCommand) (k : SentCommand) → UpsWithin tops ks → RequestWithin tops k.request → UpsWithin tops (ks ++ k ∷ [])
   ups-more [] k h i = (i, tt)
   ups-more (x ∷ ks) k h i = (h.0, ups-more ks k h.1 i)
 
-  pub bounded-sends : (l : Link) (e : Errand) → IsBounded tops l → ErrandWithin tops e → IsBounded tops (sends e l)
+  pub bounded-sends : (l : ClientLink) (e : ClientRequest) → IsBounded tops l → RequestWithin tops e → IsBounded tops (sends e l)
   bounded-sends l (Subscribe c from) g h = record {
     modes = with-all (λ d m. ModeWithin (tops d) m) l.client.modes c _ (h, within-last_of (tops c) (l.client.modes c) (g.modes c)) (λ d ne. g.modes d);
     notes = g.notes;
     subs = g.subs;
-    ups = ups-more l.up (record { id = l.client.fresh; errand = Subscribe c from }) g.ups h;
+    ups = ups-more l.up (record { id = l.client.fresh; request = Subscribe c from }) g.ups h;
   }
   bounded-sends l (Unsubscribe c) g h = record {
     modes = with-all (λ d m. ModeWithin (tops d) m) l.client.modes c _ (within-last_of (tops c) (l.client.modes c) (g.modes c)) (λ d ne. g.modes d);
     notes = g.notes;
     subs = g.subs;
-    ups = ups-more l.up (record { id = l.client.fresh; errand = Unsubscribe c }) g.ups h;
+    ups = ups-more l.up (record { id = l.client.fresh; request = Unsubscribe c }) g.ups h;
   }
-  bounded-sends l (Publish c body) g h = record { modes = g.modes; notes = g.notes; subs = g.subs; ups = ups-more l.up (record { id = l.client.fresh; errand = Publish c body }) g.ups h }
-  bounded-sends l (History c limit) g h = record { modes = g.modes; notes = g.notes; subs = g.subs; ups = ups-more l.up (record { id = l.client.fresh; errand = History c limit }) g.ups h }
+  bounded-sends l (Publish c body) g h = record { modes = g.modes; notes = g.notes; subs = g.subs; ups = ups-more l.up (record { id = l.client.fresh; request = Publish c body }) g.ups h }
+  bounded-sends l (History c limit) g h = record { modes = g.modes; notes = g.notes; subs = g.subs; ups = ups-more l.up (record { id = l.client.fresh; request = History c limit }) g.ups h }
 
-  bounded-hears_subscribe : (refused : Bool) (l : Link) (c : List ℕ) (k : ℕ) (from : Option Position) (ks : List Sent) (s : Sub)
+  bounded-hears_subscribe : (refused : Bool) (l : ClientLink) (c : List ℕ) (k : ℕ) (from : Option Position) (ks : List SentCommand) (s : Sub)
       → IsBounded tops l → LastWithin (tops c) from → UpsWithin tops ks → IsBounded tops (hears_subscribe refused c k from ks s l)
   bounded-hears_subscribe refused l c k from ks Off g h u =
       by_test (λ (v : Line Note). IsBounded tops (with_line v (is_heard k (Subscribe c from) ks l))) (l.line.closed || refused) _ _
@@ -241,31 +241,31 @@ module _ (tops : List ℕ → List ℕ → ℕ) (lists : Lists) where
   bounded-hears_subscribe refused l c k from ks (Ready i was r arrived) g h u = g
   bounded-hears_subscribe refused l c k from ks (On q mark) g h u = record { modes = g.modes; notes = g.notes; subs = g.subs; ups = u }
 
-  bounded-hears_errand : (refused : Bool) (l : Link) (id : ℕ) (e : Errand) (ks : List Sent) → IsBounded tops l → ErrandWithin tops e → UpsWithin tops ks → IsBounded tops (hears_errand refused id e ks l)
-  bounded-hears_errand refused l id (Subscribe c from) ks g h u = bounded-hears_subscribe refused l c id from ks (l.line.subs c) g h u
-  bounded-hears_errand refused l id (Unsubscribe c) ks g h u = record {
+  bounded-hears_request : (refused : Bool) (l : ClientLink) (id : ℕ) (e : ClientRequest) (ks : List SentCommand) → IsBounded tops l → RequestWithin tops e → UpsWithin tops ks → IsBounded tops (hears_request refused id e ks l)
+  bounded-hears_request refused l id (Subscribe c from) ks g h u = bounded-hears_subscribe refused l c id from ks (l.line.subs c) g h u
+  bounded-hears_request refused l id (Unsubscribe c) ks g h u = record {
     modes = g.modes;
     notes = g.notes;
     ups = u;
     subs = with-all (λ d s. SubWithin (tops d) s) l.line.subs c Off tt (λ d ne. g.subs d);
   }
-  bounded-hears_errand refused l id (Publish c body) ks g h u = record { modes = g.modes; notes = g.notes; subs = g.subs; ups = u }
-  bounded-hears_errand refused l id (History c limit) ks g h u = record { modes = g.modes; notes = g.notes; subs = g.subs; ups = u }
+  bounded-hears_request refused l id (Publish c body) ks g h u = record { modes = g.modes; notes = g.notes; subs = g.subs; ups = u }
+  bounded-hears_request refused l id (History c limit) ks g h u = record { modes = g.modes; notes = g.notes; subs = g.subs; ups = u }
 
-  pub bounded-hears : (refused : Bool) (l : Link) (k : Sent) (ks : List Sent) → IsBounded tops l → l.up ≡ k ∷ ks → IsBounded tops (hears refused k ks l)
-  bounded-hears refused l k ks g e = let u : UpsWithin tops (k ∷ ks) = subst (UpsWithin tops) e g.ups in bounded-hears_errand refused l k.id k.errand ks g u.0 u.1
+  pub bounded-hears : (refused : Bool) (l : ClientLink) (k : SentCommand) (ks : List SentCommand) → IsBounded tops l → l.up ≡ k ∷ ks → IsBounded tops (hears refused k ks l)
+  bounded-hears refused l k ks g e = let u : UpsWithin tops (k ∷ ks) = subst (UpsWithin tops) e g.ups in bounded-hears_request refused l k.id k.request ks g u.0 u.1
 
-  pub bounded-errs : (l : Link) (c : List ℕ) (k code : ℕ) → IsBounded tops l → IsBounded tops (errs (wording lists) c k code l)
+  pub bounded-errs : (l : ClientLink) (c : List ℕ) (k code : ℕ) → IsBounded tops l → IsBounded tops (errs (wording lists) c k code l)
   bounded-errs l c k code g = by_test (IsBounded tops) (nat_lt k l.heard && not (is_waiting k (l.line.subs c))) _ _ (λ h. bounded-push l (Fails c k code) g tt) (λ h. g)
 
-  pub bounded-errs_late : (l : Link) (k code : ℕ) → IsBounded tops l → IsBounded tops (errs_late (wording lists) k code l)
+  pub bounded-errs_late : (l : ClientLink) (k code : ℕ) → IsBounded tops l → IsBounded tops (errs_late (wording lists) k code l)
   bounded-errs_late l k code g = of_command (find k l.done)
     where
-      of_command : (o : Option Sent) → IsBounded tops (errs_for (wording lists) code o l)
+      of_command : (o : Option SentCommand) → IsBounded tops (errs_for (wording lists) code o l)
       of_command None = g
-      of_command (Some x) = bounded-errs l (channel_of x.errand) x.id code g
+      of_command (Some x) = bounded-errs l (channel_of x.request) x.id code g
 
-  pub bounded-says : (l : Link) (n : Note) → IsBounded tops l → IsBounded tops (says (wording lists) n l)
+  pub bounded-says : (l : ClientLink) (n : Note) → IsBounded tops l → IsBounded tops (says (wording lists) n l)
   bounded-says l (Reply c id was r) g = g
   bounded-says l (Pub c q) g = g
   bounded-says l (End c) g = g
@@ -276,39 +276,39 @@ module _ (tops : List ℕ → List ℕ → ℕ) (lists : Lists) where
   bounded-says l PingDue g = bounded-push l PingDue g tt
   bounded-says l (Close code) g = g
 
-  bounded-fail_at : (l : Link) (c : List ℕ) (s : Sub) → IsBounded tops l → IsBounded tops (fail_at c s l)
+  bounded-fail_at : (l : ClientLink) (c : List ℕ) (s : Sub) → IsBounded tops l → IsBounded tops (fail_at c s l)
   bounded-fail_at l c Off g = g
   bounded-fail_at l c (Asked k since arrived) g = bounded-put l c Off g tt
   bounded-fail_at l c (Ready k was r arrived) g = bounded-put l c Off g tt
   bounded-fail_at l c (On q mark) g = g
 
-  pub bounded-fails : (l : Link) (c : List ℕ) → IsBounded tops l → IsBounded tops (fails c l)
+  pub bounded-fails : (l : ClientLink) (c : List ℕ) → IsBounded tops l → IsBounded tops (fails c l)
   bounded-fails l c g = bounded-fail_at l c (l.line.subs c) g
 
-  pub bounded-reads : (l : Link) (c : List ℕ) (k : ℕ) (since : Option Position) (arrived : List Position) (s : StreamState)
+  pub bounded-reads : (l : ClientLink) (c : List ℕ) (k : ℕ) (since : Option Position) (arrived : List Position) (s : StreamState)
       → IsBounded tops l → l.line.subs c ≡ Asked k since arrived → s.top ≤ tops c s.epoch
       → IsBounded tops (with_line (put_sub c (Ready k (is_some since) (read_of since s) arrived) l.line) l)
   bounded-reads l c k since arrived s g e h =
       let a : LastWithin (tops c) since × AreWithin (tops c) arrived = subst (SubWithin (tops c)) e (g.subs c) in
       bounded-put l c (Ready k (is_some since) (read_of since s) arrived) g (within-read_of (tops c) since s h, a.1)
 
-  pub bounded-breaks : (l : Link) → IsBounded tops l → IsBounded tops (breaks l)
+  pub bounded-breaks : (l : ClientLink) → IsBounded tops l → IsBounded tops (breaks l)
   bounded-breaks l g = record { modes = λ c. within-last_of (tops c) (l.client.modes c) (g.modes c); notes = tt; subs = λ c. tt; ups = tt }
 
-  bounded-hold_first : (l : Link) (ns : List Note) → IsBounded tops l → l.line.notes ≡ ns → IsBounded tops (hold_first ns l)
+  bounded-hold_first : (l : ClientLink) (ns : List Note) → IsBounded tops l → l.line.notes ≡ ns → IsBounded tops (hold_first ns l)
   bounded-hold_first l [] g e = g
   bounded-hold_first l (n ∷ ns) g e =
       let same : coming l ≡ (l.way ++ n ∷ []) ++ ns = rw e (sym (append_assoc l.way (n ∷ []) ns)) in
       subst (λ xs. IsBoundedWith tops xs (hold_first (n ∷ ns) l)) same
       (record { modes = g.modes; notes = g.notes; subs = g.subs; ups = g.ups })
 
-  pub bounded-holds : (l : Link) → IsBounded tops l → IsBounded tops (holds l)
+  pub bounded-holds : (l : ClientLink) → IsBounded tops l → IsBounded tops (holds l)
   bounded-holds l g = bounded-hold_first l l.line.notes g refl
 
-  bounded-taken : (l : Link) (n : Note) → IsBoundedWith tops (n ∷ coming l) l → ((c : List ℕ) → IsNext c (l.client.modes c) n) → IsBounded tops (record l { client = takes_note n l.client })
+  bounded-taken : (l : ClientLink) (n : Note) → IsBoundedWith tops (n ∷ coming l) l → ((c : List ℕ) → IsNext c (l.client.modes c) n) → IsBounded tops (record l { client = takes_note n l.client })
   bounded-taken l n g f = record { modes = λ c. within-takes tops c (l.client.modes c) n (g.modes c) g.notes.0 (f c); notes = g.notes.1; subs = g.subs; ups = g.ups }
 
-  bounded-gets : (l : Link) (n : Note) → IsBoundedWith tops (n ∷ coming l) l → ((c : List ℕ) → IsNext c (l.client.modes c) n) → IsBounded tops (gets n l)
+  bounded-gets : (l : ClientLink) (n : Note) → IsBoundedWith tops (n ∷ coming l) l → ((c : List ℕ) → IsNext c (l.client.modes c) n) → IsBounded tops (gets n l)
   bounded-gets l (Close code) g f = record { modes = λ c. within-last_of (tops c) (l.client.modes c) (g.modes c); notes = tt; subs = λ c. tt; ups = tt }
   bounded-gets l (Reply d k was r) g f = bounded-taken l (Reply d k was r) g f
   bounded-gets l (Pub d q) g f = bounded-taken l (Pub d q) g f
@@ -319,21 +319,21 @@ module _ (tops : List ℕ → List ℕ → ℕ) (lists : Lists) where
   bounded-gets l (Listed d k at low count) g f = bounded-taken l (Listed d k at low count) g f
   bounded-gets l PingDue g f = bounded-taken l PingDue g f
 
-  pub bounded-receive_first : (l : Link) (n : Note) (ns : List Note) → IsBounded tops l → l.way ≡ n ∷ ns → ((c : List ℕ) → IsNext c (l.client.modes c) n) → IsBounded tops (receive_first (n ∷ ns) l)
+  pub bounded-receive_first : (l : ClientLink) (n : Note) (ns : List Note) → IsBounded tops l → l.way ≡ n ∷ ns → ((c : List ℕ) → IsNext c (l.client.modes c) n) → IsBounded tops (receive_first (n ∷ ns) l)
   bounded-receive_first l n ns g e f =
       let h : IsBoundedWith tops (n ∷ (ns ++ l.line.notes)) l = subst (λ xs. IsBoundedWith tops (xs ++ l.line.notes) l) e g in
       bounded-gets (record l { way = ns }) n (record { modes = h.modes; notes = h.notes; subs = h.subs; ups = h.ups }) f
 
-  bounded-by_check : (l : Link) (c : List ℕ) (p : Position) (x : Checked) → IsBounded tops l → IsWithin (tops c) p → IsBounded tops (with_line (by_check (wording lists) c p x l.line) l)
+  bounded-by_check : (l : ClientLink) (c : List ℕ) (p : Position) (x : Checked) → IsBounded tops l → IsWithin (tops c) p → IsBounded tops (with_line (by_check (wording lists) c p x l.line) l)
   bounded-by_check l c p Fine g h = bounded-put l c (On p None) g h
   bounded-by_check l c p Behind g h = bounded-put l c (On p (Some p.offset)) g h
   bounded-by_check l c p Ended g h = bounded-say l c Off (End c) g tt tt
 
-  bounded-check_at : (l : Link) (c : List ℕ) (top : Option Position) (s : Sub) → IsBounded tops l → l.line.subs c ≡ s → IsBounded tops (with_line (check_at (wording lists) c top s l.line) l)
+  bounded-check_at : (l : ClientLink) (c : List ℕ) (top : Option Position) (s : Sub) → IsBounded tops l → l.line.subs c ≡ s → IsBounded tops (with_line (check_at (wording lists) c top s l.line) l)
   bounded-check_at l c top Off g e = g
   bounded-check_at l c top (Asked k since arrived) g e = g
   bounded-check_at l c top (Ready k was r arrived) g e = g
   bounded-check_at l c top (On p mark) g e = bounded-by_check l c p (position_check top p mark) g (subst (SubWithin (tops c)) e (g.subs c))
 
-  pub bounded_checks : (l : Link) (c : List ℕ) (top : Option Position) → IsBounded tops l → IsBounded tops (with_line (checks (wording lists) c top l.line) l)
+  pub bounded_checks : (l : ClientLink) (c : List ℕ) (top : Option Position) → IsBounded tops l → IsBounded tops (with_line (checks (wording lists) c top l.line) l)
   bounded_checks l c top g = bounded-check_at l c top (l.line.subs c) g refl

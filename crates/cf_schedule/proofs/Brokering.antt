@@ -9,12 +9,12 @@ use Rattle.cf_protocol.specs.Note.{Lists, Note, Reply, Pub}
 use Rattle.cf_stream.specs.StreamState.{StreamState, last_offset}
 use Rattle.cf_hub.specs.Connection.{Sub, Off, Asked, Ready, On}
 use Rattle.cf_client.specs.ClientState.{Mode, Idle, Asking, Live}
-use Rattle.cf_schedule.specs.Errand.{Errand, Sent, Subscribe, Unsubscribe, Publish, History}
+use Rattle.cf_schedule.specs.ClientRequest.{ClientRequest, SentCommand, Subscribe, Unsubscribe, Publish, History}
 use Rattle.cf_schedule.specs.PublicationList.{Place, Broker, tops, publication, epoch_comes, open_at, opened, opened_in, is_fresh_for, list_with, add_at, publish, trim_at, trim, forget, forget_all}
 use Rattle.cf_schedule.specs.FreshEpochs.{AreDistinct}
-use Rattle.cf_schedule.specs.Link.{Link}
+use Rattle.cf_schedule.specs.ClientLink.{ClientLink}
 use Rattle.cf_schedule.proofs.Standing.{Below}
-use Rattle.cf_schedule.proofs.Within.{IsWithin, LastWithin, AreWithin, ModeWithin, SubWithin, NoteWithin, NotesWithin, ErrandWithin, UpsWithin, IsBounded, HasTop, HoldsWithin, IsApart, IsAmong, PlacesWithin, IsSteady}
+use Rattle.cf_schedule.proofs.Within.{IsWithin, LastWithin, AreWithin, ModeWithin, SubWithin, NoteWithin, NotesWithin, RequestWithin, UpsWithin, IsBounded, HasTop, HoldsWithin, IsApart, IsAmong, PlacesWithin, IsSteady}
 use Rattle.cf_schedule.proofs.Names.{text_tells, by_test, with-all, with-both, with-same, with-two}
 
 -- bounds that held hold under higher tops
@@ -50,17 +50,17 @@ module _ (tops more : List ℕ → List ℕ → ℕ) (grow : (d i : List ℕ) �
   grow-notes [] h = tt
   grow-notes (n ∷ ns) h = (grow-note n h.0, grow-notes ns h.1)
 
-  grow-errand : (e : Errand) → ErrandWithin tops e → ErrandWithin more e
-  grow-errand (Subscribe d from) h = grow-last d from h
-  grow-errand (Unsubscribe d) h = tt
-  grow-errand (Publish d body) h = tt
-  grow-errand (History d limit) h = tt
+  grow-request : (e : ClientRequest) → RequestWithin tops e → RequestWithin more e
+  grow-request (Subscribe d from) h = grow-last d from h
+  grow-request (Unsubscribe d) h = tt
+  grow-request (Publish d body) h = tt
+  grow-request (History d limit) h = tt
 
-  grow-ups : (ks : List Sent) → UpsWithin tops ks → UpsWithin more ks
+  grow-ups : (ks : List SentCommand) → UpsWithin tops ks → UpsWithin more ks
   grow-ups [] h = tt
-  grow-ups (k ∷ ks) h = (grow-errand k.errand h.0, grow-ups ks h.1)
+  grow-ups (k ∷ ks) h = (grow-request k.request h.0, grow-ups ks h.1)
 
-  pub grow-link : (l : Link) → IsBounded tops l → IsBounded more l
+  pub grow-link : (l : ClientLink) → IsBounded tops l → IsBounded more l
   grow-link l g = record {
     modes = λ c. grow-mode c (l.client.modes c) (g.modes c);
     notes = grow-notes _ g.notes;

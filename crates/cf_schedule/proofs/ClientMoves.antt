@@ -28,7 +28,7 @@ use Rattle.cf_schedule.specs.Trace.{Item}
 use Rattle.cf_schedule.specs.Told.{asks_under}
 use Rattle.cf_schedule.specs.Shown.{shown_item}
 use Rattle.cf_schedule.specs.declared.client.AppEvent.{AppEvent}
-use Rattle.cf_schedule.specs.ClientCalls.{client_of, mode_of, IsSame, SetsMode, TextRefused, fault_of, goes_live, published, GoesLive, IsForNone, TakesAnswer, TakesPublication, TakesPush, Takes, TakesAll}
+use Rattle.cf_schedule.specs.Running.ClientCalls.{client_of, mode_of, IsSame, SetsMode, TextRefused, fault_of, goes_live, published, GoesLive, IsForNone, TakesAnswer, TakesPublication, TakesPush, Takes, TakesAll}
 use Rattle.cf_schedule.specs.declared.client.Client.{Client as CodeClient}
 use Rattle.cf_schedule.specs.declared.client.Mode.{Mode as CodeMode}
 use Rattle.cf_schedule.specs.declared.client.Mode.TheVariants as code

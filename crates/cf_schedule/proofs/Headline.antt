@@ -9,7 +9,7 @@ use Rattle.cf_hub.specs.Connection.{Sub, Off, Asked, Ready, On}
 use Rattle.cf_client.specs.ClientState.{Mode, Idle, Asking, Live, last_of, moved_on}
 use Rattle.cf_schedule.specs.Config.{Config}
 use Rattle.cf_schedule.specs.Event.{Event}
-use Rattle.cf_schedule.specs.Errand.{Errand, Sent, Subscribe, Unsubscribe, Publish, History}
+use Rattle.cf_schedule.specs.ClientRequest.{ClientRequest, SentCommand, Subscribe, Unsubscribe, Publish, History}
 use Rattle.cf_schedule.specs.PublicationList.{Broker, tops, StandsOver}
 use Rattle.cf_schedule.specs.FreshEpochs.{AreFresh}
 use Rattle.cf_schedule.specs.World.{World, start}
@@ -54,17 +54,17 @@ lead-from read c p (Listed d k at low count ∷ ns) s h = lead-from read c p ns 
 lead-from read c p (PingDue ∷ ns) s h = lead-from read c p ns s h.1
 lead-from read c p (Close code ∷ ns) s h = tt
 
-leads-on : (read : Option StreamState) (c : List ℕ) (m : Mode) (ns : List Note) (s : Sub) (o : Option Sent) → Stands read c m ns s o → LeadsOn c m ns s
+leads-on : (read : Option StreamState) (c : List ℕ) (m : Mode) (ns : List Note) (s : Sub) (o : Option SentCommand) → Stands read c m ns s o → LeadsOn c m ns s
 leads-on read c (Idle last) ns s o h = tt
 leads-on read c (Asking id from last) ns s o h = tt
 leads-on read c (Live p) ns s None h = lead-from read c p ns s h
-leads-on read c (Live p) ns s (Some k) h = of_errand k.errand h
+leads-on read c (Live p) ns s (Some k) h = of_request k.request h
   where
-    of_errand : (e : Errand) → Awaits (Live p) k.id e → LeadsOn c (Live p) ns s
-    of_errand (Subscribe d from) x = absurd x
-    of_errand (Unsubscribe d) x = absurd x
-    of_errand (Publish d body) x = absurd x
-    of_errand (History d limit) x = absurd x
+    of_request : (e : ClientRequest) → Awaits (Live p) k.id e → LeadsOn c (Live p) ns s
+    of_request (Subscribe d from) x = absurd x
+    of_request (Unsubscribe d) x = absurd x
+    of_request (Publish d body) x = absurd x
+    of_request (History d limit) x = absurd x
 
 abbrev pub LeadsIn : World → Type 0
 LeadsIn w = (x c : List ℕ) → LeadsOn c ((w.links x).client.modes c) (coming (w.links x)) ((w.links x).line.subs c)

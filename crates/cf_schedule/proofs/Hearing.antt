@@ -9,9 +9,9 @@ use Rattle.cf_stream.specs.StreamAnswer.{read_of}
 use Rattle.cf_hub.specs.PositionCheck.{Checked, Fine, Behind, Ended, position_check}
 use Rattle.cf_hub.specs.Connection.{Sub, Off, Asked, Ready, On, Line, push, most_waiting, put_sub, begins, by_check, check_at, checks}
 use Rattle.cf_client.specs.ClientState.{Mode, Idle, Asking, Live, takes, hears as takes_note}
-use Rattle.cf_schedule.specs.Errand.{Errand, Sent, Subscribe, Unsubscribe, Publish, History, channel_of}
+use Rattle.cf_schedule.specs.ClientRequest.{ClientRequest, SentCommand, Subscribe, Unsubscribe, Publish, History, channel_of}
 use Rattle.cf_schedule.specs.Weights.{wording}
-use Rattle.cf_schedule.specs.Link.{Link, with_line, is_heard, hears_subscribe, hears_errand, hears, is_waiting, errs, find, errs_for, errs_late, says, fail_at, fails, breaks, gets, hold_first, holds, receive_first, receives}
+use Rattle.cf_schedule.specs.ClientLink.{ClientLink, with_line, is_heard, hears_subscribe, hears_request, hears, is_waiting, errs, find, errs_for, errs_late, says, fail_at, fails, breaks, gets, hold_first, holds, receive_first, receives}
 use Rattle.cf_schedule.specs.Leading.{coming}
 use Rattle.cf_schedule.proofs.Standing.{Below, Agrees, or_else, bears, due, AsksFor, IsIdle, IsOld, AreOld, Rises, IsNoClose, IsOpen, Leads, Awaits, Stands, IsSubOld, IsGoodWith, IsGood}
 use Rattle.cf_schedule.proofs.Names.{text_tells, itself, not_this, by_test, with-all, with-both}
@@ -20,15 +20,15 @@ use Rattle.cf_schedule.proofs.Keeping.{AreOld-more, AreOld-le, IsOpen-more, IsSu
 
 module _ (found : List ℕ → Option StreamState) (lists : Lists) where
   -- what stands once the last command for c was heard
-  heard-last : (l : Link) (c : List ℕ) (t : Sub) (x : Sent) (o : Option Sent)
-      → (Awaits (l.client.modes c) x.id x.errand → Leads (found c) c (l.client.modes c) (coming l) t)
+  heard-last : (l : ClientLink) (c : List ℕ) (t : Sub) (x : SentCommand) (o : Option SentCommand)
+      → (Awaits (l.client.modes c) x.id x.request → Leads (found c) c (l.client.modes c) (coming l) t)
       → Stands (found c) c (l.client.modes c) (coming l) (l.line.subs c) (or_else o (Some x))
       → Stands (found c) c (l.client.modes c) (coming l) t o
   heard-last l c t x None f h = f h
   heard-last l c t x (Some k) f h = h
 
   -- the other channels, once a command for c was heard
-  heard-other : (l : Link) (d : List ℕ) (ks : List Sent) (k : Sent) → l.up ≡ k ∷ ks → bears d k ≡ None
+  heard-other : (l : ClientLink) (d : List ℕ) (ks : List SentCommand) (k : SentCommand) → l.up ≡ k ∷ ks → bears d k ≡ None
       → IsGood found l → Stands (found d) d (l.client.modes d) (coming l) (l.line.subs d) (due d ks)
   heard-other l d ks k e b g =
       let h : Stands (found d) d (l.client.modes d) (coming l) (l.line.subs d) (or_else (due d ks) (bears d k)) =
@@ -36,34 +36,34 @@ module _ (found : List ℕ → Option StreamState) (lists : Lists) where
       let i : or_else (due d ks) None ≡ due d ks = none (due d ks) in
       rw i at (rw b at h)
     where
-      none : (o : Option Sent) → or_else o None ≡ o
+      none : (o : Option SentCommand) → or_else o None ≡ o
       none None = refl
       none (Some x) = refl
 
   -- the client asks, and the node's side is at rest
-  leads-asked : (l : Link) (c : List ℕ) (k : ℕ) (from : Option Position) (t : Sub) → AreOld k (coming l) → IsQuiet t
+  leads-asked : (l : ClientLink) (c : List ℕ) (k : ℕ) (from : Option Position) (t : Sub) → AreOld k (coming l) → IsQuiet t
       → (m : Mode) → AsksFor k from m → Leads (found c) c m (coming l) t
   leads-asked l c k from t old q (Idle last) h = absurd h
   leads-asked l c k from t old q (Asking id f last) h = Leads-ask_off (found c) c id f last (coming l) t (rw h.0 old) q
   leads-asked l c k from t old q (Live p) h = absurd h
 
-  leads-begun : (l : Link) (c : List ℕ) (k : ℕ) (from : Option Position) → AreOld k (coming l) → IsOpen (coming l)
+  leads-begun : (l : ClientLink) (c : List ℕ) (k : ℕ) (from : Option Position) → AreOld k (coming l) → IsOpen (coming l)
       → (m : Mode) → AsksFor k from m → Leads (found c) c m (coming l) (Asked k from [])
   leads-begun l c k from old o (Idle last) h = absurd h
   leads-begun l c k from old o (Asking id f last) h = rw (← h.0, ← h.1) (Leads-ask (found c) c id f last (coming l) (rw h.0 old) o)
   leads-begun l c k from old o (Live p) h = absurd h
 
-  leads-left : (l : Link) (c : List ℕ) (t : Sub) → IsQuiet t → (m : Mode) → IsIdle m → Leads (found c) c m (coming l) t
+  leads-left : (l : ClientLink) (c : List ℕ) (t : Sub) → IsQuiet t → (m : Mode) → IsIdle m → Leads (found c) c m (coming l) t
   leads-left l c t q (Idle last) h = Leads-idle (found c) c last (coming l) t q
   leads-left l c t q (Asking id f last) h = absurd h
   leads-left l c t q (Live p) h = absurd h
 
   -- A command for channel c is heard, and the subscription to c is that of v from then on; the others stay.
-  heard-one : (l : Link) (v : Line Note) (c : List ℕ) (k : Sent) (ks done : List Sent)
+  heard-one : (l : ClientLink) (v : Line Note) (c : List ℕ) (k : SentCommand) (ks done : List SentCommand)
       → IsGood found l → l.up ≡ k ∷ ks → v.notes ≡ l.line.notes → v.closed ≡ l.line.closed
       → bears c k ≡ Some k → ((d : List ℕ) → d ≢ c → bears d k ≡ None)
       → ((d : List ℕ) → d ≢ c → v.subs d ≡ l.line.subs d)
-      → (AreOld k.id (coming l) → Awaits (l.client.modes c) k.id k.errand → Leads (found c) c (l.client.modes c) (coming l) (v.subs c))
+      → (AreOld k.id (coming l) → Awaits (l.client.modes c) k.id k.request → Leads (found c) c (l.client.modes c) (coming l) (v.subs c))
       → IsSubOld (suc k.id) (v.subs c) → (l.line.closed ≡ true → v.subs c ≡ Off)
       → IsGood found (record l { up = ks; done = done; heard = suc k.id; line = v })
   heard-one l v c k ks done g e ns shut_as mine others same here sub_old shut =
@@ -91,7 +91,7 @@ module _ (found : List ℕ → Option StreamState) (lists : Lists) where
       })
 
   -- a command that bears on no channel
-  heard-plain : (l : Link) (k : Sent) (ks done : List Sent) → IsGood found l → l.up ≡ k ∷ ks → ((d : List ℕ) → bears d k ≡ None)
+  heard-plain : (l : ClientLink) (k : SentCommand) (ks done : List SentCommand) → IsGood found l → l.up ≡ k ∷ ks → ((d : List ℕ) → bears d k ≡ None)
       → IsGood found (record l { up = ks; done = done; heard = suc k.id })
   heard-plain l k ks done g e none =
       let rises : (l.heard ≤ k.id) × Rises (suc k.id) ks l.client.fresh = subst (λ x. Rises l.heard x l.client.fresh) e g.rises in
@@ -110,11 +110,11 @@ module _ (found : List ℕ → Option StreamState) (lists : Lists) where
   or_false a b h = grind arith
 
   -- a subscribe that changes no subscription
-  heard-kept : (l : Link) (c : List ℕ) (k : ℕ) (from : Option Position) (ks : List Sent)
-      → IsGood found l → l.up ≡ record { id = k; errand = Subscribe c from } ∷ ks → IsQuiet (l.line.subs c)
+  heard-kept : (l : ClientLink) (c : List ℕ) (k : ℕ) (from : Option Position) (ks : List SentCommand)
+      → IsGood found l → l.up ≡ record { id = k; request = Subscribe c from } ∷ ks → IsQuiet (l.line.subs c)
       → IsGood found (is_heard k (Subscribe c from) ks l)
   heard-kept l c k from ks g e q =
-      heard-one l l.line c (record { id = k; errand = Subscribe c from }) ks _ g e refl refl
+      heard-one l l.line c (record { id = k; request = Subscribe c from }) ks _ g e refl refl
       (rw (itself c) refl) (λ d ne. rw (not_this c d (λ i. ne (sym i))) refl) (λ d ne. refl)
       (λ old. leads-asked l c k from (l.line.subs c) old q (l.client.modes c))
       (quiet-old (l.line.subs c) q) (λ h. g.shut h c)
@@ -125,12 +125,12 @@ module _ (found : List ℕ → Option StreamState) (lists : Lists) where
       quiet-old (Ready j was r arrived) q = absurd q
       quiet-old (On p mark) q = tt
 
-  good-hears_subscribe : (refused : Bool) (l : Link) (c : List ℕ) (k : ℕ) (from : Option Position) (ks : List Sent) (s : Sub)
-      → IsGood found l → l.up ≡ record { id = k; errand = Subscribe c from } ∷ ks → l.line.subs c ≡ s → IsGood found (hears_subscribe refused c k from ks s l)
+  good-hears_subscribe : (refused : Bool) (l : ClientLink) (c : List ℕ) (k : ℕ) (from : Option Position) (ks : List SentCommand) (s : Sub)
+      → IsGood found l → l.up ≡ record { id = k; request = Subscribe c from } ∷ ks → l.line.subs c ≡ s → IsGood found (hears_subscribe refused c k from ks s l)
   good-hears_subscribe refused l c k from ks Off g e i =
       by_test (λ (v : Line Note). IsGood found (with_line v (is_heard k (Subscribe c from) ks l))) (l.line.closed || refused) _ _
       (λ h. heard-kept l c k from ks g e (rw i tt))
-      (λ h. heard-one l (begins c k from l.line) c (record { id = k; errand = Subscribe c from }) ks _ g e refl refl
+      (λ h. heard-one l (begins c k from l.line) c (record { id = k; request = Subscribe c from }) ks _ g e refl refl
       (rw (itself c) refl) (λ d ne. rw (not_this c d (λ i. ne (sym i))) refl) (λ d ne. rw (not_this d c ne) refl)
       (λ old h'. rw (itself c) (leads-begun l c k from old (g.unclosed (or_false l.line.closed refused h)) (l.client.modes c) h'))
       (rw (itself c) (omega arith)) (λ j. let o = or_false l.line.closed refused h in absurd (cc)))
@@ -138,21 +138,21 @@ module _ (found : List ℕ → Option StreamState) (lists : Lists) where
   good-hears_subscribe refused l c k from ks (Ready j was r arrived) g e i = g
   good-hears_subscribe refused l c k from ks (On q mark) g e i = heard-kept l c k from ks g e (rw i tt)
 
-  good-hears_errand : (refused : Bool) (l : Link) (id : ℕ) (x : Errand) (ks : List Sent) → IsGood found l → l.up ≡ record { id = id; errand = x } ∷ ks
-      → IsGood found (hears_errand refused id x ks l)
-  good-hears_errand refused l id (Subscribe c from) ks g e = good-hears_subscribe refused l c id from ks (l.line.subs c) g e refl
-  good-hears_errand refused l id (Unsubscribe c) ks g e =
-      heard-one l (put_sub c Off l.line) c (record { id = id; errand = Unsubscribe c }) ks _ g e refl refl
+  good-hears_request : (refused : Bool) (l : ClientLink) (id : ℕ) (x : ClientRequest) (ks : List SentCommand) → IsGood found l → l.up ≡ record { id = id; request = x } ∷ ks
+      → IsGood found (hears_request refused id x ks l)
+  good-hears_request refused l id (Subscribe c from) ks g e = good-hears_subscribe refused l c id from ks (l.line.subs c) g e refl
+  good-hears_request refused l id (Unsubscribe c) ks g e =
+      heard-one l (put_sub c Off l.line) c (record { id = id; request = Unsubscribe c }) ks _ g e refl refl
       (rw (itself c) refl) (λ d ne. rw (not_this c d (λ i. ne (sym i))) refl) (λ d ne. rw (not_this d c ne) refl)
       (λ old h. rw (itself c) (leads-left l c Off tt (l.client.modes c) h)) (rw (itself c) tt) (λ h. rw (itself c) refl)
-  good-hears_errand refused l id (Publish c body) ks g e = heard-plain l (record { id = id; errand = Publish c body }) ks _ g e (λ d. refl)
-  good-hears_errand refused l id (History c limit) ks g e = heard-plain l (record { id = id; errand = History c limit }) ks _ g e (λ d. refl)
+  good-hears_request refused l id (Publish c body) ks g e = heard-plain l (record { id = id; request = Publish c body }) ks _ g e (λ d. refl)
+  good-hears_request refused l id (History c limit) ks g e = heard-plain l (record { id = id; request = History c limit }) ks _ g e (λ d. refl)
 
-  pub good-hears : (refused : Bool) (l : Link) (k : Sent) (ks : List Sent) → IsGood found l → l.up ≡ k ∷ ks → IsGood found (hears refused k ks l)
-  good-hears refused l k ks g e = good-hears_errand refused l k.id k.errand ks g e
+  pub good-hears : (refused : Bool) (l : ClientLink) (k : SentCommand) (ks : List SentCommand) → IsGood found l → l.up ≡ k ∷ ks → IsGood found (hears refused k ks l)
+  good-hears refused l k ks g e = good-hears_request refused l k.id k.request ks g e
 
   -- a note enters that changes no subscription
-  good-enters : (l : Link) (n : Note)
+  good-enters : (l : ClientLink) (n : Note)
       → IsGood found l
       → ((c : List ℕ) → Leads (found c) c (l.client.modes c) (coming l) (l.line.subs c) → Leads (found c) c (l.client.modes c) (coming l ++ n ∷ []) (l.line.subs c))
       → IsOld l.heard n → IsNoClose n
@@ -171,7 +171,7 @@ module _ (found : List ℕ → Option StreamState) (lists : Lists) where
       (λ j. good-closes found lists l 3008 g))
 
   -- an error answers
-  pub good-errs : (l : Link) (c : List ℕ) (k code : ℕ) → IsGood found l → IsGood found (errs (wording lists) c k code l)
+  pub good-errs : (l : ClientLink) (c : List ℕ) (k code : ℕ) → IsGood found l → IsGood found (errs (wording lists) c k code l)
   good-errs l c k code g =
       by_test (IsGood found) (nat_lt k l.heard && not (is_waiting k (l.line.subs c))) _ _
       (λ h. let i : (k < l.heard) × (is_waiting k (l.line.subs c) ≡ false) = both k l.heard (is_waiting k (l.line.subs c)) h in
@@ -188,19 +188,19 @@ module _ (found : List ℕ → Option StreamState) (lists : Lists) where
       both a b t h = grind (arith, nat_tests)
 
   -- at any time later
-  pub good-errs_late : (l : Link) (k code : ℕ) → IsGood found l → IsGood found (errs_late (wording lists) k code l)
+  pub good-errs_late : (l : ClientLink) (k code : ℕ) → IsGood found l → IsGood found (errs_late (wording lists) k code l)
   good-errs_late l k code g = of_command (find k l.done)
     where
-      of_command : (o : Option Sent) → IsGood found (errs_for (wording lists) code o l)
+      of_command : (o : Option SentCommand) → IsGood found (errs_for (wording lists) code o l)
       of_command None = g
-      of_command (Some x) = good-errs l (channel_of x.errand) x.id code g
+      of_command (Some x) = good-errs l (channel_of x.request) x.id code g
 
   -- a note that tells a channel nothing
-  good-plain : (l : Link) (n : Note) → ((d : List ℕ) → IsElsewhere d n) → IsOld l.heard n → IsNoClose n → IsGood found l → IsGood found (with_line (push (wording lists) n l.line) l)
+  good-plain : (l : ClientLink) (n : Note) → ((d : List ℕ) → IsElsewhere d n) → IsOld l.heard n → IsNoClose n → IsGood found l → IsGood found (with_line (push (wording lists) n l.line) l)
   good-plain l n away old open' g =
       good-enters l n g (λ d y. Leads-elsewhere (found d) d (l.client.modes d) (coming l) n (l.line.subs d) y (away d)) old open'
 
-  pub good-says : (l : Link) (n : Note) → IsGood found l → IsGood found (says (wording lists) n l)
+  pub good-says : (l : ClientLink) (n : Note) → IsGood found l → IsGood found (says (wording lists) n l)
   good-says l (Reply c id was r) g = g
   good-says l (Pub c q) g = g
   good-says l (End c) g = g
@@ -211,7 +211,7 @@ module _ (found : List ℕ → Option StreamState) (lists : Lists) where
   good-says l PingDue g = good-plain l PingDue (λ d. tt) tt tt g
   good-says l (Close code) g = g
 
-  good-fail_at : (l : Link) (c : List ℕ) (s : Sub) → IsGood found l → l.line.subs c ≡ s → IsGood found (fail_at c s l)
+  good-fail_at : (l : ClientLink) (c : List ℕ) (s : Sub) → IsGood found l → l.line.subs c ≡ s → IsGood found (fail_at c s l)
   good-fail_at l c Off g e = g
   good-fail_at l c (On q mark) g e = g
   good-fail_at l c (Asked k since arrived) g e =
@@ -221,11 +221,11 @@ module _ (found : List ℕ → Option StreamState) (lists : Lists) where
       good-put found lists l c Off g (still_open found l c g (subst IsSome_sub (sym e) tt))
       (λ h. Leads-fail_ready (found c) c (l.client.modes c) (coming l) k was r arrived (subst (λ s. Leads (found c) c (l.client.modes c) (coming l) s) e h)) tt
 
-  pub good-fails : (l : Link) (c : List ℕ) → IsGood found l → IsGood found (fails c l)
+  pub good-fails : (l : ClientLink) (c : List ℕ) → IsGood found l → IsGood found (fails c l)
   good-fails l c g = good-fail_at l c (l.line.subs c) g refl
 
   -- what stands once the stream was read, where no later command for c is on its way
-  stands-read : (o : Option StreamState) (s : StreamState) (c : List ℕ) (m : Mode) (ns : List Note) (k : ℕ) (since : Option Position) (arrived : List Position) (d : Option Sent)
+  stands-read : (o : Option StreamState) (s : StreamState) (c : List ℕ) (m : Mode) (ns : List Note) (k : ℕ) (since : Option Position) (arrived : List Position) (d : Option SentCommand)
       → Below since s → (IsFree m d ⊎ (o ≡ Some s)) → Stands (found c) c m ns (Asked k since arrived) d → Stands o c m ns (Ready k (is_some since) (read_of since s) arrived) d
   stands-read o s c m ns k since arrived (Some x) b out h = h
   stands-read o s c m ns k since arrived None b (inl free) h = absurd (asks-still (found c) c m ns k since arrived h free)
@@ -234,7 +234,7 @@ module _ (found : List ℕ → Option StreamState) (lists : Lists) where
       (Leads-read (found c) s c m ns k since (is_some since) arrived h b)
 
   -- the stream is read, and where the ask is still out this is what was found for it
-  pub good-reads : (l : Link) (c : List ℕ) (k : ℕ) (since : Option Position) (arrived : List Position) (s : StreamState) (o : Option StreamState)
+  pub good-reads : (l : ClientLink) (c : List ℕ) (k : ℕ) (since : Option Position) (arrived : List Position) (s : StreamState) (o : Option StreamState)
       → IsGood found l → l.line.subs c ≡ Asked k since arrived → Below since s → (IsFree (l.client.modes c) (due c l.up) ⊎ (o ≡ Some s))
       → IsGood (with found c o) (with_line (put_sub c (Ready k (is_some since) (read_of since s) arrived) l.line) l)
   good-reads l c k since arrived s o g e b out = record {
@@ -250,7 +250,7 @@ module _ (found : List ℕ → Option StreamState) (lists : Lists) where
   }
 
   -- the connection breaks
-  pub good-breaks : (l : Link) → IsGood found (breaks l)
+  pub good-breaks : (l : ClientLink) → IsGood found (breaks l)
   good-breaks l = record {
     stands = λ c. tt;
     rises = omega arith;
@@ -261,27 +261,27 @@ module _ (found : List ℕ → Option StreamState) (lists : Lists) where
   }
 
   -- the front leaves the node
-  good-hold_first : (l : Link) (ns : List Note) → IsGood found l → l.line.notes ≡ ns → IsGood found (hold_first ns l)
+  good-hold_first : (l : ClientLink) (ns : List Note) → IsGood found l → l.line.notes ≡ ns → IsGood found (hold_first ns l)
   good-hold_first l [] g e = g
   good-hold_first l (n ∷ ns) g e =
       let same : coming l ≡ (l.way ++ n ∷ []) ++ ns = rw e (sym (append_assoc l.way (n ∷ []) ns)) in
       subst (λ xs. IsGoodWith found xs (hold_first (n ∷ ns) l)) same
       (record { stands = g.stands; rises = g.rises; old = g.old; subs_old = g.subs_old; unclosed = g.unclosed; shut = g.shut })
 
-  pub good-holds : (l : Link) → IsGood found l → IsGood found (holds l)
+  pub good-holds : (l : ClientLink) → IsGood found l → IsGood found (holds l)
   good-holds l g = good-hold_first l l.line.notes g refl
 
-  stands-taken : (l : Link) (n : Note) (ns : List Note) (c : List ℕ) (o : Option Sent) → IsGoodWith found (n ∷ ns) l → IsNoClose n → due c l.up ≡ o
+  stands-taken : (l : ClientLink) (n : Note) (ns : List Note) (c : List ℕ) (o : Option SentCommand) → IsGoodWith found (n ∷ ns) l → IsNoClose n → due c l.up ≡ o
       → Stands (found c) c (takes c (l.client.modes c) n) ns (l.line.subs c) o
   stands-taken l n ns c None g u i =
       (subst (λ o. Stands (found c) c (l.client.modes c) (n ∷ ns) (l.line.subs c) o) i (g.stands c)).1
   stands-taken l n ns c (Some k) g u i =
-      let h : Awaits (l.client.modes c) k.id k.errand = subst (λ o. Stands (found c) c (l.client.modes c) (n ∷ ns) (l.line.subs c) o) i (g.stands c) in
+      let h : Awaits (l.client.modes c) k.id k.request = subst (λ o. Stands (found c) c (l.client.modes c) (n ∷ ns) (l.line.subs c) o) i (g.stands c) in
       let b : l.heard ≤ k.id = subst (IdFrom l.heard) i (due-bound c l.heard l.client.fresh l.up g.rises) in
-      subst (λ (m : Mode). Awaits m k.id k.errand) (sym (takes_waiting c l.heard k.id k.errand (l.client.modes c) n h b g.old.0 u)) h
+      subst (λ (m : Mode). Awaits m k.id k.request) (sym (takes_waiting c l.heard k.id k.request (l.client.modes c) n h b g.old.0 u)) h
 
   -- a note reaches the client
-  good-taken : (l : Link) (n : Note) (ns : List Note) → IsGoodWith found (n ∷ ns) l → IsNoClose n
+  good-taken : (l : ClientLink) (n : Note) (ns : List Note) → IsGoodWith found (n ∷ ns) l → IsNoClose n
       → IsGoodWith found ns (record l { client = takes_note n l.client })
   good-taken l n ns g u = record {
     stands = λ c. stands-taken l n ns c (due c l.up) g u refl;
@@ -292,7 +292,7 @@ module _ (found : List ℕ → Option StreamState) (lists : Lists) where
     shut = g.shut;
   }
 
-  good-gets : (l : Link) (n : Note) → IsGoodWith found (n ∷ coming l) l → IsGood found (gets n l)
+  good-gets : (l : ClientLink) (n : Note) → IsGoodWith found (n ∷ coming l) l → IsGood found (gets n l)
   good-gets l (Close code) g = good-breaks l
   good-gets l (Reply d k was r) g = good-taken l (Reply d k was r) (coming l) g tt
   good-gets l (Pub d q) g = good-taken l (Pub d q) (coming l) g tt
@@ -303,18 +303,18 @@ module _ (found : List ℕ → Option StreamState) (lists : Lists) where
   good-gets l (Listed d k at low count) g = good-taken l (Listed d k at low count) (coming l) g tt
   good-gets l PingDue g = good-taken l PingDue (coming l) g tt
 
-  pub good-receive_first : (l : Link) (ns : List Note) → IsGood found l → l.way ≡ ns → IsGood found (receive_first ns l)
+  pub good-receive_first : (l : ClientLink) (ns : List Note) → IsGood found l → l.way ≡ ns → IsGood found (receive_first ns l)
   good-receive_first l [] g e = g
   good-receive_first l (n ∷ ns) g e =
       let h : IsGoodWith found (n ∷ (ns ++ l.line.notes)) l = subst (λ xs. IsGoodWith found (xs ++ l.line.notes) l) e g in
       good-gets (record l { way = ns }) n
       (record { stands = h.stands; rises = h.rises; old = h.old; subs_old = h.subs_old; unclosed = h.unclosed; shut = h.shut })
 
-  pub good-receives : (l : Link) → IsGood found l → IsGood found (receives l)
+  pub good-receives : (l : ClientLink) → IsGood found l → IsGood found (receives l)
   good-receives l g = good-receive_first l l.way g refl
 
   -- the position check
-  good-mark : (l : Link) (c : List ℕ) (p : Position) (mark after : Option ℕ) → IsGood found l → l.line.subs c ≡ On p mark
+  good-mark : (l : ClientLink) (c : List ℕ) (p : Position) (mark after : Option ℕ) → IsGood found l → l.line.subs c ≡ On p mark
       → IsGood found (with_line (put_sub c (On p after) l.line) l)
   good-mark l c p mark after g e = good-arrives found lists l c (On p mark) (On p after) g e tt step (λ h. tt)
     where
@@ -323,18 +323,18 @@ module _ (found : List ℕ → Option StreamState) (lists : Lists) where
       step (Asking id from last) h = h
       step (Live p) h = h
 
-  good-by_check : (l : Link) (c : List ℕ) (p : Position) (mark : Option ℕ) (x : Checked) → IsGood found l → l.line.subs c ≡ On p mark
+  good-by_check : (l : ClientLink) (c : List ℕ) (p : Position) (mark : Option ℕ) (x : Checked) → IsGood found l → l.line.subs c ≡ On p mark
       → IsGood found (with_line (by_check (wording lists) c p x l.line) l)
   good-by_check l c p mark Fine g e = good-mark l c p mark None g e
   good-by_check l c p mark Behind g e = good-mark l c p mark (Some p.offset) g e
   good-by_check l c p mark Ended g e = good-end_on found lists l c p mark g e
 
-  good-check_at : (l : Link) (c : List ℕ) (top : Option Position) (s : Sub) → IsGood found l → l.line.subs c ≡ s
+  good-check_at : (l : ClientLink) (c : List ℕ) (top : Option Position) (s : Sub) → IsGood found l → l.line.subs c ≡ s
       → IsGood found (with_line (check_at (wording lists) c top s l.line) l)
   good-check_at l c top Off g e = g
   good-check_at l c top (Asked k since arrived) g e = g
   good-check_at l c top (Ready k was r arrived) g e = g
   good-check_at l c top (On p mark) g e = good-by_check l c p mark (position_check top p mark) g e
 
-  pub good_checks : (l : Link) (c : List ℕ) (top : Option Position) → IsGood found l → IsGood found (with_line (checks (wording lists) c top l.line) l)
+  pub good_checks : (l : ClientLink) (c : List ℕ) (top : Option Position) → IsGood found l → IsGood found (with_line (checks (wording lists) c top l.line) l)
   good_checks l c top g = good-check_at l c top (l.line.subs c) g refl

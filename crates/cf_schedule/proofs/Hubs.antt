@@ -15,8 +15,8 @@ use Rattle.cf_recovery.specs.Verdict.{Verdict, Drop, Pass, Insufficient, verdict
 use Rattle.cf_hub.specs.Connection.{Sub, Off, Asked, Ready, On, Line, rows, comes}
 use Rattle.cf_schedule.specs.declared.line.Session.{Session}
 use Rattle.cf_schedule.specs.NotYet.{is_beyond, beyond_at, beyond_verdict}
-use Rattle.cf_schedule.specs.TextLine.{line_of, kept_of, IsLine, Both, EachOf, Brings, said, saying}
-use Rattle.cf_schedule.specs.HubState.{kept_by, holds_in}
+use Rattle.cf_schedule.specs.Running.TextLine.{line_of, kept_of, IsLine, Both, EachOf, Brings, said, saying}
+use Rattle.cf_schedule.specs.Running.HubState.{kept_by, holds_in}
 
 abbrev rows_of : Session → ℕ
 rows_of s = rows (line_of s)

@@ -10,9 +10,9 @@ use Rattle.cf_recovery.specs.Release.{run_length, falls_short}
 use Rattle.cf_recovery.specs.Verdict.{Verdict, verdict, next}
 use Rattle.cf_hub.specs.Connection.{Sub, Off, Asked, Ready, On, Wording, Line, closes, push, most_waiting, put_sub, pass_at, passes, end_at, ends, by_verdict, come_at, comes, finish_at, finishes}
 use Rattle.cf_client.specs.ClientState.{Mode, Idle, Asking, Live, read_to}
-use Rattle.cf_schedule.specs.Errand.{Errand, Subscribe, Unsubscribe, Publish, History}
+use Rattle.cf_schedule.specs.ClientRequest.{ClientRequest, Subscribe, Unsubscribe, Publish, History}
 use Rattle.cf_schedule.specs.Weights.{wording}
-use Rattle.cf_schedule.specs.Link.{Link, with_line, sends, over_at, finishes_over, closes_with}
+use Rattle.cf_schedule.specs.ClientLink.{ClientLink, with_line, sends, over_at, finishes_over, closes_with}
 use Rattle.cf_schedule.specs.Leading.{coming}
 use Rattle.cf_schedule.proofs.Standing.{Agrees, due, IsOld, AreOld, IsNoClose, IsOpen, Leads, Stands, IsSubOld, IsGoodWith, IsGood}
 use Rattle.cf_schedule.proofs.Names.{text_tells, itself, not_this, by_test, with-all}
@@ -48,7 +48,7 @@ IsSome_sub (Ready k was r arrived) = Unit {0}
 IsSome_sub (On p mark) = Unit {0}
 
 -- a link that has a subscription is not closed
-pub still_open : (found : List ℕ → Option StreamState) (l : Link) (c : List ℕ) → IsGood found l → IsSome_sub (l.line.subs c) → l.line.closed ≡ false
+pub still_open : (found : List ℕ → Option StreamState) (l : ClientLink) (c : List ℕ) → IsGood found l → IsSome_sub (l.line.subs c) → l.line.closed ≡ false
 still_open found l c g h = not_true l.line.closed (λ e. subst (λ s. IsSome_sub s) (g.shut e c) h)
   where
     not_true : (b : Bool) → (b ≡ true → ⊥) → b ≡ false
@@ -72,14 +72,14 @@ by_verdict_lem P w c p q mark v drop pass end =
 
 module _ (found : List ℕ → Option StreamState) (lists : Lists) where
   -- one note more
-  pub good-more : (l : Link) (v : Line Note) (n : Note) → v.notes ≡ l.line.notes ++ n ∷ []
+  pub good-more : (l : ClientLink) (v : Line Note) (n : Note) → v.notes ≡ l.line.notes ++ n ∷ []
       → IsGoodWith found (coming l ++ n ∷ []) (with_line v l) → IsGood found (with_line v l)
   good-more l v n e g =
       subst (λ ns. IsGoodWith found (l.way ++ ns) (with_line v l)) (sym e)
       (subst (λ ns. IsGoodWith found ns (with_line v l)) (append_assoc l.way l.line.notes (n ∷ [])) g)
 
   -- a session is closed
-  pub good-closes : (l : Link) (code : ℕ) → IsGood found l → IsGood found (with_line (closes (Close code) l.line) l)
+  pub good-closes : (l : ClientLink) (code : ℕ) → IsGood found l → IsGood found (with_line (closes (Close code) l.line) l)
   good-closes l code g = good-more l (closes (Close code) l.line) (Close code) refl (record {
     stands = λ c. stands-on (found c) (found c) c (l.client.modes c) (coming l) (coming l ++ Close code ∷ []) (l.line.subs c) Off (due c l.up)
         (Leads-close (found c) c (l.client.modes c) (coming l) code (l.line.subs c)) (g.stands c);
@@ -90,11 +90,11 @@ module _ (found : List ℕ → Option StreamState) (lists : Lists) where
     shut = λ h c. refl;
   })
 
-  pub good-closes_with : (l : Link) (code : ℕ) → IsGood found l → IsGood found (closes_with code l)
+  pub good-closes_with : (l : ClientLink) (code : ℕ) → IsGood found l → IsGood found (closes_with code l)
   good-closes_with l code g = by_test (λ (v : Line Note). IsGood found (with_line v l)) l.line.closed _ _ (λ h. g) (λ h. good-closes l code g)
 
   -- a note of channel c with the subscription's change, where the note finds room
-  good-note : (l : Link) (c : List ℕ) (n : Note) (t : Sub)
+  good-note : (l : ClientLink) (c : List ℕ) (n : Note) (t : Sub)
       → IsGood found l → l.line.closed ≡ false
       → (Leads (found c) c (l.client.modes c) (coming l) (l.line.subs c) → Leads (found c) c (l.client.modes c) (coming l ++ n ∷ []) t)
       → ((d : List ℕ) → d ≢ c → IsElsewhere d n)
@@ -113,7 +113,7 @@ module _ (found : List ℕ → Option StreamState) (lists : Lists) where
   })
 
   -- the same, where it may find none
-  good-say : (l : Link) (c : List ℕ) (n : Note) (t : Sub)
+  good-say : (l : ClientLink) (c : List ℕ) (n : Note) (t : Sub)
       → IsGood found l → l.line.closed ≡ false
       → (Leads (found c) c (l.client.modes c) (coming l) (l.line.subs c) → Leads (found c) c (l.client.modes c) (coming l ++ n ∷ []) t)
       → ((d : List ℕ) → d ≢ c → IsElsewhere d n)
@@ -126,7 +126,7 @@ module _ (found : List ℕ → Option StreamState) (lists : Lists) where
       (λ i. good-closes l 3008 g))
 
   -- a subscription changes and nothing is said
-  pub good-put : (l : Link) (c : List ℕ) (t : Sub)
+  pub good-put : (l : ClientLink) (c : List ℕ) (t : Sub)
       → IsGood found l → l.line.closed ≡ false
       → (Leads (found c) c (l.client.modes c) (coming l) (l.line.subs c) → Leads (found c) c (l.client.modes c) (coming l) t)
       → IsSubOld l.heard t
@@ -142,7 +142,7 @@ module _ (found : List ℕ → Option StreamState) (lists : Lists) where
   }
 
   -- the subscription to c passes its next place
-  good-pass_at : (l : Link) (c : List ℕ) (s : Sub) → IsGood found l → l.line.subs c ≡ s → IsGood found (with_line (pass_at (wording lists) c s l.line) l)
+  good-pass_at : (l : ClientLink) (c : List ℕ) (s : Sub) → IsGood found l → l.line.subs c ≡ s → IsGood found (with_line (pass_at (wording lists) c s l.line) l)
   good-pass_at l c Off g e = g
   good-pass_at l c (Asked k since arrived) g e = g
   good-pass_at l c (Ready k was r arrived) g e = g
@@ -152,11 +152,11 @@ module _ (found : List ℕ → Option StreamState) (lists : Lists) where
       (λ h. Leads-pub (found c) c (l.client.modes c) (coming l) p mark mark (subst (λ s. Leads (found c) c (l.client.modes c) (coming l) s) e h))
       (λ d ne f. ne (sym f)) tt tt tt
 
-  good-passes : (n : ℕ) (l : Link) (c : List ℕ) → IsGood found l → IsGood found (with_line (passes (wording lists) c n l.line) l)
+  good-passes : (n : ℕ) (l : ClientLink) (c : List ℕ) → IsGood found l → IsGood found (with_line (passes (wording lists) c n l.line) l)
   good-passes zero l c g = g
   good-passes (suc n) l c g = good-passes n (with_line (pass_at (wording lists) c (l.line.subs c) l.line) l) c (good-pass_at l c (l.line.subs c) g refl)
 
-  pub good-end_on : (l : Link) (c : List ℕ) (p : Position) (mark : Option ℕ) → IsGood found l → l.line.subs c ≡ On p mark
+  pub good-end_on : (l : ClientLink) (c : List ℕ) (p : Position) (mark : Option ℕ) → IsGood found l → l.line.subs c ≡ On p mark
       → IsGood found (with_line (push (wording lists) (End c) (put_sub c Off l.line)) l)
   good-end_on l c p mark g e =
       good-say l c (End c) Off g
@@ -164,17 +164,17 @@ module _ (found : List ℕ → Option StreamState) (lists : Lists) where
       (λ h. Leads-end (found c) c (l.client.modes c) (coming l) p mark (subst (λ s. Leads (found c) c (l.client.modes c) (coming l) s) e h))
       (λ d ne f. ne (sym f)) tt tt tt
 
-  good-end_at : (l : Link) (c : List ℕ) (s : Sub) → IsGood found l → l.line.subs c ≡ s → IsGood found (with_line (end_at (wording lists) c s l.line) l)
+  good-end_at : (l : ClientLink) (c : List ℕ) (s : Sub) → IsGood found l → l.line.subs c ≡ s → IsGood found (with_line (end_at (wording lists) c s l.line) l)
   good-end_at l c Off g e = g
   good-end_at l c (Asked k since arrived) g e = g
   good-end_at l c (Ready k was r arrived) g e = g
   good-end_at l c (On p mark) g e = good-end_on l c p mark g e
 
-  good-ends : (l : Link) (c : List ℕ) → IsGood found l → IsGood found (with_line (ends (wording lists) c l.line) l)
+  good-ends : (l : ClientLink) (c : List ℕ) → IsGood found l → IsGood found (with_line (ends (wording lists) c l.line) l)
   good-ends l c g = good-end_at l c (l.line.subs c) g refl
 
   -- more arrives for a subscription that is under way
-  pub good-arrives : (l : Link) (c : List ℕ) (s t : Sub) → IsGood found l → l.line.subs c ≡ s → IsSome_sub s
+  pub good-arrives : (l : ClientLink) (c : List ℕ) (s t : Sub) → IsGood found l → l.line.subs c ≡ s → IsSome_sub s
       → ((v : Mode) → Agrees (found c) v s → Agrees (found c) v t) → (IsSubOld l.heard s → IsSubOld l.heard t)
       → IsGood found (with_line (put_sub c t l.line) l)
   good-arrives l c s t g e some step older' =
@@ -183,7 +183,7 @@ module _ (found : List ℕ → Option StreamState) (lists : Lists) where
       (λ h. Leads-turn (found c) c (l.client.modes c) (coming l) s t (subst (λ x. Leads (found c) c (l.client.modes c) (coming l) x) e h) step)
       (older' (subst (IsSubOld l.heard) e (g.subs_old c)))
 
-  good-come_at : (l : Link) (c : List ℕ) (q : Position) (s : Sub) → IsGood found l → l.line.subs c ≡ s → IsGood found (with_line (come_at (wording lists) c q s l.line) l)
+  good-come_at : (l : ClientLink) (c : List ℕ) (q : Position) (s : Sub) → IsGood found l → l.line.subs c ≡ s → IsGood found (with_line (come_at (wording lists) c q s l.line) l)
   good-come_at l c q Off g e = g
   good-come_at l c q (Asked k since arrived) g e =
       good-arrives l c (Asked k since arrived) (Asked k since (arrives q arrived)) g e tt step (λ h. h)
@@ -204,10 +204,10 @@ module _ (found : List ℕ → Option StreamState) (lists : Lists) where
       (λ i. subst (λ x. IsGood found (with_line (push (wording lists) (Pub c x) (put_sub c (On x mark) l.line)) l)) (sym i) (good-pass_at l c (On p mark) g e))
       (good-end_on l c p mark g e)
 
-  pub good-comes : (l : Link) (c : List ℕ) (q : Position) → IsGood found l → IsGood found (with_line (comes (wording lists) c q l.line) l)
+  pub good-comes : (l : ClientLink) (c : List ℕ) (q : Position) → IsGood found l → IsGood found (with_line (comes (wording lists) c q l.line) l)
   good-comes l c q g = good-come_at l c q (l.line.subs c) g refl
 
-  good-reply : (l : Link) (c : List ℕ) (k : ℕ) (was : Bool) (r : Reading) (arrived : List Position) → IsGood found l → l.line.subs c ≡ Ready k was r arrived
+  good-reply : (l : ClientLink) (c : List ℕ) (k : ℕ) (was : Bool) (r : Reading) (arrived : List Position) → IsGood found l → l.line.subs c ≡ Ready k was r arrived
       → IsGood found (with_line (push (wording lists) (Reply c k was r) (put_sub c (On (read_to r) None) l.line)) l)
   good-reply l c k was r arrived g e =
       good-say l c (Reply c k was r) (On (read_to r) None) g
@@ -216,35 +216,35 @@ module _ (found : List ℕ → Option StreamState) (lists : Lists) where
       (λ d ne f. ne (sym f))
       (subst (IsSubOld l.heard) e (g.subs_old c)) tt tt
 
-  good-finish_at : (l : Link) (c : List ℕ) (s : Sub) → IsGood found l → l.line.subs c ≡ s → IsGood found (with_line (finish_at (wording lists) c s l.line) l)
+  good-finish_at : (l : ClientLink) (c : List ℕ) (s : Sub) → IsGood found l → l.line.subs c ≡ s → IsGood found (with_line (finish_at (wording lists) c s l.line) l)
   good-finish_at l c Off g e = g
   good-finish_at l c (Asked k since arrived) g e = g
   good-finish_at l c (On p mark) g e = g
   good-finish_at l c (Ready k was r arrived) g e =
-      let answered : Link = with_line (push (wording lists) (Reply c k was r) (put_sub c (On (read_to r) None) l.line)) l in
+      let answered : ClientLink = with_line (push (wording lists) (Reply c k was r) (put_sub c (On (read_to r) None) l.line)) l in
       let passed = good-passes (run_length arrived r) answered c (good-reply l c k was r arrived g e) in
       by_test (λ (v : Line Note). IsGood found (with_line v l)) (falls_short arrived r) _ _
       (λ h. good-ends (with_line (passes (wording lists) c (run_length arrived r) answered.line) l) c passed) (λ h. passed)
 
-  pub good-finishes : (l : Link) (c : List ℕ) → IsGood found l → IsGood found (with_line (finishes (wording lists) c l.line) l)
+  pub good-finishes : (l : ClientLink) (c : List ℕ) → IsGood found l → IsGood found (with_line (finishes (wording lists) c l.line) l)
   good-finishes l c g = good-finish_at l c (l.line.subs c) g refl
 
-  good-over_at : (l : Link) (c : List ℕ) (s : Sub) → IsGood found l → l.line.subs c ≡ s → IsGood found (with_line (over_at (wording lists) c s l.line) l)
+  good-over_at : (l : ClientLink) (c : List ℕ) (s : Sub) → IsGood found l → l.line.subs c ≡ s → IsGood found (with_line (over_at (wording lists) c s l.line) l)
   good-over_at l c Off g e = g
   good-over_at l c (Asked k since arrived) g e = g
   good-over_at l c (On p mark) g e = g
   good-over_at l c (Ready k was r arrived) g e =
       good-ends (with_line (push (wording lists) (Reply c k was r) (put_sub c (On (read_to r) None) l.line)) l) c (good-reply l c k was r arrived g e)
 
-  pub good-finishes_over : (l : Link) (c : List ℕ) → IsGood found l → IsGood found (with_line (finishes_over (wording lists) c l.line) l)
+  pub good-finishes_over : (l : ClientLink) (c : List ℕ) → IsGood found l → IsGood found (with_line (finishes_over (wording lists) c l.line) l)
   good-finishes_over l c g = good-over_at l c (l.line.subs c) g refl
 
   -- the client sends a command
-  pub good-sends : (l : Link) (e : Errand) → IsGood found l → IsGood found (sends e l)
+  pub good-sends : (l : ClientLink) (e : ClientRequest) → IsGood found l → IsGood found (sends e l)
   good-sends l (Subscribe c from) g = record {
-    stands = with-all (λ d m. Stands (found d) d m (coming l) (l.line.subs d) (due d (l.up ++ record { id = l.client.fresh; errand = Subscribe c from } ∷ []))) l.client.modes c _
-        (rw (due-more c l.up (record { id = l.client.fresh; errand = Subscribe c from }), itself c) (refl, refl))
-        (λ d ne. rw (due-more d l.up (record { id = l.client.fresh; errand = Subscribe c from }), not_this c d (λ e. ne (sym e))) (g.stands d));
+    stands = with-all (λ d m. Stands (found d) d m (coming l) (l.line.subs d) (due d (l.up ++ record { id = l.client.fresh; request = Subscribe c from } ∷ []))) l.client.modes c _
+        (rw (due-more c l.up (record { id = l.client.fresh; request = Subscribe c from }), itself c) (refl, refl))
+        (λ d ne. rw (due-more d l.up (record { id = l.client.fresh; request = Subscribe c from }), not_this c d (λ e. ne (sym e))) (g.stands d));
     rises = Rises-more l.heard l.client.fresh (Subscribe c from) l.up g.rises;
     old = g.old;
     subs_old = g.subs_old;
@@ -252,9 +252,9 @@ module _ (found : List ℕ → Option StreamState) (lists : Lists) where
     shut = g.shut;
   }
   good-sends l (Unsubscribe c) g = record {
-    stands = with-all (λ d m. Stands (found d) d m (coming l) (l.line.subs d) (due d (l.up ++ record { id = l.client.fresh; errand = Unsubscribe c } ∷ []))) l.client.modes c _
-        (rw (due-more c l.up (record { id = l.client.fresh; errand = Unsubscribe c }), itself c) tt)
-        (λ d ne. rw (due-more d l.up (record { id = l.client.fresh; errand = Unsubscribe c }), not_this c d (λ e. ne (sym e))) (g.stands d));
+    stands = with-all (λ d m. Stands (found d) d m (coming l) (l.line.subs d) (due d (l.up ++ record { id = l.client.fresh; request = Unsubscribe c } ∷ []))) l.client.modes c _
+        (rw (due-more c l.up (record { id = l.client.fresh; request = Unsubscribe c }), itself c) tt)
+        (λ d ne. rw (due-more d l.up (record { id = l.client.fresh; request = Unsubscribe c }), not_this c d (λ e. ne (sym e))) (g.stands d));
     rises = Rises-more l.heard l.client.fresh (Unsubscribe c) l.up g.rises;
     old = g.old;
     subs_old = g.subs_old;
@@ -262,7 +262,7 @@ module _ (found : List ℕ → Option StreamState) (lists : Lists) where
     shut = g.shut;
   }
   good-sends l (Publish c body) g = record {
-    stands = λ d. rw (due-more d l.up (record { id = l.client.fresh; errand = Publish c body })) (g.stands d);
+    stands = λ d. rw (due-more d l.up (record { id = l.client.fresh; request = Publish c body })) (g.stands d);
     rises = Rises-more l.heard l.client.fresh (Publish c body) l.up g.rises;
     old = g.old;
     subs_old = g.subs_old;
@@ -270,7 +270,7 @@ module _ (found : List ℕ → Option StreamState) (lists : Lists) where
     shut = g.shut;
   }
   good-sends l (History c limit) g = record {
-    stands = λ d. rw (due-more d l.up (record { id = l.client.fresh; errand = History c limit })) (g.stands d);
+    stands = λ d. rw (due-more d l.up (record { id = l.client.fresh; request = History c limit })) (g.stands d);
     rises = Rises-more l.heard l.client.fresh (History c limit) l.up g.rises;
     old = g.old;
     subs_old = g.subs_old;

@@ -9,8 +9,8 @@ use Rattle.cf_stream.specs.StreamAnswer.{read_of}
 use Rattle.cf_recovery.specs.Verdict.{next}
 use Rattle.cf_hub.specs.Connection.{Sub, Off, Asked, Ready, On}
 use Rattle.cf_client.specs.ClientState.{Mode, Idle, Asking, Live, takes, moved_on, read_to}
-use Rattle.cf_schedule.specs.Errand.{Errand, Sent, Subscribe, Unsubscribe, Publish, History}
-use Rattle.cf_schedule.specs.Link.{is_waiting}
+use Rattle.cf_schedule.specs.ClientRequest.{ClientRequest, SentCommand, Subscribe, Unsubscribe, Publish, History}
+use Rattle.cf_schedule.specs.ClientLink.{is_waiting}
 use Rattle.cf_schedule.proofs.Standing.{Below, Agrees, Fits, or_else, bears_as, bears, due, IsOld, AreOld, Rises, IsNoClose, IsOpen, Leads, Awaits, Stands}
 use Rattle.cf_schedule.proofs.Names.{text_tells, older, this_one, itself, not_this}
 
@@ -130,15 +130,15 @@ leads-settled read other c m [] s i h = agrees-settled read other m s i h
 leads-settled read other c m (n ∷ ns) s i h = (fits-settled read other c m n i h.0, leads-settled read other c (takes c m n) ns s (settled-takes c m n i) h.1)
 
 -- nor to one whose command is still on its way
-abbrev pub IsFree : Mode → Option Sent → Type 0
+abbrev pub IsFree : Mode → Option SentCommand → Type 0
 IsFree m None = IsSettled m
 IsFree m (Some k) = Unit {0}
 
-pub settled-free : (m : Mode) (o : Option Sent) → IsSettled m → IsFree m o
+pub settled-free : (m : Mode) (o : Option SentCommand) → IsSettled m → IsFree m o
 settled-free m None i = i
 settled-free m (Some k) i = tt
 
-pub stands-free : (read other : Option StreamState) (c : List ℕ) (m : Mode) (ns : List Note) (s : Sub) (o : Option Sent) → IsFree m o → Stands read c m ns s o → Stands other c m ns s o
+pub stands-free : (read other : Option StreamState) (c : List ℕ) (m : Mode) (ns : List Note) (s : Sub) (o : Option SentCommand) → IsFree m o → Stands read c m ns s o → Stands other c m ns s o
 stands-free read other c m ns s None i h = leads-settled read other c m ns s i h
 stands-free read other c m ns s (Some k) i h = h
 
@@ -281,65 +281,65 @@ Leads-error read c k code m ns s h w = Leads-more read c m ns (Fails c k code) s
 
 -- COMMANDS ON THEIR WAY
 
-or_else-none : (a : Option Sent) → or_else a None ≡ a
+or_else-none : (a : Option SentCommand) → or_else a None ≡ a
 or_else-none None = refl
 or_else-none (Some k) = refl
 
-or_else-assoc : (a b c : Option Sent) → or_else (or_else a b) c ≡ or_else a (or_else b c)
+or_else-assoc : (a b c : Option SentCommand) → or_else (or_else a b) c ≡ or_else a (or_else b c)
 or_else-assoc None b c = refl
 or_else-assoc (Some k) b c = refl
 
-pub due-more : (c : List ℕ) (ks : List Sent) (k : Sent) → due c (ks ++ k ∷ []) ≡ or_else (bears c k) (due c ks)
+pub due-more : (c : List ℕ) (ks : List SentCommand) (k : SentCommand) → due c (ks ++ k ∷ []) ≡ or_else (bears c k) (due c ks)
 due-more c [] k = sym (or_else-none (bears c k))
 due-more c (x ∷ ks) k = rw (due-more c ks k) (or_else-assoc (bears c k) (due c ks) (bears c x))
 
 -- a subscription, its notes and the stream found change, and the client's side does not
-pub stands-on : (read after : Option StreamState) (c : List ℕ) (m : Mode) (ns more : List Note) (s t : Sub) (o : Option Sent)
+pub stands-on : (read after : Option StreamState) (c : List ℕ) (m : Mode) (ns more : List Note) (s t : Sub) (o : Option SentCommand)
     → (Leads read c m ns s → Leads after c m more t)
     → Stands read c m ns s o → Stands after c m more t o
 stands-on read after c m ns more s t None f h = f h
 stands-on read after c m ns more s t (Some k) f h = h
 
-pub Rises-le : (b fresh : ℕ) (ks : List Sent) → Rises b ks fresh → b ≤ fresh
+pub Rises-le : (b fresh : ℕ) (ks : List SentCommand) → Rises b ks fresh → b ≤ fresh
 Rises-le b fresh [] h = h
 Rises-le b fresh (k ∷ ks) h = let i : suc k.id ≤ fresh = Rises-le (suc k.id) fresh ks h.1 in let j : b ≤ k.id = h.0 in omega arith
 
 -- one more command, under the fresh id
-pub Rises-more : (b fresh : ℕ) (e : Errand) (ks : List Sent) → Rises b ks fresh → Rises b (ks ++ record { id = fresh; errand = e } ∷ []) (suc fresh)
+pub Rises-more : (b fresh : ℕ) (e : ClientRequest) (ks : List SentCommand) → Rises b ks fresh → Rises b (ks ++ record { id = fresh; request = e } ∷ []) (suc fresh)
 Rises-more b fresh e [] h = (h, omega arith)
 Rises-more b fresh e (k ∷ ks) h = (h.0, Rises-more (suc k.id) fresh e ks h.1)
 
 -- the id of a command that is on its way is no less than the bound
-abbrev pub IdFrom : ℕ → Option Sent → Type 0
+abbrev pub IdFrom : ℕ → Option SentCommand → Type 0
 IdFrom b None = Unit {0}
 IdFrom b (Some k) = b ≤ k.id
 
-id-else : (b c : ℕ) (o p : Option Sent) → IdFrom b o → IdFrom b p → IdFrom b (or_else o p)
+id-else : (b c : ℕ) (o p : Option SentCommand) → IdFrom b o → IdFrom b p → IdFrom b (or_else o p)
 id-else b c None p h i = i
 id-else b c (Some x) p h i = h
 
-id-less : (b more : ℕ) (o : Option Sent) → b ≤ more → IdFrom more o → IdFrom b o
+id-less : (b more : ℕ) (o : Option SentCommand) → b ≤ more → IdFrom more o → IdFrom b o
 id-less b more None h i = tt
 id-less b more (Some k) h i = omega arith
 
-id-if : (b : ℕ) (t : Bool) (k : Sent) → b ≤ k.id → IdFrom b (if t then Some k else None)
+id-if : (b : ℕ) (t : Bool) (k : SentCommand) → b ≤ k.id → IdFrom b (if t then Some k else None)
 id-if b true k h = h
 id-if b false k h = tt
 
-id-bears : (b : ℕ) (c : List ℕ) (k : Sent) (e : Errand) → b ≤ k.id → IdFrom b (bears_as c k e)
+id-bears : (b : ℕ) (c : List ℕ) (k : SentCommand) (e : ClientRequest) → b ≤ k.id → IdFrom b (bears_as c k e)
 id-bears b c k (Subscribe d from) h = id-if b (bytes_eq d c) k h
 id-bears b c k (Unsubscribe d) h = id-if b (bytes_eq d c) k h
 id-bears b c k (Publish d body) h = tt
 id-bears b c k (History d limit) h = tt
 
-pub due-bound : (c : List ℕ) (b fresh : ℕ) (ks : List Sent) → Rises b ks fresh → IdFrom b (due c ks)
+pub due-bound : (c : List ℕ) (b fresh : ℕ) (ks : List SentCommand) → Rises b ks fresh → IdFrom b (due c ks)
 due-bound c b fresh [] h = tt
 due-bound c b fresh (k ∷ ks) h =
     let j : b ≤ k.id = h.0 in
-    id-else b b (due c ks) (bears c k) (id-less b (suc k.id) (due c ks) (omega arith) (due-bound c (suc k.id) fresh ks h.1)) (id-bears b c k k.errand j)
+    id-else b b (due c ks) (bears c k) (id-less b (suc k.id) (due c ks) (omega arith) (due-bound c (suc k.id) fresh ks h.1)) (id-bears b c k k.request j)
 
 -- a note that comes while a command for c is on its way changes nothing of c
-pub takes_waiting : (c : List ℕ) (b i : ℕ) (e : Errand) (m : Mode) (n : Note)
+pub takes_waiting : (c : List ℕ) (b i : ℕ) (e : ClientRequest) (m : Mode) (n : Note)
     → Awaits m i e → b ≤ i → IsOld b n → IsNoClose n → takes c m n ≡ m
 takes_waiting c b i e (Idle last) n h g o u = refl
 takes_waiting c b i (Subscribe d from) (Live p) n h g o u = absurd h
@@ -363,17 +363,17 @@ IsNext c (Asking id from last) n = Unit {0}
 IsNext c (Live p) (Pub d q) = d ≡ c → q ≡ next p
 IsNext c (Live p) n = Unit {0}
 
-pub next-comes : (read : Option StreamState) (c : List ℕ) (m : Mode) (n : Note) (ns : List Note) (s : Sub) (o : Option Sent) → Stands read c m (n ∷ ns) s o → IsNext c m n
+pub next-comes : (read : Option StreamState) (c : List ℕ) (m : Mode) (n : Note) (ns : List Note) (s : Sub) (o : Option SentCommand) → Stands read c m (n ∷ ns) s o → IsNext c m n
 next-comes read c (Idle last) n ns s o h = tt
 next-comes read c (Asking id from last) n ns s o h = tt
 next-comes read c (Live p) (Pub d q) ns s None h = h.0
-next-comes read c (Live p) (Pub d q) ns s (Some k) h = of_errand k.errand h
+next-comes read c (Live p) (Pub d q) ns s (Some k) h = of_request k.request h
   where
-    of_errand : (e : Errand) → Awaits (Live p) k.id e → d ≡ c → q ≡ next p
-    of_errand (Subscribe x from) w = absurd w
-    of_errand (Unsubscribe x) w = absurd w
-    of_errand (Publish x body) w = absurd w
-    of_errand (History x limit) w = absurd w
+    of_request : (e : ClientRequest) → Awaits (Live p) k.id e → d ≡ c → q ≡ next p
+    of_request (Subscribe x from) w = absurd w
+    of_request (Unsubscribe x) w = absurd w
+    of_request (Publish x body) w = absurd w
+    of_request (History x limit) w = absurd w
 next-comes read c (Live p) n ns s o h = tt
 
 -- where it is the next one, its epoch is the client's own

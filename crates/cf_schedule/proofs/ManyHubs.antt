@@ -7,9 +7,9 @@ use Rattle.std.specs.Vec.{with_item, vec_len}
 use Rattle.cf_protocol.specs.Datum.{Placed}
 use Rattle.cf_hub.specs.Connection.{Line, rows, is_off}
 use Rattle.cf_schedule.specs.Refusals.{most_channels, most_rows}
-use Rattle.cf_schedule.specs.TextLine.{IsLine, Both}
-use Rattle.cf_schedule.specs.HubState.{line_at, holds_in, holds_at, kept_at, session_count, node_rows, rows_at, One, Each, SameKept, SameCounts}
-use Rattle.cf_schedule.specs.NodeState.{line_on, kept_on, holds_on, line_in, kept_in, count_in, OneOn, EachOn, SameOn, SameKeptOn, BeginsOn, subscriptions_on}
+use Rattle.cf_schedule.specs.Running.TextLine.{IsLine, Both}
+use Rattle.cf_schedule.specs.Running.HubState.{line_at, holds_in, holds_at, kept_at, session_count, node_rows, rows_at, One, Each, SameKept, SameCounts}
+use Rattle.cf_schedule.specs.Running.NodeState.{line_on, kept_on, holds_on, line_in, kept_in, count_in, OneOn, EachOn, SameOn, SameKeptOn, BeginsOn, subscriptions_on}
 use Rattle.cf_schedule.specs.declared.hub.Hub.{Hub}
 use Rattle.cf_schedule.specs.declared.hub.HubRefusal.{HubRefusal}
 use Rattle.cf_schedule.specs.declared.hub.HubRefusal.TheVariants.{NoSession, Already, TooMany, Memory}

@@ -9,14 +9,14 @@ use Rattle.cf_hub.specs.Connection.{Sub, Off, Asked, Ready, On, checks}
 use Rattle.cf_client.specs.ClientState.{Client, last_of}
 use Rattle.cf_schedule.specs.Config.{Config}
 use Rattle.cf_schedule.specs.Event.{Event, Epoch, Connect, Ask, AskFrom, Read, Finish, Publish, PublishBy, Deliver, Take, Break, Leave, Trim, Forget, BrokerRestart, Restart, Check, ListHistory}
-use Rattle.cf_schedule.specs.Errand.{Errand, Sent, Subscribe, Unsubscribe, Publish as PublishErrand, History, channel_of}
+use Rattle.cf_schedule.specs.ClientRequest.{ClientRequest, SentCommand, Subscribe, Unsubscribe, Publish as PublishRequest, History, channel_of}
 use Rattle.cf_schedule.specs.PublicationList.{Place, Broker, publication, opened, stands_at}
 use Rattle.cf_schedule.specs.Weights.{wording}
-use Rattle.cf_schedule.specs.Link.{Link, with_line, sends, hears, errs_late, says, fails, finishes_over, closes_with, holds, receives}
+use Rattle.cf_schedule.specs.ClientLink.{ClientLink, with_line, sends, hears, errs_late, says, fails, finishes_over, closes_with, holds, receives}
 use Rattle.cf_schedule.specs.World.{World, start, link_with, broker_with, on_node}
 use Rattle.cf_schedule.specs.Refusals.{Judgement, Unheard, TooLong, Refused, Accepted, judged, bad_message}
 use Rattle.cf_schedule.specs.IntervalMachine.{sent, closes_by, is_refused, heard_as, listing, answer_to, answer_by, answered, command_by, judgement, exchange, read_found, read_at, delivered, effect, run}
-use Rattle.cf_schedule.specs.LooseRun.{Happening, Line as LineOf, SendAsk, SendAskFrom, SendLeave, SendPublish, SendHistory, Hear, Hold, Receive, ErrorEnters, NoteEnters, Fail, FinishOver, CloseNow, CheckAgainst, Join, PublishAny, OpenIn, failed_if, hear_first, loose_effect, loosely_allows, befalls, loose_run, lines}
+use Rattle.cf_schedule.specs.LooseRun.{Happening, Scheduled, SendAsk, SendAskFrom, SendLeave, SendPublish, SendHistory, Hear, Hold, Receive, ErrorEnters, NoteEnters, Fail, FinishOver, CloseNow, CheckAgainst, Join, PublishAny, OpenIn, failed_if, hear_first, loose_effect, loosely_allows, befalls, loose_run, lines}
 use Rattle.cf_schedule.specs.Leading.{coming}
 use Rattle.cf_schedule.specs.AnswersById.{AreForChannel}
 use Rattle.cf_schedule.proofs.Names.{by_test, with-all, with-both, with-same}
@@ -28,68 +28,68 @@ AreOwned : (List ℕ → ℕ → List ℕ) → World → Type 0
 AreOwned owners w = (y : List ℕ) → IsOwned (owners y) (w.links y)
 
 module _ (owners : List ℕ → ℕ → List ℕ) (w : World) (g : (y : List ℕ) → IsOwned (owners y) (w.links y)) where
-  one-owned : (x : List ℕ) (l : Link) → IsOwned (owners x) l → (y : List ℕ) → IsOwned (owners y) (with w.links x l y)
+  one-owned : (x : List ℕ) (l : ClientLink) → IsOwned (owners x) l → (y : List ℕ) → IsOwned (owners y) (with w.links x l y)
   one-owned x l h = with-all (λ y l. IsOwned (owners y) l) w.links x l h (λ y ne. g y)
 
-  owned-closes_by : (x : List ℕ) (j : Judgement) (l : Link) → IsOwned (owners x) l → IsOwned (owners x) (closes_by j l)
+  owned-closes_by : (x : List ℕ) (j : Judgement) (l : ClientLink) → IsOwned (owners x) l → IsOwned (owners x) (closes_by j l)
   owned-closes_by x Unheard l h = h
   owned-closes_by x TooLong l h = own-closes_with (owners x) w.broker.lists l bad_message h
   owned-closes_by x (Refused code) l h = h
   owned-closes_by x Accepted l h = h
 
-  owned-heard : (cfg : Config) (x : List ℕ) (k : Sent) (ks : List Sent) (j : Judgement) → IsOwn (owners x) (w.links x).client.fresh (channel_of k.errand) k.id → OwnUps (owners x) (w.links x).client.fresh ks
+  owned-heard : (cfg : Config) (x : List ℕ) (k : SentCommand) (ks : List SentCommand) (j : Judgement) → IsOwn (owners x) (w.links x).client.fresh (channel_of k.request) k.id → OwnUps (owners x) (w.links x).client.fresh ks
       → (y : List ℕ) → IsOwned (owners y) ((heard_as cfg x k ks j w).links y)
   owned-heard cfg x k ks j h u =
       one-owned x (closes_by j (hears (is_refused j) k ks (w.links x))) (owned-closes_by x j _ (own-hears (owners x) w.broker.lists (is_refused j) (w.links x) k ks (g x) h u))
 
-  owned-answer : (b : Broker) (x : List ℕ) (k : Sent) (j : Judgement) → IsOwn (owners x) (w.links x).client.fresh (channel_of k.errand) k.id
+  owned-answer : (b : Broker) (x : List ℕ) (k : SentCommand) (j : Judgement) → IsOwn (owners x) (w.links x).client.fresh (channel_of k.request) k.id
       → IsOwned (owners x) (answer_by (wording w.broker.lists) b k j (w.links x))
   owned-answer b x k Unheard h = g x
   owned-answer b x k TooLong h = g x
-  owned-answer b x k (Refused code) h = own-errs (owners x) w.broker.lists (w.links x) (channel_of k.errand) k.id code (g x) h
-  owned-answer b x k Accepted h = by_errand k.errand
+  owned-answer b x k (Refused code) h = own-errs (owners x) w.broker.lists (w.links x) (channel_of k.request) k.id code (g x) h
+  owned-answer b x k Accepted h = by_request k.request
     where
       listed : (c : List ℕ) (limit : ℤ) (o : Option StreamState) → IsOwned (owners x) (listing (wording w.broker.lists) c k.id limit o (w.links x))
       listed c limit None = g x
       listed c limit (Some s) =
           own-says (owners x) w.broker.lists (w.links x) (Listed c k.id (listed_above 0 limit s).at (listed_above 0 limit s).low (listed_above 0 limit s).count) (g x)
 
-      by_errand : (e : Errand) → IsOwned (owners x) (answer_to (wording w.broker.lists) b k.id e (w.links x))
-      by_errand (Subscribe c from) = g x
-      by_errand (Unsubscribe c) = own-says (owners x) w.broker.lists (w.links x) (Left k.id) (g x)
-      by_errand (PublishErrand c body) = own-says (owners x) w.broker.lists (w.links x) (PutDone k.id) (g x)
-      by_errand (History c limit) = listed c limit (b.streams c)
+      by_request : (e : ClientRequest) → IsOwned (owners x) (answer_to (wording w.broker.lists) b k.id e (w.links x))
+      by_request (Subscribe c from) = g x
+      by_request (Unsubscribe c) = own-says (owners x) w.broker.lists (w.links x) (Left k.id) (g x)
+      by_request (PublishRequest c body) = own-says (owners x) w.broker.lists (w.links x) (PutDone k.id) (g x)
+      by_request (History c limit) = listed c limit (b.streams c)
 
-  owned-answered : (x : List ℕ) (k : Sent) (j : Judgement) → IsOwn (owners x) (w.links x).client.fresh (channel_of k.errand) k.id
+  owned-answered : (x : List ℕ) (k : SentCommand) (j : Judgement) → IsOwn (owners x) (w.links x).client.fresh (channel_of k.request) k.id
       → (y : List ℕ) → IsOwned (owners y) ((answered x k j w).links y)
   owned-answered x k j h = one-owned x (answer_by (wording w.broker.lists) w.broker k j (w.links x)) (owned-answer w.broker x k j h)
 
-heard-client : (cfg : Config) (x : List ℕ) (k : Sent) (ks : List Sent) (j : Judgement) (w : World) → ((heard_as cfg x k ks j w).links x).client ≡ (w.links x).client
+heard-client : (cfg : Config) (x : List ℕ) (k : SentCommand) (ks : List SentCommand) (j : Judgement) (w : World) → ((heard_as cfg x k ks j w).links x).client ≡ (w.links x).client
 heard-client cfg x k ks j w =
-    let l : Link = closes_by j (hears (is_refused j) k ks (w.links x)) in
-    ap (λ (v : Link). v.client) (with-same w.links x l) ∙ (closes_by-client j (hears (is_refused j) k ks (w.links x)) ∙ client-hears (is_refused j) k ks (w.links x))
+    let l : ClientLink = closes_by j (hears (is_refused j) k ks (w.links x)) in
+    ap (λ (v : ClientLink). v.client) (with-same w.links x l) ∙ (closes_by-client j (hears (is_refused j) k ks (w.links x)) ∙ client-hears (is_refused j) k ks (w.links x))
 
-sends-fresh : (e : Errand) (l : Link) → (sends e l).client.fresh ≡ suc l.client.fresh
+sends-fresh : (e : ClientRequest) (l : ClientLink) → (sends e l).client.fresh ≡ suc l.client.fresh
 sends-fresh (Subscribe c from) l = refl
 sends-fresh (Unsubscribe c) l = refl
-sends-fresh (PublishErrand c body) l = refl
+sends-fresh (PublishRequest c body) l = refl
 sends-fresh (History c limit) l = refl
 
 -- the owners after x has sent a command
-owners_with : (List ℕ → ℕ → List ℕ) → World → List ℕ → Errand → List ℕ → ℕ → List ℕ
+owners_with : (List ℕ → ℕ → List ℕ) → World → List ℕ → ClientRequest → List ℕ → ℕ → List ℕ
 owners_with owners w x e = with owners x (owner_with (owners x) (w.links x).client.fresh (channel_of e))
 
-owned-exchange : (cfg : Config) (x : List ℕ) (e : Errand) (owners : List ℕ → ℕ → List ℕ) (w : World) → AreOwned owners w
+owned-exchange : (cfg : Config) (x : List ℕ) (e : ClientRequest) (owners : List ℕ → ℕ → List ℕ) (w : World) → AreOwned owners w
     → AreOwned (owners_with owners w x e) (exchange cfg x e w)
 unfolding AreOwned owners_with
 owned-exchange cfg x e owners w g =
     let after : List ℕ → ℕ → List ℕ = with owners x (owner_with (owners x) (w.links x).client.fresh (channel_of e)) in
     let s : (y : List ℕ) → IsOwned (after y) ((sent x e w).links y) =
     with-both (λ y o l. IsOwned o l) owners w.links x (owner_with (owners x) (w.links x).client.fresh (channel_of e)) (sends e (w.links x)) (own-sends (owners x) (w.links x) e (g x)) (λ y ne. g y) in
-    let k : Sent = command_by x e w in
+    let k : SentCommand = command_by x e w in
     let j : Judgement = judgement cfg x e w in
     let sent-fresh : ((sent x e w).links x).client.fresh ≡ suc (w.links x).client.fresh =
-    ap (λ (v : Link). v.client.fresh) (with-same w.links x (sends e (w.links x))) ∙ sends-fresh e (w.links x) in
+    ap (λ (v : ClientLink). v.client.fresh) (with-same w.links x (sends e (w.links x))) ∙ sends-fresh e (w.links x) in
     let mine : (n : ℕ) → n ≡ suc (w.links x).client.fresh → IsOwn (after x) n (channel_of e) (w.links x).client.fresh =
     λ n is. rw is (subst (λ (o : ℕ → List ℕ). IsOwn o (suc (w.links x).client.fresh) (channel_of e) (w.links x).client.fresh)
     (sym (with-same owners x (owner_with (owners x) (w.links x).client.fresh (channel_of e)))) (own_fresh (owners x) (w.links x).client.fresh (channel_of e))) in
@@ -122,7 +122,7 @@ owned-effect cfg w g (Read x c) = of_sub ((w.links x).line.subs c)
     of_sub (On p mark) = g
 owned-effect cfg w g (Finish x c) = (g.0, one-owned g.0 w g.1 x _ (own-finishes (g.0 x) w.broker.lists (w.links x) c (g.1 x)))
 owned-effect cfg w g (Publish c body) = g
-owned-effect cfg w g (PublishBy x c body) = (_, owned-exchange cfg x (PublishErrand c body) g.0 w g.1)
+owned-effect cfg w g (PublishBy x c body) = (_, owned-exchange cfg x (PublishRequest c body) g.0 w g.1)
 owned-effect cfg w g (Deliver n i) = of_place (publication i w.broker)
   where
     of_place : (o : Option Place) → HasOwners (delivered n o w)
@@ -142,14 +142,14 @@ owned-effect cfg w g (Check x c) = (g.0, one-owned g.0 w g.1 x _ (own-checks (g.
 owned-effect cfg w g (ListHistory x c limit) = (_, owned-exchange cfg x (History c limit) g.0 w g.1)
 
 -- a command that is sent alone
-owned-sent : (x : List ℕ) (e : Errand) (w : World) → HasOwners w → HasOwners (sent x e w)
+owned-sent : (x : List ℕ) (e : ClientRequest) (w : World) → HasOwners w → HasOwners (sent x e w)
 unfolding HasOwners
 owned-sent x e w g = (
   with g.0 x (owner_with (g.0 x) (w.links x).client.fresh (channel_of e)),
   with-both (λ y o l. IsOwned o l) g.0 w.links x (owner_with (g.0 x) (w.links x).client.fresh (channel_of e)) (sends e (w.links x)) (own-sends (g.0 x) (w.links x) e (g.1 x)) (λ y ne. g.1 y),
 )
 
-owned-hear : (cfg : Config) (x : List ℕ) (failing : Bool) (w : World) → HasOwners w → (ks : List Sent) → (w.links x).up ≡ ks → HasOwners (hear_first cfg x failing ks w)
+owned-hear : (cfg : Config) (x : List ℕ) (failing : Bool) (w : World) → HasOwners w → (ks : List SentCommand) → (w.links x).up ≡ ks → HasOwners (hear_first cfg x failing ks w)
 unfolding HasOwners
 owned-hear cfg x failing w g [] e = g
 owned-hear cfg x failing w g (k ∷ ks) e =
@@ -157,13 +157,13 @@ owned-hear cfg x failing w g (k ∷ ks) e =
     (g.0, owned-heard g.0 w g.1 cfg x k ks (failed_if failing (judged cfg w (w.links x) k)) u.0 u.1)
 
 -- one link changes
-owned-link : (x : List ℕ) (w : World) → (g : HasOwners w) → (f : Link → Link) → ((o : ℕ → List ℕ) → IsOwned o (w.links x) → IsOwned o (f (w.links x))) → HasOwners (link_with x (f (w.links x)) w)
+owned-link : (x : List ℕ) (w : World) → (g : HasOwners w) → (f : ClientLink → ClientLink) → ((o : ℕ → List ℕ) → IsOwned o (w.links x) → IsOwned o (f (w.links x))) → HasOwners (link_with x (f (w.links x)) w)
 unfolding HasOwners
 owned-link x w g f k = (g.0, one-owned g.0 w g.1 x (f (w.links x)) (k (g.0 x) (g.1 x)))
 
 owned-loose : (cfg : Config) (w : World) → HasOwners w → (h : Happening) → HasOwners (loose_effect cfg w h)
 unfolding HasOwners
-owned-loose cfg w g (LineOf e) = owned-effect cfg w g e
+owned-loose cfg w g (Scheduled e) = owned-effect cfg w g e
 owned-loose cfg w g (SendAsk x c) = owned-sent x _ w g
 owned-loose cfg w g (SendAskFrom x c) = owned-sent x _ w g
 owned-loose cfg w g (SendLeave x c) = owned-sent x _ w g
@@ -195,7 +195,7 @@ pub answers_by_id_loose : (cfg : Config) (hs : List Happening) (x c : List ℕ)
 unfolding HasOwners
 answers_by_id_loose cfg hs x c =
     let h = owned-run cfg hs start owned-start in
-    let l : Link = (loose_run cfg start hs).links x in
+    let l : ClientLink = (loose_run cfg start hs).links x in
     for_channel (h.0 x) l.client.fresh c (l.client.modes c) (coming l) ((h.1 x).modes c) (h.1 x).notes
 
 pub answers_by_id : (cfg : Config) (es : List Event) (x c : List ℕ)

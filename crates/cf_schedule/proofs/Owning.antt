@@ -10,9 +10,9 @@ use Rattle.cf_recovery.specs.Verdict.{next}
 use Rattle.cf_hub.specs.PositionCheck.{Checked, Fine, Behind, Ended, position_check}
 use Rattle.cf_hub.specs.Connection.{Sub, Off, Asked, Ready, On, Line, closes, push, most_waiting, put_sub, read_at as line_read_at, pass_at, passes, end_at, ends, come_at, comes, finish_at, finishes, by_check, check_at, checks}
 use Rattle.cf_client.specs.ClientState.{Mode, Idle, Asking, Live, idle, takes, read_to, hears as takes_note}
-use Rattle.cf_schedule.specs.Errand.{Errand, Sent, Subscribe, Unsubscribe, Publish as PublishErrand, History, channel_of}
+use Rattle.cf_schedule.specs.ClientRequest.{ClientRequest, SentCommand, Subscribe, Unsubscribe, Publish as PublishRequest, History, channel_of}
 use Rattle.cf_schedule.specs.Weights.{wording}
-use Rattle.cf_schedule.specs.Link.{Link, with_line, sends, is_heard, hears_subscribe, hears_errand, hears, is_waiting, errs, find, errs_for, errs_late, says, fail_at, fails, over_at, finishes_over, closes_with, breaks, gets, hold_first, holds, receive_first, receives}
+use Rattle.cf_schedule.specs.ClientLink.{ClientLink, with_line, sends, is_heard, hears_subscribe, hears_request, hears, is_waiting, errs, find, errs_for, errs_late, says, fail_at, fails, over_at, finishes_over, closes_with, breaks, gets, hold_first, holds, receive_first, receives}
 use Rattle.cf_schedule.specs.Leading.{coming}
 use Rattle.cf_schedule.specs.AnswersById.{IsForChannel, AreForChannel}
 use Rattle.cf_schedule.proofs.Names.{by_test, with-all}
@@ -42,19 +42,19 @@ abbrev OwnNotes : (ℕ → List ℕ) → ℕ → List Note → Type 0
 OwnNotes owner fresh [] = Unit {0}
 OwnNotes owner fresh (n ∷ ns) = OwnNote owner fresh n × OwnNotes owner fresh ns
 
-abbrev pub OwnUps : (ℕ → List ℕ) → ℕ → List Sent → Type 0
+abbrev pub OwnUps : (ℕ → List ℕ) → ℕ → List SentCommand → Type 0
 OwnUps owner fresh [] = Unit {0}
-OwnUps owner fresh (k ∷ ks) = IsOwn owner fresh (channel_of k.errand) k.id × OwnUps owner fresh ks
+OwnUps owner fresh (k ∷ ks) = IsOwn owner fresh (channel_of k.request) k.id × OwnUps owner fresh ks
 
 -- THE INVARIANT OF A LINK to whose client these notes are coming
-pub record IsOwnedWith (owner : ℕ → List ℕ) (ns : List Note) (l : Link) : Type 0 where
+pub record IsOwnedWith (owner : ℕ → List ℕ) (ns : List Note) (l : ClientLink) : Type 0 where
   pub modes : (c : List ℕ) → OwnMode owner l.client.fresh c (l.client.modes c)
   pub notes : OwnNotes owner l.client.fresh ns
   pub subs : (c : List ℕ) → OwnSub owner l.client.fresh c (l.line.subs c)
   pub ups : OwnUps owner l.client.fresh l.up
   pub done : OwnUps owner l.client.fresh l.done
 
-abbrev pub IsOwned : (ℕ → List ℕ) → Link → Type 0
+abbrev pub IsOwned : (ℕ → List ℕ) → ClientLink → Type 0
 IsOwned owner l = IsOwnedWith owner (coming l) l
 
 notes-more : (owner : ℕ → List ℕ) (fresh : ℕ) (ns : List Note) (n : Note) → OwnNotes owner fresh ns → OwnNote owner fresh n → OwnNotes owner fresh (ns ++ n ∷ [])
@@ -73,21 +73,21 @@ own-takes owner fresh c (Live p) (Close code) h = tt
 own-takes owner fresh c (Live p) n h = tt
 
 module _ (owner : ℕ → List ℕ) (lists : Lists) where
-  own-more : (l : Link) (v : Line Note) (n : Note) → v.notes ≡ l.line.notes ++ n ∷ []
+  own-more : (l : ClientLink) (v : Line Note) (n : Note) → v.notes ≡ l.line.notes ++ n ∷ []
       → IsOwned owner l → OwnNote owner l.client.fresh n → ((c : List ℕ) → OwnSub owner l.client.fresh c (v.subs c)) → IsOwned owner (with_line v l)
   own-more l v n e g h s =
       subst (λ ns. IsOwnedWith owner (l.way ++ ns) (with_line v l)) (sym e)
       (subst (λ ns. IsOwnedWith owner ns (with_line v l)) (append_assoc l.way l.line.notes (n ∷ []))
       (record { modes = g.modes; notes = notes-more owner l.client.fresh (coming l) n g.notes h; subs = s; ups = g.ups; done = g.done }))
 
-  own-push : (l : Link) (n : Note) → IsOwned owner l → OwnNote owner l.client.fresh n → IsOwned owner (with_line (push (wording lists) n l.line) l)
+  own-push : (l : ClientLink) (n : Note) → IsOwned owner l → OwnNote owner l.client.fresh n → IsOwned owner (with_line (push (wording lists) n l.line) l)
   own-push l n g h =
       by_test (λ (v : Line Note). IsOwned owner (with_line v l)) l.line.closed _ _ (λ e. g)
       (λ e. by_test (λ (v : Line Note). IsOwned owner (with_line v l)) (nat_le (sum_by (wording lists).weight l.line.notes + (wording lists).weight n) most_waiting) _ _
       (λ i. own-more l (record (l.line) { notes = l.line.notes ++ n ∷ [] }) n refl g h g.subs)
       (λ i. own-more l (closes (Close 3008) l.line) (Close 3008) refl g tt (λ c. tt)))
 
-  own-put : (l : Link) (c : List ℕ) (t : Sub) → IsOwned owner l → OwnSub owner l.client.fresh c t → IsOwned owner (with_line (put_sub c t l.line) l)
+  own-put : (l : ClientLink) (c : List ℕ) (t : Sub) → IsOwned owner l → OwnSub owner l.client.fresh c t → IsOwned owner (with_line (put_sub c t l.line) l)
   own-put l c t g h = record {
     modes = g.modes;
     notes = g.notes;
@@ -96,30 +96,30 @@ module _ (owner : ℕ → List ℕ) (lists : Lists) where
     done = g.done;
   }
 
-  own-say : (l : Link) (c : List ℕ) (t : Sub) (n : Note) → IsOwned owner l → OwnSub owner l.client.fresh c t → OwnNote owner l.client.fresh n
+  own-say : (l : ClientLink) (c : List ℕ) (t : Sub) (n : Note) → IsOwned owner l → OwnSub owner l.client.fresh c t → OwnNote owner l.client.fresh n
       → IsOwned owner (with_line (push (wording lists) n (put_sub c t l.line)) l)
   own-say l c t n g h k = own-push (with_line (put_sub c t l.line) l) n (own-put l c t g h) k
 
-  own-pass_at : (l : Link) (c : List ℕ) (s : Sub) → IsOwned owner l → IsOwned owner (with_line (pass_at (wording lists) c s l.line) l)
+  own-pass_at : (l : ClientLink) (c : List ℕ) (s : Sub) → IsOwned owner l → IsOwned owner (with_line (pass_at (wording lists) c s l.line) l)
   own-pass_at l c Off g = g
   own-pass_at l c (Asked k since arrived) g = g
   own-pass_at l c (Ready k was x arrived) g = g
   own-pass_at l c (On p mark) g = own-say l c (On (next p) mark) (Pub c (next p)) g tt tt
 
-  own-passes : (n : ℕ) (l : Link) (c : List ℕ) → IsOwned owner l → IsOwned owner (with_line (passes (wording lists) c n l.line) l)
+  own-passes : (n : ℕ) (l : ClientLink) (c : List ℕ) → IsOwned owner l → IsOwned owner (with_line (passes (wording lists) c n l.line) l)
   own-passes zero l c g = g
   own-passes (suc n) l c g = own-passes n (with_line (pass_at (wording lists) c (l.line.subs c) l.line) l) c (own-pass_at l c (l.line.subs c) g)
 
-  own-end_at : (l : Link) (c : List ℕ) (s : Sub) → IsOwned owner l → IsOwned owner (with_line (end_at (wording lists) c s l.line) l)
+  own-end_at : (l : ClientLink) (c : List ℕ) (s : Sub) → IsOwned owner l → IsOwned owner (with_line (end_at (wording lists) c s l.line) l)
   own-end_at l c Off g = g
   own-end_at l c (Asked k since arrived) g = g
   own-end_at l c (Ready k was x arrived) g = g
   own-end_at l c (On p mark) g = own-say l c Off (End c) g tt tt
 
-  own-ends : (l : Link) (c : List ℕ) → IsOwned owner l → IsOwned owner (with_line (ends (wording lists) c l.line) l)
+  own-ends : (l : ClientLink) (c : List ℕ) → IsOwned owner l → IsOwned owner (with_line (ends (wording lists) c l.line) l)
   own-ends l c g = own-end_at l c (l.line.subs c) g
 
-  own-come_at : (l : Link) (c : List ℕ) (q : Position) (s : Sub) → IsOwned owner l → l.line.subs c ≡ s → IsOwned owner (with_line (come_at (wording lists) c q s l.line) l)
+  own-come_at : (l : ClientLink) (c : List ℕ) (q : Position) (s : Sub) → IsOwned owner l → l.line.subs c ≡ s → IsOwned owner (with_line (come_at (wording lists) c q s l.line) l)
   own-come_at l c q Off g e = g
   own-come_at l c q (Asked k since arrived) g e = own-put l c (Asked k since (arrives q arrived)) g (subst (OwnSub owner l.client.fresh c) e (g.subs c))
   own-come_at l c q (Ready k was r arrived) g e = own-put l c (Ready k was r (arrives q arrived)) g (subst (OwnSub owner l.client.fresh c) e (g.subs c))
@@ -127,38 +127,38 @@ module _ (owner : ℕ → List ℕ) (lists : Lists) where
       by_verdict_lem (λ (v : Line Note). IsOwned owner (with_line v l)) (wording lists) c p q mark l.line g
       (λ i. own-say l c (On q mark) (Pub c q) g tt tt) (own-say l c Off (End c) g tt tt)
 
-  pub own-comes : (l : Link) (c : List ℕ) (q : Position) → IsOwned owner l → IsOwned owner (with_line (comes (wording lists) c q l.line) l)
+  pub own-comes : (l : ClientLink) (c : List ℕ) (q : Position) → IsOwned owner l → IsOwned owner (with_line (comes (wording lists) c q l.line) l)
   own-comes l c q g = own-come_at l c q (l.line.subs c) g refl
 
-  own-finish_at : (l : Link) (c : List ℕ) (s : Sub) → IsOwned owner l → l.line.subs c ≡ s → IsOwned owner (with_line (finish_at (wording lists) c s l.line) l)
+  own-finish_at : (l : ClientLink) (c : List ℕ) (s : Sub) → IsOwned owner l → l.line.subs c ≡ s → IsOwned owner (with_line (finish_at (wording lists) c s l.line) l)
   own-finish_at l c Off g e = g
   own-finish_at l c (Asked k since arrived) g e = g
   own-finish_at l c (On p mark) g e = g
   own-finish_at l c (Ready k was r arrived) g e =
       let own : IsOwn owner l.client.fresh c k = subst (OwnSub owner l.client.fresh c) e (g.subs c) in
-      let answered : Link = with_line (push (wording lists) (Reply c k was r) (put_sub c (On (read_to r) None) l.line)) l in
+      let answered : ClientLink = with_line (push (wording lists) (Reply c k was r) (put_sub c (On (read_to r) None) l.line)) l in
       let passed = own-passes (run_length arrived r) answered c (own-say l c (On (read_to r) None) (Reply c k was r) g tt own) in
       by_test (λ (v : Line Note). IsOwned owner (with_line v l)) (falls_short arrived r) _ _
       (λ h. own-ends (with_line (passes (wording lists) c (run_length arrived r) answered.line) l) c passed) (λ h. passed)
 
-  pub own-finishes : (l : Link) (c : List ℕ) → IsOwned owner l → IsOwned owner (with_line (finishes (wording lists) c l.line) l)
+  pub own-finishes : (l : ClientLink) (c : List ℕ) → IsOwned owner l → IsOwned owner (with_line (finishes (wording lists) c l.line) l)
   own-finishes l c g = own-finish_at l c (l.line.subs c) g refl
 
-  own-by_check : (l : Link) (c : List ℕ) (p : Position) (x : Checked) → IsOwned owner l → IsOwned owner (with_line (by_check (wording lists) c p x l.line) l)
+  own-by_check : (l : ClientLink) (c : List ℕ) (p : Position) (x : Checked) → IsOwned owner l → IsOwned owner (with_line (by_check (wording lists) c p x l.line) l)
   own-by_check l c p Fine g = own-put l c (On p None) g tt
   own-by_check l c p Behind g = own-put l c (On p (Some p.offset)) g tt
   own-by_check l c p Ended g = own-say l c Off (End c) g tt tt
 
-  own-check_at : (l : Link) (c : List ℕ) (top : Option Position) (s : Sub) → IsOwned owner l → IsOwned owner (with_line (check_at (wording lists) c top s l.line) l)
+  own-check_at : (l : ClientLink) (c : List ℕ) (top : Option Position) (s : Sub) → IsOwned owner l → IsOwned owner (with_line (check_at (wording lists) c top s l.line) l)
   own-check_at l c top Off g = g
   own-check_at l c top (Asked k since arrived) g = g
   own-check_at l c top (Ready k was r arrived) g = g
   own-check_at l c top (On p mark) g = own-by_check l c p (position_check top p mark) g
 
-  pub own-checks : (l : Link) (c : List ℕ) (top : Option Position) → IsOwned owner l → IsOwned owner (with_line (checks (wording lists) c top l.line) l)
+  pub own-checks : (l : ClientLink) (c : List ℕ) (top : Option Position) → IsOwned owner l → IsOwned owner (with_line (checks (wording lists) c top l.line) l)
   own-checks l c top g = own-check_at l c top (l.line.subs c) g
 
-  own-over_at : (l : Link) (c : List ℕ) (s : Sub) → IsOwned owner l → l.line.subs c ≡ s → IsOwned owner (with_line (over_at (wording lists) c s l.line) l)
+  own-over_at : (l : ClientLink) (c : List ℕ) (s : Sub) → IsOwned owner l → l.line.subs c ≡ s → IsOwned owner (with_line (over_at (wording lists) c s l.line) l)
   own-over_at l c Off g e = g
   own-over_at l c (Asked k since arrived) g e = g
   own-over_at l c (On p mark) g e = g
@@ -166,30 +166,30 @@ module _ (owner : ℕ → List ℕ) (lists : Lists) where
       let own : IsOwn owner l.client.fresh c k = subst (OwnSub owner l.client.fresh c) e (g.subs c) in
       own-ends (with_line (push (wording lists) (Reply c k was r) (put_sub c (On (read_to r) None) l.line)) l) c (own-say l c (On (read_to r) None) (Reply c k was r) g tt own)
 
-  pub own-finishes_over : (l : Link) (c : List ℕ) → IsOwned owner l → IsOwned owner (with_line (finishes_over (wording lists) c l.line) l)
+  pub own-finishes_over : (l : ClientLink) (c : List ℕ) → IsOwned owner l → IsOwned owner (with_line (finishes_over (wording lists) c l.line) l)
   own-finishes_over l c g = own-over_at l c (l.line.subs c) g refl
 
-  own-fail_at : (l : Link) (c : List ℕ) (s : Sub) → IsOwned owner l → IsOwned owner (fail_at c s l)
+  own-fail_at : (l : ClientLink) (c : List ℕ) (s : Sub) → IsOwned owner l → IsOwned owner (fail_at c s l)
   own-fail_at l c Off g = g
   own-fail_at l c (Asked k since arrived) g = own-put l c Off g tt
   own-fail_at l c (Ready k was r arrived) g = own-put l c Off g tt
   own-fail_at l c (On q mark) g = g
 
-  pub own-fails : (l : Link) (c : List ℕ) → IsOwned owner l → IsOwned owner (fails c l)
+  pub own-fails : (l : ClientLink) (c : List ℕ) → IsOwned owner l → IsOwned owner (fails c l)
   own-fails l c g = own-fail_at l c (l.line.subs c) g
 
-  pub own-closes_with : (l : Link) (code : ℕ) → IsOwned owner l → IsOwned owner (closes_with code l)
+  pub own-closes_with : (l : ClientLink) (code : ℕ) → IsOwned owner l → IsOwned owner (closes_with code l)
   own-closes_with l code g =
       by_test (λ (v : Line Note). IsOwned owner (with_line v l)) l.line.closed _ _ (λ h. g)
       (λ h. own-more l (closes (Close code) l.line) (Close code) refl g tt (λ c. tt))
 
-  pub own-reads : (l : Link) (c : List ℕ) (r : Reading) (s : Sub) → IsOwned owner l → l.line.subs c ≡ s → IsOwned owner (with_line (line_read_at c r s l.line) l)
+  pub own-reads : (l : ClientLink) (c : List ℕ) (r : Reading) (s : Sub) → IsOwned owner l → l.line.subs c ≡ s → IsOwned owner (with_line (line_read_at c r s l.line) l)
   own-reads l c r Off g e = g
   own-reads l c r (Asked k since arrived) g e = own-put l c (Ready k (is_some since) r arrived) g (subst (OwnSub owner l.client.fresh c) e (g.subs c))
   own-reads l c r (Ready k was x arrived) g e = g
   own-reads l c r (On p mark) g e = g
 
-  own-hears_subscribe : (refused : Bool) (l : Link) (c : List ℕ) (k : ℕ) (from : Option Position) (ks : List Sent) (s : Sub)
+  own-hears_subscribe : (refused : Bool) (l : ClientLink) (c : List ℕ) (k : ℕ) (from : Option Position) (ks : List SentCommand) (s : Sub)
       → IsOwned owner l → IsOwn owner l.client.fresh c k → OwnUps owner l.client.fresh ks → IsOwned owner (hears_subscribe refused c k from ks s l)
   own-hears_subscribe refused l c k from ks Off g h u =
       by_test (λ (v : Line Note). IsOwned owner (with_line v (is_heard k (Subscribe c from) ks l))) (l.line.closed || refused) _ _
@@ -199,44 +199,44 @@ module _ (owner : ℕ → List ℕ) (lists : Lists) where
   own-hears_subscribe refused l c k from ks (Ready i was r arrived) g h u = g
   own-hears_subscribe refused l c k from ks (On q mark) g h u = record { modes = g.modes; notes = g.notes; subs = g.subs; ups = u; done = (h, g.done) }
 
-  own-hears_errand : (refused : Bool) (l : Link) (id : ℕ) (e : Errand) (ks : List Sent) → IsOwned owner l → IsOwn owner l.client.fresh (channel_of e) id → OwnUps owner l.client.fresh ks
-      → IsOwned owner (hears_errand refused id e ks l)
-  own-hears_errand refused l id (Subscribe c from) ks g h u = own-hears_subscribe refused l c id from ks (l.line.subs c) g h u
-  own-hears_errand refused l id (Unsubscribe c) ks g h u = record {
+  own-hears_request : (refused : Bool) (l : ClientLink) (id : ℕ) (e : ClientRequest) (ks : List SentCommand) → IsOwned owner l → IsOwn owner l.client.fresh (channel_of e) id → OwnUps owner l.client.fresh ks
+      → IsOwned owner (hears_request refused id e ks l)
+  own-hears_request refused l id (Subscribe c from) ks g h u = own-hears_subscribe refused l c id from ks (l.line.subs c) g h u
+  own-hears_request refused l id (Unsubscribe c) ks g h u = record {
     modes = g.modes;
     notes = g.notes;
     ups = u;
     done = (h, g.done);
     subs = with-all (λ d s. OwnSub owner l.client.fresh d s) l.line.subs c Off tt (λ d ne. g.subs d);
   }
-  own-hears_errand refused l id (PublishErrand c body) ks g h u = record { modes = g.modes; notes = g.notes; subs = g.subs; ups = u; done = (h, g.done) }
-  own-hears_errand refused l id (History c limit) ks g h u = record { modes = g.modes; notes = g.notes; subs = g.subs; ups = u; done = (h, g.done) }
+  own-hears_request refused l id (PublishRequest c body) ks g h u = record { modes = g.modes; notes = g.notes; subs = g.subs; ups = u; done = (h, g.done) }
+  own-hears_request refused l id (History c limit) ks g h u = record { modes = g.modes; notes = g.notes; subs = g.subs; ups = u; done = (h, g.done) }
 
-  pub own-hears : (refused : Bool) (l : Link) (k : Sent) (ks : List Sent) → IsOwned owner l → IsOwn owner l.client.fresh (channel_of k.errand) k.id → OwnUps owner l.client.fresh ks
+  pub own-hears : (refused : Bool) (l : ClientLink) (k : SentCommand) (ks : List SentCommand) → IsOwned owner l → IsOwn owner l.client.fresh (channel_of k.request) k.id → OwnUps owner l.client.fresh ks
       → IsOwned owner (hears refused k ks l)
-  own-hears refused l k ks g h u = own-hears_errand refused l k.id k.errand ks g h u
+  own-hears refused l k ks g h u = own-hears_request refused l k.id k.request ks g h u
 
-  pub own-errs : (l : Link) (c : List ℕ) (k code : ℕ) → IsOwned owner l → IsOwn owner l.client.fresh c k → IsOwned owner (errs (wording lists) c k code l)
+  pub own-errs : (l : ClientLink) (c : List ℕ) (k code : ℕ) → IsOwned owner l → IsOwn owner l.client.fresh c k → IsOwned owner (errs (wording lists) c k code l)
   own-errs l c k code g h = by_test (IsOwned owner) (nat_lt k l.heard && not (is_waiting k (l.line.subs c))) _ _ (λ e. own-push l (Fails c k code) g h) (λ e. g)
 
-  OwnFound : ℕ → Option Sent → Type 0
+  OwnFound : ℕ → Option SentCommand → Type 0
   OwnFound fresh None = Unit {0}
-  OwnFound fresh (Some k) = IsOwn owner fresh (channel_of k.errand) k.id
+  OwnFound fresh (Some k) = IsOwn owner fresh (channel_of k.request) k.id
 
-  own-found : (fresh id : ℕ) (ks : List Sent) → OwnUps owner fresh ks → OwnFound fresh (find id ks)
+  own-found : (fresh id : ℕ) (ks : List SentCommand) → OwnUps owner fresh ks → OwnFound fresh (find id ks)
   unfolding OwnFound
   own-found fresh id [] h = tt
   own-found fresh id (k ∷ ks) h = by_test (OwnFound fresh) (k.id == id) _ _ (λ e. h.0) (λ e. own-found fresh id ks h.1)
 
-  pub own-errs_late : (l : Link) (k code : ℕ) → IsOwned owner l → IsOwned owner (errs_late (wording lists) k code l)
+  pub own-errs_late : (l : ClientLink) (k code : ℕ) → IsOwned owner l → IsOwned owner (errs_late (wording lists) k code l)
   unfolding OwnFound
   own-errs_late l k code g = of_command (find k l.done) (own-found l.client.fresh k l.done g.done)
     where
-      of_command : (o : Option Sent) → OwnFound l.client.fresh o → IsOwned owner (errs_for (wording lists) code o l)
+      of_command : (o : Option SentCommand) → OwnFound l.client.fresh o → IsOwned owner (errs_for (wording lists) code o l)
       of_command None h = g
-      of_command (Some x) h = own-errs l (channel_of x.errand) x.id code g h
+      of_command (Some x) h = own-errs l (channel_of x.request) x.id code g h
 
-  pub own-says : (l : Link) (n : Note) → IsOwned owner l → IsOwned owner (says (wording lists) n l)
+  pub own-says : (l : ClientLink) (n : Note) → IsOwned owner l → IsOwned owner (says (wording lists) n l)
   own-says l (Reply c id was r) g = g
   own-says l (Pub c q) g = g
   own-says l (End c) g = g
@@ -250,23 +250,23 @@ module _ (owner : ℕ → List ℕ) (lists : Lists) where
   own-idle : (fresh : ℕ) (c : List ℕ) (m : Mode) → OwnMode owner fresh c (idle m)
   own-idle fresh c m = tt
 
-  pub own-breaks : (l : Link) → IsOwned owner (breaks l)
+  pub own-breaks : (l : ClientLink) → IsOwned owner (breaks l)
   own-breaks l = record { modes = λ c. tt; notes = tt; subs = λ c. tt; ups = tt; done = tt }
 
-  own-hold_first : (l : Link) (ns : List Note) → IsOwned owner l → l.line.notes ≡ ns → IsOwned owner (hold_first ns l)
+  own-hold_first : (l : ClientLink) (ns : List Note) → IsOwned owner l → l.line.notes ≡ ns → IsOwned owner (hold_first ns l)
   own-hold_first l [] g e = g
   own-hold_first l (n ∷ ns) g e =
       let same : coming l ≡ (l.way ++ n ∷ []) ++ ns = rw e (sym (append_assoc l.way (n ∷ []) ns)) in
       subst (λ xs. IsOwnedWith owner xs (hold_first (n ∷ ns) l)) same
       (record { modes = g.modes; notes = g.notes; subs = g.subs; ups = g.ups; done = g.done })
 
-  pub own-holds : (l : Link) → IsOwned owner l → IsOwned owner (holds l)
+  pub own-holds : (l : ClientLink) → IsOwned owner l → IsOwned owner (holds l)
   own-holds l g = own-hold_first l l.line.notes g refl
 
-  own-taken : (l : Link) (n : Note) → IsOwnedWith owner (n ∷ coming l) l → IsOwned owner (record l { client = takes_note n l.client })
+  own-taken : (l : ClientLink) (n : Note) → IsOwnedWith owner (n ∷ coming l) l → IsOwned owner (record l { client = takes_note n l.client })
   own-taken l n g = record { modes = λ c. own-takes owner l.client.fresh c (l.client.modes c) n (g.modes c); notes = g.notes.1; subs = g.subs; ups = g.ups; done = g.done }
 
-  own-gets : (l : Link) (n : Note) → IsOwnedWith owner (n ∷ coming l) l → IsOwned owner (gets n l)
+  own-gets : (l : ClientLink) (n : Note) → IsOwnedWith owner (n ∷ coming l) l → IsOwned owner (gets n l)
   own-gets l (Close code) g = own-breaks l
   own-gets l (Reply d k was r) g = own-taken l (Reply d k was r) g
   own-gets l (Pub d q) g = own-taken l (Pub d q) g
@@ -277,13 +277,13 @@ module _ (owner : ℕ → List ℕ) (lists : Lists) where
   own-gets l (Listed d k at low count) g = own-taken l (Listed d k at low count) g
   own-gets l PingDue g = own-taken l PingDue g
 
-  own-receive_first : (l : Link) (ns : List Note) → IsOwned owner l → l.way ≡ ns → IsOwned owner (receive_first ns l)
+  own-receive_first : (l : ClientLink) (ns : List Note) → IsOwned owner l → l.way ≡ ns → IsOwned owner (receive_first ns l)
   own-receive_first l [] g e = g
   own-receive_first l (n ∷ ns) g e =
       let h : IsOwnedWith owner (n ∷ (ns ++ l.line.notes)) l = subst (λ xs. IsOwnedWith owner (xs ++ l.line.notes) l) e g in
       own-gets (record l { way = ns }) n (record { modes = h.modes; notes = h.notes; subs = h.subs; ups = h.ups; done = h.done })
 
-  pub own-receives : (l : Link) → IsOwned owner l → IsOwned owner (receives l)
+  pub own-receives : (l : ClientLink) → IsOwned owner l → IsOwned owner (receives l)
   own-receives l g = own-receive_first l l.way g refl
 
 -- ---- the fresh id is the channel's that is asked for
@@ -325,21 +325,21 @@ module _ (owner : ℕ → List ℕ) (fresh : ℕ) (x : List ℕ) where
   still-notes [] h = tt
   still-notes (n ∷ ns) h = (still-note n h.0, still-notes ns h.1)
 
-  still-ups : (ks : List Sent) → OwnUps owner fresh ks → OwnUps (owner_with owner fresh x) (suc fresh) ks
+  still-ups : (ks : List SentCommand) → OwnUps owner fresh ks → OwnUps (owner_with owner fresh x) (suc fresh) ks
   still-ups [] h = tt
-  still-ups (k ∷ ks) h = (still_own (channel_of k.errand) k.id h.0, still-ups ks h.1)
+  still-ups (k ∷ ks) h = (still_own (channel_of k.request) k.id h.0, still-ups ks h.1)
 
-ups-more : (owner : ℕ → List ℕ) (fresh : ℕ) (ks : List Sent) (k : Sent) → OwnUps owner fresh ks → IsOwn owner fresh (channel_of k.errand) k.id → OwnUps owner fresh (ks ++ k ∷ [])
+ups-more : (owner : ℕ → List ℕ) (fresh : ℕ) (ks : List SentCommand) (k : SentCommand) → OwnUps owner fresh ks → IsOwn owner fresh (channel_of k.request) k.id → OwnUps owner fresh (ks ++ k ∷ [])
 ups-more owner fresh [] k h i = (i, tt)
 ups-more owner fresh (x ∷ ks) k h i = (h.0, ups-more owner fresh ks k h.1 i)
 
-pub own-sends : (owner : ℕ → List ℕ) (l : Link) (e : Errand) → IsOwned owner l → IsOwned (owner_with owner l.client.fresh (channel_of e)) (sends e l)
+pub own-sends : (owner : ℕ → List ℕ) (l : ClientLink) (e : ClientRequest) → IsOwned owner l → IsOwned (owner_with owner l.client.fresh (channel_of e)) (sends e l)
 own-sends owner l (Subscribe c from) g = record {
   modes = with-all (λ d m. OwnMode (owner_with owner l.client.fresh c) (suc l.client.fresh) d m) l.client.modes c _ (own_fresh owner l.client.fresh c)
       (λ d ne. still-mode owner l.client.fresh c d (l.client.modes d) (g.modes d));
   notes = still-notes owner l.client.fresh c (coming l) g.notes;
   subs = λ d. still-sub owner l.client.fresh c d (l.line.subs d) (g.subs d);
-  ups = ups-more _ (suc l.client.fresh) l.up (record { id = l.client.fresh; errand = Subscribe c from }) (still-ups owner l.client.fresh c l.up g.ups) (own_fresh owner l.client.fresh c);
+  ups = ups-more _ (suc l.client.fresh) l.up (record { id = l.client.fresh; request = Subscribe c from }) (still-ups owner l.client.fresh c l.up g.ups) (own_fresh owner l.client.fresh c);
   done = still-ups owner l.client.fresh c l.done g.done;
 }
 own-sends owner l (Unsubscribe c) g = record {
@@ -347,21 +347,21 @@ own-sends owner l (Unsubscribe c) g = record {
       (λ d ne. still-mode owner l.client.fresh c d (l.client.modes d) (g.modes d));
   notes = still-notes owner l.client.fresh c (coming l) g.notes;
   subs = λ d. still-sub owner l.client.fresh c d (l.line.subs d) (g.subs d);
-  ups = ups-more _ (suc l.client.fresh) l.up (record { id = l.client.fresh; errand = Unsubscribe c }) (still-ups owner l.client.fresh c l.up g.ups) (own_fresh owner l.client.fresh c);
+  ups = ups-more _ (suc l.client.fresh) l.up (record { id = l.client.fresh; request = Unsubscribe c }) (still-ups owner l.client.fresh c l.up g.ups) (own_fresh owner l.client.fresh c);
   done = still-ups owner l.client.fresh c l.done g.done;
 }
-own-sends owner l (PublishErrand c body) g = record {
+own-sends owner l (PublishRequest c body) g = record {
   modes = λ d. still-mode owner l.client.fresh c d (l.client.modes d) (g.modes d);
   notes = still-notes owner l.client.fresh c (coming l) g.notes;
   subs = λ d. still-sub owner l.client.fresh c d (l.line.subs d) (g.subs d);
-  ups = ups-more _ (suc l.client.fresh) l.up (record { id = l.client.fresh; errand = PublishErrand c body }) (still-ups owner l.client.fresh c l.up g.ups) (own_fresh owner l.client.fresh c);
+  ups = ups-more _ (suc l.client.fresh) l.up (record { id = l.client.fresh; request = PublishRequest c body }) (still-ups owner l.client.fresh c l.up g.ups) (own_fresh owner l.client.fresh c);
   done = still-ups owner l.client.fresh c l.done g.done;
 }
 own-sends owner l (History c limit) g = record {
   modes = λ d. still-mode owner l.client.fresh c d (l.client.modes d) (g.modes d);
   notes = still-notes owner l.client.fresh c (coming l) g.notes;
   subs = λ d. still-sub owner l.client.fresh c d (l.line.subs d) (g.subs d);
-  ups = ups-more _ (suc l.client.fresh) l.up (record { id = l.client.fresh; errand = History c limit }) (still-ups owner l.client.fresh c l.up g.ups) (own_fresh owner l.client.fresh c);
+  ups = ups-more _ (suc l.client.fresh) l.up (record { id = l.client.fresh; request = History c limit }) (still-ups owner l.client.fresh c l.up g.ups) (own_fresh owner l.client.fresh c);
   done = still-ups owner l.client.fresh c l.done g.done;
 }
 

@@ -11,7 +11,7 @@ use Rattle.cf_schedule.specs.Trace.{Published as ToldPublished, Subscribed as To
 use Rattle.cf_schedule.specs.Marks.{Mark, Asks, Reads, Subscribed, Published, Stops}
 use Rattle.cf_schedule.specs.StreamSafety.{Safe, befell}
 use Rattle.cf_schedule.specs.Weights.{command_length, note_length}
-use Rattle.cf_schedule.specs.WorkedRows.{ann, bob, asks_again, asks_alone, breaks_first, keeping, leaves_first, lost, news, place, plain, recovered, tells_again, tells_lost, tells_pub, tells_recovered, tells_sub, told_by, two_come}
+use Rattle.cf_schedule.specs.Examples.{ann, bob, asks_again, asks_alone, breaks_first, keeping, leaves_first, lost, news, place, plain, recovered, tells_again, tells_lost, tells_pub, tells_recovered, tells_sub, told_by, two_come}
 
 -- a read that found so many publications, and so many held
 abbrev found : ℕ → ℕ → Mark
@@ -23,13 +23,13 @@ begun = Subscribed false (place 0) ∷ found 0 0 ∷ Asks false ∷ []
 
 -- ---- numbers of entries
 
-pub event_zero : Safe plain (lines two_come) (tells_pub 0 1 "1" ∷ []) → ⊥
+pub event_zero : Safe plain (lines two_come) (tells_sub 0 0 ∷ []) → ⊥
 event_zero h = let e : 1 ≤ 0 = h.numbered.0 in absurd (omega arith)
 
 pub past_the_end : Safe plain (lines two_come) (tells_sub 6 0 ∷ tells_pub 99 1 "1" ∷ []) → ⊥
 past_the_end h = let e : 99 ≤ 12 = h.numbered.2.1 in absurd (omega arith)
 
-pub out_of_order : Safe plain (lines two_come) (tells_sub 6 0 ∷ tells_pub 12 1 "1" ∷ tells_pub 11 2 "2" ∷ []) → ⊥
+pub out_of_order : Safe plain (lines two_come) (tells_sub 6 0 ∷ tells_pub 12 2 "2" ∷ tells_pub 11 1 "1" ∷ []) → ⊥
 out_of_order h = let e : 12 ≤ 11 = h.numbered.2.2.0 in absurd (omega arith)
 
 -- ---- one datum
@@ -98,9 +98,9 @@ false_lost h =
     let held : 3 ≤ 3 = omega arith in
     let e : false ≡ true = said.0.1 (refl, held) in absurd (cc)
 
-pub read_before_ask : Safe plain (lines asks_again) (tells_sub 6 0 ∷ tells_recovered 10 0 ∷ []) → ⊥
+pub read_before_ask : Safe plain (lines asks_again) (tells_sub 11 0 ∷ []) → ⊥
 unfolding note_length command_length command_text outgoing_text digits escape short_letter
-read_before_ask h = h.honest_recovery ann news (Asks true ∷ Stops ∷ begun) [] true (place 0) refl
+read_before_ask h = h.honest_recovery ann news (Asks false ∷ found 0 0 ∷ Asks false ∷ []) [] false (place 0) refl
 
 pub two_on_one_read : Safe plain (lines two_come) (tells_sub 6 0 ∷ tells_pub 11 1 "1" ∷ tells_sub 12 0 ∷ tells_pub 12 1 "1" ∷ []) → ⊥
 unfolding note_length command_length command_text outgoing_text digits escape short_letter

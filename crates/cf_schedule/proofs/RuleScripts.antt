@@ -9,13 +9,13 @@ use Rattle.cf_recovery.specs.Release.{run_length, falls_short}
 use Rattle.cf_stream.specs.StreamAnswer.{read_of}
 use Rattle.cf_schedule.specs.Weights.{command_length, note_length}
 use Rattle.cf_hub.specs.Connection.{rows}
-use Rattle.cf_schedule.specs.Link.{Link}
+use Rattle.cf_schedule.specs.ClientLink.{ClientLink}
 use Rattle.cf_schedule.specs.Refusals.{has_no_room, node_is_full, most_channels, most_rows}
 use Rattle.cf_schedule.specs.World.{World, start, rows_of}
 use Rattle.cf_schedule.specs.IntervalMachine.{run}
 use Rattle.cf_schedule.specs.Event.{Connect, PublishBy}
-use Rattle.cf_schedule.specs.WorkedRows.{ann, as_lines, news, place, plain, publishes, shown}
-use Rattle.cf_schedule.specs.RuleRows.{shown_from, two_nodes, of_a, barred, ones, at_last_offset, with_channels, stream_of_301, reading_from, not_recovered, first_places, reply_at_0, epoch_before_read, epoch_after_read, epoch_while_live, known_while_buffered, check_without_stream, check_of_another_epoch, check_clears, delivery_to_one_node, restart_of_one_node, node_that_is_not_there, first_colon, list_after_trim, trim_above, put_opens, list_opens, epochs_in_order, not_ready, leaves_refused, leaves_waiting, forget_before_recovery, fresh_again, no_such_publication, publish_elsewhere, unknown_channel, permission_denied, already_subscribed, last_offset, channel_128, channel_129, bad_channel, long_text}
+use Rattle.cf_schedule.specs.Examples.{ann, as_lines, keeping, news, place, plain, shown}
+use Rattle.cf_schedule.specs.RuleExamples.{shown_from, two_nodes, of_a, barred, ones, at_last_offset, with_channels, stream_of_301, reading_from, not_recovered, first_places, reply_at_0, epoch_before_read, epoch_after_read, epoch_while_live, known_while_buffered, check_without_stream, check_of_another_epoch, check_after_delivery, delivery_to_one_node, restart_of_one_node, node_that_is_not_there, first_colon, list_after_trim, trim_above, put_opens, list_opens, epochs_in_order, not_ready, leaves_refused, leaves_waiting, forget_before_recovery, fresh_again, no_such_publication, publish_elsewhere, unknown_channel, permission_denied, already_subscribed, last_offset, channel_128, channel_129, bad_channel, long_text}
 
 pub epoch_before_read_row : shown plain epoch_before_read ≡ as_lines ("ann news sub bbbb 0 fresh" ∷ "ann news again 2500" ∷ [])
 unfolding shown shown_from note_length command_length command_text outgoing_text digits escape short_letter
@@ -41,9 +41,9 @@ pub check_of_another_epoch_row : shown plain check_of_another_epoch ≡ as_lines
 unfolding shown shown_from note_length command_length command_text outgoing_text digits escape short_letter
 check_of_another_epoch_row = refl
 
-pub check_clears_row : shown plain check_clears ≡ as_lines ("ann news sub aaaa 0 fresh" ∷ "ann news pub aaaa 1 1" ∷ [])
+pub check_after_delivery_row : shown plain check_after_delivery ≡ as_lines ("ann news sub aaaa 0 fresh" ∷ "ann news pub aaaa 1 1" ∷ [])
 unfolding shown shown_from note_length command_length command_text outgoing_text digits escape short_letter
-check_clears_row = refl
+check_after_delivery_row = refl
 
 pub delivery_to_one_node_row : shown two_nodes delivery_to_one_node ≡ as_lines ("ann news sub aaaa 0 fresh" ∷ "bob news sub aaaa 0 fresh" ∷ "ann news pub aaaa 1 1" ∷ [])
 unfolding shown shown_from note_length command_length command_text outgoing_text digits escape short_letter
@@ -65,7 +65,7 @@ pub list_after_trim_row : shown plain list_after_trim ≡ as_lines ("ann news su
 unfolding shown shown_from note_length command_length command_text outgoing_text digits escape short_letter
 list_after_trim_row = refl
 
-pub trim_above_row : shown plain trim_above ≡ as_lines ("ann news sub aaaa 0 fresh" ∷ "ann news list aaaa 2 2" ∷ [])
+pub trim_above_row : shown (keeping 3) trim_above ≡ as_lines ("ann news sub aaaa 0 fresh" ∷ "ann news list aaaa 4 3" ∷ [])
 unfolding shown shown_from note_length command_length command_text outgoing_text digits escape short_letter
 trim_above_row = refl
 
@@ -177,7 +177,7 @@ pub put_without_epoch_row : ((run plain start (Connect ann 0 ∷ PublishBy ann n
 unfolding shown shown_from note_length command_length command_text outgoing_text digits escape short_letter
 put_without_epoch_row = refl
 
-pub full_node_row : (world : World) (link : Link) (node : ℕ) → link.node ≡ Some node → 65536 ≤ rows_of node world.links world.clients → has_no_room link world ≡ true
+pub full_node_row : (world : World) (link : ClientLink) (node : ℕ) → link.node ≡ Some node → 65536 ≤ rows_of node world.links world.clients → has_no_room link world ≡ true
 full_node_row world link node is many =
     let full : nat_le most_rows (rows_of node world.links world.clients) ≡ true = grind (arith, nat_tests) in
     ap (λ (o : Option ℕ). nat_le most_channels (rows link.line) || node_is_full o world) is ∙ or_true (nat_le most_channels (rows link.line)) _ full

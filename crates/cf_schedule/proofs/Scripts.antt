@@ -4,7 +4,7 @@ use Rattle.std.specs.Fmt.{digits}
 use Rattle.cf_json.specs.Quoting.{escape, short_letter}
 use Rattle.cf_protocol.specs.Written.{command_text, outgoing_text}
 use Rattle.cf_schedule.specs.Weights.{command_length, note_length}
-use Rattle.cf_schedule.specs.WorkedRows.{buffered_gap, buffered_reordering, delivery_after_node_restart, first_publication, gap_ends_subscription, keeping, late_but_there, leave_and_return, as_lines, lists_and_refusals, lost, new_epoch_after_restart, no_epoch_yet, plain, position_check, recovered, shown, take, two_breaks}
+use Rattle.cf_schedule.specs.Examples.{buffered_gap, buffered_reordering, delivery_after_node_restart, first_publication, gap_ends_subscription, keeping, late_but_there, leave_and_return, as_lines, lists_and_refusals, lost, new_epoch_after_restart, no_epoch_yet, plain, position_check, recovered, shown, take, two_breaks}
 
 pub first_publication_row : shown plain first_publication ≡ as_lines ("ann news sub aaaa 0 fresh" ∷ "ann news pub aaaa 1 {\"t\":1}" ∷ [])
 unfolding shown note_length command_length command_text outgoing_text digits escape short_letter

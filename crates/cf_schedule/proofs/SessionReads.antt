@@ -10,7 +10,7 @@ use Rattle.cf_schedule.specs.declared.halt.Halt.{Halt}
 use Rattle.cf_schedule.specs.declared.halt.Halt.TheVariants.{NotYet}
 use Rattle.std.specs.Result.{IsErrAnd}
 use Rattle.cf_protocol.specs.Checks.{longest_text}
-use Rattle.cf_schedule.specs.SessionCalls.{halt_of}
+use Rattle.cf_schedule.specs.Running.SessionCalls.{halt_of}
 use Rattle.cf_protocol.specs.declared.command.Command.{Command as CodeCommand}
 
 -- the last one, where there is no other

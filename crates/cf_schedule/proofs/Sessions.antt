@@ -17,7 +17,7 @@ use Rattle.cf_protocol.specs.Names.{with}
 use Rattle.cf_hub.specs.Connection.{Sub, Off, count_on, is_off, is_unfinished}
 use Rattle.cf_schedule.specs.declared.subscription.Subscription.{Subscription}
 use Rattle.cf_schedule.specs.declared.subscription.Subscription.TheVariants as code
-use Rattle.cf_schedule.specs.Subscription.{sub_of, kept_in, SetsAt}
+use Rattle.cf_schedule.specs.Running.Subscription.{sub_of, kept_in, SetsAt}
 
 -- a subscription that is there is not off
 pub there : (s : Subscription) → is_off (sub_of (Some s)) ≡ false

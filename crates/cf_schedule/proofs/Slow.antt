@@ -17,13 +17,13 @@ use Rattle.cf_stream.specs.StreamState.{StreamState, last_offset, with_one_more}
 use Rattle.cf_schedule.specs.Event.{Event, Publish, Deliver, Take}
 use Rattle.cf_schedule.specs.PublicationList.{Broker, Place, publication, publish, opened, open_at, add_at, list_with, stands_or_opens, is_full, body_at, body_of}
 use Rattle.cf_schedule.specs.Weights.{wording, note_length, command_length}
-use Rattle.cf_schedule.specs.Link.{Link, with_line, hold_first, holds, receive_first, receives, gets}
+use Rattle.cf_schedule.specs.ClientLink.{ClientLink, with_line, hold_first, holds, receive_first, receives, gets}
 use Rattle.cf_schedule.specs.World.{World, start, on_node, link_with, broker_with}
 use Rattle.cf_schedule.specs.IntervalMachine.{happens, allows, delivered, run, has_any}
 use Rattle.cf_schedule.specs.Trace.{Entry, Item, Published, Closed}
 use Rattle.cf_schedule.specs.Told.{trace, entries, items, first_items, pub_items}
 use Rattle.cf_schedule.specs.TraceLine.{printed, line_of}
-use Rattle.cf_schedule.specs.WorkedRows.{plain, ann, bob, both, both_subscribe, slow_consumer, too_much, shown, both_are_subscribed, pub_line, as_lines, place}
+use Rattle.cf_schedule.specs.Examples.{plain, ann, bob, both, both_subscribe, slow_consumer, too_much, shown, both_are_subscribed, pub_line, as_lines, place}
 
 -- how long the push of a publication is that no client published
 abbrev pub PushLength : Type 0
@@ -39,7 +39,7 @@ record Holds (b : Broker) (top held : ℕ) (ds : List Datum) (ps : List Place) :
   list : b.lists both (codes "aaaa") ≡ ds
   accepted : b.accepted ≡ ps
 
-record Looks (l : Link) (s : Sub) (ns : List Note) (shut : Bool) (seen : Position) : Type 0 where
+record Looks (l : ClientLink) (s : Sub) (ns : List Note) (shut : Bool) (seen : Position) : Type 0 where
   node : l.node ≡ Some 0
   sub : l.line.subs both ≡ s
   notes : l.line.notes ≡ ns
@@ -89,7 +89,7 @@ silent : (t : Bool) → (if t then none_told else none_told) ≡ none_told
 silent true = refl
 silent false = refl
 
-publish_then : (n : ℕ) (es : List Event) (out : List ℕ) (w : World) (top held : ℕ) (ds : List Datum) (ps : List Place) (body : List ℕ) (A B : Link → Type 0)
+publish_then : (n : ℕ) (es : List Event) (out : List ℕ) (w : World) (top held : ℕ) (ds : List Datum) (ps : List Place) (body : List ℕ) (A B : ClientLink → Type 0)
     → nat_lt top last_offset ≡ true → Holds w.broker top held ds ps → A (w.links ann) → B (w.links bob)
     → ((v : World) → Holds v.broker (top + 1) (min (held + 1) 100) (ds ++ nobody's body ∷ []) (ps ++ there (top + 1) ∷ []) → A (v.links ann) → B (v.links bob)
     → printed (trace plain (suc n) v es) ≡ out)
@@ -106,10 +106,10 @@ publish_then n es out w top held ds ps body A B room h a b next =
 
 -- ---- it is delivered
 
-abbrev deliver_to : Lists → Position → Link → Link
+abbrev deliver_to : Lists → Position → ClientLink → ClientLink
 deliver_to lists q l = if on_node 0 l.node then with_line (comes (wording lists) both q l.line) l else l
 
-deliver_then : (n i : ℕ) (es : List Event) (out : List ℕ) (w : World) (q : Position) (S : Broker → Type 0) (C D : Link → Type 0)
+deliver_then : (n i : ℕ) (es : List Event) (out : List ℕ) (w : World) (q : Position) (S : Broker → Type 0) (C D : ClientLink → Type 0)
     → publication i w.broker ≡ Some (record { channel = both; at = q }) → S w.broker
     → C (deliver_to w.broker.lists q (w.links ann)) → D (deliver_to w.broker.lists q (w.links bob))
     → ((v : World) → S v.broker → C (v.links ann) → D (v.links bob) → printed (trace plain (suc n) v es) ≡ out)
@@ -124,7 +124,7 @@ deliver_then n i es out w q S C D e s a b next =
     comes_to = ap (λ (o : Option Place). if is_some o then delivered 0 o w else w) e
 
 -- what the session makes of a delivery that it passes
-passed_line : (lists : Lists) (l : Link) (p q : Position) (ns : List Note) (seen : Position) → verdict p q ≡ Pass → Looks l (On p None) ns false seen
+passed_line : (lists : Lists) (l : ClientLink) (p q : Position) (ns : List Note) (seen : Position) → verdict p q ≡ Pass → Looks l (On p None) ns false seen
     → deliver_to lists q l ≡ with_line (push (wording lists) (Pub both q) (put_sub both (On q None) l.line)) l
 passed_line lists l p q ns seen passes h =
     ap (λ (o : Option ℕ). if on_node 0 o then with_line (comes (wording lists) both q l.line) l else l) h.node
@@ -143,11 +143,11 @@ push_closes w n l is_open passes =
     ap (λ (t : Bool). if t then l else (if nat_le (sum_by w.weight l.notes + w.weight n) most_waiting then record l { notes = l.notes ++ n ∷ [] } else closes w.slow l)) is_open
     ∙ ap (λ (t : Bool). if t then record l { notes = l.notes ++ n ∷ [] } else closes w.slow l) passes
 
-deliver_fits : (lists : Lists) (l : Link) (p q : Position) (ns : List Note) (seen : Position) → verdict p q ≡ Pass → Looks l (On p None) ns false seen
+deliver_fits : (lists : Lists) (l : ClientLink) (p q : Position) (ns : List Note) (seen : Position) → verdict p q ≡ Pass → Looks l (On p None) ns false seen
     → nat_le (sum_by (note_length lists) ns + note_length lists (Pub both q)) most_waiting ≡ true
     → Looks (deliver_to lists q l) (On q None) (ns ++ Pub both q ∷ []) false seen
 deliver_fits lists l p q ns seen passes h fits =
-    subst (λ (k : Link). Looks k (On q None) (ns ++ Pub both q ∷ []) false seen) (sym comes_to) (record {
+    subst (λ (k : ClientLink). Looks k (On q None) (ns ++ Pub both q ∷ []) false seen) (sym comes_to) (record {
       node = h.node;
       sub = refl;
       notes = ap (λ (ms : List Note). ms ++ Pub both q ∷ []) h.notes;
@@ -161,11 +161,11 @@ deliver_fits lists l p q ns seen passes h fits =
         (push_fits (wording lists) (Pub both q) (put_sub both (On q None) l.line) h.closed
         (ap (λ (ms : List Note). nat_le (sum_by (note_length lists) ms + note_length lists (Pub both q)) most_waiting) h.notes ∙ fits))
 
-deliver_closes : (lists : Lists) (l : Link) (p q : Position) (ns : List Note) (seen : Position) → verdict p q ≡ Pass → Looks l (On p None) ns false seen
+deliver_closes : (lists : Lists) (l : ClientLink) (p q : Position) (ns : List Note) (seen : Position) → verdict p q ≡ Pass → Looks l (On p None) ns false seen
     → nat_le (sum_by (note_length lists) ns + note_length lists (Pub both q)) most_waiting ≡ false
     → Looks (deliver_to lists q l) Off (ns ++ Close 3008 ∷ []) true seen
 deliver_closes lists l p q ns seen passes h over =
-    subst (λ (k : Link). Looks k Off (ns ++ Close 3008 ∷ []) true seen) (sym comes_to) (record {
+    subst (λ (k : ClientLink). Looks k Off (ns ++ Close 3008 ∷ []) true seen) (sym comes_to) (record {
       node = h.node;
       sub = refl;
       notes = ap (λ (ms : List Note). ms ++ Close 3008 ∷ []) h.notes;
@@ -181,16 +181,16 @@ deliver_closes lists l p q ns seen passes h over =
 
 -- ---- a note is taken
 
-taken : (l : Link) (s : Sub) (n : Note) (ns : List Note) (c : Bool) (seen : Position) → Looks l s (n ∷ ns) c seen
+taken : (l : ClientLink) (s : Sub) (n : Note) (ns : List Note) (c : Bool) (seen : Position) → Looks l s (n ∷ ns) c seen
     → receives (holds l) ≡ gets n (record l { line = record (l.line) { notes = ns }; way = [] })
 taken l s n ns c seen h =
     ap (λ (ms : List Note). receives (hold_first ms l)) h.notes
     ∙ ap (λ (ws : List Note). receive_first (ws ++ n ∷ []) (record l { line = record (l.line) { notes = ns }; way = ws ++ n ∷ [] })) h.way
 
-taken_pub : (l : Link) (s : Sub) (q : Position) (ns : List Note) (c : Bool) (seen : Position) → Looks l s (Pub both q ∷ ns) c seen
+taken_pub : (l : ClientLink) (s : Sub) (q : Position) (ns : List Note) (c : Bool) (seen : Position) → Looks l s (Pub both q ∷ ns) c seen
     → Looks (receives (holds l)) s ns c (moved_on seen q)
 taken_pub l s q ns c seen h =
-    subst (λ (k : Link). Looks k s ns c (moved_on seen q)) (sym (taken l s (Pub both q) ns c seen h)) (record {
+    subst (λ (k : ClientLink). Looks k s ns c (moved_on seen q)) (sym (taken l s (Pub both q) ns c seen h)) (record {
       node = h.node;
       sub = h.sub;
       notes = refl;
@@ -200,14 +200,14 @@ taken_pub l s q ns c seen h =
     })
 
 -- what its client is told
-first_told : (lists : Lists) (l : Link) (s : Sub) (n : Note) (ns : List Note) (c : Bool) (seen : Position) → Looks l s (n ∷ ns) c seen
+first_told : (lists : Lists) (l : ClientLink) (s : Sub) (n : Note) (ns : List Note) (c : Bool) (seen : Position) → Looks l s (n ∷ ns) c seen
     → first_items lists l.client (holds l).way ≡ items lists l.client n
 first_told lists l s n ns c seen h =
     ap (λ (ms : List Note). first_items lists l.client (hold_first ms l).way) h.notes
     ∙ ap (λ (ws : List Note). first_items lists l.client (ws ++ n ∷ [])) h.way
 
 -- whether it can be taken
-can_take : (l : Link) (s : Sub) (n : Note) (ns : List Note) (c : Bool) (seen : Position) → Looks l s (n ∷ ns) c seen
+can_take : (l : ClientLink) (s : Sub) (n : Note) (ns : List Note) (c : Bool) (seen : Position) → Looks l s (n ∷ ns) c seen
     → (is_some l.node && has_any l.line.notes) ≡ true
 can_take l s n ns c seen h =
     ap (λ (o : Option ℕ). is_some o && has_any l.line.notes) h.node ∙ ap has_any h.notes
@@ -243,7 +243,7 @@ weight_of_second law body = law both (codes "0") 2 (omega arith) (omega arith)
 body_there : (b : Broker) (top held : ℕ) (ds : List Datum) (ps : List Place) (o : ℕ) → Holds b top held ds ps → body_at b.lists both (place o) ≡ body_of (slice_get ds (o - 1))
 body_there b top held ds ps o h = ap (λ (es : List Datum). body_of (slice_get es (o - 1))) h.list
 
-told_pub : (b : Broker) (l : Link) (q : Position) (seen : Position) (text : List ℕ) → body_at b.lists both q ≡ text → l.client.modes both ≡ Live seen
+told_pub : (b : Broker) (l : ClientLink) (q : Position) (seen : Position) (text : List ℕ) → body_at b.lists both q ≡ text → l.client.modes both ≡ Live seen
     → items b.lists l.client (Pub both q) ≡ Published both (moved_on seen q) text ∷ []
 told_pub b l q seen text e m = ap (pub_items b.lists both q) m ∙ ap (λ (t : List ℕ). Published both (moved_on seen q) t ∷ []) e
 

@@ -9,8 +9,8 @@ use Rattle.cf_stream.specs.StreamAnswer.{read_of}
 use Rattle.cf_recovery.specs.Verdict.{next}
 use Rattle.cf_hub.specs.Connection.{Sub, Off, Asked, Ready, On}
 use Rattle.cf_client.specs.ClientState.{Mode, Idle, Asking, Live, takes}
-use Rattle.cf_schedule.specs.Errand.{Errand, Sent, Subscribe, Unsubscribe, Publish, History}
-use Rattle.cf_schedule.specs.Link.{Link}
+use Rattle.cf_schedule.specs.ClientRequest.{ClientRequest, SentCommand, Subscribe, Unsubscribe, Publish, History}
+use Rattle.cf_schedule.specs.ClientLink.{ClientLink}
 use Rattle.cf_schedule.specs.Leading.{coming}
 
 -- what was asked from an old position at an epoch's stream is not above that stream's top
@@ -43,20 +43,20 @@ Fits read c (Asking id from last) n = Unit {0}
 Fits read c (Live p) n = Unit {0}
 
 -- the last command for channel c that is on its way to the node
-abbrev pub or_else : Option Sent → Option Sent → Option Sent
+abbrev pub or_else : Option SentCommand → Option SentCommand → Option SentCommand
 or_else None b = b
 or_else (Some k) b = Some k
 
-abbrev pub bears_as : List ℕ → Sent → Errand → Option Sent
+abbrev pub bears_as : List ℕ → SentCommand → ClientRequest → Option SentCommand
 bears_as c k (Subscribe d from) = if bytes_eq d c then Some k else None
 bears_as c k (Unsubscribe d) = if bytes_eq d c then Some k else None
 bears_as c k (Publish d body) = None
 bears_as c k (History d limit) = None
 
-abbrev pub bears : List ℕ → Sent → Option Sent
-bears c k = bears_as c k k.errand
+abbrev pub bears : List ℕ → SentCommand → Option SentCommand
+bears c k = bears_as c k k.request
 
-abbrev pub due : List ℕ → List Sent → Option Sent
+abbrev pub due : List ℕ → List SentCommand → Option SentCommand
 due c [] = None
 due c (k ∷ ks) = or_else (due c ks) (bears c k)
 
@@ -82,7 +82,7 @@ AreOld bound [] = Unit {0}
 AreOld bound (n ∷ ns) = IsOld bound n × AreOld bound ns
 
 -- ids of commands on their way to the node rise, from this bound to that
-abbrev pub Rises : ℕ → List Sent → ℕ → Type 0
+abbrev pub Rises : ℕ → List SentCommand → ℕ → Type 0
 Rises bound [] fresh = bound ≤ fresh
 Rises bound (k ∷ ks) fresh = (bound ≤ k.id) × Rises (suc k.id) ks fresh
 
@@ -100,16 +100,16 @@ abbrev pub Leads : Option StreamState → List ℕ → Mode → List Note → Su
 Leads read c m [] s = Agrees read m s
 Leads read c m (n ∷ ns) s = Fits read c m n × Leads read c (takes c m n) ns s
 
-abbrev pub Awaits : Mode → ℕ → Errand → Type 0
+abbrev pub Awaits : Mode → ℕ → ClientRequest → Type 0
 Awaits m id (Subscribe d from) = AsksFor id from m
 Awaits m id (Unsubscribe d) = IsIdle m
 Awaits m id (Publish d body) = ⊥
 Awaits m id (History d limit) = ⊥
 
 -- where a command for c is still on its way, the client asks or is idle by it; else all leads on
-abbrev pub Stands : Option StreamState → List ℕ → Mode → List Note → Sub → Option Sent → Type 0
+abbrev pub Stands : Option StreamState → List ℕ → Mode → List Note → Sub → Option SentCommand → Type 0
 Stands read c m ns s None = Leads read c m ns s
-Stands read c m ns s (Some k) = Awaits m k.id k.errand
+Stands read c m ns s (Some k) = Awaits m k.id k.request
 
 abbrev pub IsSubOld : ℕ → Sub → Type 0
 IsSubOld bound Off = Unit {0}
@@ -118,7 +118,7 @@ IsSubOld bound (Ready k was r arrived) = k < bound
 IsSubOld bound (On p mark) = Unit {0}
 
 -- THE INVARIANT OF A LINK to whose client these notes are coming. `found` is, by channel, the stream as the last read found it.
-pub record IsGoodWith (found : List ℕ → Option StreamState) (ns : List Note) (l : Link) : Type 0 where
+pub record IsGoodWith (found : List ℕ → Option StreamState) (ns : List Note) (l : ClientLink) : Type 0 where
   pub stands : (c : List ℕ) → Stands (found c) c (l.client.modes c) ns (l.line.subs c) (due c l.up)
   pub rises : Rises l.heard l.up l.client.fresh
   pub old : AreOld l.heard ns
@@ -126,5 +126,5 @@ pub record IsGoodWith (found : List ℕ → Option StreamState) (ns : List Note)
   pub unclosed : l.line.closed ≡ false → IsOpen ns
   pub shut : l.line.closed ≡ true → (c : List ℕ) → l.line.subs c ≡ Off
 
-abbrev pub IsGood : (List ℕ → Option StreamState) → Link → Type 0
+abbrev pub IsGood : (List ℕ → Option StreamState) → ClientLink → Type 0
 IsGood found l = IsGoodWith found (coming l) l

@@ -8,14 +8,14 @@ use Rattle.cf_stream.specs.StreamAnswer.{listed_above}
 use Rattle.cf_hub.specs.Connection.{Sub, Off, Asked, Ready, On}
 use Rattle.cf_schedule.specs.Config.{Config}
 use Rattle.cf_schedule.specs.Event.{Event, Ask, AskFrom, Read, Take, Break, Leave, Restart}
-use Rattle.cf_schedule.specs.Errand.{Errand, Sent, Subscribe, Unsubscribe, Publish as PublishErrand, History, channel_of}
+use Rattle.cf_schedule.specs.ClientRequest.{ClientRequest, SentCommand, Subscribe, Unsubscribe, Publish as PublishRequest, History, channel_of}
 use Rattle.cf_schedule.specs.PublicationList.{Broker, tops, opened}
 use Rattle.cf_schedule.specs.Weights.{wording}
-use Rattle.cf_schedule.specs.Link.{Link, hears_subscribe, hears_errand, hears, is_waiting, errs, find, errs_for, errs_late, says, fail_at, hold_first, holds}
+use Rattle.cf_schedule.specs.ClientLink.{ClientLink, hears_subscribe, hears_request, hears, is_waiting, errs, find, errs_for, errs_late, says, fail_at, hold_first, holds}
 use Rattle.cf_schedule.specs.World.{World, on_node}
 use Rattle.cf_schedule.specs.Refusals.{Judgement, Unheard, TooLong, Refused, Accepted, bad_message}
 use Rattle.cf_schedule.specs.IntervalMachine.{size_of, datum_by, carried_out, broker_by, closes_by, listing, answer_to, answer_by}
-use Rattle.cf_schedule.specs.LooseRun.{Happening, Line as LineOf, SendAsk, SendAskFrom, SendLeave, Receive, loosely_allows}
+use Rattle.cf_schedule.specs.LooseRun.{Happening, Scheduled, SendAsk, SendAskFrom, SendLeave, Receive, loosely_allows}
 use Rattle.cf_schedule.specs.Marks.{Mark, Asks, Stops, only, read_marks}
 use Rattle.cf_schedule.proofs.Automaton.{Seen, sees_all, AreSound, IsWhole}
 use Rattle.cf_schedule.proofs.Names.{by_test}
@@ -53,7 +53,7 @@ step_marks x c w (Restart n) = if on_node n (w.links x).node then Stops ∷ [] e
 step_marks x c w e = []
 
 abbrev pub loose_marks : List ℕ → List ℕ → World → Happening → List Mark
-loose_marks x c w (LineOf e) = step_marks x c w e
+loose_marks x c w (Scheduled e) = step_marks x c w e
 loose_marks x c w (SendAsk y d) = only x y (only c d (Asks false ∷ []))
 loose_marks x c w (SendAskFrom y d) = only x y (only c d (Asks true ∷ []))
 loose_marks x c w (SendLeave y d) = only x y (only c d (Stops ∷ []))
@@ -64,32 +64,32 @@ abbrev pub marks : Config → List ℕ → List ℕ → World → Happening → 
 marks cfg x c w h = if loosely_allows cfg w h then loose_marks x c w h else []
 
 -- the client's side is left alone
-client-hears_subscribe : (refused : Bool) (c : List ℕ) (k : ℕ) (from : Option Position) (ks : List Sent) (s : Sub) (l : Link) → (hears_subscribe refused c k from ks s l).client ≡ l.client
+client-hears_subscribe : (refused : Bool) (c : List ℕ) (k : ℕ) (from : Option Position) (ks : List SentCommand) (s : Sub) (l : ClientLink) → (hears_subscribe refused c k from ks s l).client ≡ l.client
 client-hears_subscribe refused c k from ks Off l = refl
 client-hears_subscribe refused c k from ks (Asked i since arrived) l = refl
 client-hears_subscribe refused c k from ks (Ready i was r arrived) l = refl
 client-hears_subscribe refused c k from ks (On q mark) l = refl
 
-client-hears_errand : (refused : Bool) (id : ℕ) (e : Errand) (ks : List Sent) (l : Link) → (hears_errand refused id e ks l).client ≡ l.client
-client-hears_errand refused id (Subscribe c from) ks l = client-hears_subscribe refused c id from ks (l.line.subs c) l
-client-hears_errand refused id (Unsubscribe c) ks l = refl
-client-hears_errand refused id (PublishErrand c body) ks l = refl
-client-hears_errand refused id (History c limit) ks l = refl
+client-hears_request : (refused : Bool) (id : ℕ) (e : ClientRequest) (ks : List SentCommand) (l : ClientLink) → (hears_request refused id e ks l).client ≡ l.client
+client-hears_request refused id (Subscribe c from) ks l = client-hears_subscribe refused c id from ks (l.line.subs c) l
+client-hears_request refused id (Unsubscribe c) ks l = refl
+client-hears_request refused id (PublishRequest c body) ks l = refl
+client-hears_request refused id (History c limit) ks l = refl
 
-pub client-hears : (refused : Bool) (k : Sent) (ks : List Sent) (l : Link) → (hears refused k ks l).client ≡ l.client
-client-hears refused k ks l = client-hears_errand refused k.id k.errand ks l
+pub client-hears : (refused : Bool) (k : SentCommand) (ks : List SentCommand) (l : ClientLink) → (hears refused k ks l).client ≡ l.client
+client-hears refused k ks l = client-hears_request refused k.id k.request ks l
 
-pub client-errs : (lists : Lists) (c : List ℕ) (k code : ℕ) (l : Link) → (errs (wording lists) c k code l).client ≡ l.client
-client-errs lists c k code l = by_test (λ (v : Link). v.client ≡ l.client) (nat_lt k l.heard && not (is_waiting k (l.line.subs c))) _ _ (λ h. refl) (λ h. refl)
+pub client-errs : (lists : Lists) (c : List ℕ) (k code : ℕ) (l : ClientLink) → (errs (wording lists) c k code l).client ≡ l.client
+client-errs lists c k code l = by_test (λ (v : ClientLink). v.client ≡ l.client) (nat_lt k l.heard && not (is_waiting k (l.line.subs c))) _ _ (λ h. refl) (λ h. refl)
 
-pub client-errs_late : (lists : Lists) (k code : ℕ) (l : Link) → (errs_late (wording lists) k code l).client ≡ l.client
+pub client-errs_late : (lists : Lists) (k code : ℕ) (l : ClientLink) → (errs_late (wording lists) k code l).client ≡ l.client
 client-errs_late lists k code l = of_command (find k l.done)
   where
-    of_command : (o : Option Sent) → (errs_for (wording lists) code o l).client ≡ l.client
+    of_command : (o : Option SentCommand) → (errs_for (wording lists) code o l).client ≡ l.client
     of_command None = refl
-    of_command (Some x) = client-errs lists (channel_of x.errand) x.id code l
+    of_command (Some x) = client-errs lists (channel_of x.request) x.id code l
 
-pub client-says : (lists : Lists) (n : Note) (l : Link) → (says (wording lists) n l).client ≡ l.client
+pub client-says : (lists : Lists) (n : Note) (l : ClientLink) → (says (wording lists) n l).client ≡ l.client
 client-says lists (Reply c id was r) l = refl
 client-says lists (Pub c q) l = refl
 client-says lists (End c) l = refl
@@ -100,18 +100,18 @@ client-says lists (Listed c id at low count) l = refl
 client-says lists PingDue l = refl
 client-says lists (Close code) l = refl
 
-pub client-fail_at : (c : List ℕ) (s : Sub) (l : Link) → (fail_at c s l).client ≡ l.client
+pub client-fail_at : (c : List ℕ) (s : Sub) (l : ClientLink) → (fail_at c s l).client ≡ l.client
 client-fail_at c Off l = refl
 client-fail_at c (Asked k since arrived) l = refl
 client-fail_at c (Ready k was r arrived) l = refl
 client-fail_at c (On q mark) l = refl
 
-pub client-hold_first : (ns : List Note) (l : Link) → (hold_first ns l).client ≡ l.client
+pub client-hold_first : (ns : List Note) (l : ClientLink) → (hold_first ns l).client ≡ l.client
 client-hold_first [] l = refl
 client-hold_first (n ∷ ns) l = refl
 
 -- What was read may change where the client is not asking, or its command is still on its way.
-pub same-found : (found other : List ℕ → Option StreamState) (l : Link) → ((c : List ℕ) → (other c ≡ found c) ⊎ IsFree (l.client.modes c) (due c l.up)) → IsGood found l → IsGood other l
+pub same-found : (found other : List ℕ → Option StreamState) (l : ClientLink) → ((c : List ℕ) → (other c ≡ found c) ⊎ IsFree (l.client.modes c) (due c l.up)) → IsGood found l → IsGood other l
 same-found found other l e g = record {
   stands = λ c. elim (e c) [
     | inl same ↦ rw same (g.stands c)
@@ -126,32 +126,32 @@ same-found found other l e g = record {
 
 -- ---- commands that are heard and answered
 
-pub closes_by-good : (found : List ℕ → Option StreamState) (lists : Lists) (j : Judgement) (l : Link) → IsGood found l → IsGood found (closes_by j l)
+pub closes_by-good : (found : List ℕ → Option StreamState) (lists : Lists) (j : Judgement) (l : ClientLink) → IsGood found l → IsGood found (closes_by j l)
 closes_by-good found lists Unheard l g = g
 closes_by-good found lists TooLong l g = good-closes_with found lists l bad_message g
 closes_by-good found lists (Refused code) l g = g
 closes_by-good found lists Accepted l g = g
 
-pub closes_by-bounded : (top : List ℕ → List ℕ → ℕ) (lists : Lists) (j : Judgement) (l : Link) → IsBounded top l → IsBounded top (closes_by j l)
+pub closes_by-bounded : (top : List ℕ → List ℕ → ℕ) (lists : Lists) (j : Judgement) (l : ClientLink) → IsBounded top l → IsBounded top (closes_by j l)
 closes_by-bounded top lists Unheard l g = g
 closes_by-bounded top lists TooLong l g = bounded-closes_with top lists l bad_message g
 closes_by-bounded top lists (Refused code) l g = g
 closes_by-bounded top lists Accepted l g = g
 
-pub closes_by-client : (j : Judgement) (l : Link) → (closes_by j l).client ≡ l.client
+pub closes_by-client : (j : Judgement) (l : ClientLink) → (closes_by j l).client ≡ l.client
 closes_by-client Unheard l = refl
 closes_by-client TooLong l = refl
 closes_by-client (Refused code) l = refl
 closes_by-client Accepted l = refl
 
 -- what an accepted command makes of the broker
-steady-carried : (cfg : Config) (l : Link) (e : Errand) (b : Broker) → IsSteady b → IsSteady (carried_out cfg l e b)
+steady-carried : (cfg : Config) (l : ClientLink) (e : ClientRequest) (b : Broker) → IsSteady b → IsSteady (carried_out cfg l e b)
 steady-carried cfg l (Subscribe c from) b g = g
 steady-carried cfg l (Unsubscribe c) b g = g
-steady-carried cfg l (PublishErrand c body) b g = steady-publish (size_of cfg c) c (datum_by l body) b g
+steady-carried cfg l (PublishRequest c body) b g = steady-publish (size_of cfg c) c (datum_by l body) b g
 steady-carried cfg l (History c limit) b g = steady-opened c b g
 
-pub steady-broker_by : (cfg : Config) (l : Link) (e : Errand) (j : Judgement) (b : Broker) → IsSteady b → IsSteady (broker_by cfg l e j b)
+pub steady-broker_by : (cfg : Config) (l : ClientLink) (e : ClientRequest) (j : Judgement) (b : Broker) → IsSteady b → IsSteady (broker_by cfg l e j b)
 steady-broker_by cfg l e Unheard b g = g
 steady-broker_by cfg l e TooLong b g = g
 steady-broker_by cfg l e (Refused code) b g = g
@@ -160,63 +160,63 @@ steady-broker_by cfg l e Accepted b g = steady-carried cfg l e b g
 pub same-tops : (a b : Lists) → b ≡ a → (d i : List ℕ) → tops a d i ≤ tops b d i
 same-tops a b e d i = rw e (le_refl _)
 
-tops-carried : (cfg : Config) (l : Link) (e : Errand) (b : Broker) (d i : List ℕ) → tops b.lists d i ≤ tops (carried_out cfg l e b).lists d i
+tops-carried : (cfg : Config) (l : ClientLink) (e : ClientRequest) (b : Broker) (d i : List ℕ) → tops b.lists d i ≤ tops (carried_out cfg l e b).lists d i
 tops-carried cfg l (Subscribe c from) b d i = le_refl _
 tops-carried cfg l (Unsubscribe c) b d i = le_refl _
-tops-carried cfg l (PublishErrand c body) b d i = tops-publish (size_of cfg c) c (datum_by l body) b d i
+tops-carried cfg l (PublishRequest c body) b d i = tops-publish (size_of cfg c) c (datum_by l body) b d i
 tops-carried cfg l (History c limit) b d i = same-tops b.lists (opened c b).lists (lists-opened c b) d i
 
-pub tops-broker_by : (cfg : Config) (l : Link) (e : Errand) (j : Judgement) (b : Broker) (d i : List ℕ) → tops b.lists d i ≤ tops (broker_by cfg l e j b).lists d i
+pub tops-broker_by : (cfg : Config) (l : ClientLink) (e : ClientRequest) (j : Judgement) (b : Broker) (d i : List ℕ) → tops b.lists d i ≤ tops (broker_by cfg l e j b).lists d i
 tops-broker_by cfg l e Unheard b d i = le_refl _
 tops-broker_by cfg l e TooLong b d i = le_refl _
 tops-broker_by cfg l e (Refused code) b d i = le_refl _
 tops-broker_by cfg l e Accepted b d i = tops-carried cfg l e b d i
 
 -- the answer to a command
-pub answer-good : (found : List ℕ → Option StreamState) (lists : Lists) (b : Broker) (k : Sent) (j : Judgement) (l : Link) → IsGood found l → IsGood found (answer_by (wording lists) b k j l)
+pub answer-good : (found : List ℕ → Option StreamState) (lists : Lists) (b : Broker) (k : SentCommand) (j : Judgement) (l : ClientLink) → IsGood found l → IsGood found (answer_by (wording lists) b k j l)
 answer-good found lists b k Unheard l g = g
 answer-good found lists b k TooLong l g = g
-answer-good found lists b k (Refused code) l g = good-errs found lists l (channel_of k.errand) k.id code g
-answer-good found lists b k Accepted l g = by_errand k.errand
+answer-good found lists b k (Refused code) l g = good-errs found lists l (channel_of k.request) k.id code g
+answer-good found lists b k Accepted l g = by_request k.request
   where
     listed : (c : List ℕ) (limit : ℤ) (o : Option StreamState) → IsGood found (listing (wording lists) c k.id limit o l)
     listed c limit None = g
     listed c limit (Some s) = good-says found lists l (Listed c k.id (listed_above 0 limit s).at (listed_above 0 limit s).low (listed_above 0 limit s).count) g
 
-    by_errand : (e : Errand) → IsGood found (answer_to (wording lists) b k.id e l)
-    by_errand (Subscribe c from) = g
-    by_errand (Unsubscribe c) = good-says found lists l (Left k.id) g
-    by_errand (PublishErrand c body) = good-says found lists l (PutDone k.id) g
-    by_errand (History c limit) = listed c limit (b.streams c)
+    by_request : (e : ClientRequest) → IsGood found (answer_to (wording lists) b k.id e l)
+    by_request (Subscribe c from) = g
+    by_request (Unsubscribe c) = good-says found lists l (Left k.id) g
+    by_request (PublishRequest c body) = good-says found lists l (PutDone k.id) g
+    by_request (History c limit) = listed c limit (b.streams c)
 
-pub answer-bounded : (top : List ℕ → List ℕ → ℕ) (lists : Lists) (b : Broker) (k : Sent) (j : Judgement) (l : Link) → IsBounded top l → IsBounded top (answer_by (wording lists) b k j l)
+pub answer-bounded : (top : List ℕ → List ℕ → ℕ) (lists : Lists) (b : Broker) (k : SentCommand) (j : Judgement) (l : ClientLink) → IsBounded top l → IsBounded top (answer_by (wording lists) b k j l)
 answer-bounded top lists b k Unheard l g = g
 answer-bounded top lists b k TooLong l g = g
-answer-bounded top lists b k (Refused code) l g = bounded-errs top lists l (channel_of k.errand) k.id code g
-answer-bounded top lists b k Accepted l g = by_errand k.errand
+answer-bounded top lists b k (Refused code) l g = bounded-errs top lists l (channel_of k.request) k.id code g
+answer-bounded top lists b k Accepted l g = by_request k.request
   where
     listed : (c : List ℕ) (limit : ℤ) (o : Option StreamState) → IsBounded top (listing (wording lists) c k.id limit o l)
     listed c limit None = g
     listed c limit (Some s) = bounded-says top lists l (Listed c k.id (listed_above 0 limit s).at (listed_above 0 limit s).low (listed_above 0 limit s).count) g
 
-    by_errand : (e : Errand) → IsBounded top (answer_to (wording lists) b k.id e l)
-    by_errand (Subscribe c from) = g
-    by_errand (Unsubscribe c) = bounded-says top lists l (Left k.id) g
-    by_errand (PublishErrand c body) = bounded-says top lists l (PutDone k.id) g
-    by_errand (History c limit) = listed c limit (b.streams c)
+    by_request : (e : ClientRequest) → IsBounded top (answer_to (wording lists) b k.id e l)
+    by_request (Subscribe c from) = g
+    by_request (Unsubscribe c) = bounded-says top lists l (Left k.id) g
+    by_request (PublishRequest c body) = bounded-says top lists l (PutDone k.id) g
+    by_request (History c limit) = listed c limit (b.streams c)
 
-pub answer_client : (lists : Lists) (b : Broker) (k : Sent) (j : Judgement) (l : Link) → (answer_by (wording lists) b k j l).client ≡ l.client
+pub answer_client : (lists : Lists) (b : Broker) (k : SentCommand) (j : Judgement) (l : ClientLink) → (answer_by (wording lists) b k j l).client ≡ l.client
 answer_client lists b k Unheard l = refl
 answer_client lists b k TooLong l = refl
-answer_client lists b k (Refused code) l = client-errs lists (channel_of k.errand) k.id code l
-answer_client lists b k Accepted l = by_errand k.errand
+answer_client lists b k (Refused code) l = client-errs lists (channel_of k.request) k.id code l
+answer_client lists b k Accepted l = by_request k.request
   where
     listed : (c : List ℕ) (limit : ℤ) (o : Option StreamState) → (listing (wording lists) c k.id limit o l).client ≡ l.client
     listed c limit None = refl
     listed c limit (Some s) = client-says lists (Listed c k.id (listed_above 0 limit s).at (listed_above 0 limit s).low (listed_above 0 limit s).count) l
 
-    by_errand : (e : Errand) → (answer_to (wording lists) b k.id e l).client ≡ l.client
-    by_errand (Subscribe c from) = refl
-    by_errand (Unsubscribe c) = client-says lists (Left k.id) l
-    by_errand (PublishErrand c body) = client-says lists (PutDone k.id) l
-    by_errand (History c limit) = listed c limit (b.streams c)
+    by_request : (e : ClientRequest) → (answer_to (wording lists) b k.id e l).client ≡ l.client
+    by_request (Subscribe c from) = refl
+    by_request (Unsubscribe c) = client-says lists (Left k.id) l
+    by_request (PublishRequest c body) = client-says lists (PutDone k.id) l
+    by_request (History c limit) = listed c limit (b.streams c)

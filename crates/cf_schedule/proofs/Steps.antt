@@ -11,20 +11,20 @@ use Rattle.cf_hub.specs.Connection.{Sub, Off, Asked, Ready, On, Line, put_sub, r
 use Rattle.cf_client.specs.ClientState.{Mode, Idle, Asking, Live, Client, last_of, idle, takes}
 use Rattle.cf_schedule.specs.Config.{Config}
 use Rattle.cf_schedule.specs.Event.{Event, Epoch, Connect, Ask, AskFrom, Read, Finish, Publish, PublishBy, Deliver, Take, Break, Leave, Trim, Forget, BrokerRestart, Restart, Check, ListHistory}
-use Rattle.cf_schedule.specs.Errand.{Errand, Sent, Subscribe, Unsubscribe, Publish as PublishErrand, History}
+use Rattle.cf_schedule.specs.ClientRequest.{ClientRequest, SentCommand, Subscribe, Unsubscribe, Publish as PublishRequest, History}
 use Rattle.cf_schedule.specs.PublicationList.{Place, Broker, tops, publication, epoch_comes, opened, opened_in, publish, trim, forget, forget_all, stands_at}
 use Rattle.cf_schedule.specs.Weights.{wording}
-use Rattle.cf_schedule.specs.Link.{Link, with_line, sends, hears, errs_late, says, fails, finishes_over, breaks, holds, receive_first}
+use Rattle.cf_schedule.specs.ClientLink.{ClientLink, with_line, sends, hears, errs_late, says, fails, finishes_over, breaks, holds, receive_first}
 use Rattle.cf_schedule.specs.World.{World, start, link_with, broker_with, on_node, is_ready}
 use Rattle.cf_schedule.specs.Refusals.{Judgement, judged}
 use Rattle.cf_schedule.specs.IntervalMachine.{size_of, sent, broker_by, closes_by, is_refused, heard_as, answer_by, answered, command_by, judgement, exchange, id_left, nothing_sent, can_command, idle_at, allows, connects, read_found, read_at, delivered, restarts, effect}
-use Rattle.cf_schedule.specs.LooseRun.{Happening, Line as LineOf, SendAsk, SendAskFrom, SendLeave, SendPublish, SendHistory, Hear, Hold, Receive, ErrorEnters, NoteEnters, Fail, FinishOver, CloseNow, CheckAgainst, Join, PublishAny, OpenIn, failed_if, hear_first, loose_effect, loosely_allows, befalls, loose_run}
+use Rattle.cf_schedule.specs.LooseRun.{Happening, Scheduled, SendAsk, SendAskFrom, SendLeave, SendPublish, SendHistory, Hear, Hold, Receive, ErrorEnters, NoteEnters, Fail, FinishOver, CloseNow, CheckAgainst, Join, PublishAny, OpenIn, failed_if, hear_first, loose_effect, loosely_allows, befalls, loose_run}
 use Rattle.cf_schedule.specs.Marks.{Mark, Asks, Reads, Stops, only, read_mark, read_marks}
 use Rattle.cf_schedule.proofs.Automaton.{Seen, sees, sees_all, nothing_seen, IsSafe}
 use Rattle.cf_schedule.proofs.Names.{text_tells, itself, by_test, both_test, with-same, with-all, with-both}
 use Rattle.cf_schedule.proofs.Standing.{due, IsGoodWith, IsGood}
 use Rattle.cf_schedule.proofs.Leading.{IsSettled, IsFree, settled-free, next-comes, due-more, due-bound}
-use Rattle.cf_schedule.proofs.Within.{LastWithin, SubWithin, ErrandWithin, IsBounded, HasTop, IsSteady}
+use Rattle.cf_schedule.proofs.Within.{LastWithin, SubWithin, RequestWithin, IsBounded, HasTop, IsSteady}
 use Rattle.cf_schedule.proofs.Keeping.{good-closes_with, good-comes, good-finishes, good-finishes_over, good-sends}
 use Rattle.cf_schedule.proofs.Hearing.{good-hears, good-errs_late, good-says, good-fails, good-reads, good-breaks, good-holds, good-receive_first, good_checks}
 use Rattle.cf_schedule.proofs.Bounding.{within-last_of, bounded-comes, bounded-finishes, bounded-finishes_over, bounded-closes_with, bounded-sends, bounded-hears, bounded-errs_late, bounded-says, bounded-fails, bounded-reads, bounded-breaks, bounded-holds, bounded-receive_first, bounded_checks}
@@ -40,7 +40,7 @@ afterwards : (seen : List ℕ → List ℕ → Seen) (v w : World) (ms : List �
     → IsStep seen v ms → IsStep (λ x c. sees_all (seen x c) (ms x c)) w (λ x c. []) → IsStep seen w ms
 afterwards seen v w ms a b = record { fine = b.fine; safe = a.safe }
 
-modes-take : (n : Note) (ns : List Note) (l : Link) (c : List ℕ) → (receive_first (n ∷ ns) l).client.modes c ≡ takes c (l.client.modes c) n
+modes-take : (n : Note) (ns : List Note) (l : ClientLink) (c : List ℕ) → (receive_first (n ∷ ns) l).client.modes c ≡ takes c (l.client.modes c) n
 modes-take (Reply d k was r) ns l c = refl
 modes-take (Pub d q) ns l c = refl
 modes-take (End d) ns l c = refl
@@ -83,7 +83,7 @@ module _ (seen : List ℕ → List ℕ → Seen) (w : World) (f : IsFine seen w)
       many (broker_with b w) (λ x c. []) steady f.good (λ x. grow-link (tops w.broker.lists) (tops b.lists) grow (w.links x) (f.bounded x)) (λ x c. (tt, tt, f.knows x c))
 
   -- one client's link, and perhaps the broker and the counts
-  one : (b : Broker) (boots counters : ℕ → ℕ) (clients : List (List ℕ)) (y : List ℕ) (l : Link) (at : List ℕ → List Mark)
+  one : (b : Broker) (boots counters : ℕ → ℕ) (clients : List (List ℕ)) (y : List ℕ) (l : ClientLink) (at : List ℕ → List Mark)
       → IsSteady b → ((d i : List ℕ) → tops w.broker.lists d i ≤ tops b.lists d i)
       → IsGood (λ c. (sees_all (seen y c) (at c)).read) l
       → IsBounded (tops b.lists) l
@@ -102,7 +102,7 @@ module _ (seen : List ℕ → List ℕ → Seen) (w : World) (f : IsFine seen w)
       ])
 
   -- a link alone
-  link-step : (y : List ℕ) (l : Link) (at : List ℕ → List Mark)
+  link-step : (y : List ℕ) (l : ClientLink) (at : List ℕ → List Mark)
       → IsGood (λ c. (sees_all (seen y c) (at c)).read) l
       → IsBounded (tops w.broker.lists) l
       → ((c : List ℕ) → Tells (seen y c) (at c) (l.client.modes c))
@@ -110,7 +110,7 @@ module _ (seen : List ℕ → List ℕ → Seen) (w : World) (f : IsFine seen w)
   link-step y l at good bounded tells = one w.broker w.boots w.counters w.clients y l at f.steady (λ d i. le_refl _) good bounded tells
 
   -- a link and perhaps the broker, and nothing is told
-  quiet-step : (b : Broker) (boots counters : ℕ → ℕ) (clients : List (List ℕ)) (y : List ℕ) (l : Link)
+  quiet-step : (b : Broker) (boots counters : ℕ → ℕ) (clients : List (List ℕ)) (y : List ℕ) (l : ClientLink)
       → IsSteady b → ((d i : List ℕ) → tops w.broker.lists d i ≤ tops b.lists d i)
       → IsGood (λ c. (seen y c).read) l → IsBounded (tops w.broker.lists) l → l.client ≡ (w.links y).client
       → IsStep seen (record { broker = b; boots = boots; counters = counters; clients = clients; links = with w.links y l }) (λ x c. [])
@@ -121,7 +121,7 @@ module _ (seen : List ℕ → List ℕ → Seen) (w : World) (f : IsFine seen w)
       (λ x ne. grow-link (tops w.broker.lists) (tops b.lists) grow (w.links x) (f.bounded x)))
       (λ x c. (tt, tt, with-all (λ x l. Knows (seen x c) (l.client.modes c)) w.links y l (rw e (f.knows y c)) (λ x ne. f.knows x c) x))
 
-  quiet-link : (y : List ℕ) (l : Link)
+  quiet-link : (y : List ℕ) (l : ClientLink)
       → IsGood (λ c. (seen y c).read) l → IsBounded (tops w.broker.lists) l → l.client ≡ (w.links y).client
       → IsStep seen (link_with y l w) (λ x c. [])
   quiet-link y l good bounded e = quiet-step w.broker w.boots w.counters w.clients y l f.steady (λ d i. le_refl _) good bounded e
@@ -136,7 +136,7 @@ module _ (seen : List ℕ → List ℕ → Seen) (w : World) (f : IsFine seen w)
       (same-found (λ d. (seen y d).read) _ _
       (λ d. elim (text_tells d c) [
         | inl h ↦ inr (subst (λ z. IsFree ((sends (Subscribe c from) (w.links y)).client.modes z) (due z (sends (Subscribe c from) (w.links y)).up)) (sym h.1)
-            (rw (due-more c (w.links y).up (record { id = (w.links y).client.fresh; errand = Subscribe c from }), itself c) tt))
+            (rw (due-more c (w.links y).up (record { id = (w.links y).client.fresh; request = Subscribe c from }), itself c) tt))
         | inr h ↦ inl (rw h.0 refl)
       ])
       (good-sends (λ d. (seen y d).read) lists (w.links y) (Subscribe c from) (f.good y)))
@@ -155,7 +155,7 @@ module _ (seen : List ℕ → List ℕ → Seen) (w : World) (f : IsFine seen w)
       (same-found (λ d. (seen y d).read) _ _
       (λ d. elim (text_tells d c) [
         | inl h ↦ inr (subst (λ z. IsFree ((sends (Unsubscribe c) (w.links y)).client.modes z) (due z (sends (Unsubscribe c) (w.links y)).up)) (sym h.1)
-            (rw (due-more c (w.links y).up (record { id = (w.links y).client.fresh; errand = Unsubscribe c }), itself c) tt))
+            (rw (due-more c (w.links y).up (record { id = (w.links y).client.fresh; request = Unsubscribe c }), itself c) tt))
         | inr h ↦ inl (rw h.0 refl)
       ])
       (good-sends (λ d. (seen y d).read) lists (w.links y) (Unsubscribe c) (f.good y)))
@@ -163,7 +163,7 @@ module _ (seen : List ℕ → List ℕ → Seen) (w : World) (f : IsFine seen w)
       (with-both (λ d ms m. Tells (seen y d) ms m) (λ d. []) (w.links y).client.modes c (Stops ∷ []) _ (tells-stop y c) (λ d ne. (tt, tt, f.knows y d)))
 
   -- or another command: its modes stay
-  call-step : (y : List ℕ) (e : Errand) → (sends e (w.links y)).client.modes ≡ (w.links y).client.modes → ErrandWithin (tops w.broker.lists) e
+  call-step : (y : List ℕ) (e : ClientRequest) → (sends e (w.links y)).client.modes ≡ (w.links y).client.modes → RequestWithin (tops w.broker.lists) e
       → IsStep seen (sent y e w) (λ x d. [])
   call-step y e same within =
       many (sent y e w) (λ x d. []) f.steady
@@ -172,21 +172,21 @@ module _ (seen : List ℕ → List ℕ → Seen) (w : World) (f : IsFine seen w)
       (λ x c. (tt, tt, with-all (λ x l. Knows (seen x c) (l.client.modes c)) w.links y (sends e (w.links y)) (rw same (f.knows y c)) (λ x ne. f.knows x c) x))
 
   -- the node hears a command
-  pub heard_as-step : (cfg : Config) (y : List ℕ) (k : Sent) (ks : List Sent) (j : Judgement) → (w.links y).up ≡ k ∷ ks → IsStep seen (heard_as cfg y k ks j w) (λ x c. [])
+  pub heard_as-step : (cfg : Config) (y : List ℕ) (k : SentCommand) (ks : List SentCommand) (j : Judgement) → (w.links y).up ≡ k ∷ ks → IsStep seen (heard_as cfg y k ks j w) (λ x c. [])
   heard_as-step cfg y k ks j e =
-      quiet-step (broker_by cfg (w.links y) k.errand j w.broker) w.boots w.counters w.clients y (closes_by j (hears (is_refused j) k ks (w.links y)))
-      (steady-broker_by cfg (w.links y) k.errand j w.broker f.steady)
-      (tops-broker_by cfg (w.links y) k.errand j w.broker)
+      quiet-step (broker_by cfg (w.links y) k.request j w.broker) w.boots w.counters w.clients y (closes_by j (hears (is_refused j) k ks (w.links y)))
+      (steady-broker_by cfg (w.links y) k.request j w.broker f.steady)
+      (tops-broker_by cfg (w.links y) k.request j w.broker)
       (closes_by-good (λ c. (seen y c).read) lists j _ (good-hears (λ c. (seen y c).read) lists (is_refused j) (w.links y) k ks (f.good y) e))
       (closes_by-bounded (tops w.broker.lists) lists j _ (bounded-hears (tops w.broker.lists) lists (is_refused j) (w.links y) k ks (f.bounded y) e))
       (closes_by-client j (hears (is_refused j) k ks (w.links y)) ∙ client-hears (is_refused j) k ks (w.links y))
 
-  pub hear-step : (cfg : Config) (y : List ℕ) (failing : Bool) (ks : List Sent) → (w.links y).up ≡ ks → IsStep seen (hear_first cfg y failing ks w) (λ x c. [])
+  pub hear-step : (cfg : Config) (y : List ℕ) (failing : Bool) (ks : List SentCommand) → (w.links y).up ≡ ks → IsStep seen (hear_first cfg y failing ks w) (λ x c. [])
   hear-step cfg y failing [] e = still
   hear-step cfg y failing (k ∷ ks) e = heard_as-step cfg y k ks (failed_if failing (judged cfg w (w.links y) k)) e
 
   -- and answers one
-  pub answered-step : (y : List ℕ) (k : Sent) (j : Judgement) → IsStep seen (answered y k j w) (λ x c. [])
+  pub answered-step : (y : List ℕ) (k : SentCommand) (j : Judgement) → IsStep seen (answered y k j w) (λ x c. [])
   answered-step y k j =
       quiet-link y (answer_by (wording lists) w.broker k j (w.links y))
       (answer-good (λ c. (seen y c).read) lists w.broker k j (w.links y) (f.good y))
@@ -224,7 +224,7 @@ module _ (seen : List ℕ → List ℕ → Seen) (w : World) (f : IsFine seen w)
       (λ d ne. (tt, tt, f.knows y d)))
     where
       -- it is known, where the ask is still out
-      read-out : (t : Seen) (m : Mode) (o : Option Sent) (s : StreamState) → Knows t m → IsFree m o ⊎ ((sees t (Reads s)).read ≡ Some s)
+      read-out : (t : Seen) (m : Mode) (o : Option SentCommand) (s : StreamState) → Knows t m → IsFree m o ⊎ ((sees t (Reads s)).read ≡ Some s)
       read-out t (Idle last) o s k = inl (settled-free (Idle last) o tt)
       read-out t (Asking id from last) o s k = inr (rw k.2 refl)
       read-out t (Live p) o s k = inl (settled-free (Live p) o tt)
@@ -251,7 +251,7 @@ module _ (seen : List ℕ → List ℕ → Seen) (w : World) (f : IsFine seen w)
   read-step y c (On p mark) e = read-nothing w.broker y c f.steady refl
 
   -- the first note that is on its way reaches the client
-  pub receive-step : (y : List ℕ) (l : Link) (ns : List Note)
+  pub receive-step : (y : List ℕ) (l : ClientLink) (ns : List Note)
       → IsGood (λ c. (seen y c).read) l → IsBounded (tops w.broker.lists) l → l.client ≡ (w.links y).client → l.way ≡ ns
       → IsStep seen (link_with y (receive_first ns l) w) (λ x c. only x y (told_first c ((w.links y).client.modes c) ns))
   receive-step y l [] g b same e = link-step y l (λ c. []) g b (λ c. rw same (tt, tt, f.knows y c))
@@ -289,17 +289,17 @@ module _ (seen : List ℕ → List ℕ → Seen) (w : World) (f : IsFine seen w)
       (λ x c. (
         tt,
         tt,
-        by_test (λ (l : Link). Knows (seen x c) (l.client.modes c)) (on_node n (w.links x).node) _ _ (λ h. f.knows x c) (λ h. f.knows x c),
+        by_test (λ (l : ClientLink). Knows (seen x c) (l.client.modes c)) (on_node n (w.links x).node) _ _ (λ h. f.knows x c) (λ h. f.knows x c),
       ))
 
   restart-step : (n : ℕ) → IsStep seen (restarts n w) (λ x c. if on_node n (w.links x).node then Stops ∷ [] else [])
   restart-step n =
       many (restarts n w) _ f.steady
-      (λ x. both_test (λ (ms : List Mark) (l : Link). IsGood (λ c. (sees_all (seen x c) ms).read) l) (on_node n (w.links x).node) (Stops ∷ []) [] _ _
+      (λ x. both_test (λ (ms : List Mark) (l : ClientLink). IsGood (λ c. (sees_all (seen x c) ms).read) l) (on_node n (w.links x).node) (Stops ∷ []) [] _ _
       (λ h. good-breaks (λ c. (sees_all (seen x c) (Stops ∷ [])).read) lists (w.links x)) (λ h. f.good x))
       (λ x. by_test (IsBounded (tops w.broker.lists)) (on_node n (w.links x).node) _ _
       (λ h. bounded-breaks (tops w.broker.lists) lists (w.links x) (f.bounded x)) (λ h. f.bounded x))
-      (λ x c. both_test (λ (ms : List Mark) (l : Link). Tells (seen x c) ms (l.client.modes c)) (on_node n (w.links x).node) (Stops ∷ []) [] _ _
+      (λ x c. both_test (λ (ms : List Mark) (l : ClientLink). Tells (seen x c) ms (l.client.modes c)) (on_node n (w.links x).node) (Stops ∷ []) [] _ _
       (λ h. tells-stop x c) (λ h. (tt, tt, f.knows x c)))
 
   connect-step : (y : List ℕ) (n : ℕ) → IsStep seen (connects y n w) (λ x c. [])
@@ -315,14 +315,14 @@ module _ (seen : List ℕ → List ℕ → Seen) (w : World) (f : IsFine seen w)
   line-step y v g b = quiet-link y (with_line v (w.links y)) g b refl
 
 -- a command is sent, heard and answered
-exchange-step : (cfg : Config) (y : List ℕ) (e : Errand) (seen : List ℕ → List ℕ → Seen) (w : World) (ms : List ℕ → List ℕ → List Mark)
+exchange-step : (cfg : Config) (y : List ℕ) (e : ClientRequest) (seen : List ℕ → List ℕ → Seen) (w : World) (ms : List ℕ → List ℕ → List Mark)
     → can_command cfg y e w ≡ true → IsStep seen (sent y e w) ms → IsStep seen (exchange cfg y e w) ms
 exchange-step cfg y e seen w ms can a =
     let seen' : List ℕ → List ℕ → Seen = λ x c. sees_all (seen x c) (ms x c) in
-    let k : Sent = command_by y e w in
+    let k : SentCommand = command_by y e w in
     let j : Judgement = judgement cfg y e w in
     let none : (w.links y).up ≡ [] = nothing-is (w.links y).up (third (is_ready (w.links y)) (id_left (w.links y)) _ _ can) in
-    let up : ((sent y e w).links y).up ≡ k ∷ [] = ap (λ (l : Link). l.up) (with-same w.links y (sends e (w.links y))) ∙ ap (λ (us : List Sent). us ++ k ∷ []) none in
+    let up : ((sent y e w).links y).up ≡ k ∷ [] = ap (λ (l : ClientLink). l.up) (with-same w.links y (sends e (w.links y))) ∙ ap (λ (us : List SentCommand). us ++ k ∷ []) none in
     let h : IsStep seen' (heard_as cfg y k [] j (sent y e w)) (λ x c. []) = heard_as-step seen' (sent y e w) a.fine cfg y k [] j up in
     let r : IsStep seen' (exchange cfg y e w) (λ x c. []) = answered-step seen' (heard_as cfg y k [] j (sent y e w)) h.fine y k j in
     afterwards seen (sent y e w) (exchange cfg y e w) ms a r
@@ -330,7 +330,7 @@ exchange-step cfg y e seen w ms can a =
     third : (a b c d : Bool) → (a && (b && (c && d))) ≡ true → c ≡ true
     third a b c d h = grind arith
 
-    nothing-is : (us : List Sent) → nothing_sent us ≡ true → us ≡ []
+    nothing-is : (us : List SentCommand) → nothing_sent us ≡ true → us ≡ []
     nothing-is [] h = refl
     nothing-is (u ∷ us) h = absurd (cc)
 
@@ -356,7 +356,7 @@ module _ (cfg : Config) (seen : List ℕ → List ℕ → Seen) (w : World) (f :
   effect-step (Publish c body) can =
       broker-step seen w f (publish (size_of cfg c) c (record { body = body; info = None }) w.broker)
       (steady-publish (size_of cfg c) c (record { body = body; info = None }) w.broker f.steady) (tops-publish (size_of cfg c) c (record { body = body; info = None }) w.broker)
-  effect-step (PublishBy x c body) can = exchange-step cfg x (PublishErrand c body) seen w _ can (call-step seen w f x (PublishErrand c body) refl tt)
+  effect-step (PublishBy x c body) can = exchange-step cfg x (PublishRequest c body) seen w _ can (call-step seen w f x (PublishRequest c body) refl tt)
   effect-step (Deliver n i) can = deliver-step seen w f n i (publication i w.broker) refl
   effect-step (Take x) can =
       receive-step seen w f x (holds (w.links x)) (holds (w.links x)).way
@@ -376,11 +376,11 @@ module _ (cfg : Config) (seen : List ℕ → List ℕ → Seen) (w : World) (f :
   effect-step (ListHistory x c limit) can = exchange-step cfg x (History c limit) seen w _ can (call-step seen w f x (History c limit) refl tt)
 
   loose-step : (h : Happening) → loosely_allows cfg w h ≡ true → IsStep seen (loose_effect cfg w h) (λ x c. loose_marks x c w h)
-  loose-step (LineOf e) can = effect-step e can
+  loose-step (Scheduled e) can = effect-step e can
   loose-step (SendAsk x c) can = ask-step seen w f x c false None refl tt
   loose-step (SendAskFrom x c) can = ask-step seen w f x c true (last_of ((w.links x).client.modes c)) refl (last_within x c)
   loose-step (SendLeave x c) can = leave-step seen w f x c
-  loose-step (SendPublish x c body) can = call-step seen w f x (PublishErrand c body) refl tt
+  loose-step (SendPublish x c body) can = call-step seen w f x (PublishRequest c body) refl tt
   loose-step (SendHistory x c limit) can = call-step seen w f x (History c limit) refl tt
   loose-step (Hear x failing) can = hear-step seen w f cfg x failing (w.links x).up refl
   loose-step (Hold x) can =

@@ -8,9 +8,9 @@ use Rattle.cf_recovery.specs.Verdict.{next}
 use Rattle.cf_client.specs.ClientState.{Mode, Idle, Asking, Live, Client, read_to, is_out}
 use Rattle.cf_schedule.specs.Config.{Config}
 use Rattle.cf_schedule.specs.Event.{Event, Ask, AskFrom, Read, Take, Break, Leave, Restart}
-use Rattle.cf_schedule.specs.Link.{holds}
+use Rattle.cf_schedule.specs.ClientLink.{holds}
 use Rattle.cf_schedule.specs.World.{World, start}
-use Rattle.cf_schedule.specs.LooseRun.{Happening, Line, SendAsk, SendAskFrom, SendLeave, Receive, loosely_allows, befalls}
+use Rattle.cf_schedule.specs.LooseRun.{Happening, Scheduled, SendAsk, SendAskFrom, SendLeave, Receive, loosely_allows, befalls}
 use Rattle.cf_schedule.specs.Trace.{Item, Refused, Listed}
 use Rattle.cf_schedule.specs.Told.{run_items, reading_items, reply_items, pub_items, end_items, asks_under, error_items, listing_items, items, first_items, entries, told_first as tells_first, tells, loosely_tells, loosely_writes}
 use Rattle.cf_schedule.specs.Marks.{Mark, Subscribed, Published, Stops, only, item_marks, entry_marks, event_marks, own_marks, allowed_marks}
@@ -190,7 +190,7 @@ event-marks x c n w (Restart m) = append-nil _
 event-marks x c n w e = refl
 
 happening-marks : (x c : List ℕ) (n : ℕ) (w : World) (h : Happening) → (own_marks x c w h ++ entry_marks x c (loosely_tells n w h)) ≡ loose_marks x c w h
-happening-marks x c n w (Line e) = event-marks x c n w e
+happening-marks x c n w (Scheduled e) = event-marks x c n w e
 happening-marks x c n w (Receive y) = told-here x c n y w (w.links y).way
 happening-marks x c n w (SendAsk y d) = append-nil _
 happening-marks x c n w (SendAskFrom y d) = append-nil _

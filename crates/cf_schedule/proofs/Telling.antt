@@ -9,7 +9,7 @@ use Rattle.cf_stream.specs.StreamAnswer.{most_in_reply, still_held, read_of}
 use Rattle.cf_recovery.specs.Verdict.{next}
 use Rattle.cf_hub.specs.Connection.{Sub}
 use Rattle.cf_client.specs.ClientState.{Mode, Idle, Asking, Live, last_of, takes, moved_on, read_to}
-use Rattle.cf_schedule.specs.Errand.{Errand, Sent, Subscribe, Unsubscribe, Publish, History}
+use Rattle.cf_schedule.specs.ClientRequest.{ClientRequest, SentCommand, Subscribe, Unsubscribe, Publish, History}
 use Rattle.cf_schedule.specs.Marks.{Mark, Subscribed, Published, Stops}
 use Rattle.cf_schedule.specs.StreamSafety.{places, StillHeld, IsHonest}
 use Rattle.cf_schedule.proofs.Automaton.{Seen, sees, sees_all, AreSound, IsWhole}
@@ -153,7 +153,7 @@ tells-take s c (Live p) (Close code) k f = ((tt, tt), tt, k.0)
 tells-take s c (Live p) n k f = (tt, tt, k)
 
 -- while a command for c is on its way, an older note tells c nothing that matters
-tells-waiting : (s : Seen) (c : List ℕ) (b i : ℕ) (e : Errand) (m : Mode) (n : Note)
+tells-waiting : (s : Seen) (c : List ℕ) (b i : ℕ) (e : ClientRequest) (m : Mode) (n : Note)
     → Knows s m → Awaits m i e → b ≤ i → IsOld b n → Tells s (told c m n) (takes c m n)
 tells-waiting s c b i e (Idle last) n k h g old = tells-take s c (Idle last) n k tt
 tells-waiting s c b i (Subscribe d from) (Live p) n k h g old = absurd h
@@ -171,10 +171,10 @@ tells-waiting s c b i (Subscribe d from) (Asking id f l) (Close code) k h g old 
 tells-waiting s c b i (Subscribe d from) (Asking id f l) n k h g old = (tt, tt, k)
 
 -- the front of what comes is told as it must be
-pub tells-front : (s : Seen) (c : List ℕ) (b : ℕ) (m : Mode) (n : Note) (ns : List Note) (t : Sub) (o : Option Sent)
+pub tells-front : (s : Seen) (c : List ℕ) (b : ℕ) (m : Mode) (n : Note) (ns : List Note) (t : Sub) (o : Option SentCommand)
     → Knows s m → Stands s.read c m (n ∷ ns) t o → IdFrom b o → IsOld b n → Tells s (told c m n) (takes c m n)
 tells-front s c b m n ns t None k h i old = tells-take s c m n k h.0
-tells-front s c b m n ns t (Some x) k h i old = tells-waiting s c b x.id x.errand m n k h i old
+tells-front s c b m n ns t (Some x) k h i old = tells-waiting s c b x.id x.request m n k h i old
 
 -- After a note was taken what was read is as it was, unless the client isn't asking.
 pub told-read : (s : Seen) (c : List ℕ) (m : Mode) (n : Note) → ((sees_all s (told c m n)).read ≡ s.read) ⊎ IsSettled (takes c m n)

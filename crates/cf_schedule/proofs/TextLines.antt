@@ -8,8 +8,8 @@ use Rattle.cf_protocol.specs.Written.{outgoing_text, note_text}
 use Rattle.cf_hub.specs.Connection.{Line, Wording, put_sub, push, closes, most_waiting, finish_at}
 use Rattle.cf_schedule.specs.declared.subscription.Subscription.{Subscription}
 use Rattle.cf_schedule.specs.declared.subscription.Subscription.TheVariants as code
-use Rattle.cf_schedule.specs.Subscription.{sub_of, kept_in, reading_of}
-use Rattle.cf_schedule.specs.TextLine.{IsLine, said, AreListed, reply_of, on_of}
+use Rattle.cf_schedule.specs.Running.Subscription.{sub_of, kept_in, reading_of}
+use Rattle.cf_schedule.specs.Running.TextLine.{IsLine, said, AreListed, reply_of, on_of}
 
 pub is-then : {N : Type 0} {a b c : Line N} → IsLine a b → IsLine b c → IsLine a c
 is-then g h = record { subs = λ c. g.subs c ∙ h.subs c; notes = g.notes ∙ h.notes; closed = g.closed ∙ h.closed }

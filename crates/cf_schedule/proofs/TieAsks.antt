@@ -13,21 +13,21 @@ use Rattle.cf_protocol.specs.Settings.{NamespaceTable, settings_of}
 use Rattle.cf_protocol.specs.Written.{command_text}
 use Rattle.cf_hub.specs.Connection.{Sub, Off, Asked, Ready, On, Line, rows, is_off, is_unfinished, any_unfinished, begins}
 use Rattle.cf_client.specs.ClientState.{Client, Asking, asks, is_idle, last_of}
-use Rattle.cf_schedule.specs.ClientCalls.{IsSame, ask_fault, client_of, is_connected}
+use Rattle.cf_schedule.specs.Running.ClientCalls.{IsSame, ask_fault, client_of, is_connected}
 use Rattle.cf_schedule.specs.Config.{Config}
-use Rattle.cf_schedule.specs.Errand.{Errand, Subscribe, Sent, command_of}
+use Rattle.cf_schedule.specs.ClientRequest.{ClientRequest, Subscribe, SentCommand, command_of}
 use Rattle.cf_schedule.specs.Event.{Ask}
 use Rattle.cf_schedule.specs.IntervalMachine.{allows, effect, sent, heard_as, answered, command_by, judgement, exchange, is_refused, idle_at, can_command, id_left, nothing_sent, lacks_epoch}
-use Rattle.cf_schedule.specs.Link.{Link, no_link, with_line, sends, is_heard, hears, hears_subscribe}
-use Rattle.cf_schedule.specs.NodeState.{line_on, kept_on, subscriptions_on, holds_on, rows_on, OneOn, BeginsOn}
+use Rattle.cf_schedule.specs.ClientLink.{ClientLink, no_link, with_line, sends, is_heard, hears, hears_subscribe}
+use Rattle.cf_schedule.specs.Running.NodeState.{line_on, kept_on, subscriptions_on, holds_on, rows_on, OneOn, BeginsOn}
 use Rattle.cf_schedule.specs.NotYet.{IsNotYet}
 use Rattle.cf_protocol.specs.Checks.{longest_text, is_bad_channel, refusal_code}
 use Rattle.cf_protocol.specs.declared.codes.ErrorCode.{ErrorCode}
 use Rattle.cf_protocol.specs.declared.codes.ErrorCode.TheVariants as error
 use Rattle.cf_schedule.specs.Refusals.{Judgement, Unheard, TooLong, Refused, Accepted, judged, refused_with, subscribe_refusal, has_no_room, node_is_full, most_channels, most_rows, last_id}
-use Rattle.cf_schedule.specs.SessionCalls.{is_answered, is_served}
-use Rattle.cf_schedule.specs.TextLine.{IsLine, Both}
-use Rattle.cf_schedule.specs.Tie.{halt_by_hub, ShowsLine, ShowsAt, ShowsPeer, AreTied}
+use Rattle.cf_schedule.specs.Running.SessionCalls.{is_answered, is_served}
+use Rattle.cf_schedule.specs.Running.TextLine.{IsLine, Both}
+use Rattle.cf_schedule.specs.Running.Tie.{halt_by_hub, ShowsLine, ShowsAt, ShowsPeer, AreTied}
 use Rattle.cf_schedule.specs.Weights.{command_length}
 use Rattle.cf_schedule.specs.World.{World, link_with, rows_of, is_ready}
 use Rattle.cf_schedule.specs.declared.broker.Broker.{Broker as Code}
@@ -63,7 +63,7 @@ le-over a b h = grind (arith, nat_tests)
 pub ask-nobody : (cfg : Config) (m : World) (x c : List ℕ) → m.links x ≡ no_link → allows cfg m (Ask x c) ≡ false
 ask-nobody cfg m x c h =
     and-false (idle_at x c m) (can_command cfg x (Subscribe c None) m)
-    (ap (λ (l : Link). is_ready l && (id_left (m.links x) && (nothing_sent (m.links x).up && not (lacks_epoch (judgement cfg x (Subscribe c None) m) (Subscribe c None) m.broker)))) h)
+    (ap (λ (l : ClientLink). is_ready l && (id_left (m.links x) && (nothing_sent (m.links x).up && not (lacks_epoch (judgement cfg x (Subscribe c None) m) (Subscribe c None) m.broker)))) h)
 
 pub ask-unbuilt : (cfg : Config) (m : World) (x c : List ℕ) → allows cfg m (Ask x c) ≡ false → IsNotYet cfg m (Ask x c) → ⊥
 ask-unbuilt cfg m x c h k =
@@ -172,8 +172,8 @@ module _ {cfg : Config} {table : NamespaceTable} {code : Code} {ns : Nodes} {pee
 
   -- ---- asked: the text of the command, and what the node makes of it
 
-  pub ask-command : (text : List ℕ) → text ≡ command_text (command_of (record { id = (client_of p.client).fresh; errand = Subscribe c None })) → text ≡ command_text (command_of (command_by x (Subscribe c None) m))
-  ask-command text h = h ∙ ap (λ (n : ℕ). command_text (command_of (record { id = n; errand = Subscribe c None }))) shown.client.fresh
+  pub ask-command : (text : List ℕ) → text ≡ command_text (command_of (record { id = (client_of p.client).fresh; request = Subscribe c None })) → text ≡ command_text (command_of (command_by x (Subscribe c None) m))
+  ask-command text h = h ∙ ap (λ (n : ℕ). command_text (command_of (record { id = n; request = Subscribe c None }))) shown.client.fresh
 
   pub ask-code : ask_fault c true (client_of p.client) ≡ None → IsCode (command_by x (Subscribe c None) m).id
   ask-code h =
@@ -247,7 +247,7 @@ module _ {cfg : Config} {table : NamespaceTable} {code : Code} {ns : Nodes} {pee
 
   -- ---- accepted: the command is sent, heard and begun
 
-  accepted-by : (w : World) (l : Link) → l.line.closed ≡ false → nat_lt longest_text (command_length (command_of (command_by x (Subscribe c None) m))) ≡ false → is_bad_channel c ≡ false → (s : Settings) → settings_of cfg.namespaces c ≡ Some s
+  accepted-by : (w : World) (l : ClientLink) → l.line.closed ≡ false → nat_lt longest_text (command_length (command_of (command_by x (Subscribe c None) m))) ≡ false → is_bad_channel c ≡ false → (s : Settings) → settings_of cfg.namespaces c ≡ Some s
       → is_off (l.line.subs c) ≡ true → has_no_room l w ≡ false → judged cfg w l (command_by x (Subscribe c None) m) ≡ Accepted
   accepted-by w l closed short good s set off room =
       λ i. if closed i then Unheard else if short i then TooLong else judged_by (good i) (is_some (set i)) (off i) (room i)
@@ -265,10 +265,10 @@ module _ {cfg : Config} {table : NamespaceTable} {code : Code} {ns : Nodes} {pee
       by_parts false (Some s) h = (refl, s, refl)
 
   -- the link when the command was sent, and when it was heard
-  abbrev sent-link : Link
+  abbrev sent-link : ClientLink
   sent-link = sends (Subscribe c None) (m.links x)
 
-  abbrev pub begun-link : Link
+  abbrev pub begun-link : ClientLink
   begun-link =
       record (m.links x) {
         client = asks c None (m.links x).client;
@@ -286,12 +286,12 @@ module _ {cfg : Config} {table : NamespaceTable} {code : Code} {ns : Nodes} {pee
 
   hears-is : is_off ((m.links x).line.subs c) ≡ true → hears false (command_by x (Subscribe c None) m) [] sent-link ≡ begun-link
   hears-is off =
-      let l : Link = m.links x in
+      let l : ClientLink = m.links x in
       let id : ℕ = l.client.fresh in
       ap (λ (s : Sub). hears_subscribe false c id None [] s sent-link) (off-sub (l.line.subs c) off)
       ∙ ap (λ (b : Bool). with_line (if b || false then l.line else begins c id None l.line) (is_heard id (Subscribe c None) [] sent-link)) closed-is
 
-  twice : (a b : Link) (y : List ℕ) → with (with m.links x a) x b y ≡ with m.links x b y
+  twice : (a b : ClientLink) (y : List ℕ) → with (with m.links x a) x b y ≡ with m.links x b y
   twice a b y = by_name (bytes_eq y x)
     where
       by_name : (t : Bool) → (if t then b else (if t then a else m.links y)) ≡ (if t then b else m.links y)
@@ -301,13 +301,13 @@ module _ {cfg : Config} {table : NamespaceTable} {code : Code} {ns : Nodes} {pee
   exchange-is : is_off ((m.links x).line.subs c) ≡ true → judgement cfg x (Subscribe c None) m ≡ Accepted
       → exchange cfg x (Subscribe c None) m ≡ link_with x begun-link m
   exchange-is off j0 =
-      let e : Errand = Subscribe c None in
-      let k : Sent = command_by x e m in
+      let e : ClientRequest = Subscribe c None in
+      let k : SentCommand = command_by x e m in
       let w1 : World = sent x e m in
       let at : w1.links x ≡ sent-link = with-same m.links x sent-link in
       let then-link : hears false k [] (w1.links x) ≡ begun-link = ap (hears false k []) at ∙ hears-is off in
       let both : heard_as cfg x k [] Accepted w1 ≡ link_with x begun-link m =
-      ap (λ (z : Link). record w1 { links = with w1.links x z }) then-link
+      ap (λ (z : ClientLink). record w1 { links = with w1.links x z }) then-link
       ∙ (λ i. record m { links = λ y. twice sent-link begun-link y i }) in
       ap (λ (j : Judgement). answered x k j (heard_as cfg x k [] j w1)) j0
       ∙ ap (answered x k Accepted) both
@@ -367,14 +367,14 @@ module _ {cfg : Config} {table : NamespaceTable} {code : Code} {ns : Nodes} {pee
 
   -- ---- what the node heard
 
-  pub ask-heard : (text : List ℕ) → text ≡ command_text (command_of (record { id = (client_of p.client).fresh; errand = Subscribe c None })) → ask_fault c true (client_of p.client) ≡ None
+  pub ask-heard : (text : List ℕ) → text ≡ command_text (command_of (record { id = (client_of p.client).fresh; request = Subscribe c None })) → ask_fault c true (client_of p.client) ≡ None
       → ((k : Command) → IsRegularCommand k → IsCommands (command_text k) (k ∷ [])) → IsCommands text (command_of (command_by x (Subscribe c None) m) ∷ [])
   ask-heard text h may back =
       subst (λ (z : List ℕ). IsCommands z (command_of (command_by x (Subscribe c None) m) ∷ [])) (sym (ask-command text h))
       (back (command_of (command_by x (Subscribe c None) m)) (ask-code may, tt))
 
   -- it can't carry it out yet: the text is too long, or the channel is not served
-  pub ask-unheard : (text : List ℕ) → text ≡ command_text (command_of (record { id = (client_of p.client).fresh; errand = Subscribe c None }))
+  pub ask-unheard : (text : List ℕ) → text ≡ command_text (command_of (record { id = (client_of p.client).fresh; request = Subscribe c None }))
       → (length text ≤ longest_text → is_answered table (command_of (command_by x (Subscribe c None) m)) ≡ false) → is_refused (judgement cfg x (Subscribe c None) m) ≡ true
   ask-unheard text h refused = by_length (nat_le (length text) longest_text) refl
     where

@@ -5,24 +5,24 @@ use Rattle.std.proofs.lemmas.Bool.Decides.{nat_tests}
 use Rattle.cf_protocol.specs.Names.{with, is_among, and_also}
 use Rattle.cf_hub.specs.Connection.{rows}
 use Rattle.cf_schedule.specs.FreshEpochs.{AreDistinct}
-use Rattle.cf_schedule.specs.Link.{Link}
-use Rattle.cf_schedule.specs.NodeState.{one_more}
+use Rattle.cf_schedule.specs.ClientLink.{ClientLink}
+use Rattle.cf_schedule.specs.Running.NodeState.{one_more}
 use Rattle.cf_schedule.specs.World.{on_node, sessions_of, rows_of}
 use Rattle.cf_schedule.proofs.Names.{text_tells, with-same, with-other, with-all}
 
 -- links that are on the same nodes with as many subscriptions
-pub sessions-same : (f g : List ℕ → Link) → ((y : List ℕ) → (f y).node ≡ (g y).node) → (n : ℕ) (cs : List (List ℕ)) → sessions_of n f cs ≡ sessions_of n g cs
+pub sessions-same : (f g : List ℕ → ClientLink) → ((y : List ℕ) → (f y).node ≡ (g y).node) → (n : ℕ) (cs : List (List ℕ)) → sessions_of n f cs ≡ sessions_of n g cs
 sessions-same f g h n [] = refl
 sessions-same f g h n (c ∷ cs) = λ i. if on_node n (h c i) then suc (sessions-same f g h n cs i) else sessions-same f g h n cs i
 
-pub rows-same : (f g : List ℕ → Link) → ((y : List ℕ) → (f y).node ≡ (g y).node) → ((y : List ℕ) → rows (f y).line ≡ rows (g y).line) → (n : ℕ) (cs : List (List ℕ)) → rows_of n f cs ≡ rows_of n g cs
+pub rows-same : (f g : List ℕ → ClientLink) → ((y : List ℕ) → (f y).node ≡ (g y).node) → ((y : List ℕ) → rows (f y).line ≡ rows (g y).line) → (n : ℕ) (cs : List (List ℕ)) → rows_of n f cs ≡ rows_of n g cs
 rows-same f g h k n [] = refl
 rows-same f g h k n (c ∷ cs) = λ i. if on_node n (h c i) then k c i + rows-same f g h k n cs i else rows-same f g h k n cs i
 
-pub with-node : (f : List ℕ → Link) (x : List ℕ) (l : Link) → l.node ≡ (f x).node → (y : List ℕ) → (with f x l y).node ≡ (f y).node
+pub with-node : (f : List ℕ → ClientLink) (x : List ℕ) (l : ClientLink) → l.node ≡ (f x).node → (y : List ℕ) → (with f x l y).node ≡ (f y).node
 with-node f x l h y = with-all (λ z k. k.node ≡ (f z).node) f x l h (λ z ne. refl) y
 
-pub with-rows : (f : List ℕ → Link) (x : List ℕ) (l : Link) → rows l.line ≡ rows (f x).line → (y : List ℕ) → rows (with f x l y).line ≡ rows (f y).line
+pub with-rows : (f : List ℕ → ClientLink) (x : List ℕ) (l : ClientLink) → rows l.line ≡ rows (f x).line → (y : List ℕ) → rows (with f x l y).line ≡ rows (f y).line
 with-rows f x l h y = with-all (λ z k. rows k.line ≡ rows (f z).line) f x l h (λ z ne. refl) y
 
 -- clients among which x is not
@@ -34,16 +34,16 @@ or-second : (a b : Bool) → (a || b) ≡ false → b ≡ false
 or-second true b h = absurd (cc)
 or-second false b h = h
 
-away : (f : List ℕ → Link) (x : List ℕ) (l : Link) (c : List ℕ) (cs : List (List ℕ)) → is_among x (c ∷ cs) ≡ false → with f x l c ≡ f c
+away : (f : List ℕ → ClientLink) (x : List ℕ) (l : ClientLink) (c : List ℕ) (cs : List (List ℕ)) → is_among x (c ∷ cs) ≡ false → with f x l c ≡ f c
 away f x l c cs h = ap (λ (t : Bool). if t then l else f c) (or-first (bytes_eq c x) (is_among x cs) h)
 
-sessions-away : (f : List ℕ → Link) (x : List ℕ) (l : Link) (n : ℕ) (cs : List (List ℕ)) → is_among x cs ≡ false → sessions_of n (with f x l) cs ≡ sessions_of n f cs
+sessions-away : (f : List ℕ → ClientLink) (x : List ℕ) (l : ClientLink) (n : ℕ) (cs : List (List ℕ)) → is_among x cs ≡ false → sessions_of n (with f x l) cs ≡ sessions_of n f cs
 sessions-away f x l n [] h = refl
 sessions-away f x l n (c ∷ cs) h =
     λ i. if on_node n (away f x l c cs h i).node then suc (sessions-away f x l n cs (or-second (bytes_eq c x) (is_among x cs) h) i)
     else sessions-away f x l n cs (or-second (bytes_eq c x) (is_among x cs) h) i
 
-rows-away : (f : List ℕ → Link) (x : List ℕ) (l : Link) (n : ℕ) (cs : List (List ℕ)) → is_among x cs ≡ false → rows_of n (with f x l) cs ≡ rows_of n f cs
+rows-away : (f : List ℕ → ClientLink) (x : List ℕ) (l : ClientLink) (n : ℕ) (cs : List (List ℕ)) → is_among x cs ≡ false → rows_of n (with f x l) cs ≡ rows_of n f cs
 rows-away f x l n [] h = refl
 rows-away f x l n (c ∷ cs) h =
     λ i. if on_node n (away f x l c cs h i).node
@@ -63,7 +63,7 @@ more-there false true b s r h = h
 more-there false false b s r h = h
 
 -- x, which is among distinct clients, has one subscription more
-pub rows-more : (f : List ℕ → Link) (x : List ℕ) (l : Link) (n0 : ℕ) → l.node ≡ Some n0 → (f x).node ≡ Some n0 → rows l.line ≡ suc (rows (f x).line)
+pub rows-more : (f : List ℕ → ClientLink) (x : List ℕ) (l : ClientLink) (n0 : ℕ) → l.node ≡ Some n0 → (f x).node ≡ Some n0 → rows l.line ≡ suc (rows (f x).line)
     → (n : ℕ) (cs : List (List ℕ)) → is_among x cs ≡ true → AreDistinct cs → rows_of n (with f x l) cs ≡ one_more n0 (λ k. rows_of k f cs) n
 rows-more f x l n0 a b r n [] h d = absurd (cc)
 rows-more f x l n0 a b r n (c ∷ cs) h d =
@@ -93,7 +93,7 @@ rows-more f x l n0 a b r n (c ∷ cs) h d =
 -- ---- one session more
 
 -- x, which is none of the clients, connects to node n0
-pub sessions-more : (f : List ℕ → Link) (x : List ℕ) (l : Link) (n0 : ℕ) → l.node ≡ Some n0 → (n : ℕ) (cs : List (List ℕ)) → is_among x cs ≡ false
+pub sessions-more : (f : List ℕ → ClientLink) (x : List ℕ) (l : ClientLink) (n0 : ℕ) → l.node ≡ Some n0 → (n : ℕ) (cs : List (List ℕ)) → is_among x cs ≡ false
     → sessions_of n (with f x l) (and_also x cs) ≡ one_more n0 (λ k. sessions_of k f cs) n
 sessions-more f x l n0 a n cs h =
     let new : and_also x cs ≡ x ∷ cs = ap (λ (t : Bool). if t then cs else x ∷ cs) h in
@@ -104,7 +104,7 @@ sessions-more f x l n0 a n cs h =
     turn : (a b : ℕ) → (a == b) ≡ (b == a)
     turn a b = grind (arith, nat_tests)
 
-pub rows-none : (f : List ℕ → Link) (x : List ℕ) (l : Link) → rows l.line ≡ 0 → (n : ℕ) (cs : List (List ℕ)) → is_among x cs ≡ false → rows_of n (with f x l) (and_also x cs) ≡ rows_of n f cs
+pub rows-none : (f : List ℕ → ClientLink) (x : List ℕ) (l : ClientLink) → rows l.line ≡ 0 → (n : ℕ) (cs : List (List ℕ)) → is_among x cs ≡ false → rows_of n (with f x l) (and_also x cs) ≡ rows_of n f cs
 rows-none f x l z n cs h =
     let new : and_also x cs ≡ x ∷ cs = ap (λ (t : Bool). if t then cs else x ∷ cs) h in
     let none : rows (with f x l x).line ≡ 0 = ap (λ k. rows k.line) (with-same f x l) ∙ z in

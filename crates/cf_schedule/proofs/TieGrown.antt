@@ -7,12 +7,12 @@ use Rattle.cf_protocol.specs.Note.{Lists, Note}
 use Rattle.cf_protocol.specs.Settings.{NamespaceTable}
 use Rattle.cf_hub.specs.Connection.{Line}
 use Rattle.cf_stream.specs.StreamState.{StreamState, last_offset}
-use Rattle.cf_schedule.specs.BrokerTie.{Grown, ShowsBroker}
+use Rattle.cf_schedule.specs.Running.BrokerTie.{Grown, ShowsBroker}
 use Rattle.cf_schedule.specs.Config.{Config}
-use Rattle.cf_schedule.specs.Link.{Link}
-use Rattle.cf_schedule.specs.NodeState.{line_on}
+use Rattle.cf_schedule.specs.ClientLink.{ClientLink}
+use Rattle.cf_schedule.specs.Running.NodeState.{line_on}
 use Rattle.cf_schedule.specs.PublicationList.{Broker, epoch_comes, list_with, add_at, publish, open_at, opened, trim, trim_at}
-use Rattle.cf_schedule.specs.Tie.{IsSaid, ShowsLine, ShowsAt, ShowsLink, AreTied}
+use Rattle.cf_schedule.specs.Running.Tie.{IsSaid, ShowsLine, ShowsAt, ShowsLink, AreTied}
 use Rattle.cf_schedule.specs.World.{World, broker_with}
 use Rattle.cf_schedule.specs.declared.broker.Broker.{Broker as Code}
 use Rattle.cf_schedule.specs.declared.nodes.Nodes.{Nodes}
@@ -83,7 +83,7 @@ at-grows : {l m : Lists} → Grown l m → (table : NamespaceTable) (a : Option 
 at-grows g table None b h = h
 at-grows g table (Some a) b h = line-grows g table a b h
 
-pub link-grows : {l m : Lists} → Grown l m → (table : NamespaceTable) (ns : Nodes) (p : Option Peer) (k : Link) → ShowsLink table l ns p k → ShowsLink table m ns p k
+pub link-grows : {l m : Lists} → Grown l m → (table : NamespaceTable) (ns : Nodes) (p : Option Peer) (k : ClientLink) → ShowsLink table l ns p k → ShowsLink table m ns p k
 link-grows g table ns None k h = h
 link-grows g table ns (Some p) k h = record {
   node = h.node;

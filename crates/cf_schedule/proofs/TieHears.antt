@@ -10,9 +10,9 @@ use Rattle.cf_protocol.specs.Outgoing.{Outgoing, Answer, Push, Subscribed, Publi
 use Rattle.cf_protocol.specs.Position.{Position}
 use Rattle.cf_client.specs.ClientState.{Client, Mode, Idle, Asking, Live, takes, moved_on, hears, read_to}
 use Rattle.cf_schedule.specs.AnswersById.{IsForChannel}
-use Rattle.cf_schedule.specs.ClientCalls.{IsSame, GoesLive, IsForNone, Takes, TakesAll, TakesPublication, goes_live, published}
+use Rattle.cf_schedule.specs.Running.ClientCalls.{IsSame, GoesLive, IsForNone, Takes, TakesAll, TakesPublication, goes_live, published}
 use Rattle.cf_schedule.specs.PublicationList.{body_of}
-use Rattle.cf_schedule.specs.Tie.{IsSent}
+use Rattle.cf_schedule.specs.Running.Tie.{IsSent}
 use Rattle.cf_schedule.specs.Told.{items, reply_items, reading_items, pub_items, asks_under}
 use Rattle.cf_schedule.specs.Trace.{Item}
 use Rattle.cf_schedule.specs.Trace as item

@@ -17,17 +17,17 @@ use Rattle.cf_protocol.specs.Settings.{NamespaceTable}
 use Rattle.cf_protocol.specs.Written.{command_text, outgoing_text}
 use Rattle.cf_hub.specs.Connection.{Line, rows, opens}
 use Rattle.cf_client.specs.ClientState.{Client, new_client, no_channel, first_id}
-use Rattle.cf_schedule.specs.ClientCalls.{IsSame, TakesAll, client_of, is_connected}
+use Rattle.cf_schedule.specs.Running.ClientCalls.{IsSame, TakesAll, client_of, is_connected}
 use Rattle.cf_schedule.specs.Config.{Config}
 use Rattle.cf_schedule.specs.Event.{Connect}
 use Rattle.cf_schedule.specs.FreshEpochs.{AreDistinct}
 use Rattle.cf_schedule.specs.IntervalMachine.{allows, connects, client_id}
-use Rattle.cf_schedule.specs.Link.{Link, no_link}
-use Rattle.cf_schedule.specs.NodeState.{node_count, line_on, sessions_on, OpensOn}
+use Rattle.cf_schedule.specs.ClientLink.{ClientLink, no_link}
+use Rattle.cf_schedule.specs.Running.NodeState.{node_count, line_on, sessions_on, OpensOn}
 use Rattle.cf_schedule.specs.NotYet.{IsNotYet}
 use Rattle.cf_protocol.specs.Checks.{longest_text}
 use Rattle.cf_schedule.specs.Refusals.{most_sessions, last_counter}
-use Rattle.cf_schedule.specs.Tie.{ShowsLine, ShowsAt, ShowsPeer, ShowsLink, IsSeated, AreTied}
+use Rattle.cf_schedule.specs.Running.Tie.{ShowsLine, ShowsAt, ShowsPeer, ShowsLink, IsSeated, AreTied}
 use Rattle.cf_schedule.specs.World.{World, with_at, sessions_of, is_connected as is_on}
 use Rattle.cf_schedule.specs.declared.broker.Broker.{Broker as Code}
 use Rattle.cf_schedule.specs.Trace.{Item}
@@ -81,7 +81,7 @@ module _ {cfg : Config} {table : NamespaceTable} {code : Code} {ns : Nodes} {pee
       )
 
   off : peers x ≡ None → not (is_on x m) ≡ true
-  off e = ap (λ (l : Link). not (is_some l.node)) (link-none t x e)
+  off e = ap (λ (l : ClientLink). not (is_some l.node)) (link-none t x e)
 
   there : nat_lt n (node_count ns) ≡ true → nat_lt n cfg.nodes ≡ true
   there h = sym (ap (nat_lt n) t.nodes) ∙ h
@@ -105,7 +105,7 @@ module _ {cfg : Config} {table : NamespaceTable} {code : Code} {ns : Nodes} {pee
   connect-built e h lt k = let wrong : false ≡ true = sym (λ i. off e i && (there h i && not (few lt i))) ∙ k in cc
 
   module _ (k : ℕ) (q : Peer) (more : Nodes) (after : List ℕ → Option Peer) (e : peers x ≡ None) (o : OpensOn n k ns more) (now : (y : List ℕ) → after y ≡ with peers x (Some q) y) (node : q.node ≡ n) (session : q.session ≡ k) where
-    abbrev new-link : Link
+    abbrev new-link : ClientLink
     new-link = record (m.links x) { node = Some n; name = client_id n (m.boots n) (m.counters n + 1) }
 
     not-among : is_among x m.clients ≡ false
@@ -119,7 +119,7 @@ module _ {cfg : Config} {table : NamespaceTable} {code : Code} {ns : Nodes} {pee
     not-there r y h i j =
         at-none cfg.namespaces m.broker.lists (line_on ns r.node r.session) (m.links y).line ((λ z. line_on ns (i z) (j z)) ∙ o.fresh) (link-some t y r h).line
 
-    others : (y : List ℕ) (u : Option Peer) → peers y ≡ u → (l : Link) → ShowsLink cfg.namespaces m.broker.lists ns u l → ShowsLink cfg.namespaces m.broker.lists more u l
+    others : (y : List ℕ) (u : Option Peer) → peers y ≡ u → (l : ClientLink) → ShowsLink cfg.namespaces m.broker.lists ns u l → ShowsLink cfg.namespaces m.broker.lists more u l
     others y None h l s = s
     others y (Some r) h l s =
         let same : line_on more r.node r.session ≡ line_on ns r.node r.session =
@@ -148,10 +148,10 @@ module _ {cfg : Config} {table : NamespaceTable} {code : Code} {ns : Nodes} {pee
           node = ap (λ (j : ℕ). Some j) (sym node);
           line =
               subst (λ (z : Option (Line (List ℕ))). ShowsAt cfg.namespaces m.broker.lists z (m.links x).line) (sym line)
-              (subst (λ (z : Line Note). ShowsLine cfg.namespaces m.broker.lists opens z) (sym (ap (λ (z : Link). z.line) none)) (opens-shows cfg.namespaces m.broker.lists));
-          way = ap (λ (z : Link). z.way) none;
-          up = ap (λ (z : Link). z.up) none;
-          client = subst (λ (z : Client). IsSame (client_of q.client) z) (sym (ap (λ (z : Link). z.client) none)) client;
+              (subst (λ (z : Line Note). ShowsLine cfg.namespaces m.broker.lists opens z) (sym (ap (λ (z : ClientLink). z.line) none)) (opens-shows cfg.namespaces m.broker.lists));
+          way = ap (λ (z : ClientLink). z.way) none;
+          up = ap (λ (z : ClientLink). z.up) none;
+          client = subst (λ (z : Client). IsSame (client_of q.client) z) (sym (ap (λ (z : ClientLink). z.client) none)) client;
           connected = on;
         }
 
@@ -209,11 +209,11 @@ module _ {cfg : Config} {table : NamespaceTable} {code : Code} {ns : Nodes} {pee
         | inl u ↦
             let link : with m.links x new-link y ≡ new-link = ap (λ (b : Bool). if b then new-link else m.links y) u.0 in
             subst (λ (z : Option Peer). ShowsLink cfg.namespaces m.broker.lists more z (with m.links x new-link y)) (sym (peer-after y u.0))
-            (subst (λ (z : Link). ShowsPeer cfg.namespaces m.broker.lists more q z) (sym link) (mine client on))
+            (subst (λ (z : ClientLink). ShowsPeer cfg.namespaces m.broker.lists more q z) (sym link) (mine client on))
         | inr u ↦
             let link : with m.links x new-link y ≡ m.links y = ap (λ (b : Bool). if b then new-link else m.links y) u.0 in
             subst (λ (z : Option Peer). ShowsLink cfg.namespaces m.broker.lists more z (with m.links x new-link y)) (sym (peer-same y u.0))
-            (subst (λ (z : Link). ShowsLink cfg.namespaces m.broker.lists more (peers y) z) (sym link) (others y (peers y) refl (m.links y) (t.links y)))
+            (subst (λ (z : ClientLink). ShowsLink cfg.namespaces m.broker.lists more (peers y) z) (sym link) (others y (peers y) refl (m.links y) (t.links y)))
       ];
       apart = apart-after;
       seated = seated-after;
@@ -234,7 +234,7 @@ module _ {cfg : Config} {table : NamespaceTable} {code : Code} {ns : Nodes} {pee
         counter = counters-after j;
         subscriptions =
             o.subscriptions j ∙ (t.counts j).subscriptions
-            ∙ sym (rows-none m.links x new-link (ap (λ (z : Link). rows z.line) (link-none t x e)) j m.clients not-among);
+            ∙ sym (rows-none m.links x new-link (ap (λ (z : ClientLink). rows z.line) (link-none t x e)) j m.clients not-among);
       };
     }
 

@@ -8,12 +8,12 @@ use Rattle.cf_protocol.specs.Settings.{NamespaceTable}
 use Rattle.cf_protocol.specs.Written.{note_text}
 use Rattle.cf_hub.specs.Connection.{Line, rows, comes}
 use Rattle.cf_schedule.specs.Config.{Config}
-use Rattle.cf_schedule.specs.HubState.{holds_in}
-use Rattle.cf_schedule.specs.Link.{Link, with_line}
-use Rattle.cf_schedule.specs.NodeState.{node_count, line_on, kept_on, sessions_on, subscriptions_on, rows_on, holds_on, OneOn, EachOn, SameOn, BeginsOn}
+use Rattle.cf_schedule.specs.Running.HubState.{holds_in}
+use Rattle.cf_schedule.specs.ClientLink.{ClientLink, with_line}
+use Rattle.cf_schedule.specs.Running.NodeState.{node_count, line_on, kept_on, sessions_on, subscriptions_on, rows_on, holds_on, OneOn, EachOn, SameOn, BeginsOn}
 use Rattle.cf_schedule.specs.NotYet.{is_beyond}
-use Rattle.cf_schedule.specs.TextLine.{IsLine, Both, said}
-use Rattle.cf_schedule.specs.Tie.{IsSaid, ShowsAt, ShowsPeer, ShowsLink, IsSeated, AreTied}
+use Rattle.cf_schedule.specs.Running.TextLine.{IsLine, Both, said}
+use Rattle.cf_schedule.specs.Running.Tie.{IsSaid, ShowsAt, ShowsPeer, ShowsLink, IsSeated, AreTied}
 use Rattle.cf_schedule.specs.Weights.{wording}
 use Rattle.cf_schedule.specs.World.{World, link_with, on_node, rows_of}
 use Rattle.cf_schedule.specs.declared.broker.Broker.{Broker as Code}
@@ -63,10 +63,10 @@ at-rows table l (Some a) b s = ap (λ (n : ℕ). Some n) s.count
 
 -- ---- one client
 
-module _ (cfg : Config) (table : NamespaceTable) (code : Code) (ns more : Nodes) (peers after : List ℕ → Option Peer) (m : World) (x : List ℕ) (p q : Peer) (k : Link) where
+module _ (cfg : Config) (table : NamespaceTable) (code : Code) (ns more : Nodes) (peers after : List ℕ → Option Peer) (m : World) (x : List ℕ) (p q : Peer) (k : ClientLink) where
   other-link : AreTied cfg table code ns peers m → peers x ≡ Some p → (f : Line (List ℕ) → Line (List ℕ)) → OneOn p.node p.session f ns more
       → ((n j : ℕ) → (n ≡ p.node → j ≡ p.session → ⊥) → rows_on more n j ≡ rows_on ns n j)
-      → (y : List ℕ) → y ≢ x → (o : Option Peer) → peers y ≡ o → (b : Link) → ShowsLink cfg.namespaces m.broker.lists ns o b → ShowsLink cfg.namespaces m.broker.lists more o b
+      → (y : List ℕ) → y ≢ x → (o : Option Peer) → peers y ≡ o → (b : ClientLink) → ShowsLink cfg.namespaces m.broker.lists ns o b → ShowsLink cfg.namespaces m.broker.lists more o b
   other-link t was f one same y ne None e b h = h
   other-link t was f one same y ne (Some r) e b h =
       let apart : r.node ≡ p.node → r.session ≡ p.session → ⊥ = λ i j. ne (t.apart y x r p e was i j) in
@@ -136,12 +136,12 @@ module _ (cfg : Config) (table : NamespaceTable) (code : Code) (ns more : Nodes)
           let new : after y ≡ Some q = now y ∙ ap (λ (u : Bool). if u then Some q else peers y) e.0 in
           let link : with m.links x k y ≡ k = ap (λ (u : Bool). if u then k else m.links y) e.0 in
           subst (λ (o : Option Peer). ShowsLink cfg.namespaces m.broker.lists more o (with m.links x k y)) (sym new)
-          (subst (λ (z : Link). ShowsPeer cfg.namespaces m.broker.lists more q z) (sym link) shows)
+          (subst (λ (z : ClientLink). ShowsPeer cfg.namespaces m.broker.lists more q z) (sym link) shows)
       | inr e ↦
           let old : after y ≡ peers y = now y ∙ ap (λ (u : Bool). if u then Some q else peers y) e.0 in
           let link : with m.links x k y ≡ m.links y = ap (λ (u : Bool). if u then k else m.links y) e.0 in
           subst (λ (o : Option Peer). ShowsLink cfg.namespaces m.broker.lists more o (with m.links x k y)) (sym old)
-          (subst (λ (z : Link). ShowsLink cfg.namespaces m.broker.lists more (peers y) z) (sym link)
+          (subst (λ (z : ClientLink). ShowsLink cfg.namespaces m.broker.lists more (peers y) z) (sym link)
           (other-link t was f one same y e.1 (peers y) refl (m.links y) (t.links y)))
     ];
     apart = λ y z r s a b i j.
@@ -198,7 +198,7 @@ module _ (cfg : Config) (table : NamespaceTable) (code : Code) (ns more : Nodes)
 
 module _ (cfg : Config) (table : NamespaceTable) (code : Code) (ns more : Nodes) (peers : List ℕ → Option Peer) (m : World) (n : ℕ) (c : List ℕ) (q : Position) where
   -- what it makes of a link
-  abbrev pub came : Link → Link
+  abbrev pub came : ClientLink → ClientLink
   came l = if on_node n l.node then with_line (comes (wording m.broker.lists) c q l.line) l else l
 
   at-came : IsSaid m.broker.lists (note_text m.broker.lists (Pub c q)) (Pub c q) → (t : Bool) (o r : Option (Line (List ℕ))) (b : Line Note)
@@ -210,15 +210,15 @@ module _ (cfg : Config) (table : NamespaceTable) (code : Code) (ns more : Nodes)
   at-came is true (Some a) (Some d) b h e fits s = comes-shows cfg.namespaces m.broker.lists c q a d b s is (fits refl) h (some-is (rows d) (rows a) e)
   at-came is false (Some a) (Some d) b h e fits s = same-shows cfg.namespaces m.broker.lists a d b s h (some-is (rows d) (rows a) e)
 
-  link-by : (t : Bool) (l : Link) → (if t then with_line (comes (wording m.broker.lists) c q l.line) l else l) ≡ with_line (if t then comes (wording m.broker.lists) c q l.line else l.line) l
+  link-by : (t : Bool) (l : ClientLink) → (if t then with_line (comes (wording m.broker.lists) c q l.line) l else l) ≡ with_line (if t then comes (wording m.broker.lists) c q l.line else l.line) l
   link-by true l = refl
   link-by false l = refl
 
   came-link : AreTied cfg table code ns peers m → IsSaid m.broker.lists (note_text m.broker.lists (Pub c q)) (Pub c q)
       → EachOn n (comes (said m.broker.lists) c q) ns more → SameOn ns more → ((j : ℕ) → holds_on ns n j (is_beyond (said m.broker.lists) c q) ≡ false)
-      → (o : Option Peer) (l : Link) → ShowsLink cfg.namespaces m.broker.lists ns o l → ShowsLink cfg.namespaces m.broker.lists more o (came l)
+      → (o : Option Peer) (l : ClientLink) → ShowsLink cfg.namespaces m.broker.lists ns o l → ShowsLink cfg.namespaces m.broker.lists more o (came l)
   came-link t is each same fits None l h =
-      let off : on_node n l.node ≡ false = ap (λ (z : Link). on_node n z.node) h in
+      let off : on_node n l.node ≡ false = ap (λ (z : ClientLink). on_node n z.node) h in
       ap (λ (u : Bool). if u then with_line (comes (wording m.broker.lists) c q l.line) l else l) off ∙ h
   came-link t is each same fits (Some p) l h =
       let on : on_node n l.node ≡ (p.node == n) = ap (on_node n) h.node in
@@ -234,13 +234,13 @@ module _ (cfg : Config) (table : NamespaceTable) (code : Code) (ns more : Nodes)
         client = h.client;
         connected = h.connected;
       } in
-      subst (λ (z : Link). ShowsPeer cfg.namespaces m.broker.lists more p z) (sym new) shows
+      subst (λ (z : ClientLink). ShowsPeer cfg.namespaces m.broker.lists more p z) (sym new) shows
 
-  came-node : (l : Link) → (came l).node ≡ l.node
-  came-node l = by_test (λ (z : Link). z.node ≡ l.node) (on_node n l.node) (with_line (comes (wording m.broker.lists) c q l.line) l) l (λ e. refl) (λ e. refl)
+  came-node : (l : ClientLink) → (came l).node ≡ l.node
+  came-node l = by_test (λ (z : ClientLink). z.node ≡ l.node) (on_node n l.node) (with_line (comes (wording m.broker.lists) c q l.line) l) l (λ e. refl) (λ e. refl)
 
-  came-rows : SameOn ns more → (o : Option Peer) (l : Link) → ShowsLink cfg.namespaces m.broker.lists ns o l → ShowsLink cfg.namespaces m.broker.lists more o (came l) → rows (came l).line ≡ rows l.line
-  came-rows same None l h k = ap (λ (z : Link). rows z.line) (k ∙ sym h)
+  came-rows : SameOn ns more → (o : Option Peer) (l : ClientLink) → ShowsLink cfg.namespaces m.broker.lists ns o l → ShowsLink cfg.namespaces m.broker.lists more o (came l) → rows (came l).line ≡ rows l.line
+  came-rows same None l h k = ap (λ (z : ClientLink). rows z.line) (k ∙ sym h)
   came-rows same (Some p) l h k =
       let old = at-rows cfg.namespaces m.broker.lists (line_on ns p.node p.session) l.line h.line in
       let new = at-rows cfg.namespaces m.broker.lists (line_on more p.node p.session) (came l).line k.line in

@@ -14,18 +14,18 @@ use Rattle.cf_stream.specs.StreamAnswer.{read_of}
 use Rattle.cf_stream.specs.declared.answer.Recovery.{Recovery}
 use Rattle.cf_hub.specs.Connection.{Sub, Off, Asked, Ready, On, Line, rows, is_off, reads, finishes, finish_at, comes}
 use Rattle.cf_client.specs.ClientState.{read_to}
-use Rattle.cf_schedule.specs.BrokerTie.{Grown, IsAccepted, IsStanding, Brings, Finds, Stands}
+use Rattle.cf_schedule.specs.Running.BrokerTie.{Grown, IsAccepted, IsStanding, Brings, Finds, Stands}
 use Rattle.cf_schedule.specs.Config.{Config}
 use Rattle.cf_schedule.specs.Event.{Event, Read, Finish, Deliver}
-use Rattle.cf_schedule.specs.HubState.{sub_in, since_of, holds_in}
+use Rattle.cf_schedule.specs.Running.HubState.{sub_in, since_of, holds_in}
 use Rattle.cf_schedule.specs.IntervalMachine.{allows, effect, happens, is_asked, is_read, read_at, read_found, delivered}
-use Rattle.cf_schedule.specs.Link.{Link, no_link, with_line}
-use Rattle.cf_schedule.specs.NodeState.{line_on, sub_on, kept_on, holds_on, OneOn, EachOn, SameOn}
+use Rattle.cf_schedule.specs.ClientLink.{ClientLink, no_link, with_line}
+use Rattle.cf_schedule.specs.Running.NodeState.{line_on, sub_on, kept_on, holds_on, OneOn, EachOn, SameOn}
 use Rattle.cf_schedule.specs.NotYet.{IsNotYet, CannotCome, is_beyond, is_slow}
 use Rattle.cf_schedule.specs.PublicationList.{Place, can_open, stands_or_opens, open_at, opened, publication}
-use Rattle.cf_schedule.specs.Subscription.{reading_of}
-use Rattle.cf_schedule.specs.TextLine.{IsLine, Both, said, AreListed}
-use Rattle.cf_schedule.specs.Tie.{IsSaid, IsFresh, ShowsLine, ShowsAt, ShowsPeer, ShowsLink, AreTied, Tied, Follows}
+use Rattle.cf_schedule.specs.Running.Subscription.{reading_of}
+use Rattle.cf_schedule.specs.Running.TextLine.{IsLine, Both, said, AreListed}
+use Rattle.cf_schedule.specs.Running.Tie.{IsSaid, IsFresh, ShowsLine, ShowsAt, ShowsPeer, ShowsLink, AreTied, Tied, Follows}
 use Rattle.cf_schedule.specs.Weights.{wording}
 use Rattle.cf_schedule.specs.World.{World, link_with, broker_with, on_node}
 use Rattle.cf_schedule.specs.declared.broker.Accepted.{Accepted}
@@ -67,7 +67,7 @@ link-some {cfg = cfg} {ns = ns} {m = m} t x p e = subst (λ (o : Option Peer). S
 pub with-own : {A : Type 0} (f : List ℕ → A) (x : List ℕ) (v : A) → f x ≡ v → (y : List ℕ) → with f x v y ≡ f y
 with-own f x v h y = with-all (λ j u. u ≡ f j) f x v (sym h) (λ j ne. refl) y
 
-pub own-link : (x : List ℕ) (k : Link) (m : World) → k ≡ m.links x → link_with x k m ≡ m
+pub own-link : (x : List ℕ) (k : ClientLink) (m : World) → k ≡ m.links x → link_with x k m ≡ m
 own-link x k m h = λ i. record m { links = λ y. with-own m.links x k (sym h) y i }
 
 -- a line's own test
@@ -140,7 +140,7 @@ since-some (Ready id was r arrived) from h = absurd (cc)
 since-some (On q mark) from h = absurd (cc)
 
 pub read-nobody : (cfg : Config) (w : CodeWorld) (m : World) (x c : List ℕ) → m.links x ≡ no_link → allows cfg m (Read x c) ≡ false
-read-nobody cfg w m x c h = ap (λ (l : Link). is_asked (l.line.subs c) && can_open c m.broker) h
+read-nobody cfg w m x c h = ap (λ (l : ClientLink). is_asked (l.line.subs c) && can_open c m.broker) h
 
 module _ {cfg : Config} {table : NamespaceTable} {code : Code} {ns : Nodes} {peers : List ℕ → Option Peer} {m : World} (t : AreTied cfg table code ns peers m) (x c : List ℕ) (p : Peer) (is : peers x ≡ Some p) where
   -- the subscription as the machine has it
@@ -233,8 +233,8 @@ listed-by l c (On q mark) ps f e = tt
 
 pub finish-nobody : (cfg : Config) (m : World) (x c : List ℕ) → m.links x ≡ no_link → (allows cfg m (Finish x c) ≡ false) × (IsNotYet cfg m (Finish x c) → ⊥)
 finish-nobody cfg m x c h = (
-  ap (λ (l : Link). is_read (l.line.subs c)) h,
-  λ k. let not-so : false ≡ true = sym (ap (λ (l : Link). is_slow (wording m.broker.lists) c l.line) h) ∙ k in cc,
+  ap (λ (l : ClientLink). is_read (l.line.subs c)) h,
+  λ k. let not-so : false ≡ true = sym (ap (λ (l : ClientLink). is_slow (wording m.broker.lists) c l.line) h) ∙ k in cc,
 )
 
 module _ {cfg : Config} {table : NamespaceTable} {code : Code} {ns : Nodes} {peers : List ℕ → Option Peer} {m : World} (t : AreTied cfg table code ns peers m) (x c : List ℕ) (p : Peer) (is : peers x ≡ Some p) where
@@ -312,7 +312,7 @@ module _ {cfg : Config} {table : NamespaceTable} {code : Code} {ns : Nodes} {pee
   deliver-built fits k = by_client (subst (λ (o : Option Place). CannotCome n o m) is k)
     where
       by_peer : (x : List ℕ) (o : Option Peer) → peers x ≡ o → on_node n (m.links x).node ≡ true → is_beyond (wording m.broker.lists) p.channel p.at (m.links x).line ≡ true → ⊥
-      by_peer x None e on does = let not-so : false ≡ true = sym (ap (λ (l : Link). on_node n l.node) (link-none t x e)) ∙ on in cc
+      by_peer x None e on does = let not-so : false ≡ true = sym (ap (λ (l : ClientLink). on_node n l.node) (link-none t x e)) ∙ on in cc
       by_peer x (Some r) e on does =
           let there : (r.node == n) ≡ true = sym (ap (on_node n) (link-some t x r e).node) ∙ on in
           let node : r.node ≡ n = is-nat r.node n there in

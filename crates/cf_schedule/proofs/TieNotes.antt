@@ -15,8 +15,8 @@ use Rattle.cf_recovery.specs.Verdict.{Verdict, Drop, Pass, Insufficient, verdict
 use Rattle.cf_hub.specs.Connection.{Sub, Off, Asked, Ready, On, Wording, Line, is_off, is_unfinished, rows, count_on, any_unfinished, most_waiting, push, closes, put_sub, begins, read_at, reads, come_at, comes, by_verdict, finish_at, finishes}
 use Rattle.cf_client.specs.ClientState.{read_to}
 use Rattle.cf_schedule.specs.NotYet.{fits, is_beyond, beyond_at, beyond_verdict, is_slow, slow_at}
-use Rattle.cf_schedule.specs.TextLine.{IsLine, said, takes_front}
-use Rattle.cf_schedule.specs.Tie.{IsSaid, IsFresh, IsReadyFresh, ShowsLine}
+use Rattle.cf_schedule.specs.Running.TextLine.{IsLine, said, takes_front}
+use Rattle.cf_schedule.specs.Running.Tie.{IsSaid, IsFresh, IsReadyFresh, ShowsLine}
 use Rattle.cf_schedule.specs.Weights.{wording, note_length}
 use Rattle.cf_schedule.proofs.Names.{text_tells, with-all, with-same, with-other, itself, not_this}
 use Rattle.cf_schedule.proofs.TieGrown.{grown-same}

@@ -11,15 +11,15 @@ use Rattle.cf_protocol.specs.Written.{outgoing_text}
 use Rattle.cf_hub.specs.Connection.{Line}
 use Rattle.cf_client.specs.ClientState.{hears}
 use Rattle.cf_schedule.specs.AnswersById.{IsForChannel, AreForChannel}
-use Rattle.cf_schedule.specs.ClientCalls.{client_of, is_connected, TakesAll, TextRefused}
+use Rattle.cf_schedule.specs.Running.ClientCalls.{client_of, is_connected, TakesAll, TextRefused}
 use Rattle.cf_schedule.specs.Config.{Config}
 use Rattle.cf_schedule.specs.Event.{Event, Take}
 use Rattle.cf_schedule.specs.IntervalMachine.{allows, effect, has_any, run}
 use Rattle.cf_schedule.specs.Leading.{coming}
-use Rattle.cf_schedule.specs.Link.{Link, no_link, with_line, hold_first, holds, receives, gets}
-use Rattle.cf_schedule.specs.NodeState.{line_on, kept_on, OneOn, SameOn}
-use Rattle.cf_schedule.specs.TextLine.{takes_front}
-use Rattle.cf_schedule.specs.Tie.{halt_by_client, IsSaid, IsSent, ShowsLine, ShowsAt, ShowsPeer, AreTied}
+use Rattle.cf_schedule.specs.ClientLink.{ClientLink, no_link, with_line, hold_first, holds, receives, gets}
+use Rattle.cf_schedule.specs.Running.NodeState.{line_on, kept_on, OneOn, SameOn}
+use Rattle.cf_schedule.specs.Running.TextLine.{takes_front}
+use Rattle.cf_schedule.specs.Running.Tie.{halt_by_client, IsSaid, IsSent, ShowsLine, ShowsAt, ShowsPeer, AreTied}
 use Rattle.cf_schedule.specs.Told.{writes, told_first, entries}
 use Rattle.cf_schedule.specs.Trace.{Item}
 use Rattle.cf_schedule.specs.World.{World, start, link_with}
@@ -69,9 +69,9 @@ none-there table l None b s e = absurd s
 none-there table l (Some a) b s e = none-of l a.notes b.notes s.notes e
 
 pub take-nobody : (cfg : Config) (m : World) (x : List ℕ) → m.links x ≡ no_link → allows cfg m (Take x) ≡ false
-take-nobody cfg m x h = ap (λ (l : Link). is_some l.node && has_any l.line.notes) h
+take-nobody cfg m x h = ap (λ (l : ClientLink). is_some l.node && has_any l.line.notes) h
 
-gets-sent : (n : Note) (k : Link) → IsSent n → gets n k ≡ record k { client = hears n k.client }
+gets-sent : (n : Note) (k : ClientLink) → IsSent n → gets n k ≡ record k { client = hears n k.client }
 gets-sent (Reply c id was r) k s = refl
 gets-sent (Pub c q) k s = refl
 gets-sent (End c) k s = absurd s
@@ -83,15 +83,15 @@ gets-sent PingDue k s = absurd s
 gets-sent (Close code) k s = absurd s
 
 -- the link when the front note has reached the client
-abbrev pub taken : Note → List Note → Link → Link
+abbrev pub taken : Note → List Note → ClientLink → ClientLink
 taken n ns l = record l { line = record (l.line) { notes = ns }; way = []; client = hears n l.client }
 
-holds-is : (l : Link) (n : Note) (ns : List Note) → l.line.notes ≡ n ∷ ns → l.way ≡ [] → holds l ≡ record l { line = record (l.line) { notes = ns }; way = n ∷ [] }
+holds-is : (l : ClientLink) (n : Note) (ns : List Note) → l.line.notes ≡ n ∷ ns → l.way ≡ [] → holds l ≡ record l { line = record (l.line) { notes = ns }; way = n ∷ [] }
 holds-is l n ns e w =
     ap (λ (z : List Note). hold_first z l) e
     ∙ ap (λ (z : List Note). record l { line = record (l.line) { notes = ns }; way = z ++ n ∷ [] }) w
 
-receives-is : (l : Link) (n : Note) (ns : List Note) → l.line.notes ≡ n ∷ ns → l.way ≡ [] → IsSent n → receives (holds l) ≡ taken n ns l
+receives-is : (l : ClientLink) (n : Note) (ns : List Note) → l.line.notes ≡ n ∷ ns → l.way ≡ [] → IsSent n → receives (holds l) ≡ taken n ns l
 receives-is l n ns e w s =
     ap receives (holds-is l n ns e w)
     ∙ gets-sent n (record l { line = record (l.line) { notes = ns }; way = [] }) s
@@ -128,7 +128,7 @@ module _ (cfg : Config) (past : List Event) {table : NamespaceTable} {code : Cod
       × ((n : ℕ) → entries n x told ≡ writes cfg n (run cfg start past) (Take x))
   take-goes more after new text told some now one same kept back takes stays =
       let m : World = run cfg start past in
-      let l : Link = m.links x in
+      let l : ClientLink = m.links x in
       let h = link-some t x p is in
       let f = front-there cfg.namespaces m.broker.lists text (line_on ns p.node p.session) l.line h.line some in
       let come : coming l ≡ f.note ∷ f.rest = λ i. h.way i ++ f.is i in
@@ -154,10 +154,10 @@ module _ (cfg : Config) (past : List Event) {table : NamespaceTable} {code : Cod
       let moved : AreTied cfg table code more after (link_with x (taken f.note f.rest l) m) =
       link-moves cfg table code ns more peers after m x p (record p { client = new }) (taken f.note f.rest l) t is now refl refl takes_front one same kept refl shows in (
         allowed,
-        subst (λ (z : Link). AreTied cfg table code more after (link_with x z m)) (sym (receives-is l f.note f.rest f.is h.way f.said.sent)) moved,
+        subst (λ (z : ClientLink). AreTied cfg table code more after (link_with x z m)) (sym (receives-is l f.note f.rest f.is h.way f.said.sent)) moved,
         λ n. ap (entries n x) heard.1
             ∙ sym (ap (λ (b : Bool). if b then told_first n x m (holds l).way else []) allowed
-            ∙ ap (λ (z : Link). told_first n x m z.way) (holds-is l f.note f.rest f.is h.way)),
+            ∙ ap (λ (z : ClientLink). told_first n x m z.way) (holds-is l f.note f.rest f.is h.way)),
       )
 
   -- what is taken is a text of a reply or a push

@@ -9,13 +9,13 @@ use Rattle.cf_hub.specs.Connection.{Sub, Off, Asked, Ready, On}
 use Rattle.cf_client.specs.ClientState.{Mode, Idle, Asking, Live, Client, last_of, is_out}
 use Rattle.cf_schedule.specs.Config.{Config}
 use Rattle.cf_schedule.specs.Event.{Event, Epoch, Connect, Ask, AskFrom, Read, Finish, Publish, PublishBy, Deliver, Take, Break, Leave, Trim, Forget, BrokerRestart, Restart, Check, ListHistory}
-use Rattle.cf_schedule.specs.Errand.{Errand, Sent, Subscribe, Unsubscribe, Publish as PublishErrand, History}
+use Rattle.cf_schedule.specs.ClientRequest.{ClientRequest, SentCommand, Subscribe, Unsubscribe, Publish as PublishRequest, History}
 use Rattle.cf_schedule.specs.PublicationList.{Place, Broker, tops, body_of, datum_at, publication, opened, list_with, add_at, publish}
-use Rattle.cf_schedule.specs.Link.{Link, holds}
+use Rattle.cf_schedule.specs.ClientLink.{ClientLink, holds}
 use Rattle.cf_schedule.specs.World.{World, start, broker_with}
 use Rattle.cf_schedule.specs.Refusals.{Judgement, Unheard, TooLong, Refused as Rejected, Accepted, judged}
 use Rattle.cf_schedule.specs.IntervalMachine.{size_of, datum_by, sent, carried_out, broker_by, judgement, exchange, delivered, read_found, read_at, effect}
-use Rattle.cf_schedule.specs.LooseRun.{Happening, Line, SendAsk, SendAskFrom, SendLeave, SendPublish, SendHistory, Hear, Hold, Receive, ErrorEnters, NoteEnters, Fail, FinishOver, CloseNow, CheckAgainst, Join, PublishAny, OpenIn, failed_if, hear_first, loose_effect, loosely_allows, befalls, loose_run}
+use Rattle.cf_schedule.specs.LooseRun.{Happening, Scheduled, SendAsk, SendAskFrom, SendLeave, SendPublish, SendHistory, Hear, Hold, Receive, ErrorEnters, NoteEnters, Fail, FinishOver, CloseNow, CheckAgainst, Join, PublishAny, OpenIn, failed_if, hear_first, loose_effect, loosely_allows, befalls, loose_run}
 use Rattle.cf_schedule.specs.Trace.{Item, Subscribed, Published, Resubscribing, Refused, Listed, Closed, Entry}
 use Rattle.cf_schedule.specs.Told.{run_items, reading_items, reply_items, pub_items, end_items, asks_under, first_items, entries, told_first, tells, loosely_tells, loosely_writes, loose_trace}
 use Rattle.cf_schedule.specs.StreamSafety.{IsTrueTo, AreTrueTo, lists_before}
@@ -66,24 +66,24 @@ on-opened c b = on-same b.lists (opened c b).lists (lists-opened c b)
 on-publish : (size : ℕ) (c : List ℕ) (d : Datum) (b : Broker) → GoesOn b.lists (publish size c d b).lists
 on-publish size c d b = on-then b.lists (opened c b).lists (publish size c d b).lists (on-opened c b) (on-add_at size c d ((opened c b).streams c) (opened c b))
 
-on-carried : (cfg : Config) (l : Link) (e : Errand) (b : Broker) → GoesOn b.lists (carried_out cfg l e b).lists
+on-carried : (cfg : Config) (l : ClientLink) (e : ClientRequest) (b : Broker) → GoesOn b.lists (carried_out cfg l e b).lists
 on-carried cfg l (Subscribe c from) b = on-same _ _ refl
 on-carried cfg l (Unsubscribe c) b = on-same _ _ refl
-on-carried cfg l (PublishErrand c body) b = on-publish (size_of cfg c) c (datum_by l body) b
+on-carried cfg l (PublishRequest c body) b = on-publish (size_of cfg c) c (datum_by l body) b
 on-carried cfg l (History c limit) b = on-opened c b
 
-on-broker_by : (cfg : Config) (l : Link) (e : Errand) (j : Judgement) (b : Broker) → GoesOn b.lists (broker_by cfg l e j b).lists
+on-broker_by : (cfg : Config) (l : ClientLink) (e : ClientRequest) (j : Judgement) (b : Broker) → GoesOn b.lists (broker_by cfg l e j b).lists
 on-broker_by cfg l e Unheard b = on-same _ _ refl
 on-broker_by cfg l e TooLong b = on-same _ _ refl
 on-broker_by cfg l e (Rejected code) b = on-same _ _ refl
 on-broker_by cfg l e Accepted b = on-carried cfg l e b
 
-on-exchange : (cfg : Config) (x : List ℕ) (e : Errand) (w : World) → GoesOn w.broker.lists (exchange cfg x e w).broker.lists
+on-exchange : (cfg : Config) (x : List ℕ) (e : ClientRequest) (w : World) → GoesOn w.broker.lists (exchange cfg x e w).broker.lists
 on-exchange cfg x e w = on-broker_by cfg ((sent x e w).links x) e (judgement cfg x e w) w.broker
 
-on-hear : (cfg : Config) (x : List ℕ) (failing : Bool) (w : World) (ks : List Sent) → GoesOn w.broker.lists (hear_first cfg x failing ks w).broker.lists
+on-hear : (cfg : Config) (x : List ℕ) (failing : Bool) (w : World) (ks : List SentCommand) → GoesOn w.broker.lists (hear_first cfg x failing ks w).broker.lists
 on-hear cfg x failing w [] = on-same _ _ refl
-on-hear cfg x failing w (k ∷ ks) = on-broker_by cfg (w.links x) k.errand (failed_if failing (judged cfg w (w.links x) k)) w.broker
+on-hear cfg x failing w (k ∷ ks) = on-broker_by cfg (w.links x) k.request (failed_if failing (judged cfg w (w.links x) k)) w.broker
 
 on-effect : (cfg : Config) (w : World) (e : Event) → GoesOn w.broker.lists (effect cfg w e).broker.lists
 on-effect cfg w (Epoch e) = on-same _ _ (lists-epoch e w.broker)
@@ -103,7 +103,7 @@ on-effect cfg w (Read x c) = of_sub ((w.links x).line.subs c)
     of_sub (On p mark) = on-same _ _ refl
 on-effect cfg w (Finish x c) = on-same _ _ refl
 on-effect cfg w (Publish c body) = on-publish (size_of cfg c) c (record { body = body; info = None }) w.broker
-on-effect cfg w (PublishBy x c body) = on-exchange cfg x (PublishErrand c body) w
+on-effect cfg w (PublishBy x c body) = on-exchange cfg x (PublishRequest c body) w
 on-effect cfg w (Deliver n i) = of_place (publication i w.broker)
   where
     of_place : (o : Option Place) → GoesOn w.broker.lists (delivered n o w).broker.lists
@@ -120,7 +120,7 @@ on-effect cfg w (Check x c) = on-same _ _ refl
 on-effect cfg w (ListHistory x c limit) = on-exchange cfg x (History c limit) w
 
 on-loose : (cfg : Config) (w : World) (h : Happening) → GoesOn w.broker.lists (loose_effect cfg w h).broker.lists
-on-loose cfg w (Line e) = on-effect cfg w e
+on-loose cfg w (Scheduled e) = on-effect cfg w e
 on-loose cfg w (Hear x failing) = on-hear cfg x failing w (w.links x).up
 on-loose cfg w (SendAsk x c) = on-same _ _ refl
 on-loose cfg w (SendAskFrom x c) = on-same _ _ refl
@@ -198,7 +198,7 @@ true-if : (lists : Lists) (t : Bool) (xs ys : List Item) → ItemsTrue lists xs 
 true-if lists true xs ys h k = h
 true-if lists false xs ys h k = k
 
-module _ (lists : Lists) (found : List ℕ → Option StreamState) (l : Link) where
+module _ (lists : Lists) (found : List ℕ → Option StreamState) (l : ClientLink) where
   true-reply : (d : List ℕ) (k : ℕ) (was : Bool) (r : Reading) (m : Mode) → r.top ≤ length (lists d r.epoch) → ItemsTrue lists (reply_items lists d k was r m)
   true-reply d k was r (Idle last) h = tt
   true-reply d k was r (Live p) h = tt
@@ -242,14 +242,14 @@ module _ (lists : Lists) (found : List ℕ → Option StreamState) (l : Link) wh
 
 true-taken : (n : ℕ) (seen : List ℕ → List ℕ → Seen) (w : World) (f : IsFine seen w) (x : List ℕ) → AreTrueTo (λ n. w.broker.lists) (told_first n x w (holds (w.links x)).way)
 true-taken n seen w f x =
-    let l : Link = holds (w.links x) in
+    let l : ClientLink = holds (w.links x) in
     subst (λ (k : Client). AreTrueTo (λ n. w.broker.lists) (entries n x (first_items w.broker.lists k l.way))) (client-hold_first (w.links x).line.notes (w.links x))
     (true-entries w.broker.lists n x (first_items w.broker.lists l.client l.way)
     (true-way w.broker.lists (λ c. (seen x c).read) l l.way (good-holds (λ c. (seen x c).read) w.broker.lists (w.links x) (f.good x))
     (bounded-holds (tops w.broker.lists) w.broker.lists (w.links x) (f.bounded x))))
 
 true-told : (n : ℕ) (seen : List ℕ → List ℕ → Seen) (w : World) (f : IsFine seen w) (h : Happening) → AreTrueTo (λ n. w.broker.lists) (loosely_tells n w h)
-true-told n seen w f (Line e) = of_event e
+true-told n seen w f (Scheduled e) = of_event e
   where
     of_event : (e : Event) → AreTrueTo (λ n. w.broker.lists) (tells n w e)
     of_event (Take x) = true-taken n seen w f x
@@ -275,7 +275,7 @@ at-writes P cfg n w h k = by_test (AreAll P) (loosely_allows cfg w h) _ _ (λ e.
     of_event e = tt
 
     of_happening : (h : Happening) → AreAll P (loosely_tells n w h)
-    of_happening (Line e) = of_event e
+    of_happening (Scheduled e) = of_event e
     of_happening (Receive x) = at-entries P n x _ k
     of_happening h = tt
 

@@ -6,10 +6,10 @@ use Rattle.cf_protocol.specs.Note.{Note, Reply, Pub}
 use Rattle.cf_stream.specs.StreamState.{StreamState}
 use Rattle.cf_hub.specs.Connection.{Sub, Off, Asked, Ready, On}
 use Rattle.cf_client.specs.ClientState.{Mode, Idle, Asking, Live, read_to}
-use Rattle.cf_schedule.specs.Errand.{Errand, Sent, Subscribe, Unsubscribe, Publish, History}
+use Rattle.cf_schedule.specs.ClientRequest.{ClientRequest, SentCommand, Subscribe, Unsubscribe, Publish, History}
 use Rattle.cf_schedule.specs.PublicationList.{Place, Broker, tops}
 use Rattle.cf_schedule.specs.FreshEpochs.{AreDistinct}
-use Rattle.cf_schedule.specs.Link.{Link}
+use Rattle.cf_schedule.specs.ClientLink.{ClientLink}
 use Rattle.cf_schedule.specs.Leading.{coming}
 
 abbrev pub IsWithin : (List ℕ → ℕ) → Position → Type 0
@@ -43,24 +43,24 @@ abbrev pub NotesWithin : (List ℕ → List ℕ → ℕ) → List Note → Type 
 NotesWithin tops [] = Unit {0}
 NotesWithin tops (n ∷ ns) = NoteWithin tops n × NotesWithin tops ns
 
-abbrev pub ErrandWithin : (List ℕ → List ℕ → ℕ) → Errand → Type 0
-ErrandWithin tops (Subscribe d from) = LastWithin (tops d) from
-ErrandWithin tops (Unsubscribe d) = Unit {0}
-ErrandWithin tops (Publish d body) = Unit {0}
-ErrandWithin tops (History d limit) = Unit {0}
+abbrev pub RequestWithin : (List ℕ → List ℕ → ℕ) → ClientRequest → Type 0
+RequestWithin tops (Subscribe d from) = LastWithin (tops d) from
+RequestWithin tops (Unsubscribe d) = Unit {0}
+RequestWithin tops (Publish d body) = Unit {0}
+RequestWithin tops (History d limit) = Unit {0}
 
-abbrev pub UpsWithin : (List ℕ → List ℕ → ℕ) → List Sent → Type 0
+abbrev pub UpsWithin : (List ℕ → List ℕ → ℕ) → List SentCommand → Type 0
 UpsWithin tops [] = Unit {0}
-UpsWithin tops (k ∷ ks) = ErrandWithin tops k.errand × UpsWithin tops ks
+UpsWithin tops (k ∷ ks) = RequestWithin tops k.request × UpsWithin tops ks
 
 -- THE INVARIANT OF A LINK to whose client these notes are coming
-pub record IsBoundedWith (tops : List ℕ → List ℕ → ℕ) (ns : List Note) (l : Link) : Type 0 where
+pub record IsBoundedWith (tops : List ℕ → List ℕ → ℕ) (ns : List Note) (l : ClientLink) : Type 0 where
   pub modes : (c : List ℕ) → ModeWithin (tops c) (l.client.modes c)
   pub notes : NotesWithin tops ns
   pub subs : (c : List ℕ) → SubWithin (tops c) (l.line.subs c)
   pub ups : UpsWithin tops l.up
 
-abbrev pub IsBounded : (List ℕ → List ℕ → ℕ) → Link → Type 0
+abbrev pub IsBounded : (List ℕ → List ℕ → ℕ) → ClientLink → Type 0
 IsBounded tops l = IsBoundedWith tops (coming l) l
 
 -- THE INVARIANT OF THE BROKER

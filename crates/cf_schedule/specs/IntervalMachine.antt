@@ -13,16 +13,16 @@ use Rattle.cf_hub.specs.Connection.{Sub, Asked, Ready, On, Wording, Line, reads,
 use Rattle.cf_client.specs.ClientState.{last_of, is_idle}
 use Rattle.cf_schedule.specs.Config.{Config}
 use Rattle.cf_schedule.specs.Event.{Event, Epoch, Connect, Ask, AskFrom, Read, Finish, Publish, PublishBy, Deliver, Take, Break, Leave, Trim, Forget, BrokerRestart, Restart, Check, ListHistory}
-use Rattle.cf_schedule.specs.Errand.{Errand, Sent, Subscribe, Unsubscribe, Publish as PublishErrand, History, channel_of}
+use Rattle.cf_schedule.specs.ClientRequest.{ClientRequest, SentCommand, Subscribe, Unsubscribe, Publish as PublishRequest, History, channel_of}
 use Rattle.cf_schedule.specs.PublicationList.{Place, Broker, publication, epoch_comes, opened, can_open, at_last_offset, publish, trim, forget, forget_all, stands_at}
 use Rattle.cf_schedule.specs.Weights.{wording}
-use Rattle.cf_schedule.specs.Link.{Link, with_line, sends, hears, breaks, holds, receives, errs, says, closes_with}
+use Rattle.cf_schedule.specs.ClientLink.{ClientLink, with_line, sends, hears, breaks, holds, receives, errs, says, closes_with}
 use Rattle.cf_schedule.specs.World.{World, with_at, link_with, broker_with, on_node, sessions_of, is_connected, is_ready}
 use Rattle.cf_schedule.specs.Refusals.{Judgement, Unheard, TooLong, Refused, Accepted, judged, most_sessions, last_counter, last_id, bad_message}
 
 -- ---- a command is sent, heard and answered
 
-abbrev pub sent : List ℕ → Errand → World → World
+abbrev pub sent : List ℕ → ClientRequest → World → World
 sent x e w = link_with x (sends e (w.links x)) w
 
 -- how much the streams of a channel hold; nothing is published where the namespace is not set up
@@ -34,24 +34,24 @@ abbrev pub size_of : Config → List ℕ → ℕ
 size_of cfg c = size_by (settings_of cfg.namespaces c)
 
 -- what a client publishes names it; all clients connect as the empty user
-abbrev pub datum_by : Link → List ℕ → Datum
+abbrev pub datum_by : ClientLink → List ℕ → Datum
 datum_by l body = record { body = body; info = Some (record { user = []; client = l.name }) }
 
 -- what an accepted command makes of the broker: a publish adds its datum, and a history opens the stream as a read does
-abbrev pub carried_out : Config → Link → Errand → Broker → Broker
+abbrev pub carried_out : Config → ClientLink → ClientRequest → Broker → Broker
 carried_out cfg l (Subscribe c from) b = b
 carried_out cfg l (Unsubscribe c) b = b
-carried_out cfg l (PublishErrand c body) b = publish (size_of cfg c) c (datum_by l body) b
+carried_out cfg l (PublishRequest c body) b = publish (size_of cfg c) c (datum_by l body) b
 carried_out cfg l (History c limit) b = opened c b
 
-abbrev pub broker_by : Config → Link → Errand → Judgement → Broker → Broker
+abbrev pub broker_by : Config → ClientLink → ClientRequest → Judgement → Broker → Broker
 broker_by cfg l e Unheard b = b
 broker_by cfg l e TooLong b = b
 broker_by cfg l e (Refused code) b = b
 broker_by cfg l e Accepted b = carried_out cfg l e b
 
 -- a message that is too long closes the session
-abbrev pub closes_by : Judgement → Link → Link
+abbrev pub closes_by : Judgement → ClientLink → ClientLink
 closes_by TooLong l = closes_with bad_message l
 closes_by j l = l
 
@@ -60,42 +60,42 @@ is_refused Accepted = false
 is_refused j = true
 
 -- the node of x does what the judgement of a command says, and `rest` is left on its way
-abbrev pub heard_as : Config → List ℕ → Sent → List Sent → Judgement → World → World
+abbrev pub heard_as : Config → List ℕ → SentCommand → List SentCommand → Judgement → World → World
 heard_as cfg x k rest j w =
     record w {
-      broker = broker_by cfg (w.links x) k.errand j w.broker;
+      broker = broker_by cfg (w.links x) k.request j w.broker;
       links = with w.links x (closes_by j (hears (is_refused j) k rest (w.links x)));
     }
 
-abbrev pub listing : Wording Note → List ℕ → ℕ → ℤ → Option StreamState → Link → Link
+abbrev pub listing : Wording Note → List ℕ → ℕ → ℤ → Option StreamState → ClientLink → ClientLink
 listing w c id limit None l = l
 listing w c id limit (Some s) l =
     let found = listed_above 0 limit s in says w (Listed c id found.at found.low found.count) l
 
-abbrev pub answer_to : Wording Note → Broker → ℕ → Errand → Link → Link
+abbrev pub answer_to : Wording Note → Broker → ℕ → ClientRequest → ClientLink → ClientLink
 answer_to w b id (Subscribe c from) l = l
 answer_to w b id (Unsubscribe c) l = says w (Left id) l
-answer_to w b id (PublishErrand c body) l = says w (PutDone id) l
+answer_to w b id (PublishRequest c body) l = says w (PutDone id) l
 answer_to w b id (History c limit) l = listing w c id limit (b.streams c) l
 
-abbrev pub answer_by : Wording Note → Broker → Sent → Judgement → Link → Link
+abbrev pub answer_by : Wording Note → Broker → SentCommand → Judgement → ClientLink → ClientLink
 answer_by w b k Unheard l = l
 answer_by w b k TooLong l = l
-answer_by w b k (Refused code) l = errs w (channel_of k.errand) k.id code l
-answer_by w b k Accepted l = answer_to w b k.id k.errand l
+answer_by w b k (Refused code) l = errs w (channel_of k.request) k.id code l
+answer_by w b k Accepted l = answer_to w b k.id k.request l
 
-abbrev pub answered : List ℕ → Sent → Judgement → World → World
+abbrev pub answered : List ℕ → SentCommand → Judgement → World → World
 answered x k j w = link_with x (answer_by (wording w.broker.lists) w.broker k j (w.links x)) w
 
 -- the command that x sends next
-abbrev pub command_by : List ℕ → Errand → World → Sent
-command_by x e w = record { id = (w.links x).client.fresh; errand = e }
+abbrev pub command_by : List ℕ → ClientRequest → World → SentCommand
+command_by x e w = record { id = (w.links x).client.fresh; request = e }
 
-abbrev pub judgement : Config → List ℕ → Errand → World → Judgement
+abbrev pub judgement : Config → List ℕ → ClientRequest → World → Judgement
 judgement cfg x e w = judged cfg w (w.links x) (command_by x e w)
 
 -- The command is sent and gets a judgement; the node does what that says, and says its answer. Nothing else is on its way.
-abbrev pub exchange : Config → List ℕ → Errand → World → World
+abbrev pub exchange : Config → List ℕ → ClientRequest → World → World
 exchange cfg x e w =
     let k = command_by x e w in
     let j = judgement cfg x e w in
@@ -156,7 +156,7 @@ effect cfg w (AskFrom x c) = exchange cfg x (Subscribe c (last_of ((w.links x).c
 effect cfg w (Read x c) = read_at x c ((w.links x).line.subs c) w
 effect cfg w (Finish x c) = at_line x (finishes (wording w.broker.lists) c) w
 effect cfg w (Publish c body) = broker_with (publish (size_of cfg c) c (record { body = body; info = None }) w.broker) w
-effect cfg w (PublishBy x c body) = exchange cfg x (PublishErrand c body) w
+effect cfg w (PublishBy x c body) = exchange cfg x (PublishRequest c body) w
 effect cfg w (Deliver n i) = delivered n (publication i w.broker) w
 effect cfg w (Take x) = link_with x (receives (holds (w.links x))) w
 effect cfg w (Break x) = link_with x (breaks (w.links x)) w
@@ -170,7 +170,7 @@ effect cfg w (ListHistory x c limit) = exchange cfg x (History c limit) w
 
 -- ---- the condition of each event: where it does not hold, the event changes nothing
 
-abbrev pub id_left : Link → Bool
+abbrev pub id_left : ClientLink → Bool
 id_left l = nat_le l.client.fresh last_id
 
 abbrev pub is_asked : Sub → Bool
@@ -190,17 +190,17 @@ has_any [] = false
 has_any (n ∷ ns) = true
 
 -- an accepted command that would open a stream while no epoch waits
-abbrev pub lacks_epoch : Judgement → Errand → Broker → Bool
-lacks_epoch Accepted (PublishErrand c body) b = not (can_open c b)
+abbrev pub lacks_epoch : Judgement → ClientRequest → Broker → Bool
+lacks_epoch Accepted (PublishRequest c body) b = not (can_open c b)
 lacks_epoch Accepted (History c limit) b = not (can_open c b)
 lacks_epoch j e b = false
 
 -- no command is on its way to the node
-abbrev pub nothing_sent : List Sent → Bool
+abbrev pub nothing_sent : List SentCommand → Bool
 nothing_sent [] = true
 nothing_sent (k ∷ ks) = false
 
-abbrev pub can_command : Config → List ℕ → Errand → World → Bool
+abbrev pub can_command : Config → List ℕ → ClientRequest → World → Bool
 can_command cfg x e w =
     is_ready (w.links x) && (id_left (w.links x) && (nothing_sent (w.links x).up && not (lacks_epoch (judgement cfg x e w) e w.broker)))
 
@@ -216,7 +216,7 @@ allows cfg w (AskFrom x c) = idle_at x c w && can_command cfg x (Subscribe c (la
 allows cfg w (Read x c) = is_asked ((w.links x).line.subs c) && can_open c w.broker
 allows cfg w (Finish x c) = is_read ((w.links x).line.subs c)
 allows cfg w (Publish c body) = is_some (settings_of cfg.namespaces c) && (can_open c w.broker && not (at_last_offset c w.broker))
-allows cfg w (PublishBy x c body) = can_command cfg x (PublishErrand c body) w
+allows cfg w (PublishBy x c body) = can_command cfg x (PublishRequest c body) w
 allows cfg w (Deliver n i) = is_some (publication i w.broker)
 allows cfg w (Take x) = is_connected x w && has_any (w.links x).line.notes
 allows cfg w (Break x) = is_connected x w

@@ -6,10 +6,10 @@ use Rattle.cf_protocol.specs.Note.{Note, Reply, Pub, End, Fails, Put as Accepted
 use Rattle.cf_recovery.specs.Verdict.{next}
 use Rattle.cf_hub.specs.Connection.{Sub, On}
 use Rattle.cf_client.specs.ClientState.{Mode, Idle, Asking, Live}
-use Rattle.cf_schedule.specs.Link.{Link}
+use Rattle.cf_schedule.specs.ClientLink.{ClientLink}
 
 -- what is on its way to the client, in order: what left the node, then what waits there
-abbrev pub coming : Link → List Note
+abbrev pub coming : ClientLink → List Note
 coming l = l.way ++ l.line.notes
 
 -- the first fact where the test holds, else the second

@@ -15,17 +15,17 @@ use Rattle.cf_client.specs.ClientState.{last_of}
 use Rattle.cf_hub.specs.Connection.{checks}
 use Rattle.cf_schedule.specs.Config.{Config}
 use Rattle.cf_schedule.specs.Event.{Event}
-use Rattle.cf_schedule.specs.Errand.{Sent, Subscribe, Unsubscribe, Publish, History}
+use Rattle.cf_schedule.specs.ClientRequest.{SentCommand, Subscribe, Unsubscribe, Publish, History}
 use Rattle.cf_schedule.specs.PublicationList.{opened_in, is_fresh_for, can_open, at_last_offset, publish}
 use Rattle.cf_schedule.specs.Weights.{wording}
-use Rattle.cf_schedule.specs.Link.{holds, receives, errs_late, says, fails, finishes_over, closes_with}
+use Rattle.cf_schedule.specs.ClientLink.{holds, receives, errs_late, says, fails, finishes_over, closes_with}
 use Rattle.cf_schedule.specs.World.{World, link_with, broker_with, is_connected, is_ready}
 use Rattle.cf_schedule.specs.Refusals.{Judgement, Refused, Accepted, judged}
 use Rattle.cf_schedule.specs.IntervalMachine.{size_of, sent, heard_as, connects, at_line, id_left, idle_at, allows, effect}
 
 pub data Happening : Type 0 where
   -- a line of a schedule
-  Line : (event : Event) → Happening
+  Scheduled : (event : Event) → Happening
   -- a client sends a command, which then is on its way
   SendAsk : (client : List ℕ) → (channel : List ℕ) → Happening
   SendAskFrom : (client : List ℕ) → (channel : List ℕ) → Happening
@@ -63,12 +63,12 @@ failed_if true j = failed j
 failed_if false j = j
 
 -- the node of x hears the first of the commands that are on their way, and carries it out or fails it
-abbrev pub hear_first : Config → List ℕ → Bool → List Sent → World → World
+abbrev pub hear_first : Config → List ℕ → Bool → List SentCommand → World → World
 hear_first cfg x failing [] w = w
 hear_first cfg x failing (k ∷ rest) w = heard_as cfg x k rest (failed_if failing (judged cfg w (w.links x) k)) w
 
 abbrev pub loose_effect : Config → World → Happening → World
-loose_effect cfg w (Line e) = effect cfg w e
+loose_effect cfg w (Scheduled e) = effect cfg w e
 loose_effect cfg w (SendAsk x c) = sent x (Subscribe c None) w
 loose_effect cfg w (SendAskFrom x c) = sent x (Subscribe c (last_of ((w.links x).client.modes c))) w
 loose_effect cfg w (SendLeave x c) = sent x (Unsubscribe c) w
@@ -92,7 +92,7 @@ abbrev pub can_send : List ℕ → World → Bool
 can_send x w = is_connected x w && id_left (w.links x)
 
 abbrev pub loosely_allows : Config → World → Happening → Bool
-loosely_allows cfg w (Line e) = allows cfg w e
+loosely_allows cfg w (Scheduled e) = allows cfg w e
 loosely_allows cfg w (SendAsk x c) = can_send x w && idle_at x c w
 loosely_allows cfg w (SendAskFrom x c) = can_send x w && idle_at x c w
 loosely_allows cfg w (SendLeave x c) = can_send x w && not (idle_at x c w)
@@ -120,4 +120,4 @@ loose_run cfg w (h ∷ hs) = loose_run cfg (befalls cfg w h) hs
 
 -- a schedule as a loose run
 abbrev pub lines : List Event → List Happening
-lines es = map Line es
+lines es = map Scheduled es

@@ -8,7 +8,7 @@ use Rattle.cf_schedule.specs.Config.{Config}
 use Rattle.cf_schedule.specs.Event.{Event, Ask, AskFrom, Read, Break, Leave, Restart}
 use Rattle.cf_schedule.specs.PublicationList.{opened}
 use Rattle.cf_schedule.specs.World.{World, on_node}
-use Rattle.cf_schedule.specs.LooseRun.{Happening, Line, SendAsk, SendAskFrom, SendLeave, loosely_allows, befalls}
+use Rattle.cf_schedule.specs.LooseRun.{Happening, Scheduled, SendAsk, SendAskFrom, SendLeave, loosely_allows, befalls}
 use Rattle.cf_schedule.specs.Trace.{Item, Subscribed as ToldSubscribed, Published as ToldPublished, Resubscribing, Refused, Listed, Closed, Entry}
 
 pub data Mark : Type 0 where
@@ -59,7 +59,7 @@ event_marks x c w (Restart n) = if on_node n (w.links x).node then Stops ∷ [] 
 event_marks x c w e = []
 
 abbrev pub own_marks : List ℕ → List ℕ → World → Happening → List Mark
-own_marks x c w (Line e) = event_marks x c w e
+own_marks x c w (Scheduled e) = event_marks x c w e
 own_marks x c w (SendAsk y d) = only x y (only c d (Asks false ∷ []))
 own_marks x c w (SendAskFrom y d) = only x y (only c d (Asks true ∷ []))
 own_marks x c w (SendLeave y d) = only x y (only c d (Stops ∷ []))
@@ -74,7 +74,7 @@ numbered n [] = []
 numbered n (e ∷ es) = if e.at == n then e ∷ numbered n es else numbered n es
 
 -- what befalls client x at channel c, event by event: what the events do, and then what these entries tell
-abbrev pub account : Config → List ℕ → List ℕ → List Entry → ℕ → World → List Happening → List (List Mark)
-account cfg x c t n w [] = []
-account cfg x c t n w (h ∷ hs) =
-    (allowed_marks cfg x c w h ++ entry_marks x c (numbered n t)) ∷ account cfg x c t (suc n) (befalls cfg w h) hs
+abbrev pub befell_from : Config → List ℕ → List ℕ → List Entry → ℕ → World → List Happening → List (List Mark)
+befell_from cfg x c t n w [] = []
+befell_from cfg x c t n w (h ∷ hs) =
+    (allowed_marks cfg x c w h ++ entry_marks x c (numbered n t)) ∷ befell_from cfg x c t (suc n) (befalls cfg w h) hs

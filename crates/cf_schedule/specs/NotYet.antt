@@ -6,7 +6,7 @@ use Rattle.cf_recovery.specs.Verdict.{Verdict, Drop, Pass, Insufficient, verdict
 use Rattle.cf_hub.specs.Connection.{Sub, Off, Asked, Ready, On, Wording, Line, most_waiting}
 use Rattle.cf_schedule.specs.Config.{Config}
 use Rattle.cf_schedule.specs.Event.{Event, Epoch, Connect, Ask, AskFrom, Read, Finish, Publish, PublishBy, Deliver, Take, Break, Leave, Trim, Forget, BrokerRestart, Restart, Check, ListHistory}
-use Rattle.cf_schedule.specs.Errand.{Subscribe}
+use Rattle.cf_schedule.specs.ClientRequest.{Subscribe}
 use Rattle.cf_schedule.specs.PublicationList.{Place, publication}
 use Rattle.cf_schedule.specs.Weights.{wording}
 use Rattle.cf_schedule.specs.World.{World, on_node, sessions_of, is_connected}

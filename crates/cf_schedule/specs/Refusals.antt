@@ -8,10 +8,10 @@ use Rattle.cf_protocol.specs.declared.codes.CloseCode.TheVariants as close
 use Rattle.cf_protocol.specs.declared.codes.ErrorCode.{ErrorCode}
 use Rattle.cf_hub.specs.Connection.{is_off, rows}
 use Rattle.cf_schedule.specs.Config.{Config}
-use Rattle.cf_schedule.specs.Errand.{Errand, Subscribe, Unsubscribe, Publish, History, Sent, command_of, request_of}
+use Rattle.cf_schedule.specs.ClientRequest.{ClientRequest, Subscribe, Unsubscribe, Publish, History, SentCommand, command_of, request_of}
 use Rattle.cf_schedule.specs.PublicationList.{at_last_offset}
 use Rattle.cf_schedule.specs.Weights.{command_length}
-use Rattle.cf_schedule.specs.Link.{Link}
+use Rattle.cf_schedule.specs.ClientLink.{ClientLink}
 use Rattle.cf_schedule.specs.World.{World, rows_of}
 
 -- limits: channels of a session, subscriptions and sessions of a node; that of a text is in Checks
@@ -49,14 +49,14 @@ abbrev pub node_is_full : Option ℕ → World → Bool
 node_is_full None w = false
 node_is_full (Some n) w = nat_le most_rows (rows_of n w.links w.clients)
 
-abbrev pub has_no_room : Link → World → Bool
+abbrev pub has_no_room : ClientLink → World → Bool
 has_no_room l w = nat_le most_channels (rows l.line) || node_is_full l.node w
 
 -- what hub and broker say of a command that passed its checks
 abbrev pub subscribe_refusal : Bool → Bool → Option Refusal
 subscribe_refusal off full = if not off then Some Already else if full then Some Full else None
 
-abbrev pub refusal_of : Errand → Link → World → Option Refusal
+abbrev pub refusal_of : ClientRequest → ClientLink → World → Option Refusal
 refusal_of (Subscribe c from) l w = subscribe_refusal (is_off (l.line.subs c)) (has_no_room l w)
 refusal_of (Unsubscribe c) l w = None
 refusal_of (Publish c body) l w = if at_last_offset c w.broker then Some AtLastOffset else None
@@ -67,9 +67,9 @@ abbrev pub refused_with : Option ErrorCode → Judgement → Judgement
 refused_with None after = after
 refused_with (Some e) after = Refused (code_of e)
 
-abbrev pub judged : Config → World → Link → Sent → Judgement
+abbrev pub judged : Config → World → ClientLink → SentCommand → Judgement
 judged cfg w l k =
     if l.line.closed then Unheard
     else if nat_lt longest_text (command_length (command_of k)) then TooLong
-    else refused_with (first_failed (checks cfg.namespaces (request_of k.errand)))
-    (refused_with (option_map refusal_code (refusal_of k.errand l w)) Accepted)
+    else refused_with (first_failed (checks cfg.namespaces (request_of k.request)))
+    (refused_with (option_map refusal_code (refusal_of k.request l w)) Accepted)

@@ -1,7 +1,12 @@
--- The program's events, as the definitions have them.
+-- The program's configuration and events, as the definitions have them.
+use Rattle.cf_schedule.specs.Config.{Config}
 use Rattle.cf_schedule.specs.Event.{Event, Epoch, Connect, Ask, Read, Finish, Publish, Deliver, Take, Trim, Forget, BrokerRestart}
+use Rattle.cf_schedule.specs.declared.config.Config.{Config as CodeConfig}
 use Rattle.cf_schedule.specs.declared.event.Event as declared
 use Rattle.cf_schedule.specs.declared.event.Event.TheVariants as variant
+
+abbrev pub shown_config : CodeConfig → Config
+shown_config c = record { nodes = c.nodes; namespaces = c.namespaces }
 
 abbrev pub seen : declared.Event → Event
 seen (variant.Epoch e) = Epoch e

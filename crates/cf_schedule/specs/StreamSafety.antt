@@ -13,7 +13,7 @@ use Rattle.cf_schedule.specs.PublicationList.{body_at}
 use Rattle.cf_schedule.specs.World.{start}
 use Rattle.cf_schedule.specs.LooseRun.{Happening, loose_run}
 use Rattle.cf_schedule.specs.Trace.{Item, Published as ToldPublished, Entry}
-use Rattle.cf_schedule.specs.Marks.{Mark, Asks, Reads, Subscribed, Published, Stops, account}
+use Rattle.cf_schedule.specs.Marks.{Mark, Asks, Reads, Subscribed, Published, Stops, befell_from}
 
 -- ---- numbered
 
@@ -165,7 +165,7 @@ HonestRecovery history =
 
 -- what befalls client x at channel c in these happenings, by a trace
 abbrev pub befell : Config → List Happening → List Entry → List ℕ → List ℕ → List (List Mark)
-befell cfg hs t x c = account cfg x c t 1 start hs
+befell cfg hs t x c = befell_from cfg x c t 1 start hs
 
 -- A trace is safe beside the happenings that it is of.
 pub record Safe (cfg : Config) (hs : List Happening) (t : List Entry) : Type 0 where

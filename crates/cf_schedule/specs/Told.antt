@@ -9,10 +9,10 @@ use Rattle.cf_schedule.specs.Config.{Config}
 use Rattle.cf_schedule.specs.Trace.{Item, Subscribed, Published, Resubscribing, Refused, Listed, Closed, Entry}
 use Rattle.cf_schedule.specs.Event.{Event, Take}
 use Rattle.cf_schedule.specs.PublicationList.{body_at}
-use Rattle.cf_schedule.specs.Link.{holds}
+use Rattle.cf_schedule.specs.ClientLink.{holds}
 use Rattle.cf_schedule.specs.World.{World}
 use Rattle.cf_schedule.specs.IntervalMachine.{allows, happens}
-use Rattle.cf_schedule.specs.LooseRun.{Happening, Line, Receive, loosely_allows, befalls}
+use Rattle.cf_schedule.specs.LooseRun.{Happening, Scheduled, Receive, loosely_allows, befalls}
 
 -- so many publications after a position
 abbrev pub run_items : Lists → List ℕ → Position → ℕ → List Item
@@ -90,7 +90,7 @@ trace cfg n w (e ∷ es) = writes cfg n w e ++ trace cfg (suc n) (happens cfg w 
 
 -- the same for a loose run, where a note that was on its way tells something when it is received
 abbrev pub loosely_tells : ℕ → World → Happening → List Entry
-loosely_tells n w (Line e) = tells n w e
+loosely_tells n w (Scheduled e) = tells n w e
 loosely_tells n w (Receive x) = told_first n x w (w.links x).way
 loosely_tells n w h = []
 

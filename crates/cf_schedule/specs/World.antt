@@ -3,7 +3,7 @@ use Rattle.std.specs.Prelude.{ℕ, suc, ◌+◌, ◌==◌, ◌&&◌, not, Bool, 
 use Rattle.cf_protocol.specs.Names.{with}
 use Rattle.cf_hub.specs.Connection.{rows, any_unfinished}
 use Rattle.cf_schedule.specs.PublicationList.{Broker, new_broker}
-use Rattle.cf_schedule.specs.Link.{Link, no_link}
+use Rattle.cf_schedule.specs.ClientLink.{ClientLink, no_link}
 
 pub record World : Type 0 where
   pub broker : Broker
@@ -12,7 +12,7 @@ pub record World : Type 0 where
   pub counters : ℕ → ℕ
   -- the clients that ever connected, each once; and by client
   pub clients : List (List ℕ)
-  pub links : List ℕ → Link
+  pub links : List ℕ → ClientLink
 
 -- a number's value changed
 abbrev pub with_at : (ℕ → ℕ) → ℕ → ℕ → ℕ → ℕ
@@ -24,13 +24,13 @@ first_boot n = 1
 abbrev pub no_session : ℕ → ℕ
 no_session n = 0
 
-abbrev pub nobody : List ℕ → Link
+abbrev pub nobody : List ℕ → ClientLink
 nobody x = no_link
 
 abbrev pub start : World
 start = record { broker = new_broker; boots = first_boot; counters = no_session; clients = []; links = nobody }
 
-abbrev pub link_with : List ℕ → Link → World → World
+abbrev pub link_with : List ℕ → ClientLink → World → World
 link_with x l w = record w { links = with w.links x l }
 
 abbrev pub broker_with : Broker → World → World
@@ -41,11 +41,11 @@ on_node n None = false
 on_node n (Some m) = m == n
 
 -- how many sessions a node has, and how many subscriptions of all its sessions
-abbrev pub sessions_of : ℕ → (List ℕ → Link) → List (List ℕ) → ℕ
+abbrev pub sessions_of : ℕ → (List ℕ → ClientLink) → List (List ℕ) → ℕ
 sessions_of n links [] = 0
 sessions_of n links (x ∷ xs) = if on_node n (links x).node then suc (sessions_of n links xs) else sessions_of n links xs
 
-abbrev pub rows_of : ℕ → (List ℕ → Link) → List (List ℕ) → ℕ
+abbrev pub rows_of : ℕ → (List ℕ → ClientLink) → List (List ℕ) → ℕ
 rows_of n links [] = 0
 rows_of n links (x ∷ xs) = if on_node n (links x).node then rows (links x).line + rows_of n links xs else rows_of n links xs
 
@@ -53,5 +53,5 @@ abbrev pub is_connected : List ℕ → World → Bool
 is_connected x w = is_some (w.links x).node
 
 -- A client is ready where it is connected and its session has no unfinished subscription: commands are carried out in order.
-abbrev pub is_ready : Link → Bool
+abbrev pub is_ready : ClientLink → Bool
 is_ready l = is_some l.node && not (any_unfinished l.line.subs l.line.channels)

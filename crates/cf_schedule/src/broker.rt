@@ -1,7 +1,7 @@
 //! What nodes share: the streams, the epochs that wait for them, and all that was accepted.
 ghost use Rattle.std.specs.Prelude.{◌≡◌, IfOk, OnOk, IsSome, None, option_copied, string_bytes};
 ghost use Rattle.cf_protocol.specs.Settings.{NamespaceTable, settings_of};
-ghost use Rattle.cf_schedule.specs.BrokerTie.{ShowsBroker, Reads, Stands};
+ghost use Rattle.cf_schedule.specs.Running.BrokerTie.{ShowsBroker, Reads, Stands};
 ghost use Rattle.cf_schedule.specs.Config.{Config as AnyConfig};
 ghost use Rattle.cf_schedule.specs.Event.{Publish, Trim, Forget, BrokerRestart};
 ghost use Rattle.cf_schedule.specs.FreshEpochs.{AreFresh};

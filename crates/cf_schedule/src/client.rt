@@ -7,8 +7,8 @@ ghost use Rattle.cf_protocol.specs.Request.{Connect};
 ghost use Rattle.cf_protocol.specs.Shown.{shown_outgoing, shown_outcome, shown_pushed};
 ghost use Rattle.cf_protocol.specs.Written.{command_text};
 ghost use Rattle.cf_client.specs.ClientState.{Live, asks, first_id, is_idle, no_channel};
-ghost use Rattle.cf_schedule.specs.ClientCalls.{client_of, mode_of, is_connected, IsSame, SetsMode, RefusedBy, TextRefused, connect_fault, ask_fault, published, TellsAlso, Takes, TakesAll, TakesAnswer, TakesPush};
-ghost use Rattle.cf_schedule.specs.Errand.{command_of, Subscribe};
+ghost use Rattle.cf_schedule.specs.Running.ClientCalls.{client_of, mode_of, is_connected, IsSame, SetsMode, RefusedBy, TextRefused, connect_fault, ask_fault, published, TellsAlso, Takes, TakesAll, TakesAnswer, TakesPush};
+ghost use Rattle.cf_schedule.specs.ClientRequest.{command_of, Subscribe};
 ghost use Rattle.cf_schedule.specs.Shown.{shown_item};
 ghost use Rattle.cf_schedule.specs.Told.{asks_under};
 ghost use Rattle.cf_schedule.specs.Trace.{Subscribed};
@@ -116,7 +116,7 @@ impl Client {
     /// The text of a subscribe command that asks for no recovery. NotNow while not connected, and where the channel isn't
     /// idle.
     pub(crate) fn ask(&mut self, channel: &str) -> Result<String, ClientFault>
-        ensures text { IfOk result (λ t. string_bytes t ≡ command_text (command_of (record { id = (client_of self.old).fresh; errand = Subscribe channel.now None }))) }
+        ensures text { IfOk result (λ t. string_bytes t ≡ command_text (command_of (record { id = (client_of self.old).fresh; request = Subscribe channel.now None }))) }
         ensures asks { OnOk result (IsSame (client_of self.new) (asks channel.now None (client_of self.old))) }
         ensures connected { is_connected self.new ≡ is_connected self.old }
         ensures refused { RefusedBy (ask_fault channel.now (is_connected self.old) (client_of self.old)) result }
@@ -224,7 +224,7 @@ impl Client {
 
 // The text of a subscribe command that asks for no recovery.
 fn subscribe_text(alloc: Global, id: u32, channel: &str) -> Result<String, AllocError>
-    ensures { IfOk result (λ t. string_bytes t ≡ command_text (command_of (record { id = id; errand = Subscribe channel.now None }))) }
+    ensures { IfOk result (λ t. string_bytes t ≡ command_text (command_of (record { id = id; request = Subscribe channel.now None }))) }
 {
     let channel = String::from_str(alloc, channel)?;
     let since = None;
@@ -350,7 +350,7 @@ impl<T: Drop> From<AllocFailed<T>> for ClientFault {
 }
 
 impl From<ReadFault> for ClientFault {
-    ghost use Rattle.cf_schedule.specs.ClientCalls.{fault_of};
+    ghost use Rattle.cf_schedule.specs.Running.ClientCalls.{fault_of};
 
     ghost from_gives = { λ fault e. e ≡ fault_of fault };
 

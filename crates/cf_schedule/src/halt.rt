@@ -36,7 +36,7 @@ impl<T: Drop> From<AllocFailed<T>> for Halt {
 
 impl From<ReadFault> for Halt {
     ghost use Rattle.std.specs.Prelude.{◌≡◌};
-    ghost use Rattle.cf_schedule.specs.SessionCalls.{halt_of};
+    ghost use Rattle.cf_schedule.specs.Running.SessionCalls.{halt_of};
 
     ghost from_gives = { λ fault h. h ≡ halt_of fault };
 

@@ -4,7 +4,7 @@ ghost use Rattle.cf_protocol.specs.Outgoing.{Push, Publication as PublicationPus
 ghost use Rattle.cf_protocol.specs.Written.{outgoing_text};
 ghost use Rattle.cf_hub.specs.Connection.{rows};
 ghost use Rattle.cf_schedule.specs.IntervalMachine.{client_id as named};
-ghost use Rattle.cf_schedule.specs.TextLine.{line_of};
+ghost use Rattle.cf_schedule.specs.Running.TextLine.{line_of};
 
 use crate::halt::Halt;
 use crate::line::Session;
@@ -54,10 +54,10 @@ impl Hub {
     ghost use Rattle.cf_hub.specs.Connection.{is_off, is_unfinished, begins, reads, comes, finishes};
     ghost use Rattle.cf_schedule.specs.IntervalMachine.{is_asked, is_read};
     ghost use Rattle.cf_schedule.specs.Refusals.{most_channels, most_rows, most_sessions};
-    ghost use Rattle.cf_schedule.specs.Subscription.{reading_of};
+    ghost use Rattle.cf_schedule.specs.Running.Subscription.{reading_of};
     ghost use Rattle.cf_schedule.specs.NotYet.{is_beyond, is_slow};
-    ghost use Rattle.cf_schedule.specs.TextLine.{said, AreListed, takes_front};
-    ghost use Rattle.cf_schedule.specs.HubState.{session_count, line_at, sub_at, kept_at, rows_at, node_rows, Each, One, SameLines, SameKept, SameCounts, Opens, since_of, holds_at};
+    ghost use Rattle.cf_schedule.specs.Running.TextLine.{said, AreListed, takes_front};
+    ghost use Rattle.cf_schedule.specs.Running.HubState.{session_count, line_at, sub_at, kept_at, rows_at, node_rows, Each, One, SameLines, SameKept, SameCounts, Opens, since_of, holds_at};
 
     /// A node's sessions, none at first.
     pub(crate) fn new(alloc: Global, node: u8, boot: u64) -> Hub

@@ -28,9 +28,9 @@ impl Session {
     ghost use Rattle.cf_hub.specs.Connection.{Asked, On, rows, is_off, is_unfinished, opens, put_sub, begins, reads, comes, finishes, most_waiting};
     ghost use Rattle.cf_recovery.specs.Meaning.{meaning};
     ghost use Rattle.cf_schedule.specs.IntervalMachine.{is_asked, is_read};
-    ghost use Rattle.cf_schedule.specs.Subscription.{reading_of};
+    ghost use Rattle.cf_schedule.specs.Running.Subscription.{reading_of};
     ghost use Rattle.cf_schedule.specs.NotYet.{is_beyond, is_slow};
-    ghost use Rattle.cf_schedule.specs.TextLine.{line_of, kept_of, IsLine, said, saying, AreListed, reply_of, on_of, verdict_at, takes_front};
+    ghost use Rattle.cf_schedule.specs.Running.TextLine.{line_of, kept_of, IsLine, said, saying, AreListed, reply_of, on_of, verdict_at, takes_front};
 
     /// A client's session, with no subscription and nothing that waits.
     pub(crate) fn new(alloc: Global, client: String) -> Session

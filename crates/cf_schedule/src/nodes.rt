@@ -2,12 +2,12 @@
 ghost use Rattle.std.specs.Prelude.{◌≡◌, ◌≢◌, ◌≤◌, ◌<◌, ◌⊎◌, ◌↔◌, ◌||◌, ◌&&◌, not, ℕ, List, [], true, false, IsTrue, IfOk, IfErr, OnOk, IsErrOf, IsSomeAnd, is_some, nat_lt, nat_le, None, Some, option_map, option_and_then, slice_get, string_bytes};
 ghost use Rattle.cf_protocol.specs.Note.{Lists, placed_at};
 ghost use Rattle.cf_hub.specs.Connection.{begins, reads, finishes, comes, is_off, is_unfinished, rows};
-ghost use Rattle.cf_schedule.specs.HubState.{since_of};
-ghost use Rattle.cf_schedule.specs.NodeState.{node_count, line_on, sub_on, kept_on, sessions_on, subscriptions_on, holds_on, OneOn, EachOn, SameOn, SameKeptOn, OpensOn, BeginsOn};
+ghost use Rattle.cf_schedule.specs.Running.HubState.{since_of};
+ghost use Rattle.cf_schedule.specs.Running.NodeState.{node_count, line_on, sub_on, kept_on, sessions_on, subscriptions_on, holds_on, OneOn, EachOn, SameOn, SameKeptOn, OpensOn, BeginsOn};
 ghost use Rattle.cf_schedule.specs.NotYet.{is_beyond, is_slow};
 ghost use Rattle.cf_schedule.specs.Refusals.{most_sessions, most_channels, most_rows};
-ghost use Rattle.cf_schedule.specs.Subscription.{reading_of};
-ghost use Rattle.cf_schedule.specs.TextLine.{said, AreListed, takes_front};
+ghost use Rattle.cf_schedule.specs.Running.Subscription.{reading_of};
+ghost use Rattle.cf_schedule.specs.Running.TextLine.{said, AreListed, takes_front};
 
 use crate::halt::Halt;
 use crate::hub::{Hub, HubRefusal};

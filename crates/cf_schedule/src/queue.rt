@@ -1,6 +1,6 @@
 //! A connection's output.
 ghost use Rattle.std.specs.Prelude.{◌≡◌, ◌+◌, ◌<◌, ◌≤◌, ◌++◌, ◌∷◌, ◌↔◌, IsTrue, [], length, OnOk, OnErr, IfErr, IsErrAnd, MatchOption, option_map, string_bytes, drop, slice_get};
-ghost use Rattle.cf_schedule.specs.OutQueue.{weight};
+ghost use Rattle.cf_schedule.specs.Running.OutQueue.{weight};
 
 use std::alloc::Global;
 use std::collections::VecDeque;
@@ -27,7 +27,7 @@ pub(crate) struct OutQueue {
 
 impl Model for OutQueue {
     ghost use Rattle.std.specs.Prelude.{◌≡◌, ◌≤◌, map, sum_by, string_bytes, string_len};
-    ghost use Rattle.cf_schedule.specs.OutQueue.{OutQueue as Waiting};
+    ghost use Rattle.cf_schedule.specs.Running.OutQueue.{OutQueue as Waiting};
 
     ghost Value = { Waiting };
 

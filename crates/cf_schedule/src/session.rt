@@ -4,7 +4,7 @@ ghost use Rattle.cf_protocol.specs.Frame.{IsCommands};
 ghost use Rattle.cf_protocol.specs.Request as request;
 ghost use Rattle.cf_protocol.specs.Shown.{shown_command};
 ghost use Rattle.cf_protocol.specs.Checks.{longest_text};
-ghost use Rattle.cf_schedule.specs.SessionCalls.{command_asked, is_answered, is_served};
+ghost use Rattle.cf_schedule.specs.Running.SessionCalls.{command_asked, is_answered, is_served};
 
 use crate::halt::Halt;
 use cf_protocol::{Command, Namespaces, Position, Request, read_commands};

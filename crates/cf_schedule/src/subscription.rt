@@ -7,7 +7,7 @@ ghost use Rattle.std.specs.String.{string_cmp};
 ghost use Rattle.cf_protocol.specs.Outgoing.{Answer, Subscribed};
 ghost use Rattle.cf_protocol.specs.Shown.{shown_outgoing};
 ghost use Rattle.cf_hub.specs.Connection.{is_unfinished};
-ghost use Rattle.cf_schedule.specs.Subscription.{SetsAt, sub_of};
+ghost use Rattle.cf_schedule.specs.Running.Subscription.{SetsAt, sub_of};
 
 use cf_protocol::{Outcome, Outgoing, Position};
 use cf_stream::Recovery;

@@ -3,7 +3,7 @@ ghost use Rattle.std.specs.Prelude.{◌≡◌, OnOk, not, sum_by};
 ghost use Rattle.std.specs.List.{list_all};
 ghost use Rattle.cf_hub.specs.Connection.{rows};
 ghost use Rattle.cf_schedule.specs.NotYet.{is_beyond};
-ghost use Rattle.cf_schedule.specs.TextLine.{line_of, saying, Brings, EachOf};
+ghost use Rattle.cf_schedule.specs.Running.TextLine.{line_of, saying, Brings, EachOf};
 
 use crate::line::Session;
 use cf_protocol::Position;

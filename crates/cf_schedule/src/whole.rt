@@ -4,11 +4,10 @@ ghost use Rattle.std.specs.List.{list_any};
 ghost use Rattle.cf_schedule.specs.Fresh.{are_fresh, is_new, brings};
 ghost use Rattle.cf_schedule.specs.LooseRun.{lines};
 ghost use Rattle.cf_schedule.specs.NotYet.{NoneIsNotYet};
-ghost use Rattle.cf_schedule.specs.Seen.{seen};
+ghost use Rattle.cf_schedule.specs.Seen.{seen, shown_config};
 ghost use Rattle.cf_schedule.specs.Shown.{shown_trace};
 ghost use Rattle.cf_schedule.specs.Stopping.{Stops};
 ghost use Rattle.cf_schedule.specs.StreamSafety.{Safe};
-ghost use Rattle.cf_schedule.specs.Tie.{shown_config};
 ghost use Rattle.cf_schedule.specs.Told.{trace};
 ghost use Rattle.cf_schedule.specs.World.{start};
 

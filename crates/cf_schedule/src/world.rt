@@ -3,14 +3,14 @@ ghost use Rattle.std.specs.Prelude.{◌≡◌, ℕ, List, [], true, Option, Some
 ghost use Rattle.std.specs.BTreeMap.{get_by_text};
 ghost use Rattle.cf_protocol.specs.Outgoing.{Answer, Connected};
 ghost use Rattle.cf_protocol.specs.Written.{outgoing_text};
-ghost use Rattle.cf_schedule.specs.NodeState.{line_on};
-ghost use Rattle.cf_schedule.specs.ClientCalls.{TextRefused, is_connected};
+ghost use Rattle.cf_schedule.specs.Running.NodeState.{line_on};
+ghost use Rattle.cf_schedule.specs.Running.ClientCalls.{TextRefused, is_connected};
 ghost use Rattle.cf_schedule.specs.Shown.{shown_item, shown_entry};
 ghost use Rattle.cf_schedule.specs.Told.{entries as entries_of};
 ghost use Rattle.cf_schedule.specs.declared.world.Peer.{Peer as AnyPeer};
 ghost use Rattle.cf_schedule.specs.Event as said;
-ghost use Rattle.cf_schedule.specs.Seen.{seen};
-ghost use Rattle.cf_schedule.specs.Tie.{Tied, GoesOn, StopsAt, Writes, AsksOrNot, Heard, shown_config};
+ghost use Rattle.cf_schedule.specs.Seen.{seen, shown_config};
+ghost use Rattle.cf_schedule.specs.Running.Tie.{Tied, GoesOn, StopsAt, Writes, AsksOrNot, Heard};
 ghost use Rattle.cf_schedule.specs.World.{start};
 
 use crate::body::Body;
@@ -346,7 +346,7 @@ fn entries(
 
 impl From<ClientFault> for Halt {
     ghost use Rattle.std.specs.Prelude.{◌≡◌};
-    ghost use Rattle.cf_schedule.specs.Tie.{halt_by_client};
+    ghost use Rattle.cf_schedule.specs.Running.Tie.{halt_by_client};
 
     ghost from_gives = { λ fault h. h ≡ halt_by_client fault };
 
@@ -360,7 +360,7 @@ impl From<ClientFault> for Halt {
 
 impl From<HubRefusal> for Halt {
     ghost use Rattle.std.specs.Prelude.{◌≡◌};
-    ghost use Rattle.cf_schedule.specs.Tie.{halt_by_hub};
+    ghost use Rattle.cf_schedule.specs.Running.Tie.{halt_by_hub};
 
     ghost from_gives = { λ refusal h. h ≡ halt_by_hub refusal };
 

@@ -1,8 +1,7 @@
 //! The command `simulate`: a schedule is read, run, and its trace printed.
 ghost use Rattle.std.specs.Prelude.{◌++◌, ◌∷◌, [], map, OnOk, OnErr, IfOk, IfErr, IfSome};
 ghost use Rattle.std.specs.Io.KnownBytes.{Appends, Keeps};
-ghost use Rattle.cf_schedule.specs.Seen.{seen};
-ghost use Rattle.cf_schedule.specs.Tie.{shown_config};
+ghost use Rattle.cf_schedule.specs.Seen.{seen, shown_config};
 ghost use Rattle.cf_schedule.specs.TraceLine.{line_of, printed};
 ghost use Rattle.cf_schedule.specs.Shown.{shown_entry, shown_trace};
 ghost use Rattle.cf_server.specs.Simulation.{AddsPart, Leaves, WritesAll, Prints, Ends, EndsRun, IsOutside};

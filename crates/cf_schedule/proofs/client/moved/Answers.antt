@@ -1,5 +1,5 @@
 use Rattle.std.proofs.Common.{◌∙◌, Some, sym, ap}
-use Rattle.cf_schedule.specs.ClientCalls.{mode_of}
+use Rattle.cf_schedule.specs.Running.ClientCalls.{mode_of}
 use Rattle.cf_schedule.proofs.client.moved.Goals as goal
 
 pub returns-clause-some : goal.returns-clause-some

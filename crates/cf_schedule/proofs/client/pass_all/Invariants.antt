@@ -1,5 +1,5 @@
 use Rattle.std.proofs.Common.{◌≡◌, ◌++◌, map}
-use Rattle.cf_schedule.specs.ClientCalls.{published}
+use Rattle.cf_schedule.specs.Running.ClientCalls.{published}
 use Rattle.cf_schedule.specs.Shown.{shown_item}
 use Rattle.cf_schedule.proofs.client.pass_all.Given as goal
 

@@ -1,6 +1,6 @@
 use Rattle.std.proofs.Common.{arith, ◌∙◌, ◌∷◌, [], ap, sym}
 use Rattle.cf_protocol.specs.Request.{Command}
-use Rattle.cf_schedule.specs.SessionCalls.{is_answered}
+use Rattle.cf_schedule.specs.Running.SessionCalls.{is_answered}
 use Rattle.cf_schedule.proofs.SessionReads.{the_one, more_commands, not_answered, none_left, some_left, unread_yet}
 use Rattle.cf_schedule.proofs.session.on_text.Goals as goal
 

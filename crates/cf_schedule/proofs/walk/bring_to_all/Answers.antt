@@ -1,5 +1,5 @@
 use Rattle.std.proofs.Common.{rules, arith, ◌≡◌, ◌<◌, ◌≤◌, ◌∙◌, Some, length, slice_get, get_or}
-use Rattle.cf_schedule.specs.TextLine.{Brings}
+use Rattle.cf_schedule.specs.Running.TextLine.{Brings}
 use Rattle.cf_schedule.proofs.Hubs.{place_or, walk_on, walked_all, sum_same}
 use Rattle.cf_schedule.proofs.walk.bring_to_all.Goals as goal
 

@@ -1,6 +1,6 @@
 use Rattle.std.proofs.Common.{◌≡◌, ◌<◌, ◌≤◌, ℕ, slice_get, sum_by}
 use Rattle.cf_hub.specs.Connection.{rows}
-use Rattle.cf_schedule.specs.TextLine.{Both, Brings, line_of}
+use Rattle.cf_schedule.specs.Running.TextLine.{Both, Brings, line_of}
 use Rattle.cf_schedule.proofs.walk.bring_to_all.Given as goal
 
 abbrev pub invariant-loop-session : goal.invariant-loop-session

@@ -6,10 +6,10 @@ use Rattle.cf_schedule.specs.Event.{Event}
 use Rattle.cf_schedule.specs.IntervalMachine.{run, happens}
 use Rattle.cf_schedule.specs.LooseRun.{lines}
 use Rattle.cf_schedule.specs.NotYet.{IsNotYet, NoneIsNotYet}
-use Rattle.cf_schedule.specs.Seen.{seen}
+use Rattle.cf_schedule.specs.Seen.{seen, shown_config}
 use Rattle.cf_schedule.specs.Shown.{shown_entry, shown_trace}
 use Rattle.cf_schedule.specs.StreamSafety.{Safe}
-use Rattle.cf_schedule.specs.Tie.{Tied, shown_config}
+use Rattle.cf_schedule.specs.Running.Tie.{Tied}
 use Rattle.cf_schedule.specs.Told.{trace}
 use Rattle.cf_schedule.specs.Trace.{Entry as Told}
 use Rattle.cf_schedule.specs.World.{World, start}

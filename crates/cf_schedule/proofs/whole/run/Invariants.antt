@@ -1,9 +1,9 @@
 use Rattle.std.proofs.Common.{◌≡◌, map, take}
 use Rattle.cf_schedule.specs.IntervalMachine.{run}
 use Rattle.cf_schedule.specs.NotYet.{NoneIsNotYet}
-use Rattle.cf_schedule.specs.Seen.{seen}
+use Rattle.cf_schedule.specs.Seen.{seen, shown_config}
 use Rattle.cf_schedule.specs.Shown.{shown_entry}
-use Rattle.cf_schedule.specs.Tie.{Tied, shown_config}
+use Rattle.cf_schedule.specs.Running.Tie.{Tied}
 use Rattle.cf_schedule.specs.Told.{trace}
 use Rattle.cf_schedule.specs.World.{start}
 use Rattle.cf_schedule.proofs.whole.run.Given as goal

@@ -2,7 +2,7 @@ use Rattle.std.proofs.Common.{rules, ◌≡◌, ◌∙◌, Some, IsSome, map, sy
 use Rattle.std.proofs.lemmas.Map.Text.{btree_map_updates_text}
 use Rattle.std.specs.BTreeMap.{get_by_text}
 use Rattle.cf_schedule.specs.Shown.{shown_item}
-use Rattle.cf_schedule.specs.Tie.{Heard}
+use Rattle.cf_schedule.specs.Running.Tie.{Heard}
 use Rattle.cf_schedule.specs.declared.world.Peer.{Peer}
 use Rattle.cf_schedule.proofs.TieLinks.{some-is}
 use Rattle.cf_schedule.proofs.TieMoves.{sets-peer}

@@ -4,7 +4,7 @@ use Rattle.std.proofs.Math.Dec.{ltb}
 use Rattle.std.specs.Option.{option_copied, is_some, IfSome}
 use Rattle.std.proofs.lemmas.Option.{slice_get_past, slice_get_read}
 use Rattle.std.proofs.lemmas.Bool.{ltb-true, ltb-false}
-use Rattle.cf_schedule.specs.BrokerTie.{Stands}
+use Rattle.cf_schedule.specs.Running.BrokerTie.{Stands}
 use Rattle.cf_schedule.specs.PublicationList.{publication}
 use Rattle.cf_schedule.specs.declared.broker.Accepted.{Accepted}
 use Rattle.cf_schedule.proofs.BoardLists.{stands-at}

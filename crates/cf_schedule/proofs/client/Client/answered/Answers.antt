@@ -3,7 +3,7 @@ use Rattle.std.proofs.lemmas.List.{append-nil}
 use Rattle.std.specs.String.{string_bytes}
 use Rattle.cf_schedule.specs.Told.{asks_under}
 use Rattle.cf_schedule.specs.Trace.{Subscribed}
-use Rattle.cf_schedule.specs.ClientCalls.{client_of, published}
+use Rattle.cf_schedule.specs.Running.ClientCalls.{client_of, published}
 use Rattle.cf_schedule.specs.Shown.{shown_item}
 use Rattle.cf_schedule.proofs.ClientMoves.{takes_reply, found_none, found_some, lives_at, told_one, told_reply}
 use Rattle.cf_schedule.proofs.client.Client.answered.Goals as goal

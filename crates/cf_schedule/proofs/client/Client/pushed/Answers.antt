@@ -3,7 +3,7 @@ use Rattle.std.proofs.lemmas.List.{append-nil}
 use Rattle.std.specs.String.{string_bytes}
 use Rattle.cf_protocol.specs.Position.{Position}
 use Rattle.cf_client.specs.ClientState.{Live}
-use Rattle.cf_schedule.specs.ClientCalls.{client_of, published, SetsMode}
+use Rattle.cf_schedule.specs.Running.ClientCalls.{client_of, published, SetsMode}
 use Rattle.cf_schedule.specs.Shown.{shown_item}
 use Rattle.cf_schedule.proofs.ClientMoves.{takes_pub, passes_pub, takes_push, told_one}
 use Rattle.cf_schedule.proofs.client.Client.pushed.Goals as goal

@@ -1,7 +1,7 @@
 use Rattle.std.proofs.Common.{◌∙◌, ◌∷◌, [], ◌++◌, map, sym, subst}
 use Rattle.std.proofs.lemmas.List.{map-append}
 use Rattle.cf_protocol.specs.Shown.{shown_outgoing}
-use Rattle.cf_schedule.specs.ClientCalls.{client_of, TakesAll}
+use Rattle.cf_schedule.specs.Running.ClientCalls.{client_of, TakesAll}
 use Rattle.cf_schedule.specs.Shown.{shown_item}
 use Rattle.cf_schedule.proofs.ClientMoves.{takes_more}
 use Rattle.cf_schedule.proofs.client.Client.take_all.Goals as goal

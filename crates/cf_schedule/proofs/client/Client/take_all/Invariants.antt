@@ -1,6 +1,6 @@
 use Rattle.std.proofs.Common.{◌≡◌, map}
 use Rattle.cf_protocol.specs.Shown.{shown_outgoing}
-use Rattle.cf_schedule.specs.ClientCalls.{client_of, is_connected, TakesAll}
+use Rattle.cf_schedule.specs.Running.ClientCalls.{client_of, is_connected, TakesAll}
 use Rattle.cf_schedule.specs.Shown.{shown_item}
 use Rattle.cf_schedule.proofs.client.Client.take_all.Given as goal
 

@@ -9,7 +9,7 @@ use Rattle.cf_protocol.specs.Outgoing.{Push, Publication}
 use Rattle.cf_protocol.specs.Written.{note_text, outgoing_text}
 use Rattle.cf_hub.specs.Connection.{comes}
 use Rattle.cf_schedule.specs.declared.line.Session.{Session}
-use Rattle.cf_schedule.specs.TextLine.{line_of, said, IsLine, Both, EachOf, Brings}
+use Rattle.cf_schedule.specs.Running.TextLine.{line_of, said, IsLine, Both, EachOf, Brings}
 use Rattle.cf_schedule.proofs.Hubs.{can, pub_text, all_within, one_beyond, brought_lines, each_length}
 use Rattle.cf_schedule.proofs.hub.Hub.deliver.Goals as goal
 

@@ -5,8 +5,8 @@ use Rattle.cf_protocol.specs.Names.{with}
 use Rattle.cf_hub.specs.Connection.{finishes}
 use Rattle.cf_schedule.specs.IntervalMachine.{is_read}
 use Rattle.cf_schedule.specs.NotYet.{is_slow}
-use Rattle.cf_schedule.specs.TextLine.{line_of, kept_of, said, AreListed}
-use Rattle.cf_schedule.specs.HubState.{sub_in, holds_in, kept_by}
+use Rattle.cf_schedule.specs.Running.TextLine.{line_of, kept_of, said, AreListed}
+use Rattle.cf_schedule.specs.Running.HubState.{sub_in, holds_in, kept_by}
 use Rattle.cf_schedule.proofs.Hubs.{lent, not_lent, one_line, none_line, one_kept, one_rows, sum_same, both_ok}
 use Rattle.cf_schedule.proofs.hub.Hub.finish.Goals as goal
 

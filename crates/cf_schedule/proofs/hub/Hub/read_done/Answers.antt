@@ -1,9 +1,9 @@
 use Rattle.std.proofs.Common.{◌≡◌, ◌∙◌, sym, subst, Some, None, slice_get, option_map, length-set}
 use Rattle.cf_hub.specs.Connection.{reads}
 use Rattle.cf_schedule.specs.IntervalMachine.{is_asked}
-use Rattle.cf_schedule.specs.Subscription.{reading_of}
-use Rattle.cf_schedule.specs.TextLine.{line_of}
-use Rattle.cf_schedule.specs.HubState.{sub_in}
+use Rattle.cf_schedule.specs.Running.Subscription.{reading_of}
+use Rattle.cf_schedule.specs.Running.TextLine.{line_of}
+use Rattle.cf_schedule.specs.Running.HubState.{sub_in}
 use Rattle.cf_schedule.proofs.Hubs.{lent, not_lent, one_line, none_line, one_kept, one_rows, sum_same}
 use Rattle.cf_schedule.proofs.hub.Hub.read_done.Goals as goal
 

@@ -1,6 +1,6 @@
 use Rattle.std.proofs.Common.{◌≡◌, ◌∙◌, sym, subst, Some, None, List, ℕ, slice_get, option_map, option_and_then, length-set, string_bytes}
 use Rattle.cf_hub.specs.Connection.{Line}
-use Rattle.cf_schedule.specs.TextLine.{takes_front, line_of}
+use Rattle.cf_schedule.specs.Running.TextLine.{takes_front, line_of}
 use Rattle.cf_schedule.proofs.Hubs.{lent, not_lent, one_line, none_line, one_keeps, one_rows, sum_same}
 use Rattle.cf_schedule.proofs.hub.Hub.take.Goals as goal
 

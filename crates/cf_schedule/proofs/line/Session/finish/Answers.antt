@@ -4,8 +4,8 @@ use Rattle.std.specs.BTreeMap.{get_by_text}
 use Rattle.cf_protocol.specs.Shown.{shown_outgoing}
 use Rattle.cf_protocol.specs.Written.{outgoing_text}
 use Rattle.cf_hub.specs.Connection.{most_waiting}
-use Rattle.cf_schedule.specs.Subscription.{sub_of, kept_in}
-use Rattle.cf_schedule.specs.TextLine.{line_of, reply_of}
+use Rattle.cf_schedule.specs.Running.Subscription.{sub_of, kept_in}
+use Rattle.cf_schedule.specs.Running.TextLine.{line_of, reply_of}
 use Rattle.cf_schedule.proofs.TextLines.{finish_by}
 use Rattle.cf_schedule.proofs.line.Session.finish.Goals as goal
 

@@ -1,6 +1,6 @@
 use Rattle.std.proofs.Common.{◌≡◌, ◌≢◌, ◌||◌, nat_le, Bool, true, false, refl, sym, subst, OnOk, IfErr}
 use Rattle.cf_hub.specs.Connection.{is_off, rows}
-use Rattle.cf_schedule.specs.HubState.{line_at, node_rows}
+use Rattle.cf_schedule.specs.Running.HubState.{line_at, node_rows}
 use Rattle.cf_schedule.specs.Refusals.{most_channels, most_rows}
 use Rattle.cf_schedule.specs.declared.hub.Hub.{Hub}
 use Rattle.cf_schedule.specs.declared.hub.HubRefusal.TheVariants.{Memory}

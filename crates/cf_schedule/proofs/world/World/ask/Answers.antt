@@ -4,14 +4,14 @@ use Rattle.std.specs.declared.string.String.{String}
 use Rattle.std.specs.declared.alloc.Global.{Global}
 use Rattle.cf_protocol.specs.Position.{Position}
 use Rattle.cf_hub.specs.Connection.{Line, begins, is_off, rows}
-use Rattle.cf_schedule.specs.Errand.{Subscribe, command_of}
+use Rattle.cf_schedule.specs.ClientRequest.{Subscribe, command_of}
 use Rattle.cf_schedule.specs.Event as said
 use Rattle.cf_schedule.specs.IntervalMachine.{run, allows, command_by}
-use Rattle.cf_schedule.specs.NodeState.{line_on, holds_on, subscriptions_on, OneOn}
+use Rattle.cf_schedule.specs.Running.NodeState.{line_on, holds_on, subscriptions_on, OneOn}
 use Rattle.cf_protocol.specs.Checks.{longest_text}
 use Rattle.cf_schedule.specs.Refusals.{most_channels, most_rows}
-use Rattle.cf_schedule.specs.SessionCalls.{command_asked, is_answered}
-use Rattle.cf_schedule.specs.Tie.{AsksOrNot, AskMade, AskRefused, halt_by_hub}
+use Rattle.cf_schedule.specs.Running.SessionCalls.{command_asked, is_answered}
+use Rattle.cf_schedule.specs.Running.Tie.{AsksOrNot, AskMade, AskRefused, halt_by_hub}
 use Rattle.cf_schedule.specs.World.{World, start}
 use Rattle.cf_schedule.specs.declared.halt.Halt.TheVariants as out
 use Rattle.cf_schedule.specs.declared.session.Action.{Action}

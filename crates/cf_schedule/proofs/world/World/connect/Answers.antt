@@ -5,12 +5,12 @@ use Rattle.std.specs.Map.{update}
 use Rattle.std.specs.Str.{bytes_eq}
 use Rattle.cf_protocol.specs.Outgoing.{Answer, Connected}
 use Rattle.cf_protocol.specs.Written.{command_text, outgoing_text}
-use Rattle.cf_schedule.specs.ClientCalls.{TextRefused}
+use Rattle.cf_schedule.specs.Running.ClientCalls.{TextRefused}
 use Rattle.cf_schedule.specs.Event as said
 use Rattle.cf_schedule.specs.IntervalMachine.{run}
-use Rattle.cf_schedule.specs.NodeState.{node_count}
-use Rattle.cf_schedule.specs.SessionCalls.{command_asked}
-use Rattle.cf_schedule.specs.Tie.{halt_by_client}
+use Rattle.cf_schedule.specs.Running.NodeState.{node_count}
+use Rattle.cf_schedule.specs.Running.SessionCalls.{command_asked}
+use Rattle.cf_schedule.specs.Running.Tie.{halt_by_client}
 use Rattle.cf_schedule.specs.World.{World, start}
 use Rattle.cf_schedule.specs.declared.halt.Halt.TheVariants as out
 use Rattle.cf_schedule.specs.declared.session.Action.{Action}

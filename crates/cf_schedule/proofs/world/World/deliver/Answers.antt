@@ -3,10 +3,10 @@ use Rattle.cf_protocol.specs.Position.{Position}
 use Rattle.cf_hub.specs.Connection.{comes}
 use Rattle.cf_schedule.specs.Event as said-event
 use Rattle.cf_schedule.specs.IntervalMachine.{run}
-use Rattle.cf_schedule.specs.NodeState.{EachOn, holds_on}
+use Rattle.cf_schedule.specs.Running.NodeState.{EachOn, holds_on}
 use Rattle.cf_schedule.specs.NotYet.{is_beyond}
 use Rattle.cf_schedule.specs.PublicationList.{Place, publication}
-use Rattle.cf_schedule.specs.TextLine.{said}
+use Rattle.cf_schedule.specs.Running.TextLine.{said}
 use Rattle.cf_schedule.specs.World.{World, start}
 use Rattle.cf_schedule.specs.declared.broker.Accepted.{Accepted}
 use Rattle.cf_schedule.proofs.TieMoves.{goes, stands-some, placed-there, to-place, deliver-goes, deliver-built, deliver-not-yet}

@@ -1,11 +1,11 @@
 use Rattle.std.proofs.Common.{rules, ◌≡◌, Option, Some, None, sym, subst}
 use Rattle.std.specs.BTreeMap.{get_by_text}
 use Rattle.cf_stream.specs.declared.answer.Recovery.{Recovery}
-use Rattle.cf_schedule.specs.BrokerTie.{Reads, Finds, FindsNone}
+use Rattle.cf_schedule.specs.Running.BrokerTie.{Reads, Finds, FindsNone}
 use Rattle.cf_schedule.specs.Event as said
-use Rattle.cf_schedule.specs.HubState.{since_of}
+use Rattle.cf_schedule.specs.Running.HubState.{since_of}
 use Rattle.cf_schedule.specs.IntervalMachine.{run}
-use Rattle.cf_schedule.specs.NodeState.{sub_on}
+use Rattle.cf_schedule.specs.Running.NodeState.{sub_on}
 use Rattle.cf_schedule.specs.World.{World, start}
 use Rattle.cf_schedule.specs.declared.world.Peer.{Peer}
 use Rattle.cf_schedule.proofs.Headline.{fresh_run}

@@ -1,11 +1,11 @@
 use Rattle.std.proofs.Common.{rules, ◌≡◌, ◌∙◌, ℕ, Bool, if◌then◌else◌, List, [], ◌∷◌, Some, map, string_bytes, sym, ap, subst}
 use Rattle.std.specs.BTreeMap.{get_by_text}
-use Rattle.cf_schedule.specs.ClientCalls.{TextRefused}
+use Rattle.cf_schedule.specs.Running.ClientCalls.{TextRefused}
 use Rattle.cf_schedule.specs.Event as said
 use Rattle.cf_schedule.specs.IntervalMachine.{run}
-use Rattle.cf_schedule.specs.NodeState.{line_on}
+use Rattle.cf_schedule.specs.Running.NodeState.{line_on}
 use Rattle.cf_schedule.specs.Shown.{shown_entry, shown_item}
-use Rattle.cf_schedule.specs.Tie.{halt_by_client}
+use Rattle.cf_schedule.specs.Running.Tie.{halt_by_client}
 use Rattle.cf_schedule.specs.Told.{tells}
 use Rattle.cf_schedule.specs.World.{World, start}
 use Rattle.cf_schedule.specs.declared.halt.Halt.TheVariants as out

@@ -9,11 +9,11 @@ use Rattle.cf_hub.specs.Connection.{Off, On}
 use Rattle.cf_schedule.specs.Config.{Config}
 use Rattle.cf_schedule.specs.Event.{Event, Epoch, Connect, Ask, AskFrom, Read, Finish, Publish, PublishBy, Deliver, Take, Break, Leave, Trim, Forget, BrokerRestart, Restart, Check, ListHistory}
 use Rattle.cf_schedule.specs.PublicationList.{new_broker}
-use Rattle.cf_schedule.specs.Link.{no_link}
+use Rattle.cf_schedule.specs.ClientLink.{no_link}
 use Rattle.cf_schedule.specs.World.{World, start}
 use Rattle.cf_schedule.specs.Told.{trace}
 use Rattle.cf_schedule.specs.TraceLine.{printed}
-use Rattle.cf_schedule.specs.WorkedRows.{plain, ann, bob, news, place, publishes, opening, first_publication, back, take}
+use Rattle.cf_schedule.specs.Examples.{plain, ann, bob, news, place, publishes, opening, first_publication, back, take}
 
 -- two nodes; a namespace called a; and one where nobody may publish or list
 abbrev pub two_nodes : Config
@@ -56,9 +56,9 @@ check_without_stream = opening ++ Forget news ∷ Check ann news ∷ take ∷ []
 abbrev pub check_of_another_epoch : List Event
 check_of_another_epoch = opening ++ Epoch (codes "bbbb") ∷ BrokerRestart ∷ publishes "1" ∷ Check ann news ∷ take ∷ []
 
--- a check that finds nothing missing clears the mark, so that the next one that does only marks
-abbrev pub check_clears : List Event
-check_clears = opening ++ publishes "1" ∷ Check ann news ∷ Deliver 0 1 ∷ Check ann news ∷ publishes "2" ∷ Check ann news ∷ take ∷ take ∷ []
+-- a check finds something missing, which then comes; so the next one that finds something missing only marks
+abbrev pub check_after_delivery : List Event
+check_after_delivery = opening ++ publishes "1" ∷ Check ann news ∷ Deliver 0 1 ∷ Check ann news ∷ publishes "2" ∷ Check ann news ∷ take ∷ take ∷ []
 
 -- ann is on node 0 and bob on node 1: a delivery to the one alone
 abbrev pub delivery_to_one_node : List Event
@@ -82,7 +82,7 @@ list_after_trim = opening ++ publishes "1" ∷ publishes "2" ∷ publishes "3" �
 
 -- a trim above what is held changes nothing, and one of a channel without a stream opens none
 abbrev pub trim_above : List Event
-trim_above = opening ++ publishes "1" ∷ publishes "2" ∷ Trim news 5 ∷ Trim (codes "c") 0 ∷ ListHistory ann news (negsuc 0) ∷ take ∷ []
+trim_above = opening ++ publishes "1" ∷ publishes "2" ∷ publishes "3" ∷ publishes "4" ∷ Trim news 5 ∷ Trim (codes "c") 0 ∷ ListHistory ann news (negsuc 0) ∷ take ∷ []
 
 -- a publish by a client opens the stream
 abbrev pub put_opens : List Event

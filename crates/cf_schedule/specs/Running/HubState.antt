@@ -3,7 +3,7 @@ use Rattle.std.specs.Prelude.{◌≡◌, ◌≢◌, ℕ, ◌==◌, Bool, false, 
 use Rattle.cf_protocol.specs.Position.{Position}
 use Rattle.cf_protocol.specs.Datum.{Placed}
 use Rattle.cf_hub.specs.Connection.{Sub, Off, Asked, Ready, On, Line, rows, opens}
-use Rattle.cf_schedule.specs.TextLine.{line_of, kept_of, IsLine, Both}
+use Rattle.cf_schedule.specs.Running.TextLine.{line_of, kept_of, IsLine, Both}
 use Rattle.cf_schedule.specs.declared.line.Session.{Session}
 use Rattle.cf_schedule.specs.declared.hub.Hub.{Hub}
 

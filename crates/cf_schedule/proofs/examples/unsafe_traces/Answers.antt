@@ -1,5 +1,5 @@
 use Rattle.cf_schedule.proofs.Refused.{event_zero, past_the_end, out_of_order, before_published, other_body, two_data, gap, repeat, before_subscribed, after_end, short_run, false_recovered, false_lost, read_before_ask, two_on_one_read, without_read, after_break, never_connected, read_after_leaving}
-use Rattle.cf_schedule.proofs.rows.unsafe_traces.Goals as goal
+use Rattle.cf_schedule.proofs.examples.unsafe_traces.Goals as goal
 
 pub returns-clause-event_zero : goal.returns-clause-event_zero
 returns-clause-event_zero c = event_zero

@@ -15,15 +15,15 @@ use Rattle.cf_protocol.specs.Settings.{NamespaceTable, settings_of}
 use Rattle.cf_protocol.specs.Written.{command_text, outgoing_text}
 use Rattle.cf_hub.specs.Connection.{Sub, Off, Asked, Ready, On, Line, is_off, rows}
 use Rattle.cf_client.specs.ClientState.{asks, read_to}
-use Rattle.cf_schedule.specs.BrokerTie.{Grown, ShowsBroker}
-use Rattle.cf_schedule.specs.ClientCalls.{IsSame, TakesAll, ask_fault, client_of, is_connected}
+use Rattle.cf_schedule.specs.Running.BrokerTie.{Grown, ShowsBroker}
+use Rattle.cf_schedule.specs.Running.ClientCalls.{IsSame, TakesAll, ask_fault, client_of, is_connected}
 use Rattle.cf_schedule.specs.Config.{Config}
-use Rattle.cf_schedule.specs.Errand.{Subscribe, command_of}
+use Rattle.cf_schedule.specs.ClientRequest.{Subscribe, command_of}
 use Rattle.cf_schedule.specs.Event.{Event}
 use Rattle.cf_schedule.specs.FreshEpochs.{AreDistinct}
 use Rattle.cf_schedule.specs.IntervalMachine.{happens, run}
-use Rattle.cf_schedule.specs.Link.{Link, no_link}
-use Rattle.cf_schedule.specs.NodeState.{node_count, line_on, kept_on, sessions_on, subscriptions_on}
+use Rattle.cf_schedule.specs.ClientLink.{ClientLink, no_link}
+use Rattle.cf_schedule.specs.Running.NodeState.{node_count, line_on, kept_on, sessions_on, subscriptions_on}
 use Rattle.cf_schedule.specs.NotYet.{IsNotYet}
 use Rattle.cf_schedule.specs.Shown.{shown_entry}
 use Rattle.cf_schedule.specs.Told.{writes}
@@ -33,7 +33,6 @@ use Rattle.cf_schedule.specs.declared.broker.Broker.{Broker}
 use Rattle.cf_schedule.specs.declared.client.Client.{Client as CodeClient}
 use Rattle.cf_schedule.specs.declared.client.ClientFault.{ClientFault}
 use Rattle.cf_schedule.specs.declared.client.ClientFault.TheVariants.{Bad, NotNow, AtLastId, Memory}
-use Rattle.cf_schedule.specs.declared.config.Config.{Config as CodeConfig}
 use Rattle.cf_schedule.specs.declared.halt.Halt.{Halt}
 use Rattle.cf_schedule.specs.declared.halt.Halt.TheVariants as out
 use Rattle.cf_schedule.specs.declared.hub.HubRefusal.{HubRefusal}
@@ -42,9 +41,6 @@ use Rattle.cf_schedule.specs.declared.nodes.Nodes.{Nodes}
 use Rattle.cf_schedule.specs.declared.trace.Entry.{Entry}
 use Rattle.cf_schedule.specs.declared.world.Peer.{Peer}
 use Rattle.cf_schedule.specs.declared.world.World.{World as Code}
-
-abbrev pub shown_config : CodeConfig → Config
-shown_config c = record { nodes = c.nodes; namespaces = c.namespaces }
 
 -- ---- a session
 
@@ -99,7 +95,7 @@ abbrev pub ShowsAt : NamespaceTable → Lists → Option (Line (List ℕ)) → L
 ShowsAt table lists None b = ⊥
 ShowsAt table lists (Some a) b = ShowsLine table lists a b
 
-pub record ShowsPeer (table : NamespaceTable) (lists : Lists) (ns : Nodes) (p : Peer) (l : Link) : Type 0 where
+pub record ShowsPeer (table : NamespaceTable) (lists : Lists) (ns : Nodes) (p : Peer) (l : ClientLink) : Type 0 where
   pub node : l.node ≡ Some p.node
   pub line : ShowsAt table lists (line_on ns p.node p.session) l.line
   pub way : l.way ≡ []
@@ -108,7 +104,7 @@ pub record ShowsPeer (table : NamespaceTable) (lists : Lists) (ns : Nodes) (p : 
   pub connected : is_connected p.client ≡ true
 
 -- a client that is not connected never was
-abbrev pub ShowsLink : NamespaceTable → Lists → Nodes → Option Peer → Link → Type 0
+abbrev pub ShowsLink : NamespaceTable → Lists → Nodes → Option Peer → ClientLink → Type 0
 ShowsLink table lists ns None l = l ≡ no_link
 ShowsLink table lists ns (Some p) l = ShowsPeer table lists ns p l
 
@@ -172,7 +168,7 @@ pub record Heard (name text : List ℕ) (p : Peer) (old new : List ℕ → Optio
 pub record AskMade (name channel sent : List ℕ) (p : Peer) (old new : List ℕ → Option Peer) : Type 0 where
   pub client : CodeClient
   pub now : (y : List ℕ) → new y ≡ with old name (Some (record p { client = client })) y
-  pub text : sent ≡ command_text (command_of (record { id = (client_of p.client).fresh; errand = Subscribe channel None }))
+  pub text : sent ≡ command_text (command_of (record { id = (client_of p.client).fresh; request = Subscribe channel None }))
   pub asks : IsSame (client_of client) (asks channel None (client_of p.client))
   pub allowed : ask_fault channel true (client_of p.client) ≡ None
   pub connected : is_connected client ≡ is_connected p.client

@@ -2,7 +2,7 @@
 use Rattle.std.specs.Prelude.{ℕ, List, [], ◌∷◌, ◌++◌, flat_map, codes, true, false, negsuc}
 use Prim.Native.String.{String as Name}
 use Rattle.cf_schedule.specs.Config.{Config}
-use Rattle.cf_schedule.specs.Event.{Event, Epoch, Connect, Ask, AskFrom, Read, Finish, Publish, PublishBy, Deliver, Take, Break, Leave, Trim, BrokerRestart, Restart, Check, ListHistory}
+use Rattle.cf_schedule.specs.Event.{Event, Epoch, Connect, Ask, AskFrom, Read, Finish, Publish, PublishBy, Deliver, Take, Break, Leave, Trim, Forget, BrokerRestart, Restart, Check, ListHistory}
 use Rattle.cf_protocol.specs.Position.{Position}
 use Rattle.cf_schedule.specs.Trace.{Item, Subscribed, Published, Resubscribing, Entry}
 use Rattle.cf_schedule.specs.LooseRun.{Happening, SendLeave, lines}
@@ -105,9 +105,9 @@ lists_and_refusals = first_publication ++ ListHistory ann news (negsuc 0) ∷ ta
 abbrev pub two_come : List Event
 two_come = opening ++ publishes "1" ∷ publishes "2" ∷ Deliver 0 1 ∷ Deliver 0 2 ∷ take ∷ take ∷ []
 
--- ann asks again after a break, and asks alone
+-- ann's subscription ends and it asks again; and it asks alone
 abbrev pub asks_again : List Event
-asks_again = opening ++ Break ann ∷ Connect ann 0 ∷ AskFrom ann news ∷ take ∷ []
+asks_again = opening ++ Forget news ∷ Check ann news ∷ take ∷ Ask ann news ∷ take ∷ []
 
 abbrev pub asks_alone : List Event
 asks_alone = Epoch (codes "aaaa") ∷ Connect ann 0 ∷ Ask ann news ∷ take ∷ []

@@ -4,11 +4,11 @@ ghost use Rattle.cf_schedule.specs.Config.{Config};
 ghost use Rattle.cf_schedule.specs.LooseRun.{Happening, lines};
 ghost use Rattle.cf_schedule.specs.StreamSafety.{Safe};
 ghost use Rattle.cf_schedule.specs.Trace.{Published, Subscribed};
-ghost use Rattle.cf_schedule.specs.WorkedRows.{ann, as_lines, asks_again, asks_alone, bob, both_are_subscribed, breaks_first, buffered_gap, buffered_reordering, delivery_after_node_restart, first_publication, gap_ends_subscription, keeping, late_but_there, leave_and_return, leaves_first, lists_and_refusals, lost, new_epoch_after_restart, news, no_epoch_yet, place, plain, position_check, pub_line, recovered, shown, slow_consumer, take, tells_again, tells_lost, tells_pub, tells_recovered, tells_sub, told_by, too_much, two_breaks, two_come};
+ghost use Rattle.cf_schedule.specs.Examples.{ann, as_lines, asks_again, asks_alone, bob, both_are_subscribed, breaks_first, buffered_gap, buffered_reordering, delivery_after_node_restart, first_publication, gap_ends_subscription, keeping, late_but_there, leave_and_return, leaves_first, lists_and_refusals, lost, new_epoch_after_restart, news, no_epoch_yet, place, plain, position_check, pub_line, recovered, shown, slow_consumer, take, tells_again, tells_lost, tells_pub, tells_recovered, tells_sub, told_by, too_much, two_breaks, two_come};
 
 /// What the interval machine's clients are told in schedules that show each of its rules. The push of a body of 1,048,525
 /// bytes to the channel `c` has 1,048,576 bytes, the most that wait for one client.
-pub fn worked_rows()
+pub fn worked_examples()
     ensures first_publication { shown plain first_publication ≡
         as_lines ("ann news sub aaaa 0 fresh" ∷ "ann news pub aaaa 1 {\"t\":1}" ∷ []) }
     ensures recovered { shown (keeping 3) recovered ≡
@@ -49,9 +49,9 @@ pub fn worked_rows()
 /// all that, and `lost` where it did; and a subscription told on a read from before its ask, twice on one read, without any
 /// read, after the break that gave up its ask, to a client that never connected, and on a read made after the client left.
 pub fn unsafe_traces()
-    ensures event_zero { Safe plain (lines two_come) (tells_pub 0 1 "1" ∷ []) → ⊥ }
+    ensures event_zero { Safe plain (lines two_come) (tells_sub 0 0 ∷ []) → ⊥ }
     ensures past_the_end { Safe plain (lines two_come) (tells_sub 6 0 ∷ tells_pub 99 1 "1" ∷ []) → ⊥ }
-    ensures out_of_order { Safe plain (lines two_come) (tells_sub 6 0 ∷ tells_pub 12 1 "1" ∷ tells_pub 11 2 "2" ∷ []) → ⊥ }
+    ensures out_of_order { Safe plain (lines two_come) (tells_sub 6 0 ∷ tells_pub 12 2 "2" ∷ tells_pub 11 1 "1" ∷ []) → ⊥ }
     ensures before_published { Safe plain (lines two_come) (tells_sub 6 0 ∷ tells_pub 7 1 "1" ∷ []) → ⊥ }
     ensures other_body { Safe plain (lines two_come) (tells_sub 6 0 ∷ tells_pub 11 1 "2" ∷ []) → ⊥ }
     ensures two_data { (config : Config) (happenings : List Happening)
@@ -65,7 +65,7 @@ pub fn unsafe_traces()
     ensures false_recovered { Safe (keeping 3) (lines lost)
         (tells_sub 6 0 ∷ tells_pub 11 1 "1" ∷ tells_recovered 20 5 ∷ tells_pub 20 2 "2" ∷ tells_pub 20 3 "3" ∷ tells_pub 20 4 "4" ∷ tells_pub 20 5 "5" ∷ []) → ⊥ }
     ensures false_lost { Safe (keeping 3) (lines recovered) (tells_sub 6 0 ∷ tells_pub 11 1 "1" ∷ tells_pub 12 2 "2" ∷ tells_lost 21 5 ∷ []) → ⊥ }
-    ensures read_before_ask { Safe plain (lines asks_again) (tells_sub 6 0 ∷ tells_recovered 10 0 ∷ []) → ⊥ }
+    ensures read_before_ask { Safe plain (lines asks_again) (tells_sub 11 0 ∷ []) → ⊥ }
     ensures two_on_one_read { Safe plain (lines two_come) (tells_sub 6 0 ∷ tells_pub 11 1 "1" ∷ tells_sub 12 0 ∷ tells_pub 12 1 "1" ∷ []) → ⊥ }
     ensures without_read { Safe plain (lines asks_alone) (tells_sub 4 0 ∷ []) → ⊥ }
     ensures after_break { Safe plain (lines breaks_first) (tells_sub 7 0 ∷ []) → ⊥ }

@@ -9,7 +9,7 @@ use Rattle.cf_protocol.specs.Written.{note_text}
 use Rattle.cf_recovery.specs.Verdict.{Verdict, Insufficient, verdict}
 use Rattle.cf_hub.specs.Connection.{Sub, Off, Asked, Ready, On, Wording, Line, comes, rows}
 use Rattle.cf_schedule.specs.NotYet.{is_beyond}
-use Rattle.cf_schedule.specs.Subscription.{sub_of, kept_in}
+use Rattle.cf_schedule.specs.Running.Subscription.{sub_of, kept_in}
 use Rattle.cf_schedule.specs.declared.line.Session.{Session}
 
 abbrev pub line_of : Session → Line (List ℕ)

@@ -2,8 +2,8 @@
 use Rattle.std.specs.Prelude.{◌≡◌, ℕ, suc, ◌==◌, ◌&&◌, Bool, if◌then◌else◌, Option, Some, None, List, [], length, slice_get, option_map}
 use Rattle.cf_protocol.specs.Datum.{Placed}
 use Rattle.cf_hub.specs.Connection.{Sub, Line, rows, opens}
-use Rattle.cf_schedule.specs.TextLine.{IsLine, Both}
-use Rattle.cf_schedule.specs.HubState.{line_at, sub_in, kept_at, session_count, node_rows, holds_in}
+use Rattle.cf_schedule.specs.Running.TextLine.{IsLine, Both}
+use Rattle.cf_schedule.specs.Running.HubState.{line_at, sub_in, kept_at, session_count, node_rows, holds_in}
 use Rattle.cf_schedule.specs.declared.hub.Hub.{Hub}
 use Rattle.cf_schedule.specs.declared.nodes.Nodes.{Nodes}
 
