@@ -58,7 +58,7 @@ impl<S> Gather<S> {
         ensures same { self.new ≡ self.old }
         ensures buffer { buffer.new.items ≡ buffer.old.items }
     {
-        if self.waiting.is_empty() && buffer.is_empty() {
+        if self.is_drained() && buffer.is_empty() {
             mem::swap(&mut self.waiting, buffer);
         }
     }

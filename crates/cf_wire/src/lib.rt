@@ -7,6 +7,8 @@ mod accept;
 mod desk;
 mod end;
 mod gather;
+#[cfg(test)]
+mod tests;
 mod wire;
 
 pub use accept::WireFault;
