@@ -1,6 +1,6 @@
 -- The rows are computed.
 use Rattle.std.proofs.lemmas.Bool.Decides.{nat_tests}
-use Rattle.std.proofs.Common.{◌≡◌, ◌∙◌, ◌≤◌, ◌||◌, Bool, nat_le, arith, ap, Option, ℕ, List, [], ◌∷◌, ◌++◌, refl, Some, false, true}
+use Rattle.std.proofs.Common.{◌≡◌, ◌∙◌, ◌≤◌, ◌||◌, Bool, nat_le, arith, ap, Option, ℕ, [], ◌∷◌, ◌++◌, refl, Some, false, true}
 use Rattle.std.specs.Prelude.{codes}
 use Rattle.std.specs.Fmt.{digits}
 use Rattle.cf_json.specs.Quoting.{escape, short_letter}

@@ -1,5 +1,5 @@
 -- A client asks for a channel.
-use Rattle.std.proofs.Common.{◌≡◌, ◌≢◌, ℕ, suc, ◌≤◌, ◌==◌, nat_lt, nat_le, ◌&&◌, ◌||◌, not, Bool, true, false, is_some, IsSome, IsSomeAnd, Option, Some, None, List, [], ◌∷◌, ◌++◌, length, refl, sym, ap, subst, ◌∙◌, arith, if◌then◌else◌, option_map}
+use Rattle.std.proofs.Common.{◌≡◌, ◌≢◌, ℕ, suc, ◌≤◌, ◌==◌, nat_lt, nat_le, ◌&&◌, ◌||◌, not, Bool, true, false, is_some, IsSome, IsSomeAnd, Option, Some, None, List, [], ◌∷◌, length, refl, sym, ap, subst, ◌∙◌, arith, if◌then◌else◌, option_map}
 use Rattle.std.specs.Str.{bytes_eq}
 use Rattle.std.proofs.lemmas.Bool.Decides.{nat_tests}
 use Rattle.cf_protocol.specs.Names.{with}
@@ -29,7 +29,7 @@ use Rattle.cf_schedule.specs.Running.SessionCalls.{is_answered, is_served}
 use Rattle.cf_schedule.specs.Running.TextLine.{IsLine, Both}
 use Rattle.cf_schedule.specs.Running.Tie.{halt_by_hub, ShowsLine, ShowsAt, ShowsPeer, AreTied}
 use Rattle.cf_schedule.specs.Weights.{command_length}
-use Rattle.cf_schedule.specs.World.{World, link_with, rows_of, is_ready}
+use Rattle.cf_schedule.specs.World.{World, link_with, is_ready}
 use Rattle.cf_schedule.specs.declared.broker.Broker.{Broker as Code}
 use Rattle.cf_schedule.specs.declared.client.Client.{Client as CodeClient}
 use Rattle.cf_schedule.specs.declared.client.ClientFault.TheVariants as fault
@@ -39,7 +39,6 @@ use Rattle.cf_schedule.specs.declared.hub.HubRefusal.TheVariants as refusal
 use Rattle.cf_schedule.specs.declared.nodes.Nodes.{Nodes}
 use Rattle.cf_schedule.specs.declared.world.Peer.{Peer}
 use Rattle.cf_schedule.proofs.Names.{with-same}
-use Rattle.cf_schedule.proofs.TieCounts.{rows-same, with-node, with-rows}
 use Rattle.cf_schedule.proofs.TieLinks.{some-is, link-moves, link-begins}
 use Rattle.cf_schedule.proofs.TieMoves.{link-some, and-false, here, own-link, at-mine, holds-there}
 use Rattle.cf_schedule.proofs.TieNotes.{none-any, none-unfinished, begins-shows, begins-rows}

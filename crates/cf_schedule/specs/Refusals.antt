@@ -1,7 +1,7 @@
 -- What a node makes of a command that it hears, and each refusal with its code. The checks of its text and its channel, and
 -- the codes, are those of cf_protocol's Checks: then the hub is asked, and then the broker.
 -- (Centrifugo's client protocol: error codes; the order and the limits are this project's own profile.)
-use Rattle.std.specs.Prelude.{ℕ, nat_le, nat_lt, ◌||◌, not, Bool, false, if◌then◌else◌, Option, Some, None, List, option_map}
+use Rattle.std.specs.Prelude.{ℕ, nat_le, nat_lt, ◌||◌, not, Bool, false, if◌then◌else◌, Option, Some, None, option_map}
 use Rattle.cf_protocol.specs.Checks.{longest_text, checks, first_failed, Refusal, Already, Full, AtLastOffset, refusal_code}
 use Rattle.cf_protocol.specs.Codes.{code_of, close_code_of}
 use Rattle.cf_protocol.specs.declared.codes.CloseCode.TheVariants as close
