@@ -1,6 +1,7 @@
 -- What lies under a shard's lock, and what its calls make of it. (This project's own profile.)
 use Rattle.std.specs.Prelude.{◌≡◌, ℕ, List, Some, refl}
 use Rattle.std.specs.Coded.{Coded, code_by, coded×}
+use Rattle.std.specs.FinMap as fin
 use Rattle.cf_protocol.specs.Datum.{Datum}
 use Rattle.cf_protocol.specs.LogEntry.{Entry}
 use Rattle.cf_protocol.specs.Settings.{NamespaceTable}
@@ -23,6 +24,10 @@ abbrev pub lent_code : {E : Type 0} → Coded E → Coded (Lent E)
 lent_code {E} e =
     code_by (Kept × (Channels × E)) (coded× coded_kept (coded× coded_channels e))
     (λ s. (s.streams, (s.presence, s.epochs))) (λ p. record { streams = p.0; presence = p.1.0; epochs = p.1.1 }) (λ _. refl)
+
+-- no streams, over these namespaces
+abbrev pub no_streams : NamespaceTable → Kept
+no_streams t = record { namespaces = t; streams = fin.empty }
 
 -- the streams are those of these namespaces, and what some log leaves
 pub record IsShard (namespaces : NamespaceTable) (streams : Kept) : Type 0 where

@@ -5,11 +5,16 @@
 //! links are this project's own.
 #![tactic(auto)]
 
+mod broker;
 mod delivery;
 mod naming;
+mod place;
 mod refusal;
 mod shard;
+#[cfg(test)]
+mod tests;
 
+pub use broker::{Broker, SHARDS, shard_of};
 pub use delivery::{Delivery, Links};
 pub use naming::Naming;
 pub use refusal::Refused;

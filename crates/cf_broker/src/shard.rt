@@ -1,5 +1,5 @@
 //! What lies under a shard's lock.
-ghost use Rattle.std.specs.Prelude.{◌≡◌, ◌≢◌, ◌↔◌, [], IfOk, IfErr, OnOk, OnErr, IsErrOf, IsTrue, IsSome, IsSomeAnd, None, Some, List, ℕ};
+ghost use Rattle.std.specs.Prelude.{◌≡◌, ◌≢◌, ◌↔◌, IfOk, IfErr, OnOk, OnErr, IsErrOf, IsTrue, IsSome, IsSomeAnd, None, Some, List, ℕ};
 ghost use Rattle.std.specs.FinMap as fin;
 ghost use Rattle.std.specs.String.{string_bytes};
 ghost use Rattle.cf_protocol.specs.Settings.{settings_of};
@@ -7,13 +7,13 @@ ghost use Rattle.cf_protocol.specs.Shown.{shown_users};
 ghost use Rattle.cf_presence.specs.Presence.{clients_of, entered, left, still, users_of, user_count};
 ghost use Rattle.cf_stream.specs.ChannelLists.{ReadsAt, ListsAt, StandsAt};
 ghost use Rattle.cf_stream.specs.FreshEpochs.{Draws, DrawsNone};
-ghost use Rattle.cf_stream.specs.LogState.{Adds, IsState};
+ghost use Rattle.cf_stream.specs.LogState.{Adds};
 ghost use Rattle.cf_stream.specs.Stream.{trimmed};
 ghost use Rattle.cf_stream.specs.Streams.{stream_of, put_at, after_tick, seconds_at, IsOfAnother};
 ghost use Rattle.std.specs.Option.{option_map};
 ghost use Rattle.cf_broker.specs.Delivery.{OfferedToAll, carried};
 ghost use Rattle.cf_broker.specs.LogAnswer.{IsPosition, IsPublished, IsReadAnswer, IsHistoryAnswer};
-ghost use Rattle.cf_broker.specs.Shard.{after_publish, after_use};
+ghost use Rattle.cf_broker.specs.Shard.{no_streams, after_publish, after_use};
 ghost use Rattle.cf_broker.specs.ShardLog.{entries_of_publish, entries_of_use, entries_of_trim, entries_of_forget, entries_of_tick};
 
 use crate::delivery::{Links, copies_of, offer_all};
@@ -32,7 +32,7 @@ use std::marker::{Model, PhantomData};
 pub struct Shard<N: Naming, E: Epochs, const I: usize> {
     streams: Streams,
     presence: Presence,
-    epochs: E,
+    epochs: Box<E>,
     alloc: Global,
     of: PhantomData<N>,
 }
@@ -44,17 +44,17 @@ impl<N: Naming, E: Epochs, const I: usize> Model for Shard<N, E, I> {
 
     ghost coded = { lent_code E.code };
 
-    ghost view = { λ s. record { streams = s.streams; presence = s.presence; epochs = s.epochs } };
+    ghost view = { λ s. record { streams = s.streams; presence = s.presence; epochs = s.epochs.value } };
 
     ghost invariant = { λ s. IsShard N.namespaces s.streams };
 }
 
 impl<N: Naming, E: Epochs, const I: usize> Shard<N, E, I> {
     /// A shard without streams, in which nobody is present.
-    pub fn new(alloc: Global, streams: Streams, epochs: E) -> Shard<N, E, I>
-        requires namespaces { streams.namespaces ≡ N.namespaces }
-        requires empty { IsState streams [] }
-        ensures { result ≡ record { streams = streams; presence = fin.empty; epochs = epochs } }
+    #[tactic(auto, using(crate::proofs::Logs::no_streams_shard))]
+    pub fn new(alloc: Global, streams: Streams, epochs: Box<E>) -> Shard<N, E, I>
+        requires { streams ≡ no_streams N.namespaces }
+        ensures { result ≡ record { streams = streams; presence = fin.empty; epochs = epochs.value } }
     {
         Shard {
             streams,
@@ -99,7 +99,7 @@ impl<N: Naming, E: Epochs, const I: usize> Shard<N, E, I> {
         };
         let copies = copies_of(self.alloc, links.count(), channel, &publication)?;
         let position = self.streams.publish(
-            &mut self.epochs,
+            &mut *self.epochs,
             channel,
             publication.body,
             publication.info,
@@ -138,7 +138,7 @@ impl<N: Naming, E: Epochs, const I: usize> Shard<N, E, I> {
         ensures refusals { IfErr result (λ e. e ≢ Refused.NoEpoch → (e ≡ Refused.Memory) × (self.new.epochs ≡ self.old.epochs)) }
         ensures err { OnErr result (self.new.streams ≡ self.old.streams) }
     {
-        Ok(self.streams.read(&mut self.epochs, channel, since, now)?)
+        Ok(self.streams.read(&mut *self.epochs, channel, since, now)?)
     }
 
     /// The first publications of a channel that are held after a position, up to a limit. Without a position its stream opens
@@ -165,7 +165,7 @@ impl<N: Naming, E: Epochs, const I: usize> Shard<N, E, I> {
     {
         Ok(
             self.streams
-                .history(&mut self.epochs, channel, since, limit, now)?,
+                .history(&mut *self.epochs, channel, since, limit, now)?,
         )
     }
 

@@ -1,0 +1,229 @@
+ghost use Rattle.std.specs.Prelude.{◌≡◌, IsSome};
+ghost use Rattle.cf_protocol.specs.Settings.{settings_of};
+
+use crate::{Broker, Naming, Refused, shard_of};
+use cf_link::pair;
+use cf_protocol::{Epoch, Info, Namespaces, Position, read_namespaces};
+use cf_stream::Epochs;
+use std::alloc::Global;
+use std::marker::Brand;
+use std::process::Abort;
+use std::sync::Wait;
+use std::sync::atomic::{AtomicU64, Ordering};
+use std::test::Fail;
+use std::thread;
+use std::thread::Threads;
+
+/// The epoch `aaaa`, again and again.
+#[derive(Clone, Copy)]
+struct Same;
+
+impl Epochs for Same {
+    ghost use Rattle.std.specs.Prelude.{⊤};
+
+    ghost draws = { λ old r new. ⊤ };
+
+    fn draw(&mut self) -> Option<Epoch> {
+        Some(Epoch::from_text("aaaa"))
+    }
+}
+
+/// A flag for each of two threads.
+#[derive(Drop)]
+struct Flags([AtomicU64; 2]);
+
+/// Epochs of which each is drawn only once the other thread draws one too.
+#[derive(Clone, Copy)]
+struct Meeting<'a> {
+    flags: &'a Flags,
+    mine: usize,
+}
+
+impl<'a> Epochs for Meeting<'a> {
+    ghost use Rattle.std.specs.Prelude.{⊤};
+
+    ghost draws = { λ old r new. ⊤ };
+
+    fn draw(&mut self) -> Option<Epoch> {
+        let Flags([first, second]) = self.flags;
+        let (mine, other) = if self.mine == 0 {
+            (first, second)
+        } else {
+            (second, first)
+        };
+        mine.store(1, Ordering::SeqCst);
+        for _ in 0..100_000_000 {
+            if other.load(Ordering::SeqCst) == 1 {
+                return Some(Epoch::from_text("aaaa"));
+            }
+            thread::yield_now();
+        }
+        None
+    }
+}
+
+fn info(alloc: Global) -> Result<Info, Fail> {
+    Ok(Info {
+        user: String::from_str(alloc, "ann")?,
+        client: String::from_str(alloc, "0-1-1")?,
+    })
+}
+
+fn streams_called<N: Naming, R: Wait + Abort>(
+    rt: &R,
+    alloc: Global,
+    namespaces: &Namespaces,
+) -> Result<(), Fail>
+    requires { namespaces.now ≡ N.namespaces }
+{
+    let (narrow, mut lossy) = pair(alloc, 1)?;
+    let (wide, mut whole) = pair(alloc, 8)?;
+    let links = Vec::from_array(alloc, [narrow, wide])?;
+    let broker = Broker::<N, Same>::new(alloc, namespaces, [Same; 16], links)?;
+    if namespaces.find("news").is_none() {
+        return Ok(());
+    }
+    for (offset, body) in [(1, "1"), (2, "2"), (3, "3")] {
+        let body = String::from_str(alloc, body)?;
+        let position = broker.publish(rt, "news", body, Some(info(alloc)?), 0)?;
+        assert_eq!(rt; position.offset, offset);
+    }
+    let at = broker.position(rt, "news");
+    assert_eq!(rt; at.map(|position| position.offset), Some(3));
+    let since = Position {
+        epoch: Epoch::from_text("aaaa"),
+        offset: 1,
+    };
+    let recovery = broker.read(rt, "news", Some(since), 0)?;
+    assert!(rt; recovery.recovered);
+    assert_eq!(rt; recovery.publications.len(), 2);
+    assert_eq!(rt;
+        broker.history(rt, "news", None, 1, 0)?.publications.len(),
+        1
+    );
+    broker.trim(rt, "news", 1);
+    assert_eq!(rt;
+        broker.history(rt, "news", None, -1, 0)?.publications.len(),
+        1
+    );
+    broker.tick(rt, shard_of("news"), 100);
+    assert_eq!(rt;
+        broker
+            .history(rt, "news", None, -1, 100)?
+            .publications
+            .len(),
+        0
+    );
+    broker.forget(rt, "news");
+    assert!(rt; broker.position(rt, "news").is_none());
+    let refused = broker.history(rt, "news", Some(since), -1, 0);
+    assert!(rt; matches!(refused, Err(Refused::WrongEpoch)));
+    let first = lossy.receive(rt);
+    assert_eq!(rt; first.map(|delivery| delivery.publication.offset), Some(1));
+    assert!(rt; lossy.receive(rt).is_none());
+    for offset in 1..4 {
+        let delivery = whole.receive(rt);
+        assert_eq!(rt;
+            delivery.map(|delivery| delivery.publication.offset),
+            Some(offset)
+        );
+    }
+    assert!(rt; whole.receive(rt).is_none());
+    Ok(())
+}
+
+#[test]
+fn streams_and_links(rt: HostRuntime) -> Result<(), Fail> {
+    let namespaces = read_namespaces(rt.alloc(), "=100,100,phs")?;
+    streams_called::<Brand, _>(&rt, rt.alloc(), &namespaces)
+}
+
+fn presence_called<N: Naming, R: Wait + Abort>(
+    rt: &R,
+    alloc: Global,
+    namespaces: &Namespaces,
+) -> Result<(), Fail>
+    requires { namespaces.now ≡ N.namespaces }
+{
+    let broker = Broker::<N, Same>::new(alloc, namespaces, [Same; 16], Vec::new(alloc))?;
+    broker.enter(rt, "news", "0-1-1", "ann", 0)?;
+    let stats = broker.stats(rt, "news");
+    assert_eq!(rt; stats.clients, 1);
+    assert_eq!(rt; stats.users, 1);
+    let users = broker.list(rt, "news")?;
+    assert_eq!(rt; users.len(), 1);
+    assert_eq!(rt; users.get("0-1-1").map(|user| user.as_str()), Some("ann"));
+    broker.leave(rt, "news", "0-1-1");
+    assert!(rt; broker.list(rt, "news")?.is_empty());
+    broker.enter(rt, "news", "0-1-2", "bob", 0)?;
+    broker.tick(rt, shard_of("news"), 60);
+    assert_eq!(rt; broker.stats(rt, "news").clients, 0);
+    Ok(())
+}
+
+#[test]
+fn presence(rt: HostRuntime) -> Result<(), Fail> {
+    let namespaces = read_namespaces(rt.alloc(), "=100,100,phs")?;
+    presence_called::<Brand, _>(&rt, rt.alloc(), &namespaces)
+}
+
+#[test]
+fn shards_of_channels(rt: HostRuntime) -> Result<(), Fail> {
+    assert_eq!(rt; shard_of("news"), 13);
+    assert_eq!(rt; shard_of("b"), 2);
+    assert_eq!(rt; shard_of(""), 0);
+    Ok(())
+}
+
+/// Publishes to a channel that is set up, and answers whether it was accepted.
+fn is_published<N: Naming, E: Epochs + Drop, R: Wait>(
+    rt: &R,
+    alloc: Global,
+    broker: &Broker<N, E>,
+    namespaces: &Namespaces,
+    channel: &str,
+) -> bool
+    requires { namespaces.now ≡ N.namespaces }
+{
+    let Ok(body) = String::from_str(alloc, "1") else {
+        return false;
+    };
+    if namespaces.find(channel).is_none() {
+        return false;
+    }
+    broker.publish(rt, channel, body, None, 0).is_ok()
+}
+
+fn two_publish<N: Naming + Send + Sync, R: Threads + Wait + Abort + Sync>(
+    rt: &R,
+    alloc: Global,
+    namespaces: &Namespaces,
+) -> Result<(), Fail>
+    requires { namespaces.now ≡ N.namespaces }
+{
+    let flags = Flags([AtomicU64::new(0), AtomicU64::new(0)]);
+    let mut epochs = [Meeting {
+        flags: &flags,
+        mine: 0,
+    }; 16];
+    epochs[2].mine = 1;
+    let broker = Broker::<N, Meeting<'_>>::new(alloc, namespaces, epochs, Vec::new(alloc))?;
+    let (news, other) = thread::join(
+        rt,
+        || -> bool
+            requires { namespaces.now ≡ N.namespaces }
+        { is_published(rt, alloc, &broker, namespaces, "news") },
+        || -> bool
+            requires { namespaces.now ≡ N.namespaces }
+        { is_published(rt, alloc, &broker, namespaces, "b") },
+    );
+    assert!(rt; news && other);
+    Ok(())
+}
+
+/// Two threads publish to new channels in two shards, and each draws its epoch while the other holds its shard.
+#[test]
+fn two_shards(rt: HostRuntime) -> Result<(), Fail> {
+    let namespaces = read_namespaces(rt.alloc(), "=100,100,phs")?;
+    two_publish::<Brand, _>(&rt, rt.alloc(), &namespaces)
+}
