@@ -219,11 +219,28 @@ fn write_history(
         ∷ ("since" ⇒ since_of since.now) ∷ []))) ∷ [])) }
 {
     writer.open("history", "{")?;
+    write_range(writer, channel, limit, since, reverse)?;
+    writer.value("}")?;
+    Ok(())
+}
+
+/// The members of a history's request.
+fn write_range(
+    writer: &mut Writer,
+    channel: &str,
+    limit: &i32,
+    since: &Option<Position>,
+    reverse: bool,
+) -> Result<(), AllocError>
+    ensures { IfOk result (λ _. Adds writer.old writer.new
+        (("channel" ⇒ written.text channel.now)
+        ∷ ("limit" ⇒ written.signed limit.now) ∷ ("reverse" ⇒ written.flag reverse)
+        ∷ ("since" ⇒ since_of since.now) ∷ [])) }
+{
     writer.text_member("channel", channel)?;
     writer.signed_member("limit", limit)?;
     writer.flag_member("reverse", reverse)?;
     write_since(writer, since)?;
-    writer.value("}")?;
     Ok(())
 }
 

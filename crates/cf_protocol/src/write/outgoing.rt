@@ -1,5 +1,5 @@
 //! The texts of replies and pushes.
-ghost use Rattle.std.specs.Prelude.{◌≡◌, ◌∷◌, [], ℕ, List, map, Some, IfOk, string_bytes, string_cmp};
+ghost use Rattle.std.specs.Prelude.{◌≡◌, ◌∷◌, [], ℕ, List, map, Some, IfOk, string_bytes, string_cmp, true};
 ghost use Rattle.cf_protocol.specs.Shown.{shown_outgoing, shown_outcome, shown_pushed, shown_users};
 ghost use Rattle.cf_protocol.specs.Written as written;
 ghost use Rattle.cf_protocol.specs.Written.{◌⇒◌, as_it_is, object_of, inner, publication as publication_tree, publications as publications_list, connected, error as error_members, subscribed, counted, past, presence, pushed, client as client_member, reply, outgoing as outgoing_members, outgoing_text};
@@ -105,11 +105,19 @@ fn write_welcome(writer: &mut Writer, client: &str) -> Result<(), AllocError>
         (("connect" ⇒ Some (object_of (connected client.now))) ∷ [])) }
 {
     writer.open("connect", "{")?;
+    write_greeting(writer, client)?;
+    writer.value("}")?;
+    Ok(())
+}
+
+/// The members of what a client is told when it connects.
+fn write_greeting(writer: &mut Writer, client: &str) -> Result<(), AllocError>
+    ensures { IfOk result (λ _. Adds writer.old writer.new (connected client.now)) }
+{
     writer.text_member("client", client)?;
     writer.whole_member("ping", PING_SECONDS)?;
     writer.flag_member("pong", true)?;
     writer.text_member("version", VERSION)?;
-    writer.value("}")?;
     Ok(())
 }
 
@@ -126,12 +134,43 @@ fn write_subscribed(
 {
     writer.open("subscribe", "{")?;
     write_position(writer, position)?;
+    write_streamed(writer, publications, recovered, was_recovering)?;
+    writer.value("}")?;
+    Ok(())
+}
+
+/// The members of a subscribe's result behind its position.
+fn write_streamed(
+    writer: &mut Writer,
+    publications: &Vec<Publication>,
+    recovered: bool,
+    was_recovering: bool,
+) -> Result<(), AllocError>
+    ensures { IfOk result (λ _. Adds writer.old writer.new
+        (("positioned" ⇒ written.flag true)
+        ∷ ("publications" ⇒ publications_list as_it_is publications.now.items)
+        ∷ ("recoverable" ⇒ written.flag true) ∷ ("recovered" ⇒ written.flag recovered)
+        ∷ ("was_recovering" ⇒ written.flag was_recovering) ∷ [])) }
+{
     writer.flag_member("positioned", true)?;
     write_publications(writer, publications)?;
     writer.flag_member("recoverable", true)?;
+    write_recovery(writer, recovered, was_recovering)?;
+    Ok(())
+}
+
+/// Whether a client recovered, and whether it asked to.
+fn write_recovery(
+    writer: &mut Writer,
+    recovered: bool,
+    was_recovering: bool,
+) -> Result<(), AllocError>
+    ensures { IfOk result (λ _. Adds writer.old writer.new
+        (("recovered" ⇒ written.flag recovered)
+        ∷ ("was_recovering" ⇒ written.flag was_recovering) ∷ [])) }
+{
     writer.flag_member("recovered", recovered)?;
     writer.flag_member("was_recovering", was_recovering)?;
-    writer.value("}")?;
     Ok(())
 }
 
