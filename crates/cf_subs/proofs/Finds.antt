@@ -1,7 +1,7 @@
 -- Where a row lies, and what is left where it goes.
-use Rattle.std.proofs.Common.{◌≡◌, ℕ, ◌==◌, ◌&&◌, ◌||◌, ◌+◌, ◌<◌, ◌≤◌, Bool, true, false, cond, not, List, [], ◌∷◌, ◌++◌, length, map, Option, Some, None, refl, sym, ap, ◌∙◌, subst, arith, length-append}
+use Rattle.std.proofs.Common.{◌≡◌, ℕ, ◌==◌, ◌&&◌, ◌||◌, ◌+◌, ◌<◌, Bool, true, false, cond, not, List, [], ◌∷◌, ◌++◌, length, map, Option, Some, None, refl, sym, ap, ◌∙◌, subst, arith, length-append}
 use Rattle.std.specs.Prelude.{IfSome, IsSome, MatchOption, is_some, option_map, filter, slice_get}
-use Rattle.std.specs.List.{AllByRecursion, list_any}
+use Rattle.std.specs.List.{AllByRecursion}
 use Rattle.std.proofs.lemmas.Bool.Decides.{nat_tests}
 use Rattle.std.proofs.lemmas.List.{length-map, map-append}
 use denote.RawPtr.{Ptr}
@@ -10,8 +10,8 @@ use Rattle.lru.proofs.Splits.{all_right}
 use Rattle.cf_subs.specs.declared.blocks.At.{At}
 use Rattle.cf_subs.specs.declared.table.Row.{Row}
 use Rattle.cf_subs.specs.declared.seat.Seat.{Seat}
-use Rattle.cf_subs.specs.Held.{Held, held, places, found, without}
-use Rattle.cf_subs.specs.Rows.{AreOnce, after_in, channels_of, follows, is_among, is_of, row, sessions_of, without_row, without_session}
+use Rattle.cf_subs.specs.Held.{Held, places, found, without}
+use Rattle.cf_subs.specs.Rows.{AreOnce, after_in, channels_of, follows, is_among, is_of, sessions_of, without_row, without_session}
 use Rattle.cf_subs.specs.Threads.{at, first_of}
 use Rattle.cf_subs.specs.Seats.{AreLinkedByChannel, AreLinkedBySession, IsChannelWalk, IsSessionWalk, StandsIn, channel_of, channels_onward, of_number, onward, place_of, rows_of, session_of, sessions_onward}
 use Rattle.cf_subs.proofs.Members.{among_sessions}

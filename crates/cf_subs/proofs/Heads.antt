@@ -7,8 +7,8 @@ use denote.RawPtr.{Ptr}
 use Rattle.lru.specs.Linked.{IsApart}
 use Rattle.cf_subs.specs.declared.blocks.At.{At}
 use Rattle.cf_subs.specs.declared.ends.Ends.{Ends}
-use Rattle.cf_subs.specs.Ends.{EndsMap, IsHeaded, ends, ends_of, grown, shrunk}
-use Rattle.cf_subs.specs.Held.{Held, found, held, places, without}
+use Rattle.cf_subs.specs.Ends.{EndsMap, IsHeaded, SetsAt, ends, ends_of, grown, shrunk}
+use Rattle.cf_subs.specs.Held.{Held, found, places, without}
 use Rattle.cf_subs.specs.Threads.{AreThreaded, at, first_of, last_of, noted, nowhere}
 use Rattle.cf_subs.proofs.Places.{cut_at, without_cut}
 use Rattle.cf_subs.proofs.Threads.{same_number, same_refl, th_right, some_eq}
@@ -127,7 +127,7 @@ module _ {X : Type 0} (key : X → ℕ) where
   first_there m hs k ks headed has = ends_there (first_of key k hs) (last_of key nowhere hs k) (sym (ap is_some (headed k)) ∙ has ∙ ap (λ t. t || list_any (nat_eq k) ks) (same_refl k))
 
   pub headed_push : (m w : EndsMap) (hs ws : List (Held X)) (n : Held X) → IsHeaded key m hs
-      → ((k : ℕ) → get nat_eq w k ≡ (if key n.value == k then Some (grown (get nat_eq m (key n.value)) (at n.at)) else get nat_eq m k))
+      → SetsAt m w (key n.value) (Some (grown (get nat_eq m (key n.value)) (at n.at)))
       → ((k : ℕ) → (first_of key k ws ≡ first_of key k (hs ++ n ∷ [])) × (last_of key nowhere ws k ≡ last_of key nowhere (hs ++ n ∷ []) k)) → IsHeaded key w ws
   headed_push m w hs ws n headed changed same k = changed k ∙ by_value (key n.value == k) refl ∙ (λ i. ends (sym (same k).0 i) (sym (same k).1 i))
     where
@@ -142,7 +142,7 @@ module _ {X : Type 0} (key : X → ℕ) where
 
   module _ (before after : X → Option At) where
     pub headed_without : (m w : EndsMap) (hs ws : List (Held X)) (p : Ptr) (s : X) → AreThreaded key before after nowhere hs → IsApart (places hs) → Some s ≡ found hs p → IsHeaded key m hs
-        → ((k : ℕ) → get nat_eq w k ≡ (if key s == k then shrunk (get nat_eq m (key s)) (before s) (after s) else get nat_eq m k))
+        → SetsAt m w (key s) (shrunk (get nat_eq m (key s)) (before s) (after s))
         → ((k : ℕ) → (first_of key k ws ≡ first_of key k (without hs p)) × (last_of key nowhere ws k ≡ last_of key nowhere (without hs p) k)) → IsHeaded key w ws
     headed_without m w hs ws p s threaded apart here headed changed same k =
         let cut = cut_at hs p (subst (λ o. Rattle.std.specs.Prelude.IsSome o) here refl) in let n = cut.here in

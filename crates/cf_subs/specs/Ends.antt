@@ -1,5 +1,5 @@
 -- The ends of each number's list, as a map keeps them.
-use Rattle.std.specs.Prelude.{◌≡◌, ℕ, List, Option, Some, None, nat_eq}
+use Rattle.std.specs.Prelude.{◌≡◌, ℕ, ◌==◌, if◌then◌else◌, List, Option, Some, None, nat_eq}
 use Rattle.std.specs.HashMap.{get, HashMap}
 use Rattle.std.specs.declared.hash.FoldHasher.{FoldHasher}
 use Rattle.std.specs.declared.hash.BuildHasherDefault.{BuildHasherDefault}
@@ -34,6 +34,10 @@ shrunk (Some e) None None = None
 shrunk (Some e) None (Some a) = Some (record e { first = a })
 shrunk (Some e) (Some b) None = Some (record e { last = b })
 shrunk (Some e) (Some b) (Some a) = Some e
+
+-- one map has these ends of the number k, and of each other number what the other map has
+abbrev pub SetsAt : EndsMap → EndsMap → ℕ → Option Ends → Type 0
+SetsAt m w k e = (j : ℕ) → get nat_eq w j ≡ (if k == j then e else get nat_eq m j)
 
 -- a map has the ends of each number's list, and no others
 abbrev pub IsHeaded : {T : Type 0} → (T → ℕ) → EndsMap → List (Held T) → Type 0

@@ -1,5 +1,5 @@
 -- Which session of a node follows which channel: a list of rows in order of adding. (Order and limit are this project's own profile.)
-use Rattle.std.specs.Prelude.{◌≡◌, ℕ, ◌≤◌, ◌==◌, ◌&&◌, ◌||◌, not, Bool, false, if◌then◌else◌, Option, None, List, [], ◌∷◌, ◌++◌, length, map, filter, slice_get}
+use Rattle.std.specs.Prelude.{◌≡◌, ◌≢◌, ℕ, ◌≤◌, ◌==◌, ◌&&◌, ◌||◌, not, Bool, false, if◌then◌else◌, Option, None, List, [], ◌∷◌, ◌++◌, length, map, filter, slice_get}
 use Rattle.std.specs.List.{list_any}
 use Rattle.cf_subs.specs.declared.table.Row.{Row}
 
@@ -12,6 +12,10 @@ is_of c s r = (r.channel == c) && (r.session == s)
 -- whether the session follows the channel
 abbrev pub follows : List Row → ℕ → ℕ → Bool
 follows rows c s = list_any (is_of c s) rows
+
+-- whether it is a channel that the session follows
+abbrev pub follows_by : List Row → ℕ → ℕ → Bool
+follows_by rows s c = follows rows c s
 
 -- the sessions that follow the channel
 abbrev pub sessions_of : List Row → ℕ → List ℕ
@@ -71,6 +75,18 @@ OnlyLeaves old new c s = (d j : ℕ) → follows new d j ≡ (follows old d j &&
 -- this session follows nothing any more, and all others do as they did
 abbrev pub OnlyDetaches : List Row → List Row → ℕ → Type 0
 OnlyDetaches old new s = (d j : ℕ) → follows new d j ≡ (follows old d j && not (j == s))
+
+-- this session stands no more in the walk of this channel
+abbrev pub WalkLoses : List Row → List Row → ℕ → ℕ → Type 0
+WalkLoses old new c s = sessions_of new c ≡ without s (sessions_of old c)
+
+-- the walks of all other channels stay
+abbrev pub OtherWalksStay : List Row → List Row → ℕ → Type 0
+OtherWalksStay old new c = (d : ℕ) → d ≢ c → sessions_of new d ≡ sessions_of old d
+
+-- this session stands no more in the walk of any channel
+abbrev pub WalksLose : List Row → List Row → ℕ → Type 0
+WalksLose old new s = (c : ℕ) → sessions_of new c ≡ without s (sessions_of old c)
 
 -- each of these is there once
 abbrev pub AreOnce : List Row → Type 0

@@ -1,9 +1,9 @@
 -- The rows' blocks: in the order of adding, and threaded by channel and by session.
-use Rattle.std.specs.Prelude.{◌≡◌, ℕ, ◌==◌, List, [], ◌∷◌, map, filter, cond, Option, Some, None}
+use Rattle.std.specs.Prelude.{◌≡◌, ℕ, ◌==◌, List, [], ◌∷◌, ◌++◌, map, filter, cond, Option, Some, None}
 use Rattle.cf_subs.specs.declared.blocks.At.{At}
 use Rattle.cf_subs.specs.declared.table.Row.{Row}
 use Rattle.cf_subs.specs.declared.seat.Seat.{Seat}
-use Rattle.cf_subs.specs.Held.{Held, found}
+use Rattle.cf_subs.specs.Held.{Held, found, held}
 use Rattle.cf_subs.specs.Rows.{is_of}
 use Rattle.cf_subs.specs.Threads.{AreThreaded, nowhere, leads_to, first_of, last_of, at}
 
@@ -44,6 +44,20 @@ after_in_session o s = record s { after_in_session = o }
 abbrev pub SameEnds : (Seat → ℕ) → List (Held Seat) → List (Held Seat) → Type 0
 SameEnds key hs ws = (k : ℕ) → (first_of key k hs ≡ first_of key k ws) × (last_of key nowhere hs k ≡ last_of key nowhere ws k)
 
+-- the rows are the same, and so are the ends of each list
+pub record SameLists (hs ws : List (Held Seat)) : Type 0 where
+  pub rows : rows_of hs ≡ rows_of ws
+  pub channels : SameEnds channel_of hs ws
+  pub sessions : SameEnds session_of hs ws
+
+-- one block more, behind all others
+abbrev pub with_block : List (Held Seat) → At → Seat → List (Held Seat)
+with_block hs a s = hs ++ held a.ptr s ∷ []
+
+-- the lists are those from before with this block behind all others
+abbrev pub LinksIn : List (Held Seat) → List (Held Seat) → At → Seat → Type 0
+LinksIn old new a s = SameLists new (with_block old a s)
+
 -- where the row of this channel and this session lies
 abbrev pub place_of : ℕ → ℕ → List (Held Seat) → Option At
 place_of c s [] = None
@@ -76,3 +90,10 @@ sessions_onward hs c o = map (λ h. h.value.row.session) (of_number channel_of c
 
 abbrev pub channels_onward : List (Held Seat) → ℕ → Option At → List ℕ
 channels_onward hs s o = map (λ h. h.value.row.channel) (of_number session_of s (onward hs o))
+
+-- a row's block that leads back to the last ones of its channel and of its session, and on to none
+pub record IsUnlinked (hs : List (Held Seat)) (s : Seat) : Type 0 where
+  pub channel : s.before_in_channel ≡ last_of channel_of nowhere hs s.row.channel
+  pub channel_ends : s.after_in_channel ≡ None
+  pub session : s.before_in_session ≡ last_of session_of nowhere hs s.row.session
+  pub session_ends : s.after_in_session ≡ None

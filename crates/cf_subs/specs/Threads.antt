@@ -26,6 +26,9 @@ module _ {T : Type 0} where
   abbrev pub changed : (T → T) → Option At → List (Held T) → List (Held T)
   changed change o hs = map (λ h. held h.at (cond (leads_to o h.at) (change h.value) h.value)) hs
 
+  abbrev pub Changes : (T → T) → Option At → List (Held T) → List (Held T) → Type 0
+  Changes change o hs ws = ws ≡ changed change o hs
+
   module _ (key : T → ℕ) where
     -- the first block of the number k
     abbrev pub first_of : ℕ → List (Held T) → Option At

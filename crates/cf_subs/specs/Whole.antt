@@ -1,5 +1,5 @@
 -- What always holds of a table's rows in their lists, and of the ends of these.
-use Rattle.std.specs.Prelude.{◌≡◌, ℕ, ◌<◌, List, None, length}
+use Rattle.std.specs.Prelude.{◌≡◌, ℕ, ◌<◌, List, length}
 use Rattle.std.specs.HashMap.{spare}
 use Rattle.cf_subs.specs.declared.linked_rows.LinkedRows.{LinkedRows}
 use Rattle.cf_subs.specs.declared.seat.Seat.{Seat}
@@ -7,7 +7,6 @@ use Rattle.cf_subs.specs.declared.table.Row.{Row}
 use Rattle.cf_subs.specs.Ends.{IsHeaded}
 use Rattle.cf_subs.specs.Held.{Held}
 use Rattle.cf_subs.specs.Rows.{AreRows}
-use Rattle.cf_subs.specs.Threads.{last_of, nowhere}
 use Rattle.cf_subs.specs.Seats.{AreLinked, channel_of, session_of, rows_of}
 
 -- the blocks are linked, and each list has its ends in its map
@@ -21,13 +20,12 @@ pub record HasRoom (r : LinkedRows) : Type 0 where
   pub channels : 0 < spare r.channels
   pub sessions : 0 < spare r.sessions
 
--- a row that leads back to the last ones of its channel and of its session, and on to none
-pub record IsUnlinked (hs : List (Held Seat)) (row : Row) (s : Seat) : Type 0 where
-  pub row_is : s.row ≡ row
-  pub channel : s.before_in_channel ≡ last_of channel_of nowhere hs row.channel
-  pub channel_ends : s.after_in_channel ≡ None
-  pub session : s.before_in_session ≡ last_of session_of nowhere hs row.session
-  pub session_ends : s.after_in_session ≡ None
+-- the blocks, and the rows in them
+abbrev pub blocks_of : LinkedRows → List (Held Seat)
+blocks_of r = r.seats.blocks.held
+
+abbrev pub rows_in : LinkedRows → List Row
+rows_in r = rows_of r.seats.blocks.held
 
 -- what always holds of a table
 pub record IsTable (r : LinkedRows) (count : ℕ) : Type 0 where

@@ -1,7 +1,7 @@
 //! Where the list of each number begins and ends.
-ghost use Rattle.std.specs.Prelude.{◌≡◌, ℕ, ◌<◌, ◌==◌, if◌then◌else◌, Some, IsSome, nat_eq, option_map};
+ghost use Rattle.std.specs.Prelude.{◌≡◌, ◌<◌, Some, IsSome, nat_eq, option_map};
 ghost use Rattle.std.specs.HashMap.{get, spare};
-ghost use Rattle.cf_subs.specs.Ends.{grown, shrunk};
+ghost use Rattle.cf_subs.specs.Ends.{SetsAt, grown, shrunk};
 
 use crate::blocks::At;
 use std::collections::HashMap;
@@ -39,7 +39,7 @@ pub(crate) fn last(ends: &EndsByNumber, number: u32) -> Option<At>
 /// A block is linked in behind all others of a number's list. It takes no memory.
 pub(crate) fn grow(ends: &mut EndsByNumber, number: u32, at: At)
     requires { 0 < spare ends.old }
-    ensures { (k : ℕ) → get nat_eq ends.new k ≡ (if number == k then Some (grown (get nat_eq ends.old number) at) else get nat_eq ends.old k) }
+    ensures { SetsAt ends.old ends.new number (Some (grown (get nat_eq ends.old number) at)) }
 {
     let first = first(ends, number).unwrap_or(at);
     match ends.insert(number, Ends { first, last: at }) {
@@ -51,7 +51,7 @@ pub(crate) fn grow(ends: &mut EndsByNumber, number: u32, at: At)
 /// Other ends of a number's list. It takes no memory.
 fn put(ends: &mut EndsByNumber, number: u32, changed: Ends)
     requires { IsSome (get nat_eq ends.old number) }
-    ensures { (k : ℕ) → get nat_eq ends.new k ≡ (if number == k then Some changed else get nat_eq ends.old k) }
+    ensures { SetsAt ends.old ends.new number (Some changed) }
 {
     match ends.insert(number, changed) {
         Ok(_) => {}
@@ -61,7 +61,7 @@ fn put(ends: &mut EndsByNumber, number: u32, changed: Ends)
 
 /// A block is unlinked from a number's list, where these lie before it and after it. It takes no memory.
 pub(crate) fn shrink(ends: &mut EndsByNumber, number: u32, before: Option<At>, after: Option<At>)
-    ensures { (k : ℕ) → get nat_eq ends.new k ≡ (if number == k then shrunk (get nat_eq ends.old number) before after else get nat_eq ends.old k) }
+    ensures { SetsAt ends.old ends.new number (shrunk (get nat_eq ends.old number) before after) }
 {
     let Some(old) = ends.get(&number).copied() else {
         return;

@@ -2,9 +2,9 @@
 ghost use Rattle.std.specs.Prelude.{◌≡◌, ◌+◌, ◌≤◌, [], ◌∷◌, ◌++◌, length, IsSome, OnOk, OnErr, IsErrOf, IsNone, IfSome};
 ghost use Rattle.cf_subs.specs.Held.{found, without};
 ghost use Rattle.cf_subs.specs.Rows.{most_rows, without_session};
-ghost use Rattle.cf_subs.specs.Seats.{channel_of, place_of, rows_of, session_of};
+ghost use Rattle.cf_subs.specs.Seats.{IsUnlinked, channel_of, place_of, rows_of, session_of};
 ghost use Rattle.cf_subs.specs.Threads.{first_of};
-ghost use Rattle.cf_subs.specs.Whole.{HasRoom, IsUnlinked, IsWhole};
+ghost use Rattle.cf_subs.specs.Whole.{HasRoom, IsWhole, blocks_of, rows_in};
 
 use crate::blocks::At;
 use crate::ends;
@@ -27,7 +27,7 @@ impl LinkedRows {
     /// No rows. It takes no memory.
     pub(crate) fn new(alloc: Global) -> LinkedRows
         ensures whole { IsWhole result }
-        ensures rows { rows_of result.seats.blocks.held ≡ [] }
+        ensures rows { rows_in result ≡ [] }
     {
         LinkedRows {
             seats: Seats::new(),
@@ -40,7 +40,7 @@ impl LinkedRows {
     fn reserve(&mut self) -> Result<(), AllocError>
         requires whole { IsWhole self.old }
         ensures whole { IsWhole self.new }
-        ensures held { self.new.seats.blocks.held ≡ self.old.seats.blocks.held }
+        ensures held { blocks_of self.new ≡ blocks_of self.old }
         ensures room { OnOk result (HasRoom self.new) }
     {
         self.channels.reserve(1)?;
@@ -50,7 +50,8 @@ impl LinkedRows {
     /// What the block of a row will hold that is linked in behind all others.
     fn unlinked(&self, row: Row) -> Seat
         requires whole { IsWhole self.now }
-        ensures { IsUnlinked self.now.seats.blocks.held row result }
+        ensures row { result.row ≡ row }
+        ensures unlinked { IsUnlinked (blocks_of self.now) result }
     {
         Seat {
             row,
@@ -65,8 +66,8 @@ impl LinkedRows {
     pub(crate) fn push(&mut self, row: Row, alloc: Global) -> Result<(), SubRefusal>
         requires whole { IsWhole self.old }
         ensures whole { IsWhole self.new }
-        ensures ok { OnOk result (rows_of self.new.seats.blocks.held ≡ rows_of self.old.seats.blocks.held ++ row ∷ []) }
-        ensures err { OnErr result (rows_of self.new.seats.blocks.held ≡ rows_of self.old.seats.blocks.held) }
+        ensures ok { OnOk result (rows_in self.new ≡ rows_in self.old ++ row ∷ []) }
+        ensures err { OnErr result (rows_in self.new ≡ rows_in self.old) }
         ensures memory { OnErr result (IsErrOf result SubRefusal.Memory) }
     {
         self.reserve()?;
@@ -79,9 +80,9 @@ impl LinkedRows {
     fn link(&mut self, block: Box<Seat>)
         requires whole { IsWhole self.old }
         requires room { HasRoom self.old }
-        requires unlinked { IsUnlinked self.old.seats.blocks.held block.value.row block.value }
+        requires unlinked { IsUnlinked (blocks_of self.old) block.value }
         ensures whole { IsWhole self.new }
-        ensures rows { rows_of self.new.seats.blocks.held ≡ rows_of self.old.seats.blocks.held ++ block.value.row ∷ [] }
+        ensures rows { rows_in self.new ≡ rows_in self.old ++ block.value.row ∷ [] }
     {
         let row = block.row;
         let at = self.seats.link(block);
@@ -92,9 +93,9 @@ impl LinkedRows {
     /// Unlinks a row and frees its block. It takes no memory.
     pub(crate) fn unlink(&mut self, at: At, alloc: Global)
         requires whole { IsWhole self.old }
-        requires held { IsSome (found self.old.seats.blocks.held at.ptr) }
+        requires held { IsSome (found (blocks_of self.old) at.ptr) }
         ensures whole { IsWhole self.new }
-        ensures rows { rows_of self.new.seats.blocks.held ≡ rows_of (without self.old.seats.blocks.held at.ptr) }
+        ensures rows { rows_in self.new ≡ rows_of (without (blocks_of self.old) at.ptr) }
     {
         let seat = self.seats.unlink(at, alloc);
         let row = seat.row;
@@ -115,7 +116,7 @@ impl LinkedRows {
     /// The first row of a channel.
     pub(crate) fn first_in_channel(&self, channel: u32) -> Option<At>
         requires whole { IsWhole self.now }
-        ensures { result ≡ first_of channel_of channel self.now.seats.blocks.held }
+        ensures { result ≡ first_of channel_of channel (blocks_of self.now) }
     {
         ends::first(&self.channels, channel)
     }
@@ -123,7 +124,7 @@ impl LinkedRows {
     /// The first row of a session.
     pub(crate) fn first_in_session(&self, session: u32) -> Option<At>
         requires whole { IsWhole self.now }
-        ensures { result ≡ first_of session_of session self.now.seats.blocks.held }
+        ensures { result ≡ first_of session_of session (blocks_of self.now) }
     {
         ends::first(&self.sessions, session)
     }
@@ -131,7 +132,7 @@ impl LinkedRows {
     /// Where a row lies. It goes along the session's list.
     pub(crate) fn find(&self, channel: u32, session: u32) -> Option<At>
         requires whole { IsWhole self.now }
-        ensures { result ≡ place_of channel session self.now.seats.blocks.held }
+        ensures { result ≡ place_of channel session (blocks_of self.now) }
     {
         let mut next = self.first_in_session(session);
         while let Some(here) = next {
@@ -146,10 +147,10 @@ impl LinkedRows {
     /// Unlinks all rows of a session, and says how many they were.
     pub(crate) fn detach(&mut self, session: u32, alloc: Global) -> usize
         requires whole { IsWhole self.old }
-        requires few { length (rows_of self.old.seats.blocks.held) ≤ most_rows }
+        requires few { length (rows_in self.old) ≤ most_rows }
         ensures whole { IsWhole self.new }
-        ensures rows { rows_of self.new.seats.blocks.held ≡ without_session (rows_of self.old.seats.blocks.held) session }
-        ensures counted { result + length (rows_of self.new.seats.blocks.held) ≡ length (rows_of self.old.seats.blocks.held) }
+        ensures rows { rows_in self.new ≡ without_session (rows_in self.old) session }
+        ensures counted { result + length (rows_in self.new) ≡ length (rows_in self.old) }
     {
         let mut gone = 0;
         while let Some(here) = self.first_in_session(session) {
@@ -162,8 +163,8 @@ impl LinkedRows {
     /// The first row of some channel, while there is a row.
     fn any(&self) -> Option<At>
         requires whole { IsWhole self.now }
-        ensures none { IsNone result → self.now.seats.blocks.held ≡ [] }
-        ensures held { IfSome result (λ at. IsSome (found self.now.seats.blocks.held at.ptr)) }
+        ensures none { IsNone result → blocks_of self.now ≡ [] }
+        ensures held { IfSome result (λ at. IsSome (found (blocks_of self.now) at.ptr)) }
     {
         match self.channels.keys().next() {
             Some(number) => self.first_in_channel(*number),

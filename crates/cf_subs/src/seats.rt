@@ -1,8 +1,8 @@
 //! The links between the rows' blocks.
-ghost use Rattle.std.specs.Prelude.{◌≡◌, [], ◌∷◌, ◌++◌, None, Some, IsSome, option_map};
-ghost use Rattle.cf_subs.specs.Held.{found, held, without};
-ghost use Rattle.cf_subs.specs.Threads.{IsHeld, changed, last_of, nowhere};
-ghost use Rattle.cf_subs.specs.Seats.{AreLinked, before_in_channel, after_in_channel, before_in_session, after_in_session, channel_of, session_of, rows_of, SameEnds};
+ghost use Rattle.std.specs.Prelude.{◌≡◌, [], Some, IsSome};
+ghost use Rattle.cf_subs.specs.Held.{Tells, found, without};
+ghost use Rattle.cf_subs.specs.Threads.{Changes, IsHeld};
+ghost use Rattle.cf_subs.specs.Seats.{AreLinked, IsUnlinked, LinksIn, SameLists, before_in_channel, after_in_channel, before_in_session, after_in_session};
 
 use crate::blocks::{At, Blocks};
 use crate::loose::Loose;
@@ -36,7 +36,7 @@ impl Seats {
     /// The row of a block.
     pub(crate) fn row(&self, at: At) -> Row
         requires { IsSome (found self.now.blocks.held at.ptr) }
-        ensures { Some result ≡ option_map (λ s. s.row) (found self.now.blocks.held at.ptr) }
+        ensures { Tells (λ s. s.row) self.now.blocks.held at.ptr result }
     {
         self.blocks.get(at).row
     }
@@ -44,7 +44,7 @@ impl Seats {
     /// The next row of the same channel.
     pub(crate) fn next_in_channel(&self, at: At) -> Option<At>
         requires { IsSome (found self.now.blocks.held at.ptr) }
-        ensures { Some result ≡ option_map (λ s. s.after_in_channel) (found self.now.blocks.held at.ptr) }
+        ensures { Tells (λ s. s.after_in_channel) self.now.blocks.held at.ptr result }
     {
         self.blocks.get(at).after_in_channel
     }
@@ -52,14 +52,14 @@ impl Seats {
     /// The next row of the same session.
     pub(crate) fn next_in_session(&self, at: At) -> Option<At>
         requires { IsSome (found self.now.blocks.held at.ptr) }
-        ensures { Some result ≡ option_map (λ s. s.after_in_session) (found self.now.blocks.held at.ptr) }
+        ensures { Tells (λ s. s.after_in_session) self.now.blocks.held at.ptr result }
     {
         self.blocks.get(at).after_in_session
     }
 
     fn set_before_in_channel(&mut self, at: Option<At>, before: Option<At>)
         requires { IsHeld self.old.blocks.held at }
-        ensures { self.new.blocks.held ≡ changed (before_in_channel before) at self.old.blocks.held }
+        ensures { Changes (before_in_channel before) at self.old.blocks.held self.new.blocks.held }
     {
         if let Some(at) = at {
             let mut seat = *self.blocks.get(at);
@@ -70,7 +70,7 @@ impl Seats {
 
     fn set_after_in_channel(&mut self, at: Option<At>, after: Option<At>)
         requires { IsHeld self.old.blocks.held at }
-        ensures { self.new.blocks.held ≡ changed (after_in_channel after) at self.old.blocks.held }
+        ensures { Changes (after_in_channel after) at self.old.blocks.held self.new.blocks.held }
     {
         if let Some(at) = at {
             let mut seat = *self.blocks.get(at);
@@ -81,7 +81,7 @@ impl Seats {
 
     fn set_before_in_session(&mut self, at: Option<At>, before: Option<At>)
         requires { IsHeld self.old.blocks.held at }
-        ensures { self.new.blocks.held ≡ changed (before_in_session before) at self.old.blocks.held }
+        ensures { Changes (before_in_session before) at self.old.blocks.held self.new.blocks.held }
     {
         if let Some(at) = at {
             let mut seat = *self.blocks.get(at);
@@ -92,7 +92,7 @@ impl Seats {
 
     fn set_after_in_session(&mut self, at: Option<At>, after: Option<At>)
         requires { IsHeld self.old.blocks.held at }
-        ensures { self.new.blocks.held ≡ changed (after_in_session after) at self.old.blocks.held }
+        ensures { Changes (after_in_session after) at self.old.blocks.held self.new.blocks.held }
     {
         if let Some(at) = at {
             let mut seat = *self.blocks.get(at);
@@ -104,12 +104,9 @@ impl Seats {
     /// Links a row in behind all others, where its neighbours before it are the last of its channel and of its session.
     pub(crate) fn link(&mut self, block: Box<Seat>) -> At
         requires linked { AreLinked self.old.blocks.held }
-        requires channel { (block.value.before_in_channel ≡ last_of channel_of nowhere self.old.blocks.held block.value.row.channel) × (block.value.after_in_channel ≡ None) }
-        requires session { (block.value.before_in_session ≡ last_of session_of nowhere self.old.blocks.held block.value.row.session) × (block.value.after_in_session ≡ None) }
+        requires unlinked { IsUnlinked self.old.blocks.held block.value }
         ensures linked { AreLinked self.new.blocks.held }
-        ensures rows { rows_of self.new.blocks.held ≡ rows_of self.old.blocks.held ++ block.value.row ∷ [] }
-        ensures channels { SameEnds channel_of self.new.blocks.held (self.old.blocks.held ++ held result.ptr block.value ∷ []) }
-        ensures sessions { SameEnds session_of self.new.blocks.held (self.old.blocks.held ++ held result.ptr block.value ∷ []) }
+        ensures lists { LinksIn self.old.blocks.held self.new.blocks.held result block.value }
     {
         let (before_in_channel, before_in_session) = (
             block.before_in_channel,
@@ -127,9 +124,7 @@ impl Seats {
         requires held { IsSome (found self.old.blocks.held at.ptr) }
         ensures linked { AreLinked self.new.blocks.held }
         ensures seat { Some result ≡ found self.old.blocks.held at.ptr }
-        ensures rows { rows_of self.new.blocks.held ≡ rows_of (without self.old.blocks.held at.ptr) }
-        ensures channels { SameEnds channel_of self.new.blocks.held (without self.old.blocks.held at.ptr) }
-        ensures sessions { SameEnds session_of self.new.blocks.held (without self.old.blocks.held at.ptr) }
+        ensures lists { SameLists self.new.blocks.held (without self.old.blocks.held at.ptr) }
     {
         let seat = self.free(at, alloc);
         self.set_after_in_channel(seat.before_in_channel, seat.after_in_channel);

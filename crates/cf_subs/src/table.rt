@@ -1,8 +1,8 @@
 //! The table of rows.
-ghost use Rattle.std.specs.Prelude.{◌≡◌, ◌≢◌, ◌≤◌, ◌↔◌, ℕ, [], length, slice_get, false, OnOk, OnErr, IsErrOf};
-ghost use Rattle.cf_subs.specs.Rows.{AreRows, HasEachOnce, OnlyDetaches, OnlyJoins, OnlyLeaves, after_in, channels_of, follows};
-ghost use Rattle.cf_subs.specs.Rows.{has_channel, is_among, most_rows, sessions_of, with_row, without, without_row};
-ghost use Rattle.cf_subs.specs.Rows.{without_session};
+ghost use Rattle.std.specs.Prelude.{◌≡◌, ◌≤◌, ◌↔◌, ℕ, [], length, slice_get, false, OnOk, OnErr, IsErrOf};
+ghost use Rattle.cf_subs.specs.Rows.{AreRows, HasEachOnce, OnlyDetaches, OnlyJoins, OnlyLeaves, OtherWalksStay, WalkLoses};
+ghost use Rattle.cf_subs.specs.Rows.{WalksLose, after_in, channels_of, follows, follows_by, has_channel, is_among, most_rows};
+ghost use Rattle.cf_subs.specs.Rows.{sessions_of, with_row, without_row, without_session};
 
 use crate::channel_walk::ChannelWalk;
 use crate::linked_rows::LinkedRows;
@@ -25,7 +25,9 @@ pub struct Row {
 
 /// The rows of one node, in order of adding: each at most once, and at most 65,536.
 ///
-/// Each row is a block of its own in two lists, its channel's and its session's, so that a walk costs what it gives.
+/// Each row is a block of its own, linked both ways into its channel's list and into its session's list. So a walk costs
+/// what it gives, however many rows there are. Two maps tell where the list of each number begins and ends; a number
+/// without rows has no entry in them, so their room is bounded by the most numbers that had rows at one time.
 pub struct SubTable {
     rows: LinkedRows,
     count: usize,
@@ -71,7 +73,9 @@ impl SubTable {
 
     /// Adds the row of a session that doesn't follow the channel yet, behind all others.
     ///
-    /// It is refused with `Full` exactly where the table has 65,536 rows, and with `Memory` where memory is refused.
+    /// It is refused with `Full` exactly where the table has 65,536 rows, and with `Memory` where memory is refused. Before
+    /// anything changes it takes all that takes memory: a block, and room in both maps. It costs the same however many rows
+    /// there are, but where a map grows.
     pub fn add(&mut self, channel: u32, session: u32) -> Result<(), SubRefusal>
         requires absent { follows self.old channel session ≡ false }
         ensures ok { OnOk result (self.new ≡ with_row self.old channel session) }
@@ -89,7 +93,7 @@ impl SubTable {
         Ok(())
     }
 
-    /// Whether a session follows a channel. It takes no memory.
+    /// Whether a session follows a channel. It takes no memory, and goes along the session's channels up to this one.
     pub fn has(&self, channel: u32, session: u32) -> bool
         ensures followed { result ≡ follows self.now channel session }
         ensures in_channel { result ≡ is_among session (sessions_of self.now channel) }
@@ -98,13 +102,16 @@ impl SubTable {
         self.rows.find(channel, session).is_some()
     }
 
-    /// Removes the row of a channel and a session, and says whether there was one. It takes no memory.
+    /// Removes the row of a channel and a session, and says whether there was one. It takes no memory. It frees the row's
+    /// block.
+    ///
+    /// The row is found along the session's channels and not along the channel's sessions: a session follows few.
     pub fn remove(&mut self, channel: u32, session: u32) -> bool
         ensures removed { self.new ≡ without_row self.old channel session }
         ensures found { result ≡ follows self.old channel session }
         ensures members { OnlyLeaves self.old self.new channel session }
-        ensures walked { sessions_of self.new channel ≡ without session (sessions_of self.old channel) }
-        ensures others { (c : ℕ) → c ≢ channel → sessions_of self.new c ≡ sessions_of self.old c }
+        ensures walked { WalkLoses self.old self.new channel session }
+        ensures others { OtherWalksStay self.old self.new channel }
         ensures rows { AreRows self.new }
     {
         let Some(at) = self.rows.find(channel, session) else {
@@ -115,12 +122,12 @@ impl SubTable {
         true
     }
 
-    /// Removes all rows of a session, and says how many they were. It takes no memory.
+    /// Removes all rows of a session, and says how many they were. It takes no memory, and costs these rows alone.
     pub fn detach(&mut self, session: u32) -> usize
         ensures removed { self.new ≡ without_session self.old session }
         ensures counted { result ≡ length (channels_of self.old session) }
         ensures members { OnlyDetaches self.old self.new session }
-        ensures walked { (c : ℕ) → sessions_of self.new c ≡ without session (sessions_of self.old c) }
+        ensures walked { WalksLose self.old self.new session }
         ensures rows { AreRows self.new }
     {
         let gone = self.rows.detach(session, self.alloc);
@@ -141,7 +148,7 @@ impl SubTable {
         }
     }
 
-    /// The first session that follows a channel, if one does. It takes no memory.
+    /// The first session that follows a channel, if one does. It takes no memory, and costs one look-up.
     pub fn first(&self, channel: u32) -> Option<u32>
         ensures first { result ≡ slice_get (sessions_of self.now channel) 0 }
         ensures each { HasEachOnce (sessions_of self.now channel) (follows self.now channel) }
@@ -154,6 +161,8 @@ impl SubTable {
     /// last or doesn't follow the channel. It takes no memory.
     ///
     /// With `first` it goes over a channel's sessions while rows go: take the next session before this one's row is removed.
+    /// Nothing but numbers is kept from one step to the next, so any row may go between them but that of the next session.
+    /// It goes along the session's channels up to this one, and not along the channel's sessions.
     pub fn after(&self, channel: u32, session: u32) -> Option<u32>
         ensures next { result ≡ after_in session (sessions_of self.now channel) }
         ensures rows { AreRows self.now }
@@ -169,7 +178,7 @@ impl SubTable {
         rest.next()
     }
 
-    /// Whether any session follows a channel. It takes no memory.
+    /// Whether any session follows a channel. It takes no memory, and costs one look-up.
     pub fn has_channel(&self, channel: u32) -> bool
         ensures followed { result ≡ has_channel self.now channel }
         ensures none { (result ≡ false) ↔ (sessions_of self.now channel ≡ []) }
@@ -178,7 +187,7 @@ impl SubTable {
         self.first(channel).is_some()
     }
 
-    /// How many channels a session follows. It takes no memory.
+    /// How many channels a session follows. It takes no memory, and goes along them.
     pub fn channel_count(&self, session: u32) -> usize
         ensures { result ≡ length (channels_of self.now session) }
     {
@@ -196,7 +205,7 @@ impl SubTable {
     /// The channels that a session follows, in order of adding. It takes no memory.
     pub fn walk_session(&self, session: u32) -> ChannelWalk<'_>
         ensures channels { result ≡ channels_of self.now session }
-        ensures each { HasEachOnce (channels_of self.now session) (λ c. follows self.now c session) }
+        ensures each { HasEachOnce (channels_of self.now session) (follows_by self.now session) }
         ensures rows { AreRows self.now }
     {
         ChannelWalk {

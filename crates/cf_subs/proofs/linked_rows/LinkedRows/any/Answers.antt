@@ -1,4 +1,4 @@
-use Rattle.std.proofs.Common.{◌≡◌, ◌∙◌, ap, sym}
+use Rattle.std.proofs.Common.{◌≡◌, ◌∙◌, ap}
 use Rattle.std.specs.Prelude.{is_some, nat_eq, true}
 use Rattle.std.specs.HashMap.{get}
 use Rattle.std.specs.List.{list_any}

@@ -1,4 +1,4 @@
-use Rattle.std.proofs.Common.{◌≡◌, ◌+◌, ◌<◌, ◌∙◌, ap, sym, length, arith}
+use Rattle.std.proofs.Common.{◌<◌, ◌∙◌, ap, sym, length, arith}
 use Rattle.cf_subs.specs.Rows.{without_session}
 use Rattle.cf_subs.specs.Seats.{rows_of, session_of}
 use Rattle.cf_subs.proofs.Finds.{first_goes, first_is_held, first_less, none_left}

@@ -41,29 +41,14 @@ returns-clause-linked c =
     let e5 = c.set_before_in_session.ensures ∙ (λ i. changed (before_in_session (o.same i).before_in_session) (o.same i).after_in_session (e4 i)) in
     subst AreLinked (sym e5) (linked5 o.before o.here o.after o.linked o.apart)
 
-pub returns-clause-rows : goal.returns-clause-rows
-returns-clause-rows c =
+pub returns-clause-lists : goal.returns-clause-lists
+returns-clause-lists c =
     let o = out c.args.self.now.blocks.held c.args.at.ptr c.free-seat.result c.free-seat.new.self.blocks.held c.free-seat.ensures.value c.free-seat.ensures.held c.requires.linked c.args.self.now.blocks.apart in
     let e2 = c.set_after_in_channel.ensures ∙ (λ i. changed (after_in_channel (o.same i).after_in_channel) (o.same i).before_in_channel (o.rest i)) in
     let e3 = c.set_before_in_channel.ensures ∙ (λ i. changed (before_in_channel (o.same i).before_in_channel) (o.same i).after_in_channel (e2 i)) in
     let e4 = c.set_after_in_session.ensures ∙ (λ i. changed (after_in_session (o.same i).after_in_session) (o.same i).before_in_session (e3 i)) in
-    let e5 = c.set_before_in_session.ensures ∙ (λ i. changed (before_in_session (o.same i).before_in_session) (o.same i).after_in_session (e4 i)) in
-    ap rows_of e5 ∙ rows5 o.before o.here o.after o.linked o.apart ∙ ap rows_of (sym o.rest ∙ c.free-seat.ensures.held)
-
-pub returns-clause-channels : goal.returns-clause-channels
-returns-clause-channels c =
-    let o = out c.args.self.now.blocks.held c.args.at.ptr c.free-seat.result c.free-seat.new.self.blocks.held c.free-seat.ensures.value c.free-seat.ensures.held c.requires.linked c.args.self.now.blocks.apart in
-    let e2 = c.set_after_in_channel.ensures ∙ (λ i. changed (after_in_channel (o.same i).after_in_channel) (o.same i).before_in_channel (o.rest i)) in
-    let e3 = c.set_before_in_channel.ensures ∙ (λ i. changed (before_in_channel (o.same i).before_in_channel) (o.same i).after_in_channel (e2 i)) in
-    let e4 = c.set_after_in_session.ensures ∙ (λ i. changed (after_in_session (o.same i).after_in_session) (o.same i).before_in_session (e3 i)) in
-    let e5 = c.set_before_in_session.ensures ∙ (λ i. changed (before_in_session (o.same i).before_in_session) (o.same i).after_in_session (e4 i)) in
-    subst (λ (z : List (Held Seat) × List (Held Seat)). SameEnds channel_of z.0 z.1) (λ i. (sym e5 i, (sym o.rest ∙ c.free-seat.ensures.held) i)) (ends5 o.before o.here o.after o.linked o.apart channel_of (λ _ _. refl) (λ _ _. refl) (λ _ _. refl) (λ _ _. refl))
-
-pub returns-clause-sessions : goal.returns-clause-sessions
-returns-clause-sessions c =
-    let o = out c.args.self.now.blocks.held c.args.at.ptr c.free-seat.result c.free-seat.new.self.blocks.held c.free-seat.ensures.value c.free-seat.ensures.held c.requires.linked c.args.self.now.blocks.apart in
-    let e2 = c.set_after_in_channel.ensures ∙ (λ i. changed (after_in_channel (o.same i).after_in_channel) (o.same i).before_in_channel (o.rest i)) in
-    let e3 = c.set_before_in_channel.ensures ∙ (λ i. changed (before_in_channel (o.same i).before_in_channel) (o.same i).after_in_channel (e2 i)) in
-    let e4 = c.set_after_in_session.ensures ∙ (λ i. changed (after_in_session (o.same i).after_in_session) (o.same i).before_in_session (e3 i)) in
-    let e5 = c.set_before_in_session.ensures ∙ (λ i. changed (before_in_session (o.same i).before_in_session) (o.same i).after_in_session (e4 i)) in
-    subst (λ (z : List (Held Seat) × List (Held Seat)). SameEnds session_of z.0 z.1) (λ i. (sym e5 i, (sym o.rest ∙ c.free-seat.ensures.held) i)) (ends5 o.before o.here o.after o.linked o.apart session_of (λ _ _. refl) (λ _ _. refl) (λ _ _. refl) (λ _ _. refl))
+    let e5 = c.set_before_in_session.ensures ∙ (λ i. changed (before_in_session (o.same i).before_in_session) (o.same i).after_in_session (e4 i)) in let left = sym o.rest ∙ c.free-seat.ensures.held in record {
+      rows = ap rows_of e5 ∙ rows5 o.before o.here o.after o.linked o.apart ∙ ap rows_of left;
+      channels = subst (λ (z : List (Held Seat) × List (Held Seat)). SameEnds channel_of z.0 z.1) (λ i. (sym e5 i, left i)) (ends5 o.before o.here o.after o.linked o.apart channel_of (λ _ _. refl) (λ _ _. refl) (λ _ _. refl) (λ _ _. refl));
+      sessions = subst (λ (z : List (Held Seat) × List (Held Seat)). SameEnds session_of z.0 z.1) (λ i. (sym e5 i, left i)) (ends5 o.before o.here o.after o.linked o.apart session_of (λ _ _. refl) (λ _ _. refl) (λ _ _. refl) (λ _ _. refl));
+    }

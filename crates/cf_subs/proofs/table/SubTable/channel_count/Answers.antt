@@ -1,4 +1,4 @@
-use Rattle.std.proofs.Common.{rules, arith, inl, ◌≤◌, length}
+use Rattle.std.proofs.Common.{arith, inl, ◌≤◌, length}
 use Rattle.cf_subs.specs.Rows.{AreRows, channels_of, most_rows}
 use Rattle.cf_subs.proofs.Members.{few_channels}
 use Rattle.cf_subs.proofs.table.SubTable.channel_count.Goals as goal

@@ -1,4 +1,4 @@
-use Rattle.std.proofs.Common.{sym, ap, ◌∙◌, map}
+use Rattle.std.proofs.Common.{ap, ◌∙◌, map}
 use Rattle.cf_subs.specs.Rows.{sessions_of}
 use Rattle.cf_subs.specs.Seats.{channel_of}
 use Rattle.cf_subs.proofs.Finds.{channel_walk}

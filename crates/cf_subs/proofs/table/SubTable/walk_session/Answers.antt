@@ -1,4 +1,4 @@
-use Rattle.std.proofs.Common.{sym, ap, ◌∙◌, map}
+use Rattle.std.proofs.Common.{ap, ◌∙◌, map}
 use Rattle.cf_subs.specs.Rows.{channels_of}
 use Rattle.cf_subs.specs.Seats.{session_of}
 use Rattle.cf_subs.proofs.Finds.{session_walk}
