@@ -2,6 +2,7 @@
 use Rattle.std.specs.Prelude.{ℕ, ◌+◌, ◌&&◌, not, Bool, if◌then◌else◌, Option, Some, None, List, [], ◌∷◌}
 use Rattle.cf_protocol.specs.Position.{Position}
 use Rattle.cf_recovery.specs.Verdict.{Verdict, Drop, Pass, Insufficient, verdict}
+use Rattle.cf_hub.specs.Session.{Attached}
 use Rattle.cf_hub.specs.SessionState.{Subscription, Off, Asked, Ready, On, SessionState}
 use Rattle.cf_hub.specs.declared.delivered.Delivered.{Delivered}
 use Rattle.cf_hub.specs.declared.delivered.Fate.{Fate}
@@ -26,10 +27,10 @@ fate_or a b f = if not a.closed && b.closed then Closed else f
 abbrev pub fate_of : {B N : Type 0} → List ℕ → Position → SessionState B N → SessionState B N → Fate
 fate_of c q a b = fate_or a b (sub_fate q (a.subs c))
 
-abbrev pub fate_at : {B N : Type 0} → List ℕ → Position → Option (SessionState B N) → Option (SessionState B N) → Fate
+abbrev pub fate_at : List ℕ → Position → Option Attached → Option Attached → Fate
 fate_at c q None b = Dropped
 fate_at c q (Some a) None = Dropped
-fate_at c q (Some a) (Some b) = fate_of c q a b
+fate_at c q (Some a) (Some b) = fate_of c q a.state b.state
 
 abbrev pub none : Delivered
 none = record { passed = 0; kept = 0; dropped = 0; ended = 0; closed = 0 }

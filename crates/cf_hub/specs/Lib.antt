@@ -5,3 +5,9 @@ pub mod WantOfMemory
 pub mod Wordings
 pub mod Delivery
 pub mod Subscriptions
+pub mod Session
+pub mod Checked
+pub mod Finish
+pub mod Rows
+pub mod Hub
+pub mod Reply

@@ -9,7 +9,11 @@ use Rattle.cf_protocol.specs.Datum.{Placed}
 use Rattle.cf_protocol.specs.Note.{Reading}
 use Rattle.cf_protocol.specs.Position.{Position}
 use Rattle.cf_recovery.specs.Kept.{Kept, arrival, given_up, with_arrival}
-use Rattle.cf_recovery.specs.Verdict.{Verdict, verdict}
+use Rattle.cf_recovery.specs.Verdict.{Verdict, Drop, Pass, Insufficient, verdict}
+use Rattle.cf_recovery.specs.declared.verdict.Verdict.{Verdict as Answer}
+use Rattle.cf_recovery.specs.declared.verdict.Verdict.TheVariants as answer
+use Rattle.cf_hub.specs.declared.session.Meets.{Meets}
+use Rattle.cf_hub.specs.declared.session.Meets.TheVariants as meets
 use Rattle.cf_stream.specs.declared.answer.Recovery.{Recovery}
 use Rattle.cf_hub.specs.SessionState.{Subscription, Off, Asked, Ready, On}
 use Rattle.cf_hub.specs.Wordings.{Held, held}
@@ -44,3 +48,19 @@ abbrev pub loses : Progress → Progress
 loses (code.Asked id since waiting) = code.Asked id since (given_up true)
 loses (code.Ready id was recovery waiting) = code.Ready id was recovery (given_up true)
 loses (code.On at mark) = code.On at mark
+
+-- a verdict as the code answers it
+abbrev pub verdict_code : Verdict → Answer
+verdict_code Drop = answer.Drop
+verdict_code Pass = answer.Pass
+verdict_code Insufficient = answer.Insufficient
+
+-- what a delivery meets
+abbrev pub coming : Position → Progress → Meets
+coming q (code.Asked id since waiting) = meets.Buffer
+coming q (code.Ready id was recovery waiting) = meets.Buffer
+coming q (code.On at mark) = meets.On mark (verdict_code (verdict at q))
+
+abbrev pub meeting : Position → Option Progress → Meets
+meeting q None = meets.Nothing
+meeting q (Some s) = coming q s

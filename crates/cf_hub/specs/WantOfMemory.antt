@@ -23,6 +23,10 @@ pub record GivesUp {B N : Type 0} (w : Wording B N) (c : List ℕ) (a b : Sessio
 abbrev pub Serves : {B N : Type 0} → Bool → Wording B N → List ℕ → (SessionState B N → SessionState B N) → SessionState B N → SessionState B N → Type 0
 Serves refused w c move a b = (b ≡ move a) ⊎ ((refused ≡ true) × (ClosesWith (w.close no_memory) a b ⊎ GivesUp w c a b))
 
+-- b is what the move makes of a; or memory was refused for this session, and in place of the move it is closed for want of it
+abbrev pub OrCloses : {B N : Type 0} → Bool → Wording B N → (SessionState B N → SessionState B N) → SessionState B N → SessionState B N → Type 0
+OrCloses refused w move a b = (b ≡ move a) ⊎ ((refused ≡ true) × ClosesWith (w.close no_memory) a b)
+
 -- the first of these notes were said, and then the session was closed for want of memory
 pub record ClosesAmid {B N : Type 0} (w : Wording B N) (ns : List N) (a b : SessionState B N) : Type 0 where
   pub first : List N

@@ -1,8 +1,25 @@
 //! One node's sessions: their subscriptions, and what waits for each client.
 #![tactic(auto)]
 
+mod checked;
 mod delivered;
+mod hub;
+mod joining;
+mod listed;
+mod refusal;
+mod reply;
+mod said;
+mod serving;
+mod session;
+mod sessions;
 mod subscription;
+#[cfg(test)]
+mod tests;
+mod upkeep;
 mod wording;
 
+pub use checked::Checked;
 pub use delivered::{Delivered, Fate};
+pub use hub::{Hub, MOST_CHANNELS, MOST_SESSIONS};
+pub use refusal::HubRefusal;
+pub use said::Said;

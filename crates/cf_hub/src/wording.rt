@@ -1,45 +1,19 @@
 //! The texts that a client gets. None stands for refused memory.
-ghost use Rattle.std.specs.Prelude.{◌≡◌, IfOk, IfSome, string_bytes};
+ghost use Rattle.std.specs.Prelude.{◌≡◌, IfSome, string_bytes};
 ghost use Rattle.cf_hub.specs.Subscriptions.{reading_of};
 ghost use Rattle.cf_hub.specs.Wordings.{end_text, ping_text, push_text, reply_text};
 
-use cf_protocol::{INSUFFICIENT, Outcome, Outgoing, Publication, Pushed, write_reply};
+use cf_protocol::{
+    INSUFFICIENT, Outcome, Outgoing, Publication, write_publication, write_reply, write_unsubscribe,
+};
 use cf_stream::Recovery;
-use std::alloc::{AllocError, Global};
-
-fn write_push(
-    alloc: Global,
-    channel: &str,
-    publication: &Publication,
-) -> Result<String, AllocError>
-    ensures { IfOk result (λ t. string_bytes t ≡ push_text channel.now publication.now) }
-{
-    let push = Outgoing::Push {
-        channel: String::from_str(alloc, channel)?,
-        push: Pushed::Publication(publication.copied()?),
-    };
-    write_reply(alloc, &push)
-}
-
-fn write_end(alloc: Global, channel: &str) -> Result<String, AllocError>
-    ensures { IfOk result (λ t. string_bytes t ≡ end_text channel.now) }
-{
-    let push = Outgoing::Push {
-        channel: String::from_str(alloc, channel)?,
-        push: Pushed::Unsubscribe { code: INSUFFICIENT },
-    };
-    write_reply(alloc, &push)
-}
+use std::alloc::Global;
 
 /// The push of a publication.
-pub(crate) fn push_text(
-    alloc: Global,
-    channel: &str,
-    publication: &Publication,
-) -> Option<String>
+pub(crate) fn push_text(alloc: Global, channel: &str, publication: &Publication) -> Option<String>
     ensures { IfSome result (λ t. string_bytes t ≡ push_text channel.now publication.now) }
 {
-    match write_push(alloc, channel, publication) {
+    match write_publication(alloc, channel, publication) {
         Ok(text) => Some(text),
         Err(_) => None,
     }
@@ -49,7 +23,7 @@ pub(crate) fn push_text(
 pub(crate) fn end_text(alloc: Global, channel: &str) -> Option<String>
     ensures { IfSome result (λ t. string_bytes t ≡ end_text channel.now) }
 {
-    match write_end(alloc, channel) {
+    match write_unsubscribe(alloc, channel, INSUFFICIENT) {
         Ok(text) => Some(text),
         Err(_) => None,
     }
@@ -86,24 +60,5 @@ pub(crate) fn reply_text(
     match write_reply(alloc, &reply) {
         Ok(text) => Some(text),
         Err(_) => None,
-    }
-}
-
-/// One session's own text of a push: a copy of the one that was written for all, where it was.
-pub(crate) fn own_text(
-    alloc: Global,
-    written: &Option<String>,
-    channel: &str,
-    publication: &Publication,
-) -> Option<String>
-    requires { IfSome written.now (λ t. string_bytes t ≡ push_text channel.now publication.now) }
-    ensures { IfSome result (λ t. string_bytes t ≡ push_text channel.now publication.now) }
-{
-    match written {
-        None => push_text(alloc, channel, publication),
-        Some(text) => match text.clone() {
-            Ok(text) => Some(text),
-            Err(_) => None,
-        },
     }
 }

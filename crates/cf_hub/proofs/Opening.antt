@@ -1,0 +1,25 @@
+-- A session that was just attached.
+use Rattle.std.proofs.Common.{◌≡◌, ◌≢◌, ℕ, ◌==◌, ◌≤◌, ◌<◌, Bool, true, false, Option, Some, None, List, [], arith, refl, sym, ap, ◌∙◌, subst, BTreeMap}
+use Rattle.std.proofs.lemmas.Bool.Decides.{Decides-eqb}
+use Rattle.cf_followers.specs.Follows.{Follow}
+use Rattle.cf_queue.specs.OutQueue.{Item}
+use Rattle.cf_hub.specs.declared.session.Session.{Session}
+use Rattle.cf_hub.specs.declared.delivered.Fate.TheVariants as fate
+use Rattle.cf_hub.specs.Hub.{IsBounded, attached_in, fresh, most_sessions}
+use Rattle.cf_hub.specs.Rows.{Agrees, sub_in}
+use Rattle.cf_hub.specs.Session.{Attached, attached_of, badge_of, state_of}
+use Rattle.cf_hub.specs.SessionState.{SessionState, is_off, opens}
+use Rattle.cf_hub.specs.Wordings.{Held}
+use Rattle.cf_hub.proofs.Walks.{agrees_by}
+
+pub fresh_is : (s : Session) (client user : List ℕ) (now : ℕ) → state_of s ≡ opens → badge_of s ≡ record { client = client; user = user; pinged = now; awaits_pong = false } → attached_of s ≡ fresh client user now
+fresh_is s client user now e f = λ i. record { badge = f i; state = e i }
+
+module _ (k : ℕ) (m n : BTreeMap ℕ Session) where
+  pub fresh_agrees : (rows : List Follow) (s : Session) → Agrees (attached_in m) rows → attached_in m k ≡ None → attached_in n k ≡ Some (attached_of s) → ((j : ℕ) → j ≢ k → attached_in n j ≡ attached_in m j) → state_of s ≡ opens → Agrees (attached_in n) rows
+  fresh_agrees rows s agrees free here others e =
+      agrees_by fate.Passed [] k (attached_in m) (attached_in n) rows agrees
+      (λ d. ap (λ o. is_off (sub_in o d)) here ∙ ap (λ (x : SessionState Held Item). is_off (x.subs d)) e ∙ sym (ap (λ o. is_off (sub_in o d)) free)) others
+
+  pub fresh_bounded : IsBounded (attached_in m) → k < most_sessions → ((j : ℕ) → j ≢ k → attached_in n j ≡ attached_in m j) → IsBounded (attached_in n)
+  fresh_bounded few below others = λ j h. others j (λ e. absurd (omega (arith, e, h, below))) ∙ few j h

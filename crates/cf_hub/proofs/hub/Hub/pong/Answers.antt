@@ -1,0 +1,34 @@
+use Rattle.std.proofs.Common.{◌≡◌, ◌∙◌, ℕ, Bool, Option, Some, None, List, [], option_map, sym, ap, refl, subst, not, true, false}
+use Rattle.cf_queue.specs.OutQueue.{Item, Text}
+use Rattle.cf_hub.specs.declared.delivered.Fate.TheVariants as fate
+use Rattle.cf_hub.specs.Hub.{Node, InState, Pings, attached_at, attached_in, counted, is_open, one_if}
+use Rattle.cf_hub.specs.Rows.{sub_in}
+use Rattle.cf_hub.specs.Session.{Attached, badge_ponged}
+use Rattle.cf_hub.specs.SessionState.{SessionState, checks, is_asked, is_off, is_ready, push, reads}
+use Rattle.cf_hub.proofs.Bounds.{bounded_both, bounded_map, bounded_move}
+use Rattle.cf_hub.proofs.Hubs.{seen, seen_in, agrees_seen, agrees_shown}
+use Rattle.cf_hub.proofs.Mets.{met_agrees, met_seen, ping_seen}
+use Rattle.cf_hub.proofs.Ones.{one_agrees, one_seen, reads_off}
+use Rattle.cf_hub.proofs.Walks.{agrees_by}
+use Rattle.cf_hub.proofs.hub.Hub.pong.Goals as goal
+
+same_offs : (o : Option Attached) (d : List ℕ) → is_off (sub_in (option_map badge_ponged o) d) ≡ is_off (sub_in o d)
+same_offs None d = refl
+same_offs (Some a) d = refl
+
+pub invariant_of-self : goal.invariant_of-self
+invariant_of-self c = (
+  agrees_by fate.Passed [] c.args.session (attached_in c.self.inside.sessions) (attached_in c.pong_one.new.sessions) c.self.inside.rows c.self.invariant.0
+      (λ d. ap (λ (o : Option Attached). is_off (sub_in o d)) c.pong_one.ensures.here ∙ same_offs (attached_in c.self.inside.sessions c.args.session) d) c.pong_one.ensures.others,
+  bounded_map c.args.session c.self.inside.sessions c.pong_one.new.sessions c.self.invariant.1 badge_ponged c.pong_one.ensures.here c.pong_one.ensures.others,
+)
+
+pub returns-clause-here : goal.returns-clause-here
+returns-clause-here c =
+    seen_in c.pong_one.new.sessions.entries c.args.session ∙ c.pong_one.ensures.here
+    ∙ ap (λ (g : ℕ → Option Attached). option_map badge_ponged (g c.args.session)) (sym (seen c.args.self.now c.self.inside.sessions (ap (λ (h : Node). h.sessions) (sym c.self.view_is))))
+
+pub returns-clause-others : goal.returns-clause-others
+returns-clause-others c = λ j h.
+    seen_in c.pong_one.new.sessions.entries j ∙ c.pong_one.ensures.others j h
+    ∙ ap (λ (g : ℕ → Option Attached). g j) (sym (seen c.args.self.now c.self.inside.sessions (ap (λ (h : Node). h.sessions) (sym c.self.view_is))))

@@ -1,0 +1,31 @@
+use Rattle.std.proofs.Common.{◌≡◌, ◌∙◌, ℕ, Bool, Option, List, [], sym, ap, refl, subst, not, true, false}
+use Rattle.cf_queue.specs.OutQueue.{Item, Text}
+use Rattle.cf_hub.specs.declared.delivered.Fate.TheVariants as fate
+use Rattle.cf_hub.specs.Hub.{Node, InState, said_in, Pings, attached_at, attached_in, counted, one_if}
+use Rattle.cf_hub.specs.Rows.{sub_in}
+use Rattle.cf_hub.specs.Session.{Attached, badge_ponged}
+use Rattle.cf_hub.specs.SessionState.{SessionState, checks, is_asked, is_off, is_ready, push, reads}
+use Rattle.cf_hub.proofs.Bounds.{bounded_both, bounded_map, bounded_move}
+use Rattle.cf_hub.proofs.Hubs.{seen, seen_in, agrees_seen, agrees_shown}
+use Rattle.cf_hub.proofs.Mets.{met_agrees, met_seen, ping_seen}
+use Rattle.cf_hub.proofs.Ones.{one_agrees, one_seen}
+use Rattle.cf_hub.specs.WantOfMemory.{OrCloses}
+use Rattle.cf_hub.specs.Wordings.{plain}
+use Rattle.std.specs.String.{string_bytes}
+use Rattle.cf_hub.proofs.hub.Hub.say.Goals as goal
+
+pub invariant_of-self : goal.invariant_of-self
+invariant_of-self c = (
+  met_agrees c.say_one-said.result.1.fate [] c.args.session c.self.inside.sessions c.say_one-said.new.sessions c.self.inside.rows c.self.invariant.0 c.say_one-said.ensures.others c.say_one-said.ensures.offs
+      c.settle.new.rows c.settle.ensures,
+  bounded_both c.args.session c.self.inside.sessions c.say_one-said.new.sessions c.self.invariant.1 _ c.say_one-said.ensures.here c.say_one-said.ensures.others,
+)
+
+pub returns-clause-session : goal.returns-clause-session
+returns-clause-session c =
+    met_seen c.say_one-said.result.1.fate [] c.args.session c.self.inside.sessions c.say_one-said.new.sessions c.self.inside.rows c.self.invariant.0 c.say_one-said.ensures.others c.say_one-said.ensures.offs
+    c.args.self.now _ (ap (λ (h : Node). h.sessions) (sym c.self.view_is)) refl c.settle.ensures (λ hit. OrCloses hit plain (push plain (Text (string_bytes c.args.text)))) c.say_one-said.result.1.refused c.say_one-said.ensures.here
+    (c.count_more-self-inside.ensures ∙ ap (λ (h : Node). counted (one_if c.say_one-said.result.1.refused) h.refused) c.self.view_is)
+
+pub returns-clause-said : goal.returns-clause-said
+returns-clause-said c = c.say_one-said.ensures.said ∙ ap said_in (sym (seen_in c.say_one-said.new.sessions.entries c.args.session))

@@ -1,0 +1,29 @@
+use Rattle.std.proofs.Common.{rules, ◌≡◌, ◌≢◌, ◌∙◌, not, true, false, Option, Some, None, List, [], ℕ, subst, sym, ap, refl, option_map, option_and_then, slice_get}
+use Rattle.cf_followers.specs.Follows.{Follow}
+use Rattle.cf_queue.specs.OutQueue.{Item, Close}
+use Rattle.cf_hub.specs.declared.delivered.Fate.TheVariants as fate
+use Rattle.cf_hub.specs.Hub.{Node, One, is_open, attached_at, attached_in}
+use Rattle.cf_hub.specs.Rows.{Agrees, rows_after, sub_in}
+use Rattle.cf_hub.specs.Session.{Attached, shown_all}
+use Rattle.cf_hub.specs.SessionState.{SessionState, closes_now, leaves, takes_front, is_off}
+use Rattle.cf_hub.proofs.Walks.{agrees_by}
+use Rattle.cf_hub.proofs.Hubs.{seen, seen_in, agrees_seen}
+use Rattle.cf_hub.proofs.Bounds.{bounded_by, bounded_move}
+use Rattle.cf_hub.proofs.Ones.{one_agrees, one_seen, leaves_off, closes_off, stays_off, opened, shut}
+use Rattle.cf_hub.proofs.hub.Hub.take.Goals as goal
+
+pub invariant_of-self : goal.invariant_of-self
+invariant_of-self c = (
+  one_agrees fate.Passed [] c.args.session takes_front c.self.inside.sessions c.take_one.new.sessions c.self.inside.rows c.self.invariant.0 c.take_one.ensures.here c.take_one.ensures.others (λ l d e. refl),
+  bounded_move c.args.session c.self.inside.sessions c.take_one.new.sessions takes_front c.self.invariant.1 c.take_one.ensures.here c.take_one.ensures.others,
+)
+
+pub returns-clause-sessions : goal.returns-clause-sessions
+returns-clause-sessions c =
+    one_seen fate.Passed [] c.args.session takes_front c.self.inside.sessions c.take_one.new.sessions c.self.inside.rows c.self.invariant.0 c.take_one.ensures.here c.take_one.ensures.others (λ l d e. refl)
+    c.args.self.now _ (ap (λ (h : Node). h.sessions) (sym c.self.view_is)) refl refl
+
+pub returns-clause-front : goal.returns-clause-front
+returns-clause-front c =
+    c.take_one.ensures.front
+    ∙ ap (λ (g : ℕ → Option Attached). option_and_then (λ (a : Attached). slice_get a.state.notes 0) (g c.args.session)) (sym (seen c.args.self.now c.self.inside.sessions (ap (λ (h : Node). h.sessions) (sym c.self.view_is))))

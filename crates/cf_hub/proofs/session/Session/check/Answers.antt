@@ -1,0 +1,47 @@
+use Rattle.std.proofs.Common.{rules, ◌≡◌, ◌⊎◌, ◌∙◌, inl, inr, ℕ, List, Bool, Option, Some, None, [], ◌∷◌, ◌++◌, string_bytes, subst, sym, ap, refl, true, false, is_some, map, not, ◌&&◌, if◌then◌else◌, ◌||◌}
+use Rattle.std.specs.BTreeMap.{get_by_text}
+use Rattle.cf_queue.specs.OutQueue.{Item, Text, Close}
+use Rattle.cf_hub.specs.declared.delivered.Fate.{Fate}
+use Rattle.cf_hub.specs.declared.delivered.Fate.TheVariants as fate
+use Rattle.cf_hub.specs.Rows.{off_after}
+use Rattle.cf_hub.specs.Session.{state_of, ticks}
+use Rattle.cf_hub.specs.SessionState.{SessionState, Off, On, is_off, push, put_sub, no_memory, checks}
+use Rattle.cf_hub.specs.Wordings.{plain, end_text, ping_text}
+use Rattle.cf_hub.proofs.States.{said_off, ends_off, puts_off, all_said_off, closed_now_off}
+use Rattle.cf_hub.proofs.Puts.{subs_of, put_state}
+use Rattle.cf_hub.specs.Checked.{answer_of, stand_of}
+use Rattle.cf_hub.specs.PositionCheck.{Fine, Behind, Ended, position_check}
+use Rattle.cf_hub.specs.declared.session.Step.{Step}
+use Rattle.cf_hub.specs.WantOfMemory.{OrCloses}
+use Rattle.cf_hub.specs.declared.upkeep.Stand.{Stand}
+use Rattle.cf_hub.proofs.Checks.{answers, checks_as, ends_checked, stand_off}
+use Rattle.cf_hub.proofs.session.Session.check.Goals as goal
+
+pub returns-in-Ended-clause-state : goal.returns-in-Ended-clause-state
+returns-in-Ended-clause-state c =
+    let on : stand_of ((state_of c.args.self.now).subs c.args.channel.now) ≡ Some c.in-Some.field-0 = sym c.stand.ensures ∙ c.in-Some.is in
+    let is : c.position_check-checked.result ≡ answer_of (position_check c.args.top c.in-Some.field-0.at c.in-Some.field-0.mark) = search rules in
+    let moves = checks_as c.args.channel.now c.args.top (state_of c.args.self.now) c.in-Some.field-0 on c.position_check-checked.result is Ended c.in-Ended.is in
+    subst (λ (r : Bool). OrCloses r plain (checks plain c.args.channel.now c.args.top) (state_of c.args.self.now) (state_of c.say-refused.new.self)) (sym c.step.ensures.refused)
+    (ends_checked c.say-refused.result c.args.channel.now c.args.top (Text (end_text c.args.channel.now)) (state_of c.args.self.now) (state_of c.leave.new.self) (state_of c.say-refused.new.self) c.leave.ensures.state moves
+    (c.say-refused.ensures.state (end_text c.args.channel.now) c.end_text.ensures))
+
+pub returns-in-Ended-clause-offs : goal.returns-in-Ended-clause-offs
+returns-in-Ended-clause-offs c = λ d.
+    said_off c.args.channel.now d plain (Text (end_text c.args.channel.now)) (Close no_memory) c.say-refused.result (state_of c.leave.new.self) (state_of c.say-refused.new.self) fate.Ended (is_off ((state_of c.args.self.now).subs d))
+    (c.say-refused.ensures.state (end_text c.args.channel.now) c.end_text.ensures)
+    (ap (λ (s : SessionState _ Item). is_off (s.subs d)) c.leave.ensures.state ∙ ends_off c.args.channel.now d (state_of c.args.self.now))
+    ∙ ap (λ f. off_after f c.args.channel.now d (is_off ((state_of c.args.self.now).subs d)))
+    (sym (c.step.ensures.fate ∙ ap (λ t. if not t && (state_of c.say-refused.new.self).closed then fate.Closed else fate.Ended) (c.is_closed-was_closed.ensures ∙ ap (λ (s : SessionState _ Item). s.closed) (sym c.leave.ensures.state))))
+
+pub returns-in-Behind-clause-offs : goal.returns-in-Behind-clause-offs
+returns-in-Behind-clause-offs c = λ d.
+    let on : stand_of ((state_of c.args.self.now).subs c.args.channel.now) ≡ Some c.in-Some.field-0 = sym c.stand.ensures ∙ c.in-Some.is in
+    stand_off c.args.channel.now d (state_of c.args.self.now) (state_of c.put.new.self) c.in-Some.field-0 _ _ on c.put.ensures.state
+    ∙ ap (λ (t : Step). off_after t.fate c.args.channel.now d (is_off ((state_of c.args.self.now).subs d))) (sym c.passed.ensures)
+
+pub returns-in-Fine-clause-offs : goal.returns-in-Fine-clause-offs
+returns-in-Fine-clause-offs c = λ d.
+    let on : stand_of ((state_of c.args.self.now).subs c.args.channel.now) ≡ Some c.in-Some.field-0 = sym c.stand.ensures ∙ c.in-Some.is in
+    stand_off c.args.channel.now d (state_of c.args.self.now) (state_of c.put-in-Fine.new.self) c.in-Some.field-0 _ _ on c.put-in-Fine.ensures.state
+    ∙ ap (λ (t : Step). off_after t.fate c.args.channel.now d (is_off ((state_of c.args.self.now).subs d))) (sym c.passed-in-Fine.ensures)

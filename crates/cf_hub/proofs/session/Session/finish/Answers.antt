@@ -1,0 +1,33 @@
+use Rattle.std.proofs.Common.{rules, ◌≡◌, ◌⊎◌, ◌∙◌, inl, inr, ℕ, List, Bool, Option, Some, None, [], ◌∷◌, ◌++◌, string_bytes, subst, sym, ap, refl, true, false, is_some, map, not, ◌&&◌, if◌then◌else◌, ◌||◌}
+use Rattle.std.specs.BTreeMap.{get_by_text}
+use Rattle.cf_queue.specs.OutQueue.{Item, Text, Close}
+use Rattle.cf_hub.specs.declared.delivered.Fate.{Fate}
+use Rattle.cf_hub.specs.declared.delivered.Fate.TheVariants as fate
+use Rattle.cf_hub.specs.Rows.{off_after}
+use Rattle.cf_hub.specs.Session.{state_of, ticks}
+use Rattle.cf_hub.specs.SessionState.{SessionState, Off, On, is_off, push, put_sub, no_memory, checks}
+use Rattle.cf_hub.specs.Wordings.{plain, end_text, ping_text}
+use Rattle.cf_hub.proofs.States.{said_off, ends_off, puts_off, all_said_off, closed_now_off}
+use Rattle.cf_hub.proofs.Puts.{subs_of, put_state}
+use Rattle.cf_hub.specs.Delivery.{fate_or}
+use Rattle.cf_hub.specs.Finish.{FinishesAt}
+use Rattle.cf_hub.specs.Reply.{answer_notes, finish_texts}
+use Rattle.cf_hub.proofs.Finishing.{finish_state, finish_offs, not_ready}
+use Rattle.cf_hub.proofs.session.Session.finish.Goals as goal
+
+pub returns-in-None-clause-state : goal.returns-in-None-clause-state
+returns-in-None-clause-state c = not_ready false c.args.channel.now (state_of c.args.self.now) (state_of c.answer.new.self) ((state_of c.args.self.now).subs c.args.channel.now) c.in-None.ensures.answered.1 c.in-None.ensures.answered.0
+
+pub returns-in-None-clause-offs : goal.returns-in-None-clause-offs
+returns-in-None-clause-offs c = λ d. ap (λ (s : SessionState _ Item). is_off (s.subs d)) c.in-None.ensures.answered.0
+
+pub returns-in-Some-clause-state : goal.returns-in-Some-clause-state
+returns-in-Some-clause-state c =
+    finish_state c.in-Some.answered c.args.channel.now (state_of c.args.self.now) (state_of c.answer.new.self) c.in-Some.ensures.answered c.say_finish.result.refused (state_of c.say_finish.new.self) c.in-Some.answered.released.insufficient refl c.say_finish.ensures.state
+
+pub returns-in-Some-clause-offs : goal.returns-in-Some-clause-offs
+returns-in-Some-clause-offs c = λ d.
+    finish_offs c.in-Some.answered c.args.channel.now (state_of c.args.self.now) (state_of c.answer.new.self) c.in-Some.ensures.answered c.say_finish.result.refused (state_of c.say_finish.new.self) c.in-Some.answered.released.insufficient refl
+    (finish_texts c.args.channel.now c.in-Some.answered) c.say_finish.ensures.state d
+    ∙ ap (λ f. off_after f c.args.channel.now d (is_off ((state_of c.args.self.now).subs d)))
+    (sym (c.say_finish.ensures.fate ∙ ap (λ t. if not t && (state_of c.say_finish.new.self).closed then fate.Closed else (if c.in-Some.answered.released.insufficient then fate.Ended else fate.Passed)) c.is_closed-was_closed.ensures))

@@ -1,0 +1,27 @@
+use Rattle.std.proofs.Common.{rules, ◌≡◌, ◌⊎◌, ◌∙◌, inl, inr, ℕ, List, Bool, Option, Some, None, [], ◌∷◌, ◌++◌, string_bytes, subst, sym, ap, refl, true, false, is_some, map, not, ◌&&◌, if◌then◌else◌, ◌||◌}
+use Rattle.std.specs.BTreeMap.{get_by_text}
+use Rattle.cf_queue.specs.OutQueue.{Item, Text, Close}
+use Rattle.cf_hub.specs.declared.delivered.Fate.{Fate}
+use Rattle.cf_hub.specs.declared.delivered.Fate.TheVariants as fate
+use Rattle.cf_hub.specs.Rows.{off_after}
+use Rattle.cf_hub.specs.Session.{state_of, ticks}
+use Rattle.cf_hub.specs.SessionState.{SessionState, Off, On, is_off, push, put_sub, no_memory, checks}
+use Rattle.cf_hub.specs.Wordings.{plain, end_text, ping_text}
+use Rattle.cf_hub.proofs.States.{said_off, ends_off, puts_off, all_said_off, closed_now_off}
+use Rattle.cf_hub.proofs.Puts.{subs_of, put_state}
+use Rattle.cf_protocol.specs.Datum.{Placed}
+use Rattle.cf_hub.specs.Reply.{answer_notes}
+use Rattle.cf_hub.specs.Subscriptions.{reading_of}
+use Rattle.cf_hub.specs.WantOfMemory.{SaysAll}
+use Rattle.cf_hub.specs.Wordings.{push_text, reply_text}
+use Rattle.cf_hub.proofs.Notes.{all_said, one_said}
+use Rattle.cf_hub.proofs.session.Session.say_answer.Goals as goal
+
+pub returns-clause-state : goal.returns-clause-state
+returns-clause-state c =
+    let t : List ℕ = reply_text c.args.answered.id c.args.answered.was_recovering (reading_of c.args.answered.recovery) c.args.answered.recovery.publications.items in
+    subst (λ (b : Bool). SaysAll b plain (answer_notes c.args.channel.now c.args.answered) (state_of c.args.self.now) (state_of c.pass_on-second.new.self)) (sym c.either.ensures)
+    (all_said plain c.say-first.result c.pass_on-second.result (Text t ∷ []) (map (λ x. Text (push_text c.args.channel.now x)) c.args.answered.released.run.items)
+    (state_of c.args.self.now) (state_of c.say-first.new.self) (state_of c.pass_on-second.new.self)
+    (one_said plain c.say-first.result (Text t) (state_of c.args.self.now) (state_of c.say-first.new.self) (c.say-first.ensures.state t c.reply_text.ensures))
+    (subst (λ (xs : List Placed). SaysAll c.pass_on-second.result plain (map (λ x. Text (push_text c.args.channel.now x)) xs) (state_of c.say-first.new.self) (state_of c.pass_on-second.new.self)) c.deref.ensures.value c.pass_on-second.ensures.state))

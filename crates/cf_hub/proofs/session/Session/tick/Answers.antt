@@ -1,0 +1,25 @@
+use Rattle.std.proofs.Common.{rules, ◌≡◌, ◌⊎◌, ◌∙◌, inl, inr, ℕ, List, Bool, Option, Some, None, [], ◌∷◌, ◌++◌, string_bytes, subst, sym, ap, refl, true, false, is_some, map, not, ◌&&◌, if◌then◌else◌, ◌||◌}
+use Rattle.std.specs.BTreeMap.{get_by_text}
+use Rattle.cf_queue.specs.OutQueue.{Item, Text, Close}
+use Rattle.cf_hub.specs.declared.delivered.Fate.{Fate}
+use Rattle.cf_hub.specs.declared.delivered.Fate.TheVariants as fate
+use Rattle.cf_hub.specs.Rows.{off_after}
+use Rattle.cf_hub.specs.Session.{state_of, ticks}
+use Rattle.cf_hub.specs.SessionState.{SessionState, Off, On, is_off, push, put_sub, no_memory, no_pong, checks}
+use Rattle.cf_hub.specs.Wordings.{plain, end_text, ping_text}
+use Rattle.cf_hub.proofs.States.{said_off, ends_off, puts_off, all_said_off, closed_now_off}
+use Rattle.cf_hub.proofs.Puts.{subs_of, put_state}
+use Rattle.cf_hub.proofs.session.Session.tick.Goals as goal
+
+pub returns-then-is_unanswered-clause-offs : goal.returns-then-is_unanswered-clause-offs
+returns-then-is_unanswered-clause-offs c = λ d.
+    closed_now_off [] d (Close no_pong) (state_of c.args.self.now) (state_of c.close-open.new.self) fate.Passed c.close-open.ensures.state
+    ∙ ap (λ f. off_after f [] d (is_off ((state_of c.args.self.now).subs d)))
+    (sym (c.step.ensures.fate ∙ ap (λ t. if not t && (state_of c.close-open.new.self).closed then fate.Closed else fate.Passed) c.is_closed-was_closed.ensures))
+
+pub returns-clause-offs : goal.returns-clause-offs
+returns-clause-offs c = λ d.
+    said_off [] d plain (Text ping_text) (Close no_memory) c.say-refused.result (state_of c.args.self.now) (state_of c.say-refused.new.self) fate.Passed (is_off ((state_of c.args.self.now).subs d))
+    (c.say-refused.ensures.state ping_text c.ping_text.ensures) refl
+    ∙ ap (λ f. off_after f [] d (is_off ((state_of c.args.self.now).subs d)))
+    (sym (c.step-2.ensures.fate ∙ ap (λ t. if not t && (state_of c.say-refused.new.self).closed then fate.Closed else fate.Passed) c.is_closed-was_closed.ensures))

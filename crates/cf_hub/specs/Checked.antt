@@ -1,0 +1,27 @@
+-- What a position check answers, as the code has it.
+use Rattle.std.specs.Prelude.{Option, Some, None}
+use Rattle.cf_protocol.specs.Position.{Position}
+use Rattle.cf_hub.specs.PositionCheck.{Checked, Fine, Behind, Ended, position_check}
+use Rattle.cf_hub.specs.SessionState.{Subscription, Off, Asked, Ready, On}
+use Rattle.cf_hub.specs.declared.upkeep.Stand.{Stand}
+use Rattle.cf_hub.specs.declared.checked.Checked.{Checked as Answer}
+use Rattle.cf_hub.specs.declared.checked.Checked.TheVariants as answer
+
+abbrev pub answer_of : Checked → Answer
+answer_of Fine = answer.Fine
+answer_of Behind = answer.Behind
+answer_of Ended = answer.Ended
+
+-- nothing where there is no finished subscription
+abbrev pub check_answer : {B : Type 0} → Option Position → Subscription B → Answer
+check_answer top Off = answer.Nothing
+check_answer top (Asked id since b) = answer.Nothing
+check_answer top (Ready id was r b) = answer.Nothing
+check_answer top (On p mark) = answer_of (position_check top p mark)
+
+-- where a finished subscription stands, with its mark
+abbrev pub stand_of : {B : Type 0} → Subscription B → Option Stand
+stand_of Off = None
+stand_of (Asked id since b) = None
+stand_of (Ready id was r b) = None
+stand_of (On at mark) = Some (record { at = at; mark = mark })

@@ -1,0 +1,33 @@
+-- A row stands exactly where a session's channel isn't off.
+use Rattle.std.specs.Prelude.{◌≡◌, ℕ, not, Bool, true, if◌then◌else◌, Option, Some, None, List}
+use Rattle.std.specs.Str.{bytes_eq}
+use Rattle.cf_followers.specs.Follows.{Follow, follows, without_follow, without_session}
+use Rattle.cf_queue.specs.OutQueue.{Item}
+use Rattle.cf_hub.specs.Session.{Attached}
+use Rattle.cf_hub.specs.SessionState.{Subscription, Off, SessionState, is_off}
+use Rattle.cf_hub.specs.Wordings.{Held}
+use Rattle.cf_hub.specs.declared.delivered.Fate.{Fate}
+use Rattle.cf_hub.specs.declared.delivered.Fate.TheVariants as fate
+
+abbrev pub sub_in : Option Attached → List ℕ → Subscription Held
+sub_in None c = Off
+sub_in (Some a) c = a.state.subs c
+
+abbrev pub Agrees : (ℕ → Option Attached) → List Follow → Type 0
+Agrees sessions rows = (c : List ℕ) (k : ℕ) → follows rows c k ≡ not (is_off (sub_in (sessions k) c))
+
+-- whether channel d is off after a call at channel c met its session so, if it was before or not
+abbrev pub off_after : Fate → List ℕ → List ℕ → Bool → Bool
+off_after fate.Passed c d off = off
+off_after fate.Kept c d off = off
+off_after fate.Dropped c d off = off
+off_after fate.Ended c d off = if bytes_eq d c then true else off
+off_after fate.Closed c d off = true
+
+-- the rows after a call met its session so
+abbrev pub rows_after : Fate → List ℕ → ℕ → List Follow → List Follow
+rows_after fate.Passed c k rows = rows
+rows_after fate.Kept c k rows = rows
+rows_after fate.Dropped c k rows = rows
+rows_after fate.Ended c k rows = without_follow rows c k
+rows_after fate.Closed c k rows = without_session rows k

@@ -1,0 +1,215 @@
+//! One node's sessions and rows.
+ghost use Rattle.std.specs.Prelude.{◌≡◌, ◌≢◌, ◌≤◌, ◌==◌, ℕ, List, Some, None, true, false, length, IfSome, string_bytes, not, slice_get, option_map, option_and_then};
+ghost use Rattle.cf_followers.specs.Follows.{AreFollows, after_in, channels_of, sessions_of};
+ghost use Rattle.cf_queue.specs.Meaning.{meaning};
+ghost use Rattle.cf_queue.specs.OutQueue.{Close};
+ghost use Rattle.cf_hub.specs.Delivery.{fate_at, none, tally, total};
+ghost use Rattle.cf_hub.specs.Hub.{BringStep, Delivers, One, OthersStay, SameNode, SameRest, attached_at, counted, empty, largest, one_if, sub_at};
+ghost use Rattle.cf_hub.specs.Rows.{Agrees};
+ghost use Rattle.cf_hub.specs.SessionState.{closes_now, is_off, leaves, takes_front};
+ghost use Rattle.cf_hub.specs.Wordings.{at_offset, push_text};
+
+use crate::delivered::{Delivered, Fate};
+use crate::listed::Listed;
+use crate::session::Session;
+use crate::sessions::{bring_one, close_one, count_more, drop_one, leave_one, settle, take_one};
+use crate::wording::push_text;
+use cf_followers::Followers;
+use cf_protocol::{Epoch, Publication};
+use cf_queue::Out;
+use std::alloc::Global;
+use std::collections::BTreeMap;
+use std::marker::Model;
+
+/// How many sessions a node has at most.
+pub const MOST_SESSIONS: u32 = 16_384;
+
+/// How many channels a session follows at most.
+pub const MOST_CHANNELS: usize = 128;
+
+/// The sessions of one node, by number, and which channels each follows.
+#[derive(Drop)]
+pub struct Hub {
+    pub(crate) node: u8,
+    pub(crate) boot: u64,
+    pub(crate) used: u64,
+    pub(crate) sessions: BTreeMap<u32, Session>,
+    pub(crate) rows: Followers,
+    pub(crate) refused: u64,
+    pub(crate) listed: Listed,
+    pub(crate) alloc: Global,
+}
+
+impl Model for Hub {
+    ghost use Rattle.cf_hub.specs.Hub.{Node};
+
+    ghost Value = { Node };
+
+    ghost use Rattle.cf_hub.specs.Hub.{IsBounded, attached_in};
+    ghost use Rattle.cf_hub.specs.Rows.{Agrees};
+    ghost use Rattle.cf_hub.specs.Session.{shown_all};
+
+    ghost view = { λ h. record { node = h.node; boot = h.boot; used = h.used; sessions = shown_all h.sessions.entries; rows = h.rows; refused = h.refused } };
+
+    ghost invariant = { λ h. Agrees (attached_in h.sessions) h.rows × IsBounded (attached_in h.sessions) };
+}
+
+impl Hub {
+    /// A node's sessions, none at first, under a boot number that the node never had before. It takes no memory.
+    pub fn new(alloc: Global, node: u8, boot: u64) -> Hub
+        ensures { result ≡ empty node boot }
+    {
+        Hub {
+            node,
+            boot,
+            used: 0,
+            sessions: BTreeMap::new(alloc),
+            rows: Followers::new(alloc),
+            refused: 0,
+            listed: Listed::new(alloc),
+            alloc,
+        }
+    }
+
+    /// Brings a publication to each session that follows its channel, each once, in order of their subscribing. Where memory is
+    /// refused for one, or its client is too slow, that one alone is closed, or gives up what it keeps.
+    pub fn deliver(&mut self, channel: &str, epoch: &Epoch, publication: &Publication) -> Delivered
+        ensures each { Delivers channel.now epoch.now publication.now self.old self.new }
+        ensures rest { SameNode self.old self.new }
+        ensures counts { result ≡ tally (λ k. fate_at channel.now (at_offset epoch.now publication.now) (attached_at self.old k) (attached_at self.new k)) (sessions_of self.old.rows channel.now) none }
+        ensures adds_up { total result ≡ length (sessions_of self.old.rows channel.now) }
+        ensures agrees { Agrees (attached_at self.new) self.new.rows }
+    {
+        let written = push_text(self.alloc, channel, publication);
+        self.note(written.is_none());
+        self.bring_to_all(channel, epoch, publication, &written)
+    }
+
+    /// Whether one of its calls met a refused request for memory.
+    pub fn short(&self) -> bool
+        ensures { result ≡ not (self.now.refused == 0) }
+    {
+        self.refused != 0
+    }
+
+    /// The client leaves a channel. Says whether it followed it, or was asking for it. It takes no memory.
+    pub fn leave(&mut self, session: u32, channel: &str) -> bool
+        ensures found { result ≡ not (is_off (sub_at self.old session channel.now)) }
+        ensures sessions { One session (leaves channel.now) self.old self.new }
+        ensures rest { SameRest self.old self.new }
+    {
+        leave_one(&mut self.sessions, session, channel);
+        self.rows.remove(channel, session)
+    }
+
+    /// Closes a session with this code, and ends its subscriptions. Of one that was closed before nothing changes. It takes no
+    /// memory.
+    pub fn close(&mut self, session: u32, code: u16)
+        ensures sessions { One session (closes_now (Close code)) self.old self.new }
+        ensures rest { SameRest self.old self.new }
+    {
+        self.listed.add(session);
+        if close_one(&mut self.sessions, session, code) {
+            let _gone = self.rows.detach(session);
+        }
+    }
+
+    /// Takes what is next for a session's client: a text, or the close. It takes no memory.
+    pub fn take(&mut self, session: u32) -> Option<Out>
+        ensures front { option_map meaning result ≡ option_and_then (λ a. slice_get a.state.notes 0) (attached_at self.old session) }
+        ensures sessions { One session takes_front self.old self.new }
+        ensures rest { SameRest self.old self.new }
+    {
+        take_one(&mut self.sessions, session)
+    }
+
+    /// A session's end. Says how many subscriptions went with it. It takes no memory.
+    pub fn detach(&mut self, session: u32) -> usize
+        ensures counted { result ≡ length (channels_of self.old.rows session) }
+        ensures gone { attached_at self.new session ≡ None }
+        ensures others { OthersStay session self.old self.new }
+        ensures agrees { Agrees (attached_at self.new) self.new.rows }
+        ensures rest { SameRest self.old self.new }
+    {
+        drop_one(&mut self.sessions, session);
+        self.rows.detach(session)
+    }
+
+    // Memory was refused, if so.
+    pub(crate) fn note(&mut self, refused: bool)
+        ensures { self.new ≡ record self.old { refused = counted (one_if refused) self.old.refused } }
+    {
+        self.refused = count_more(self.refused, refused);
+    }
+
+    fn bring_to_all(
+        &mut self,
+        channel: &str,
+        epoch: &Epoch,
+        publication: &Publication,
+        written: &Option<String>,
+    ) -> Delivered
+        requires { IfSome written.now (λ t. string_bytes t ≡ push_text channel.now publication.now) }
+        ensures each { Delivers channel.now epoch.now publication.now self.old self.new }
+        ensures rest { SameNode self.old self.new }
+        ensures counts { result ≡ tally (λ k. fate_at channel.now (at_offset epoch.now publication.now) (attached_at self.old k) (attached_at self.new k)) (sessions_of self.old.rows channel.now) none }
+        ensures adds_up { total result ≡ length (sessions_of self.old.rows channel.now) }
+        ensures agrees { Agrees (attached_at self.new) self.new.rows }
+    {
+        let mut counts = Delivered::none();
+        let mut next = self.first(channel);
+        while let Some(session) = next {
+            next = self.after(channel, session);
+            let fate = self.bring(session, channel, epoch, publication, written);
+            counts = counts.and(fate);
+        }
+        counts
+    }
+
+    fn first(&self, channel: &str) -> Option<u32>
+        ensures first { result ≡ slice_get (sessions_of self.now.rows channel.now) 0 }
+        ensures rows { AreFollows self.now.rows }
+        ensures agrees { Agrees (attached_at self.now) self.now.rows }
+        ensures small { self.now.refused ≤ largest }
+    {
+        let _sessions = &self.sessions;
+        let _refused = self.refused;
+        self.rows.first(channel)
+    }
+
+    fn after(&self, channel: &str, session: u32) -> Option<u32>
+        ensures next { result ≡ after_in session (sessions_of self.now.rows channel.now) }
+        ensures rows { AreFollows self.now.rows }
+        ensures agrees { Agrees (attached_at self.now) self.now.rows }
+    {
+        let _sessions = &self.sessions;
+        self.rows.after(channel, session)
+    }
+
+    fn bring(
+        &mut self,
+        session: u32,
+        channel: &str,
+        epoch: &Epoch,
+        publication: &Publication,
+        written: &Option<String>,
+    ) -> Fate
+        requires { IfSome written.now (λ t. string_bytes t ≡ push_text channel.now publication.now) }
+        ensures step { BringStep channel.now epoch.now publication.now session result self.old self.new }
+        ensures rest { SameNode self.old self.new }
+    {
+        let step = bring_one(
+            &mut self.sessions,
+            self.alloc,
+            session,
+            channel,
+            epoch,
+            publication,
+            written,
+        );
+        self.listed.add(session);
+        settle(&mut self.rows, session, channel, step.fate);
+        self.refused = count_more(self.refused, step.refused);
+        step.fate
+    }
+}

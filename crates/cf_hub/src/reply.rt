@@ -1,0 +1,251 @@
+//! A subscription from its asking to its reply.
+ghost use Rattle.std.specs.Prelude.{◌≡◌, ◌+◌, ◌⊎◌, ℕ, List, Bool, length, map, MatchOption, Some, option_map, is_some, false};
+ghost use Rattle.std.specs.BTreeMap.{get_by_text};
+ghost use Rattle.cf_protocol.specs.Datum.{numbered};
+ghost use Rattle.cf_hub.specs.Reply.{Answers, AnswersIn, stands, was_read};
+ghost use Rattle.cf_hub.specs.SessionState.{is_asked, is_ready};
+ghost use Rattle.cf_hub.specs.Subscriptions.{SetsAt, sub_of};
+
+use crate::delivered::Fate;
+use crate::session::{Session, Step, either};
+use crate::subscription::{Progress, add};
+use crate::wording::{end_text, reply_text};
+use cf_protocol::{Epoch, Position, Publication};
+use cf_recovery::{Released, Waiting};
+use cf_stream::Recovery;
+use std::alloc::{AllocError, Global};
+use std::collections::BTreeMap;
+use std::mem;
+
+/// The reply of a subscription, and what follows it.
+#[derive(Drop)]
+pub(crate) struct Answered {
+    pub id: u32,
+    pub was_recovering: bool,
+    pub recovery: Recovery,
+    pub released: Released,
+}
+
+/// What stands in for a subscription while it changes.
+fn nowhere() -> Progress {
+    let at = Position {
+        epoch: Epoch::none(),
+        offset: 0,
+    };
+    Progress::On { at, mark: None }
+}
+
+/// The offset of the last of these, which follow an offset without a gap, or else that offset.
+fn end_of(offset: u64, run: &[Publication]) -> u64
+    requires { run.now ≡ numbered offset (map (λ x. x.datum) run.now) }
+    ensures { result ≡ offset + length run.now }
+{
+    match run.last() {
+        None => offset,
+        Some(last) => last.offset,
+    }
+}
+
+impl Progress {
+    /// Takes what the read of the stream gave, once. Says whether it was asked for.
+    fn read(&mut self, recovery: Recovery) -> bool
+        ensures asked { result ≡ is_asked (sub_of (Some self.old)) }
+        ensures after { self.new ≡ was_read recovery self.old }
+    {
+        match mem::replace(self, nowhere()) {
+            Progress::Asked { id, since, waiting } => {
+                let was_recovering = since.is_some();
+                *self = Progress::Ready {
+                    id,
+                    was_recovering,
+                    recovery,
+                    waiting,
+                };
+                true
+            }
+            other => {
+                *self = other;
+                false
+            }
+        }
+    }
+
+    /// Gives the reply and what follows it, where the stream was read, and stands behind both.
+    fn answer(&mut self) -> Option<Answered>
+        ensures { MatchOption result ((self.new ≡ self.old) × (is_ready (sub_of (Some self.old)) ≡ false)) (λ a. Answers a self.old × (self.new ≡ stands a)) }
+    {
+        match mem::replace(self, nowhere()) {
+            Progress::Ready {
+                id,
+                was_recovering,
+                recovery,
+                waiting,
+            } => {
+                let end = recovery.position;
+                let released = waiting.release(&end);
+                let at = Position {
+                    epoch: end.epoch,
+                    offset: end_of(end.offset, &released.run),
+                };
+                *self = Progress::On { at, mark: None };
+                Some(Answered {
+                    id,
+                    was_recovering,
+                    recovery,
+                    released,
+                })
+            }
+            other => {
+                *self = other;
+                None
+            }
+        }
+    }
+}
+
+/// Takes what the read of a channel's stream gave.
+#[tactic(auto, using(std::proofs::lemmas::Map::Text::text_keys))]
+fn read_at(
+    subscriptions: &mut BTreeMap<String, Progress>,
+    channel: &str,
+    recovery: Recovery,
+) -> bool
+    ensures asked { result ≡ is_asked (sub_of (get_by_text subscriptions.old channel.now)) }
+    ensures after { SetsAt subscriptions.old subscriptions.new channel.now (option_map (was_read recovery) (get_by_text subscriptions.old channel.now)) }
+{
+    match subscriptions.get_mut(channel) {
+        None => false,
+        Some(progress) => progress.read(recovery),
+    }
+}
+
+/// Gives a channel's reply and what follows it.
+#[tactic(auto, using(std::proofs::lemmas::Map::Text::text_keys))]
+fn answer_at(subscriptions: &mut BTreeMap<String, Progress>, channel: &str) -> Option<Answered>
+    ensures { MatchOption result (SetsAt subscriptions.old subscriptions.new channel.now (get_by_text subscriptions.old channel.now) × (is_ready (sub_of (get_by_text subscriptions.old channel.now)) ≡ false)) (λ a. AnswersIn a (get_by_text subscriptions.old channel.now) × SetsAt subscriptions.old subscriptions.new channel.now (Some (stands a))) }
+{
+    match subscriptions.get_mut(channel) {
+        None => None,
+        Some(progress) => progress.answer(),
+    }
+}
+
+impl Session {
+    ghost use Rattle.std.specs.Prelude.{◌≡◌, ◌&&◌, not, if◌then◌else◌, OnOk, OnErr, MatchOption, List, ℕ, is_some, true, false};
+    ghost use Rattle.cf_hub.specs.Finish.{FinishesAt, fate_in, refused_in};
+    ghost use Rattle.cf_hub.specs.WantOfMemory.{SaysAll};
+    ghost use Rattle.cf_hub.specs.Reply.{IsAnswered, answer_notes, finish_texts};
+    ghost use Rattle.cf_hub.specs.Rows.{off_after};
+    ghost use Rattle.cf_hub.specs.Session.{badge_of, state_of};
+    ghost use Rattle.cf_hub.specs.SessionState.{Off, begins, is_asked, is_off, is_ready, put_sub, reads};
+    ghost use Rattle.cf_hub.specs.Subscriptions.{reading_of};
+    ghost use Rattle.cf_hub.specs.Wordings.{plain, reading};
+
+    /// Makes a subscription that the command `id` asked for.
+    pub(crate) fn begin(
+        &mut self,
+        alloc: Global,
+        channel: &str,
+        id: u32,
+        since: Option<Position>,
+    ) -> Result<(), AllocError>
+        requires { is_off ((state_of self.old).subs channel.now) ≡ true }
+        ensures ok { OnOk result (state_of self.new ≡ begins plain channel.now id since (state_of self.old)) }
+        ensures err { OnErr result (state_of self.new ≡ state_of self.old) }
+        ensures badge { badge_of self.new ≡ badge_of self.old }
+    {
+        let waiting = Waiting::new(alloc);
+        add(
+            &mut self.subscriptions,
+            alloc,
+            channel,
+            Progress::Asked { id, since, waiting },
+        )
+    }
+
+    /// Takes what the read of a channel's stream gave, once. Says whether the channel was asked for.
+    pub(crate) fn read_done(&mut self, channel: &str, recovery: Recovery) -> bool
+        ensures asked { result ≡ is_asked ((state_of self.old).subs channel.now) }
+        ensures state { state_of self.new ≡ reads (reading recovery.publications.items) channel.now (reading_of recovery) (state_of self.old) }
+        ensures badge { badge_of self.new ≡ badge_of self.old }
+    {
+        read_at(&mut self.subscriptions, channel, recovery)
+    }
+
+    /// Gives a channel's reply and what follows it, where the stream was read. The subscription then stands behind both, or is
+    /// over.
+    fn answer(&mut self, channel: &str) -> Option<Answered>
+        ensures answered { MatchOption result ((state_of self.new ≡ state_of self.old) × (is_ready ((state_of self.old).subs channel.now) ≡ false)) (λ a. IsAnswered a channel.now (state_of self.old) (state_of self.new)) }
+        ensures badge { badge_of self.new ≡ badge_of self.old }
+    {
+        match answer_at(&mut self.subscriptions, channel) {
+            None => None,
+            Some(answered) => {
+                self.leave_if(channel, answered.released.insufficient);
+                Some(answered)
+            }
+        }
+    }
+
+    /// The channel's subscription ends, if so.
+    fn leave_if(&mut self, channel: &str, ends: bool)
+        ensures state { state_of self.new ≡ (if ends then put_sub channel.now Off (state_of self.old) else state_of self.old) }
+        ensures badge { badge_of self.new ≡ badge_of self.old }
+    {
+        if ends {
+            self.leave(channel);
+        }
+    }
+
+    /// Queues a channel's reply, the run that follows it, and an unsubscribe push where something is missing then. None where
+    /// there is nothing to finish.
+    pub(crate) fn finish(&mut self, alloc: Global, channel: &str) -> Option<Step>
+        ensures found { is_some result ≡ is_ready ((state_of self.old).subs channel.now) }
+        ensures state { FinishesAt (refused_in result) channel.now ((state_of self.old).subs channel.now) (state_of self.old) (state_of self.new) }
+        ensures offs { (d : List ℕ) → is_off ((state_of self.new).subs d) ≡ off_after (fate_in result) channel.now d (is_off ((state_of self.old).subs d)) }
+        ensures badge { badge_of self.new ≡ badge_of self.old }
+    {
+        let was_closed = self.is_closed();
+        match self.answer(channel) {
+            None => None,
+            Some(answered) => Some(self.say_finish(alloc, channel, was_closed, answered)),
+        }
+    }
+
+    /// Queues a reply, the run that follows it, and an unsubscribe push where something is missing then.
+    fn say_finish(
+        &mut self,
+        alloc: Global,
+        channel: &str,
+        was_closed: bool,
+        answered: Answered,
+    ) -> Step
+        ensures state { SaysAll result.refused plain (finish_texts channel.now answered) (state_of self.old) (state_of self.new) }
+        ensures fate { result.fate ≡ (if not was_closed && (state_of self.new).closed then Fate.Closed else (if answered.released.insufficient then Fate.Ended else Fate.Passed)) }
+        ensures badge { badge_of self.new ≡ badge_of self.old }
+    {
+        let ends = answered.released.insufficient;
+        let refused = self.say_answer(alloc, channel, answered);
+        if !ends {
+            return self.step(was_closed, Fate::Passed, refused);
+        }
+        let end = self.say(end_text(alloc, channel));
+        self.step(was_closed, Fate::Ended, either(refused, end))
+    }
+
+    /// Queues a reply and the run that follows it. Says whether memory was refused.
+    fn say_answer(&mut self, alloc: Global, channel: &str, answered: Answered) -> bool
+        ensures state { SaysAll result plain (answer_notes channel.now answered) (state_of self.old) (state_of self.new) }
+        ensures badge { badge_of self.new ≡ badge_of self.old }
+    {
+        let Answered {
+            id,
+            was_recovering,
+            recovery,
+            released,
+        } = answered;
+        let first = self.say(reply_text(alloc, id, was_recovering, recovery));
+        let second = self.pass_on(alloc, channel, &released.run);
+        either(first, second)
+    }
+}

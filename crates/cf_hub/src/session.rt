@@ -1,0 +1,355 @@
+//! One session: its subscriptions, and what waits for its client.
+ghost use Rattle.std.specs.Prelude.{◌≡◌, ◌||◌, false};
+
+use crate::checked::{Checked, position_check};
+use crate::delivered::Fate;
+use crate::subscription::{Progress, add, keep_at, replace, take_out};
+use crate::wording::{end_text, ping_text, push_text, reply_text};
+use cf_protocol::{Epoch, Position, Publication};
+use cf_queue::{Out, OutQueue, QueueRefusal};
+use cf_recovery::{Released, Verdict, check};
+use cf_stream::Recovery;
+use std::alloc::{AllocError, Global};
+use std::collections::BTreeMap;
+
+/// How many bytes of text may wait for one client.
+const QUEUE_LIMIT: usize = 1_048_576;
+
+/// The close of a client that is too slow.
+const SLOW: u16 = 3008;
+
+/// The close where memory is refused.
+const NO_MEMORY: u16 = 3004;
+
+/// What a call did with a session, and whether memory was refused for it.
+#[derive(Clone, Copy, PartialEq, Eq, Debug, Drop)]
+pub(crate) struct Step {
+    pub fate: Fate,
+    pub refused: bool,
+}
+
+impl Step {
+    /// Nothing was done.
+    pub(crate) fn none() -> Step
+        ensures { result ≡ record { fate = Fate.Dropped; refused = false } }
+    {
+        Step {
+            fate: Fate::Dropped,
+            refused: false,
+        }
+    }
+
+    /// What was to be done is done.
+    pub(crate) fn passed() -> Step
+        ensures { result ≡ record { fate = Fate.Passed; refused = false } }
+    {
+        Step {
+            fate: Fate::Passed,
+            refused: false,
+        }
+    }
+}
+
+/// What a delivery meets.
+#[derive(Clone, Copy, PartialEq, Eq, Debug)]
+pub(crate) enum Meets {
+    /// No subscription.
+    Nothing,
+    /// One that waits for its reply.
+    Buffer,
+    /// One that is finished, with this mark.
+    On(Option<u64>, Verdict),
+}
+
+/// One client's session.
+#[derive(Drop)]
+pub(crate) struct Session {
+    pub(crate) client: String,
+    pub(crate) user: String,
+    pub(crate) subscriptions: BTreeMap<String, Progress>,
+    pub(crate) queue: OutQueue,
+    pub(crate) pinged: u64,
+    pub(crate) awaits_pong: bool,
+    ghost limited: { queue.limit ≡ 1048576 },
+}
+
+impl Session {
+    ghost use Rattle.std.specs.Prelude.{◌≡◌, ◌⊎◌, ◌||◌, ◌∷◌, [], ℕ, List, Some, None, true, false, IfSome, OnOk, OnErr, MatchOption, option_map, is_some, string_bytes, not, slice_get, ◌&&◌, if◌then◌else◌, map};
+    ghost use Rattle.std.specs.BTreeMap.{get_by_text};
+    ghost use Rattle.cf_protocol.specs.Datum.{Placed};
+    ghost use Rattle.cf_queue.specs.Meaning.{meaning};
+    ghost use Rattle.cf_queue.specs.OutQueue.{Text, Close};
+    ghost use Rattle.cf_hub.specs.Checked.{check_answer};
+    ghost use Rattle.cf_hub.specs.Delivery.{fate_of, fate_or};
+    ghost use Rattle.cf_hub.specs.Rows.{off_after};
+    ghost use Rattle.cf_hub.specs.Session.{badge_of, ponged, state_of, ticked, ticks};
+    ghost use Rattle.cf_hub.specs.SessionState.{Off, On, begins, checks, closes_now, comes, is_asked, is_off, is_ready, no_memory, opens, push, put_sub, reads, takes_front};
+    ghost use Rattle.cf_hub.specs.Subscriptions.{meeting, reading_of, sub_of};
+    ghost use Rattle.cf_hub.specs.WantOfMemory.{ClosesWith, OrCloses, SaysAll, Serves};
+    ghost use Rattle.cf_hub.specs.Wordings.{at_offset, delivering, plain, push_text, reading};
+
+    /// A client's session, with no subscription and nothing that waits.
+    pub(crate) fn new(alloc: Global, client: String, user: String, now: u64) -> Session
+        ensures state { state_of result ≡ opens }
+        ensures badge { badge_of result ≡ record { client = string_bytes client; user = string_bytes user; pinged = now; awaits_pong = false } }
+    {
+        Session {
+            client,
+            user,
+            subscriptions: BTreeMap::new(alloc),
+            queue: OutQueue::new(alloc, QUEUE_LIMIT),
+            pinged: now,
+            awaits_pong: false,
+        }
+    }
+
+    /// The client's id.
+    pub(crate) fn client_id(&self) -> &str
+        ensures { result.now ≡ (badge_of self.now).client }
+    {
+        self.client.as_str()
+    }
+
+    /// The name of the client's user.
+    pub(crate) fn user(&self) -> &str
+        ensures { result.now ≡ (badge_of self.now).user }
+    {
+        self.user.as_str()
+    }
+
+    /// Whether it is closed.
+    pub(crate) fn is_closed(&self) -> bool
+        ensures { result ≡ (state_of self.now).closed }
+    {
+        self.queue.is_closed()
+    }
+
+    /// Whether nothing waits.
+    pub(crate) fn is_silent(&self) -> bool {
+        self.queue.is_empty()
+    }
+
+    /// Closes it, unless it is closed, and says whether it was open. It takes no memory.
+    pub(crate) fn close(&mut self, code: u16) -> bool
+        ensures state { state_of self.new ≡ closes_now (Close code) (state_of self.old) }
+        ensures open { result ≡ not (state_of self.old).closed }
+        ensures badge { badge_of self.new ≡ badge_of self.old }
+    {
+        if self.queue.is_closed() {
+            return false;
+        }
+        self.subscriptions.clear();
+        self.queue.close(code);
+        true
+    }
+
+    /// Takes what is next. It takes no memory.
+    pub(crate) fn take(&mut self) -> Option<Out>
+        ensures front { option_map meaning result ≡ slice_get (state_of self.old).notes 0 }
+        ensures state { state_of self.new ≡ takes_front (state_of self.old) }
+        ensures badge { badge_of self.new ≡ badge_of self.old }
+    {
+        self.queue.take()
+    }
+
+    /// Queues a text, or closes the session. Says whether memory was refused, as it was for a text that isn't there.
+    pub(crate) fn say(&mut self, text: Option<String>) -> bool
+        ensures state { (t : List ℕ) → IfSome text (λ x. string_bytes x ≡ t) → (state_of self.new ≡ push plain (Text t) (state_of self.old)) ⊎ ((result ≡ true) × ClosesWith (Close no_memory) (state_of self.old) (state_of self.new)) }
+        ensures badge { badge_of self.new ≡ badge_of self.old }
+    {
+        let Some(text) = text else {
+            let _open = self.close(NO_MEMORY);
+            return true;
+        };
+        match self.queue.push(text) {
+            Ok(()) => false,
+            Err((QueueRefusal::Closed, _)) => false,
+            Err((QueueRefusal::Slow, _)) => {
+                let _open = self.close(SLOW);
+                false
+            }
+            Err((QueueRefusal::Memory, _)) => {
+                let _open = self.close(NO_MEMORY);
+                true
+            }
+        }
+    }
+
+    /// Queues a text that is there, and says what that did.
+    pub(crate) fn tell(&mut self, text: String) -> Step
+        ensures state { OrCloses result.refused plain (push plain (Text (string_bytes text))) (state_of self.old) (state_of self.new) }
+        ensures offs { (d : List ℕ) → is_off ((state_of self.new).subs d) ≡ off_after result.fate [] d (is_off ((state_of self.old).subs d)) }
+        ensures badge { badge_of self.new ≡ badge_of self.old }
+    {
+        let was_closed = self.queue.is_closed();
+        let refused = self.say(Some(text));
+        self.step(was_closed, Fate::Passed, refused)
+    }
+
+    /// Queues a copy of a text, or closes the session. Says whether memory was refused.
+    fn say_copy(&mut self, text: &str) -> bool
+        ensures state { (state_of self.new ≡ push plain (Text text.now) (state_of self.old)) ⊎ ((result ≡ true) × ClosesWith (Close no_memory) (state_of self.old) (state_of self.new)) }
+        ensures badge { badge_of self.new ≡ badge_of self.old }
+    {
+        match self.queue.push_copy(text) {
+            Ok(()) => false,
+            Err(QueueRefusal::Closed) => false,
+            Err(QueueRefusal::Slow) => {
+                let _open = self.close(SLOW);
+                false
+            }
+            Err(QueueRefusal::Memory) => {
+                let _open = self.close(NO_MEMORY);
+                true
+            }
+        }
+    }
+
+    /// Queues the push of a publication that was written for all, or one of its own where it was not.
+    fn say_publication(
+        &mut self,
+        alloc: Global,
+        written: &Option<String>,
+        channel: &str,
+        publication: &Publication,
+    ) -> bool
+        requires { IfSome written.now (λ t. string_bytes t ≡ push_text channel.now publication.now) }
+        ensures state { (state_of self.new ≡ push plain (Text (push_text channel.now publication.now)) (state_of self.old)) ⊎ ((result ≡ true) × ClosesWith (Close no_memory) (state_of self.old) (state_of self.new)) }
+        ensures badge { badge_of self.new ≡ badge_of self.old }
+    {
+        match written {
+            Some(text) => self.say_copy(text.as_str()),
+            None => self.say(push_text(alloc, channel, publication)),
+        }
+    }
+
+    /// Queues the pushes of publications in order, or closes the session amid them. Says whether memory was refused.
+    pub(crate) fn pass_on(&mut self, alloc: Global, channel: &str, run: &[Publication]) -> bool
+        ensures state { SaysAll result plain (map (λ x. Text (push_text channel.now x)) run.now) (state_of self.old) (state_of self.new) }
+        ensures badge { badge_of self.new ≡ badge_of self.old }
+    {
+        let mut refused = false;
+        for publication in run {
+            let now = self.say(push_text(alloc, channel, publication));
+            refused = either(refused, now);
+        }
+        refused
+    }
+
+    /// Whether it follows a channel, or is asking for it.
+    pub(crate) fn has(&self, channel: &str) -> bool
+        ensures { result ≡ not (is_off ((state_of self.now).subs channel.now)) }
+    {
+        self.subscriptions.contains_key(channel)
+    }
+
+    /// What a delivery meets here.
+    fn meets(&self, channel: &str, epoch: &Epoch, offset: u64) -> Meets
+        ensures { result ≡ meeting (record { epoch = epoch.now; offset = offset }) (get_by_text self.now.subscriptions channel.now) }
+    {
+        match self.subscriptions.get(channel) {
+            None => Meets::Nothing,
+            Some(Progress::On { at, mark }) => Meets::On(*mark, check(at, epoch, offset)),
+            Some(_) => Meets::Buffer,
+        }
+    }
+
+    /// What a call did: it closed the session, or else this.
+    pub(crate) fn step(&self, was_closed: bool, fate: Fate, refused: bool) -> Step
+        ensures fate { result.fate ≡ (if not was_closed && (state_of self.now).closed then Fate.Closed else fate) }
+        ensures refused { result.refused ≡ refused }
+    {
+        if !was_closed && self.queue.is_closed() {
+            Step {
+                fate: Fate::Closed,
+                refused,
+            }
+        } else {
+            Step { fate, refused }
+        }
+    }
+
+    /// Puts a subscription in place of the one that is there.
+    pub(crate) fn put(&mut self, channel: &str, progress: Progress)
+        requires { is_some (get_by_text self.old.subscriptions channel.now) ≡ true }
+        ensures state { state_of self.new ≡ put_sub channel.now (sub_of (Some progress)) (state_of self.old) }
+        ensures badge { badge_of self.new ≡ badge_of self.old }
+        ensures queue { self.new.queue ≡ self.old.queue }
+    {
+        let _before = replace(&mut self.subscriptions, channel, progress);
+    }
+
+    /// The channel's subscription ends.
+    pub(crate) fn leave(&mut self, channel: &str)
+        ensures state { state_of self.new ≡ put_sub channel.now Off (state_of self.old) }
+        ensures badge { badge_of self.new ≡ badge_of self.old }
+        ensures queue { self.new.queue ≡ self.old.queue }
+    {
+        let _gone = take_out(&mut self.subscriptions, channel);
+    }
+
+    /// Keeps a publication for a channel whose reply waits. Says whether memory was refused for it.
+    fn keep(&mut self, channel: &str, epoch: &Epoch, publication: &Publication) -> bool
+        requires { meeting (at_offset epoch.now publication.now) (get_by_text self.old.subscriptions channel.now) ≡ Meets.Buffer }
+        ensures state { Serves result (delivering publication.now) channel.now (comes (delivering publication.now) channel.now (at_offset epoch.now publication.now)) (state_of self.old) (state_of self.new) }
+        ensures queue { self.new.queue ≡ self.old.queue }
+        ensures badge { badge_of self.new ≡ badge_of self.old }
+    {
+        keep_at(&mut self.subscriptions, channel, epoch, publication)
+    }
+
+    /// Brings a publication. Its text is handed in where it was written.
+    pub(crate) fn bring(
+        &mut self,
+        alloc: Global,
+        channel: &str,
+        epoch: &Epoch,
+        publication: &Publication,
+        written: &Option<String>,
+    ) -> Step
+        requires { IfSome written.now (λ t. string_bytes t ≡ push_text channel.now publication.now) }
+        ensures state { Serves result.refused (delivering publication.now) channel.now (comes (delivering publication.now) channel.now (at_offset epoch.now publication.now)) (state_of self.old) (state_of self.new) }
+        ensures fate { result.fate ≡ fate_of channel.now (at_offset epoch.now publication.now) (state_of self.old) (state_of self.new) }
+        ensures badge { badge_of self.new ≡ badge_of self.old }
+    {
+        let was_closed = self.queue.is_closed();
+        match self.meets(channel, epoch, publication.offset) {
+            Meets::Nothing => Step {
+                fate: Fate::Dropped,
+                refused: false,
+            },
+            Meets::Buffer => {
+                let refused = self.keep(channel, epoch, publication);
+                Step {
+                    fate: Fate::Kept,
+                    refused,
+                }
+            }
+            Meets::On(_, Verdict::Drop) => Step {
+                fate: Fate::Dropped,
+                refused: false,
+            },
+            Meets::On(mark, Verdict::Pass) => {
+                let at = Position {
+                    epoch: *epoch,
+                    offset: publication.offset,
+                };
+                self.put(channel, Progress::On { at, mark });
+                let refused = self.say_publication(alloc, written, channel, publication);
+                self.step(was_closed, Fate::Passed, refused)
+            }
+            Meets::On(_, Verdict::Insufficient) => {
+                self.leave(channel);
+                let refused = self.say(end_text(alloc, channel));
+                self.step(was_closed, Fate::Ended, refused)
+            }
+        }
+    }
+}
+
+/// Whether one of two holds.
+pub(crate) fn either(a: bool, b: bool) -> bool
+    ensures { result ≡ (a || b) }
+{
+    a || b
+}

@@ -1,0 +1,339 @@
+//! A node's sessions by number: what a call makes of one of them.
+ghost use Rattle.std.specs.Prelude.{◌≡◌, ◌≢◌, ℕ, List, [], true, not, is_some, IfSome, OnOk, OnErr, Some, None, string_bytes, option_map, option_and_then, slice_get};
+ghost use Rattle.std.specs.BTreeMap.{get};
+ghost use Rattle.std.specs.Ordering.{nat_cmp};
+ghost use Rattle.cf_queue.specs.Meaning.{meaning};
+ghost use Rattle.cf_queue.specs.OutQueue.{Close, Text};
+ghost use Rattle.cf_hub.specs.Delivery.{fate_at};
+ghost use Rattle.cf_hub.specs.Hub.{Brings, InState, Pings, attached_in, counted, is_open, moves, one_if, said_in};
+ghost use Rattle.cf_hub.specs.Checked.{check_answer, stand_of};
+ghost use Rattle.cf_hub.specs.Finish.{FinishesAt};
+ghost use Rattle.cf_hub.specs.Rows.{off_after, rows_after, sub_in};
+ghost use Rattle.cf_hub.specs.Session.{attached_of, badge_ponged};
+ghost use Rattle.cf_hub.specs.SessionState.{begins, checks, closes_now, is_asked, is_off, is_ready, leaves, push, reads, takes_front};
+ghost use Rattle.cf_hub.specs.Subscriptions.{reading_of};
+ghost use Rattle.cf_hub.specs.WantOfMemory.{Both, OrCloses};
+ghost use Rattle.cf_hub.specs.Wordings.{at_offset, plain, push_text, reading};
+
+use crate::checked::Checked;
+use crate::delivered::Fate;
+use crate::listed::Listed;
+use crate::said::Said;
+use crate::session::{Session, Step};
+use cf_followers::Followers;
+use cf_protocol::{Epoch, Position, Publication};
+use cf_queue::Out;
+use cf_stream::Recovery;
+use std::alloc::{AllocError, Global};
+use std::collections::BTreeMap;
+
+/// Brings a publication to one session.
+pub(crate) fn bring_one(
+    sessions: &mut BTreeMap<u32, Session>,
+    alloc: Global,
+    number: u32,
+    channel: &str,
+    epoch: &Epoch,
+    publication: &Publication,
+    written: &Option<String>,
+) -> Step
+    requires { IfSome written.now (λ t. string_bytes t ≡ push_text channel.now publication.now) }
+    ensures here { Both (Brings result.refused channel.now epoch.now publication.now) (attached_in sessions.old number) (attached_in sessions.new number) }
+    ensures others { (k : ℕ) → k ≢ number → attached_in sessions.new k ≡ attached_in sessions.old k }
+    ensures fate { result.fate ≡ fate_at channel.now (at_offset epoch.now publication.now) (attached_in sessions.old number) (attached_in sessions.new number) }
+{
+    match sessions.get_mut(&number) {
+        None => Step {
+            fate: Fate::Dropped,
+            refused: false,
+        },
+        Some(session) => session.bring(alloc, channel, epoch, publication, written),
+    }
+}
+
+/// One session leaves a channel.
+pub(crate) fn leave_one(sessions: &mut BTreeMap<u32, Session>, number: u32, channel: &str)
+    ensures here { attached_in sessions.new number ≡ option_map (moves (leaves channel.now)) (attached_in sessions.old number) }
+    ensures others { (k : ℕ) → k ≢ number → attached_in sessions.new k ≡ attached_in sessions.old k }
+{
+    if let Some(session) = sessions.get_mut(&number) {
+        session.leave(channel);
+    }
+}
+
+/// Closes one session. Says whether it was open.
+pub(crate) fn close_one(sessions: &mut BTreeMap<u32, Session>, number: u32, code: u16) -> bool
+    ensures here { attached_in sessions.new number ≡ option_map (moves (closes_now (Close code))) (attached_in sessions.old number) }
+    ensures others { (k : ℕ) → k ≢ number → attached_in sessions.new k ≡ attached_in sessions.old k }
+    ensures open { result ≡ is_open (attached_in sessions.old number) }
+{
+    match sessions.get_mut(&number) {
+        None => false,
+        Some(session) => session.close(code),
+    }
+}
+
+/// Takes what is next for one session's client.
+pub(crate) fn take_one(sessions: &mut BTreeMap<u32, Session>, number: u32) -> Option<Out>
+    ensures front { option_map meaning result ≡ option_and_then (λ a. slice_get a.state.notes 0) (attached_in sessions.old number) }
+    ensures here { attached_in sessions.new number ≡ option_map (moves takes_front) (attached_in sessions.old number) }
+    ensures others { (k : ℕ) → k ≢ number → attached_in sessions.new k ≡ attached_in sessions.old k }
+{
+    match sessions.get_mut(&number) {
+        None => None,
+        Some(session) => session.take(),
+    }
+}
+
+/// One session goes.
+pub(crate) fn drop_one(sessions: &mut BTreeMap<u32, Session>, number: u32)
+    ensures here { attached_in sessions.new number ≡ None }
+    ensures others { (k : ℕ) → k ≢ number → attached_in sessions.new k ≡ attached_in sessions.old k }
+{
+    let _gone = sessions.remove(&number);
+}
+
+/// Makes a subscription of one session, which is open and doesn't follow the channel.
+pub(crate) fn begin_one(
+    sessions: &mut BTreeMap<u32, Session>,
+    alloc: Global,
+    number: u32,
+    channel: &str,
+    id: u32,
+    since: Option<Position>,
+) -> Result<(), AllocError>
+    requires { is_off (sub_in (attached_in sessions.old number) channel.now) ≡ true }
+    ensures here { OnOk result (attached_in sessions.new number ≡ option_map (moves (begins plain channel.now id since)) (attached_in sessions.old number)) }
+    ensures others { (k : ℕ) → k ≢ number → attached_in sessions.new k ≡ attached_in sessions.old k }
+    ensures err { OnErr result (attached_in sessions.new number ≡ attached_in sessions.old number) }
+{
+    match sessions.get_mut(&number) {
+        None => Ok(()),
+        Some(session) => session.begin(alloc, channel, id, since),
+    }
+}
+
+/// Hands the read of a channel's stream to one session.
+pub(crate) fn read_one(
+    sessions: &mut BTreeMap<u32, Session>,
+    number: u32,
+    channel: &str,
+    recovery: Recovery,
+) -> bool
+    ensures asked { result ≡ is_asked (sub_in (attached_in sessions.old number) channel.now) }
+    ensures here { attached_in sessions.new number ≡ option_map (moves (reads (reading recovery.publications.items) channel.now (reading_of recovery))) (attached_in sessions.old number) }
+    ensures others { (k : ℕ) → k ≢ number → attached_in sessions.new k ≡ attached_in sessions.old k }
+{
+    match sessions.get_mut(&number) {
+        None => false,
+        Some(session) => session.read_done(channel, recovery),
+    }
+}
+
+/// Finishes a subscription of one session. Says whether there was one to finish.
+pub(crate) fn finish_one(
+    sessions: &mut BTreeMap<u32, Session>,
+    alloc: Global,
+    number: u32,
+    channel: &str,
+) -> (bool, Step)
+    ensures found { result.0 ≡ is_ready (sub_in (attached_in sessions.old number) channel.now) }
+    ensures here { Both (InState (FinishesAt result.1.refused channel.now (sub_in (attached_in sessions.old number) channel.now))) (attached_in sessions.old number) (attached_in sessions.new number) }
+    ensures others { (k : ℕ) → k ≢ number → attached_in sessions.new k ≡ attached_in sessions.old k }
+    ensures offs { (d : List ℕ) → is_off (sub_in (attached_in sessions.new number) d) ≡ off_after result.1.fate channel.now d (is_off (sub_in (attached_in sessions.old number) d)) }
+{
+    match sessions.get_mut(&number) {
+        None => (false, Step::none()),
+        Some(session) => match session.finish(alloc, channel) {
+            None => (false, Step::none()),
+            Some(step) => (true, step),
+        },
+    }
+}
+
+/// Says a text to one session's client.
+pub(crate) fn say_one(
+    sessions: &mut BTreeMap<u32, Session>,
+    number: u32,
+    text: String,
+) -> (Said, Step)
+    ensures said { result.0 ≡ said_in (attached_in sessions.new number) }
+    ensures here { Both (InState (OrCloses result.1.refused plain (push plain (Text (string_bytes text))))) (attached_in sessions.old number) (attached_in sessions.new number) }
+    ensures others { (k : ℕ) → k ≢ number → attached_in sessions.new k ≡ attached_in sessions.old k }
+    ensures offs { (d : List ℕ) → is_off (sub_in (attached_in sessions.new number) d) ≡ off_after result.1.fate [] d (is_off (sub_in (attached_in sessions.old number) d)) }
+{
+    match sessions.get_mut(&number) {
+        None => (Said::Gone, Step::none()),
+        Some(session) => {
+            let step = session.tell(text);
+            if session.is_closed() {
+                (Said::Closed, step)
+            } else {
+                (Said::Kept, step)
+            }
+        }
+    }
+}
+
+/// Checks a subscription of one session.
+pub(crate) fn check_one(
+    sessions: &mut BTreeMap<u32, Session>,
+    alloc: Global,
+    number: u32,
+    channel: &str,
+    top: Option<Position>,
+) -> (Checked, Step)
+    ensures answer { result.0 ≡ check_answer top (sub_in (attached_in sessions.old number) channel.now) }
+    ensures here { Both (InState (OrCloses result.1.refused plain (checks plain channel.now top))) (attached_in sessions.old number) (attached_in sessions.new number) }
+    ensures others { (k : ℕ) → k ≢ number → attached_in sessions.new k ≡ attached_in sessions.old k }
+    ensures offs { (d : List ℕ) → is_off (sub_in (attached_in sessions.new number) d) ≡ off_after result.1.fate channel.now d (is_off (sub_in (attached_in sessions.old number) d)) }
+{
+    match sessions.get_mut(&number) {
+        None => (Checked::Nothing, Step::none()),
+        Some(session) => session.check(alloc, channel, top),
+    }
+}
+
+/// One session's client answered the last ping.
+pub(crate) fn pong_one(sessions: &mut BTreeMap<u32, Session>, number: u32)
+    ensures here { attached_in sessions.new number ≡ option_map badge_ponged (attached_in sessions.old number) }
+    ensures others { (k : ℕ) → k ≢ number → attached_in sessions.new k ≡ attached_in sessions.old k }
+{
+    if let Some(session) = sessions.get_mut(&number) {
+        session.pong();
+    }
+}
+
+/// Pings one session's client where it is due.
+pub(crate) fn tick_one(
+    sessions: &mut BTreeMap<u32, Session>,
+    alloc: Global,
+    number: u32,
+    now: u64,
+) -> Step
+    ensures here { Both (Pings result.refused now) (attached_in sessions.old number) (attached_in sessions.new number) }
+    ensures others { (k : ℕ) → k ≢ number → attached_in sessions.new k ≡ attached_in sessions.old k }
+    ensures offs { (d : List ℕ) → is_off (sub_in (attached_in sessions.new number) d) ≡ off_after result.fate [] d (is_off (sub_in (attached_in sessions.old number) d)) }
+{
+    match sessions.get_mut(&number) {
+        None => Step::none(),
+        Some(session) => session.tick(alloc, now),
+    }
+}
+
+/// Whether one session is closed, or there is none.
+pub(crate) fn is_closed_in(sessions: &BTreeMap<u32, Session>, number: u32) -> bool
+    ensures { result ≡ not (is_open (attached_in sessions.now number)) }
+{
+    match sessions.get(&number) {
+        None => true,
+        Some(session) => session.is_closed(),
+    }
+}
+
+/// Whether one session's subscription to a channel is finished.
+pub(crate) fn is_on_in(sessions: &BTreeMap<u32, Session>, number: u32, channel: &str) -> bool
+    ensures { result ≡ is_some (stand_of (sub_in (attached_in sessions.now number) channel.now)) }
+{
+    match sessions.get(&number) {
+        None => false,
+        Some(session) => session.is_on(channel),
+    }
+}
+
+/// Whether one session follows a channel, or is asking for it.
+pub(crate) fn has_in(sessions: &BTreeMap<u32, Session>, number: u32, channel: &str) -> bool
+    ensures { result ≡ not (is_off (sub_in (attached_in sessions.now number) channel.now)) }
+{
+    match sessions.get(&number) {
+        None => false,
+        Some(session) => session.has(channel),
+    }
+}
+
+/// Whether a number has a session.
+pub(crate) fn is_taken(sessions: &BTreeMap<u32, Session>, number: u32) -> bool
+    ensures { result ≡ is_some (attached_in sessions.now number) }
+{
+    sessions.contains_key(&number)
+}
+
+/// The id of one session's client.
+pub(crate) fn client_in(sessions: &BTreeMap<u32, Session>, number: u32) -> Option<&str>
+    ensures { option_map (λ t. t.now) result ≡ option_map (λ a. a.badge.client) (attached_in sessions.now number) }
+{
+    match sessions.get(&number) {
+        None => None,
+        Some(session) => Some(session.client_id()),
+    }
+}
+
+/// The name of one session's user.
+pub(crate) fn user_in(sessions: &BTreeMap<u32, Session>, number: u32) -> Option<&str>
+    ensures { option_map (λ t. t.now) result ≡ option_map (λ a. a.badge.user) (attached_in sessions.now number) }
+{
+    match sessions.get(&number) {
+        None => None,
+        Some(session) => Some(session.user()),
+    }
+}
+
+/// Adds a session under a number that has none.
+pub(crate) fn insert_one(
+    sessions: &mut BTreeMap<u32, Session>,
+    number: u32,
+    session: Session,
+) -> Result<(), AllocError>
+    ensures here { OnOk result (attached_in sessions.new number ≡ Some (attached_of session)) }
+    ensures others { OnOk result ((k : ℕ) → k ≢ number → attached_in sessions.new k ≡ attached_in sessions.old k) }
+    ensures err { OnErr result (sessions.new.entries ≡ sessions.old.entries) }
+{
+    sessions.insert(number, session)?;
+    Ok(())
+}
+
+/// Whether something waits for one session's client.
+fn has_output(sessions: &BTreeMap<u32, Session>, number: u32) -> bool {
+    match sessions.get(&number) {
+        None => false,
+        Some(session) => !session.is_silent(),
+    }
+}
+
+/// The first listed number of a session for whose client something waits. It and those before it are no longer listed.
+pub(crate) fn next_in(listed: &mut Listed, sessions: &BTreeMap<u32, Session>) -> Option<u32> {
+    for _ in 0..listed.len() {
+        if let Some(number) = listed.take() {
+            if has_output(sessions, number) {
+                return Some(number);
+            }
+        }
+    }
+    None
+}
+
+/// Removes the rows of what ended.
+pub(crate) fn settle(rows: &mut Followers, session: u32, channel: &str, fate: Fate)
+    ensures { rows.new ≡ rows_after fate channel.now session rows.old }
+{
+    match fate {
+        Fate::Ended => {
+            let _found = rows.remove(channel, session);
+        }
+        Fate::Closed => {
+            let _count = rows.detach(session);
+        }
+        _ => {}
+    }
+}
+
+/// A count of refused requests and one more, if so.
+pub(crate) fn count_more(refused: u64, more: bool) -> u64
+    ensures { result ≡ counted (one_if more) refused }
+{
+    if more {
+        refused.saturating_add(1)
+    } else {
+        refused
+    }
+}

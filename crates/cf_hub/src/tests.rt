@@ -1,0 +1,194 @@
+use crate::{Checked, Delivered, Hub, HubRefusal, Said};
+use cf_protocol::{Epoch, Position, Publication};
+use cf_queue::Out;
+use cf_stream::Recovery;
+use std::alloc::{AllocError, Global};
+use std::test::Fail;
+
+const REPLY: &str = r#"{"id":2,"subscribe":{"epoch":"aaaa","positioned":true,"recoverable":true}}"#;
+const FIRST: &str = r#"{"push":{"channel":"news","pub":{"data":1,"offset":1}}}"#;
+const END: &str = r#"{"push":{"channel":"news","unsubscribe":{"code":2500,"reason":"insufficient state"}}}"#;
+
+fn place(offset: u64) -> Position {
+    Position {
+        epoch: Epoch::from_text("aaaa"),
+        offset,
+    }
+}
+
+fn read(alloc: Global, offset: u64) -> Recovery {
+    Recovery {
+        position: place(offset),
+        recovered: false,
+        publications: Vec::new(alloc),
+    }
+}
+
+fn publication(alloc: Global, offset: u64) -> Result<Publication, AllocError> {
+    Ok(Publication {
+        offset,
+        body: String::from_str(alloc, "1")?,
+        info: None,
+    })
+}
+
+fn deliver(hub: &mut Hub, alloc: Global, offset: u64) -> Result<Delivered, AllocError> {
+    let epoch = Epoch::from_text("aaaa");
+    Ok(hub.deliver("news", &epoch, &publication(alloc, offset)?))
+}
+
+fn attach(hub: &mut Hub, alloc: Global) -> Result<u32, Fail> {
+    match hub.attach(String::from_str(alloc, "ann")?, 0) {
+        Ok(session) => Ok(session),
+        Err(_) => Err(Fail::from(AllocError)),
+    }
+}
+
+/// A session that follows `news`, its reply taken.
+fn subscribed(hub: &mut Hub, alloc: Global) -> Result<u32, Fail> {
+    let session = attach(hub, alloc)?;
+    if hub.begin(session, "news", 2, None).is_ok() {
+        let _read = hub.read_done(session, "news", read(alloc, 0));
+        let _finished = hub.finish(session, "news");
+        let _reply = hub.take(session);
+    }
+    Ok(session)
+}
+
+fn text(alloc: Global, text: &str) -> Result<Option<Out>, AllocError> {
+    Ok(Some(Out::Text(String::from_str(alloc, text)?)))
+}
+
+#[test]
+fn refusals(rt: HostRuntime) -> Result<(), Fail> {
+    let alloc = rt.alloc();
+    let mut hub = Hub::new(alloc, 0, 1);
+    assert_eq!(rt; hub.begin(0, "news", 2, None), Err(HubRefusal::NoSession));
+    assert_eq!(rt; attach(&mut hub, alloc)?, 0);
+    assert_eq!(rt; hub.client_id(0), Some("0-1-1"));
+    assert_eq!(rt; hub.user(0), Some("ann"));
+    assert!(rt; !hub.read_done(0, "news", read(alloc, 0)));
+    assert!(rt; !hub.finish(0, "news"));
+    assert!(rt; !hub.leave(0, "news"));
+    for number in 0..128_u32 {
+        let channel = format!(in alloc; "c{number}")?;
+        assert_eq!(rt; hub.begin(0, channel.as_str(), 2, None), Ok(()));
+        assert_eq!(rt; hub.begin(0, channel.as_str(), 3, None), Err(HubRefusal::Already));
+    }
+    assert_eq!(rt; hub.begin(0, "news", 2, None), Err(HubRefusal::TooMany));
+    assert!(rt; hub.leave(0, "c7"));
+    assert_eq!(rt; hub.begin(0, "news", 2, None), Ok(()));
+    hub.close(0, 3001);
+    assert_eq!(rt; hub.begin(0, "news", 2, None), Err(HubRefusal::NoSession));
+    assert_eq!(rt; hub.take(0), Some(Out::Close(3001)));
+    assert!(rt; !hub.short());
+    Ok(())
+}
+
+#[test]
+fn pings(rt: HostRuntime) -> Result<(), Fail> {
+    let alloc = rt.alloc();
+    for answers in [false, true] {
+        let mut hub = Hub::new(alloc, 0, 1);
+        let session = attach(&mut hub, alloc)?;
+        hub.tick(24);
+        assert_eq!(rt; hub.take(session), None);
+        hub.tick(25);
+        assert_eq!(rt; hub.take(session), text(alloc, "{}")?);
+        if answers {
+            hub.pong(session);
+        }
+        hub.tick(32);
+        assert_eq!(rt; hub.take(session), None);
+        hub.tick(33);
+        assert_eq!(rt; hub.is_closed(session), !answers);
+        hub.tick(50);
+        let next = if answers { text(alloc, "{}")? } else { Some(Out::Close(3012)) };
+        assert_eq!(rt; hub.take(session), next);
+    }
+    Ok(())
+}
+
+#[test]
+fn reply_before_push(rt: HostRuntime) -> Result<(), Fail> {
+    let alloc = rt.alloc();
+    for order in ["drf", "rdf", "rfd", "ddrf", "rfdd"] {
+        let mut hub = Hub::new(alloc, 0, 1);
+        let session = attach(&mut hub, alloc)?;
+        assert_eq!(rt; hub.begin(session, "news", 2, None), Ok(()));
+        for step in order.chars() {
+            match step {
+                'd' => {
+                    let _met = deliver(&mut hub, alloc, 1)?;
+                }
+                'r' => assert!(rt; hub.read_done(session, "news", read(alloc, 0))),
+                _ => assert!(rt; hub.finish(session, "news")),
+            }
+        }
+        assert!(rt; hub.is_on(session, "news"));
+        assert_eq!(rt; hub.take(session), text(alloc, REPLY)?);
+        assert_eq!(rt; hub.take(session), text(alloc, FIRST)?);
+        assert_eq!(rt; hub.take(session), None);
+    }
+    Ok(())
+}
+
+#[test]
+fn gap_and_check(rt: HostRuntime) -> Result<(), Fail> {
+    let alloc = rt.alloc();
+    let mut hub = Hub::new(alloc, 0, 1);
+    let first = subscribed(&mut hub, alloc)?;
+    let second = subscribed(&mut hub, alloc)?;
+    assert_eq!(rt; hub.check(second, "chat", None), Checked::Nothing);
+    assert_eq!(rt; hub.check(second, "news", Some(place(1))), Checked::Behind);
+    assert_eq!(rt; hub.check(second, "news", Some(place(0))), Checked::Fine);
+    assert_eq!(rt; hub.check(second, "news", Some(place(1))), Checked::Behind);
+    assert_eq!(rt; hub.check(second, "news", Some(place(1))), Checked::Ended);
+    assert_eq!(rt; hub.take(second), text(alloc, END)?);
+    let met = deliver(&mut hub, alloc, 2)?;
+    assert_eq!(rt; (met.ended, met.passed, met.closed), (1, 0, 0));
+    assert_eq!(rt; hub.take(first), text(alloc, END)?);
+    assert_eq!(rt; deliver(&mut hub, alloc, 3)?.dropped, 0);
+    Ok(())
+}
+
+#[test]
+fn slow_consumer(rt: HostRuntime) -> Result<(), Fail> {
+    let alloc = rt.alloc();
+    let mut hub = Hub::new(alloc, 0, 1);
+    let slow = subscribed(&mut hub, alloc)?;
+    let other = subscribed(&mut hub, alloc)?;
+    let mut long = String::new(alloc);
+    for _ in 0..1_048_576_u32 {
+        long.push('x')?;
+    }
+    assert_eq!(rt; hub.say(slow, long), Said::Kept);
+    let met = deliver(&mut hub, alloc, 1)?;
+    assert_eq!(rt; (met.passed, met.closed), (1, 1));
+    assert!(rt; hub.is_closed(slow));
+    assert_eq!(rt; hub.say(slow, String::new(alloc)), Said::Closed);
+    assert_eq!(rt; hub.say(9, String::new(alloc)), Said::Gone);
+    assert!(rt; hub.take(slow).is_some());
+    assert_eq!(rt; hub.take(slow), Some(Out::Close(3008)));
+    assert_eq!(rt; hub.take(other), text(alloc, FIRST)?);
+    Ok(())
+}
+
+#[test]
+fn numbers_and_output(rt: HostRuntime) -> Result<(), Fail> {
+    let alloc = rt.alloc();
+    let mut hub = Hub::new(alloc, 0, 1);
+    for number in 0..3 {
+        assert_eq!(rt; subscribed(&mut hub, alloc)?, number);
+    }
+    assert_eq!(rt; hub.detach(1), 1);
+    assert!(rt; hub.is_closed(1));
+    assert_eq!(rt; subscribed(&mut hub, alloc)?, 1);
+    assert_eq!(rt; hub.next_with_output(), None);
+    let met = deliver(&mut hub, alloc, 1)?;
+    assert_eq!(rt; met.passed, 3);
+    for number in [Some(0), Some(2), Some(1), None] {
+        assert_eq!(rt; hub.next_with_output(), number);
+    }
+    Ok(())
+}
