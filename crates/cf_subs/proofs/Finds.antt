@@ -3,6 +3,7 @@ use Rattle.std.proofs.Common.{◌≡◌, ℕ, ◌==◌, ◌&&◌, ◌||◌, ◌+
 use Rattle.std.specs.Prelude.{IfSome, IsSome, MatchOption, is_some, option_map, filter, slice_get}
 use Rattle.std.specs.List.{AllByRecursion}
 use Rattle.std.proofs.lemmas.Bool.Decides.{nat_tests}
+use Rattle.std.proofs.lemmas.List.Elements.{filter-append}
 use Rattle.std.proofs.lemmas.List.{length-map, map-append}
 use denote.RawPtr.{Ptr}
 use Rattle.lru.specs.Linked.{IsApart}
@@ -296,14 +297,6 @@ after_none : (n : ℕ) (ns : List ℕ) → is_among n ns ≡ false → after_in 
 after_none n [] h = refl
 after_none n (m ∷ ms) h = grind (arith, nat_tests, after_none n ms)
 
-filter_append : {Y : Type 0} (p : Y → Bool) (xs ys : List Y) → filter p (xs ++ ys) ≡ filter p xs ++ filter p ys
-filter_append p [] ys = refl
-filter_append p (x ∷ xs) ys = by_value (p x) (filter_append p xs ys)
-  where
-    by_value : (t : Bool) → filter p (xs ++ ys) ≡ filter p xs ++ filter p ys → cond t (x ∷ filter p (xs ++ ys)) (filter p (xs ++ ys)) ≡ cond t (x ∷ filter p xs) (filter p xs) ++ filter p ys
-    by_value true e = ap (λ l. x ∷ l) e
-    by_value false e = e
-
 pub after_nobody : (c s : ℕ) (hs : List H) → place_of c s hs ≡ None → after_in s (sessions_of (rows_of hs) c) ≡ None
 after_nobody c s hs e = after_none s (sessions_of (rows_of hs) c) (among_sessions (rows_of hs) c s ∙ follows_none c s hs e)
 
@@ -322,7 +315,7 @@ behind c s hs a o e linked d g =
     let first : List ℕ = map (λ (h : H). h.value.row.session) (of_number channel_of c p.before) in
     let split : sessions_of (rows_of hs) c ≡ first ++ s ∷ sessions_onward hs c o =
     sym (channel_walk hs c) ∙ ap (λ l. map (λ (h : H). h.value.row.session) (of_number channel_of c l)) p.cut
-    ∙ ap (map (λ (h : H). h.value.row.session)) (filter_append (λ (h : H). h.value.row.channel == c) p.before (n ∷ p.after))
+    ∙ ap (map (λ (h : H). h.value.row.session)) (filter-append (λ (h : H). h.value.row.channel == c) p.before (n ∷ p.after))
     ∙ map-append (λ (h : H). h.value.row.session) (of_number channel_of c p.before) (of_number channel_of c (n ∷ p.after))
     ∙ ap (λ l. first ++ map (λ (h : H). h.value.row.session) (of_number channel_of c l)) (sym here) ∙ ap (λ l. first ++ l) step.left ∙ ap (λ k. first ++ k ∷ sessions_onward hs c o) same.1 in
     let absent : is_among s first ≡ false = ap (is_among s) (channel_walk p.before c) ∙ among_sessions (rows_of p.before) c s ∙ follows_none c s p.before p.none in record {
