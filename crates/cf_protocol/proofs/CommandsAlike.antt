@@ -4,11 +4,11 @@ use Prim.Native.String.{String as Name}
 use Rattle.cf_json.specs.Grammar.{Tree}
 use Rattle.cf_protocol.specs.Position.{Position}
 use Rattle.cf_protocol.specs.Request as request
-use Rattle.cf_protocol.specs.Request.{Data, Absent, TooDeep, Body, Request, Command}
+use Rattle.cf_protocol.specs.Request.{Data, Absent, TooDeep, Body, Request}
 use Rattle.cf_protocol.specs.Fields.{is_limit}
 use Rattle.cf_protocol.specs.Command.{max_data_depth}
 use Rattle.cf_protocol.specs.Written as written
-use Rattle.cf_protocol.specs.Written.{Member, ◌⇒◌, object_of, inner, body_of, from, since, channel_alone, command, command_tree, as_it_is}
+use Rattle.cf_protocol.specs.Written.{◌⇒◌, object_of, body_of, from, since, command, as_it_is}
 use Rattle.cf_protocol.specs.Regular.{IsData, IsFrom, IsSince, IsRegularRequest}
 use Rattle.cf_protocol.proofs.JsonLaws.{JsonLaws}
 use Rattle.cf_protocol.proofs.Bodies.{Bodies}

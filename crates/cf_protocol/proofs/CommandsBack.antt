@@ -11,9 +11,9 @@ use Rattle.cf_protocol.specs.Request as request
 use Rattle.cf_protocol.specs.Request.{Data, Absent, TooDeep, Body, Request, Command}
 use Rattle.cf_protocol.specs.Fields.{look_up, object_as, object_or_none, text, position, is_limit, ◌>>=◌, max_u32, the_only}
 use Rattle.cf_protocol.specs.Command as reading
-use Rattle.cf_protocol.specs.Command.{command_from, named_command, request_of, needs_id, requests, command_of, data_of, max_data_depth}
+use Rattle.cf_protocol.specs.Command.{command_from, named_command, needs_id, requests, command_of, data_of, max_data_depth}
 use Rattle.cf_protocol.specs.Written as written
-use Rattle.cf_protocol.specs.Written.{Member, ◌⇒◌, object_of, inner, body_of, from, since, channel_alone, command, command_tree, as_it_is}
+use Rattle.cf_protocol.specs.Written.{Member, ◌⇒◌, object_of, body_of, from, since, channel_alone, command}
 use Rattle.cf_protocol.specs.Regular.{IsData, IsFrom, IsSince, IsCode, IsRegularRequest}
 use Rattle.cf_protocol.proofs.JsonLaws.{JsonLaws}
 use Rattle.cf_protocol.proofs.Bodies.{Bodies}

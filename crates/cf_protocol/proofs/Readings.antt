@@ -13,9 +13,9 @@ use Rattle.cf_json.specs.Grammar.{Tree, number}
 use Rattle.cf_json.specs.Members.{Fields}
 use Rattle.cf_json.specs.Members as json
 use Rattle.cf_protocol.specs.Position.{Position}
-use Rattle.cf_protocol.specs.Fields.{◌>>=◌, both, read_all, read_or, look_up, object_as, object_or_none, objects, within, as_whole, as_limit, present, unless_null, max_u32, max_u64, is_limit}
+use Rattle.cf_protocol.specs.Fields.{◌>>=◌, read_all, look_up, object_as, object_or_none, objects, within, as_whole, present, unless_null, max_u32, max_u64, is_limit}
 use Rattle.cf_protocol.specs.Fields as fields
-use Rattle.cf_protocol.specs.Written.{Member, object_of, inner, list}
+use Rattle.cf_protocol.specs.Written.{list}
 use Rattle.cf_protocol.specs.Written as written
 use Rattle.cf_protocol.specs.Regular.{IsCode, IsPosition}
 use Rattle.cf_protocol.proofs.JsonLaws.{JsonLaws}

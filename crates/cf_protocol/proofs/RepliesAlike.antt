@@ -8,7 +8,7 @@ use Rattle.cf_protocol.specs.Datum.{Who, Placed}
 use Rattle.cf_protocol.specs.Outgoing.{Users, Outcome, Connected, Subscribed, Unsubscribed, Published, Present, Counted, Past, Pinged, Failed, Pushed, Publication, Unsubscribe, Outgoing, Ping, Answer, Push}
 use Rattle.cf_protocol.specs.Fields.{max_u64}
 use Rattle.cf_protocol.specs.Written as written
-use Rattle.cf_protocol.specs.Written.{Member, ◌⇒◌, object_of, info, info_or_none, message_of, reason_of, unsubscribed, reply, as_it_is}
+use Rattle.cf_protocol.specs.Written.{◌⇒◌, object_of, info, info_or_none, message_of, reason_of, unsubscribed, reply, as_it_is}
 use Rattle.cf_protocol.specs.Regular.{IsPosition, IsPlaced, ArePlaced, IsCode, IsRegularOutcome, IsRegularPush, IsRegularOutgoing}
 use Rattle.cf_protocol.proofs.JsonLaws.{JsonLaws}
 use Rattle.cf_protocol.proofs.Bodies.{Bodies}

@@ -12,7 +12,7 @@ use Rattle.cf_protocol.specs.Reply as reading
 use Rattle.cf_protocol.specs.Reply.{results, result_of, answer_from, push_or, push_from, reply_from, reply_of, code_in}
 use Rattle.cf_protocol.specs.Frame.{replies_of}
 use Rattle.cf_protocol.specs.Written as written
-use Rattle.cf_protocol.specs.Written.{Member, ◌⇒◌, object_of, inner, info_or_none, reply, reason_of, message_of, unsubscribed, as_it_is}
+use Rattle.cf_protocol.specs.Written.{Member, ◌⇒◌, object_of, inner, info_or_none, reply, unsubscribed}
 use Rattle.cf_protocol.specs.Regular.{IsPosition, IsInfo, IsPlaced, ArePlaced, IsCode, IsRegularOutcome, IsRegularOutgoing}
 use Rattle.cf_protocol.proofs.JsonLaws.{JsonLaws}
 use Rattle.cf_protocol.proofs.Bodies.{Bodies}

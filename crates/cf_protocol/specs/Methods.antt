@@ -1,5 +1,5 @@
 -- The methods of commands, and the results of replies, by the keys under which they stand.
-use Rattle.std.specs.Prelude.{List, ℕ, Option, Some, option_map, codes}
+use Rattle.std.specs.Prelude.{List, ℕ, Option, option_map, codes}
 use Rattle.cf_json.specs.Grammar.{Tree}
 use Rattle.cf_protocol.specs.Fields.{Fields, object_as}
 use Rattle.cf_protocol.specs.Request as request

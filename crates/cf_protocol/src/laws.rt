@@ -1,7 +1,6 @@
 //! Laws of the texts that are read and written. Each function's contract states one; its body does nothing.
-ghost use Rattle.std.specs.Prelude.{◌≡◌, ◌+◌, ◌<◌, ℕ, List, [], ◌∷◌, None, length, decimal, codes};
+ghost use Rattle.std.specs.Prelude.{◌≡◌, ◌+◌, ◌<◌, ℕ, List, [], ◌∷◌, None, length, decimal};
 ghost use Rattle.cf_json.specs.Quoting.{quoted};
-ghost use Rattle.cf_protocol.specs.Datum.{Placed, Datum};
 ghost use Rattle.cf_protocol.specs.Request.{Command};
 ghost use Rattle.cf_protocol.specs.Outgoing.{Outgoing, Push, Publication};
 ghost use Rattle.cf_protocol.specs.Written.{command_text, outgoing_text};

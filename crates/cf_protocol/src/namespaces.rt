@@ -1,5 +1,5 @@
 //! The namespaces that are set up.
-ghost use Rattle.std.specs.Prelude.{◌≡◌, ◌≤◌, ℕ, List, IfSome, IfOk, MatchOption};
+ghost use Rattle.std.specs.Prelude.{◌≡◌, ℕ, List, IfSome, IfOk, MatchOption};
 ghost use Rattle.std.specs.List.Sorted.{IsPermutation};
 ghost use Rattle.cf_protocol.specs.Settings.{NamespaceTable, settings_of, namespace_of, named, IsUsable};
 ghost use Rattle.cf_protocol.specs.SettingsText.{IsNamespaces, IsNamespace, IsSettings, IsReadAs, letters_of};

@@ -1,5 +1,5 @@
 //! The users that may connect.
-ghost use Rattle.std.specs.Prelude.{◌≡◌, ◌≢◌, ℕ, List, [], map, option_copied, string_bytes, IfOk, MatchOption};
+ghost use Rattle.std.specs.Prelude.{◌≡◌, ℕ, List, option_copied, IfOk, MatchOption};
 ghost use Rattle.cf_protocol.specs.Settings.{TokenTable, user_of, in_bytes};
 ghost use Rattle.cf_protocol.specs.SettingsText.{IsTokens, IsToken, is_name, IsReadAs};
 ghost use Rattle.cf_protocol.specs.SettingsRead.{Adds};

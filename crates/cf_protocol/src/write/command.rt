@@ -1,6 +1,5 @@
 //! The texts of commands.
-ghost use Rattle.std.specs.Prelude.{◌≡◌, ◌∷◌, [], ℕ, List, Some, IfOk, string_bytes};
-ghost use Rattle.cf_json.specs.Grammar.{Tree};
+ghost use Rattle.std.specs.Prelude.{◌≡◌, ◌∷◌, [], Some, IfOk, string_bytes};
 ghost use Rattle.cf_protocol.specs.Shown.{shown_command, shown_request, shown_data};
 ghost use Rattle.cf_protocol.specs.Written as written;
 ghost use Rattle.cf_protocol.specs.Written.{◌⇒◌, as_it_is, object_of, channel_alone, from, since as since_of, body_of, command_text, command as command_members};

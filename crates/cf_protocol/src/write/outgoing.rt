@@ -1,5 +1,5 @@
 //! The texts of replies and pushes.
-ghost use Rattle.std.specs.Prelude.{◌≡◌, ◌∷◌, [], ℕ, List, map, Some, IfOk, string_bytes, string_cmp, true};
+ghost use Rattle.std.specs.Prelude.{◌≡◌, ◌∷◌, [], map, Some, IfOk, string_bytes, string_cmp, true};
 ghost use Rattle.cf_protocol.specs.Shown.{shown_outgoing, shown_outcome, shown_pushed, shown_users};
 ghost use Rattle.cf_protocol.specs.Written as written;
 ghost use Rattle.cf_protocol.specs.Written.{◌⇒◌, as_it_is, object_of, inner, publication as publication_tree, publications as publications_list, connected, error as error_members, subscribed, counted, past, presence, pushed, client as client_member, reply, outgoing as outgoing_members, outgoing_text};

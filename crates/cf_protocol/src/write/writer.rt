@@ -1,5 +1,5 @@
 //! JSON text, written piece by piece.
-ghost use Rattle.std.specs.Prelude.{◌≡◌, ◌++◌, ◌∷◌, [], Some, IfOk, string_bytes, true};
+ghost use Rattle.std.specs.Prelude.{◌≡◌, ◌++◌, ◌∷◌, [], IfOk, string_bytes, true};
 ghost use Rattle.std.specs.List.{list_all};
 ghost use Rattle.cf_json.specs.Quoting.{quoted, escaped};
 ghost use Rattle.cf_protocol.specs.Written as written;
