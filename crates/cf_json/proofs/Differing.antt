@@ -1,5 +1,5 @@
 -- Members whose keys all differ: each is the last with its key.
-use Rattle.std.proofs.Common.{◌≡◌, List, ◌∷◌, true, false, ap, ◌∙◌}
+use Rattle.std.proofs.Common.{◌≡◌, List, ◌∷◌, false, ap, ◌∙◌}
 use Rattle.cf_json.specs.Members.{Entry}
 use Rattle.cf_json.proofs.Lasts.{has, lasts, lasts_new}
 

@@ -5,7 +5,7 @@ use Rattle.std.specs.List.{list_all}
 use Rattle.std.proofs.lemmas.Bool.{and_parts, not-true, le-ltb}
 use Rattle.cf_json.specs.Bytes.{is_plain, is_space}
 use Rattle.cf_json.specs.Reading.{text_end}
-use Rattle.cf_json.specs.Squeeze.{kept, mode_after}
+use Rattle.cf_json.specs.Squeeze.{kept}
 use Rattle.cf_json.specs.declared.squeeze.Mode.TheVariants.{Between}
 use Rattle.cf_json.specs.declared.token.Within.TheVariants as within
 use Rattle.cf_json.proofs.Tokens.{text_takes}

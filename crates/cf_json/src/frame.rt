@@ -1,5 +1,5 @@
 // Frames: one value after another.
-ghost use Rattle.std.specs.Prelude.{◌≡◌, ◌≢◌, ◌<◌, ◌≤◌, IfOk, IfErr, List, [], map, length};
+ghost use Rattle.std.specs.Prelude.{◌≡◌, ◌≢◌, ◌<◌, IfOk, IfErr, List, [], map, length};
 ghost use Rattle.std.specs.List.{AllZip};
 ghost use Rattle.cf_json.specs.Grammar.{Tree, Place};
 ghost use Rattle.cf_json.specs.Spans.{IsAt, span_at, max_depth};

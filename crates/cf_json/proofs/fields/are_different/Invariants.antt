@@ -1,4 +1,4 @@
-use Rattle.std.proofs.Common.{◌≡◌, ◌≤◌, length, map}
+use Rattle.std.proofs.Common.{◌≡◌, length, map}
 use Rattle.cf_json.specs.Members.{entry_of}
 use Rattle.cf_json.proofs.Lasts.{lasts}
 use Rattle.cf_json.proofs.fields.are_different.Given as goal
