@@ -17,7 +17,7 @@ pub record ClientLink : Type 0 where
   pub line : Line Note
   -- the notes that left the node and did not reach the client yet
   pub way : List Note
-  -- the commands that left the client and were not heard yet; those that were, the latest first; their ids are below this
+  -- the commands that left the client and were not heard yet; those that were heard, the latest first, and a bound of their ids
   pub up : List SentCommand
   pub done : List SentCommand
   pub heard : ℕ

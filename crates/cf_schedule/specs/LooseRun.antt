@@ -5,7 +5,7 @@
 -- A connection may end on one side first. Where the client's side does, `Break` says what is seen of it: its old session may be
 -- served on for a while, and what that does to anybody else is to publish, to open streams and to take up room, which
 -- others may do here at any time, so that a node may fail any command. Where the node's side does, the session is closed
--- here, its client takes nothing more, and its place may be given to another (`Join`).
+-- here: what is on its way may still come to the client, or not, and its place may be given to another (`Join`).
 use Rattle.std.specs.Prelude.{ℕ, ℤ, nat_lt, ◌&&◌, not, Bool, true, false, if◌then◌else◌, is_some, Option, None, List, [], ◌∷◌, map}
 use Rattle.cf_protocol.specs.Datum.{Datum}
 use Rattle.cf_protocol.specs.Position.{Position}
