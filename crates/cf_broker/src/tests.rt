@@ -1,8 +1,8 @@
 ghost use Rattle.std.specs.Prelude.{◌≡◌, IsSome};
 ghost use Rattle.cf_protocol.specs.Settings.{settings_of};
 
-use crate::{Broker, Naming, Refused, shard_of};
-use cf_link::pair;
+use crate::{Broker, Delivery, Naming, Refused, shard_of};
+use cf_link::{Receiver, pair};
 use cf_protocol::{Epoch, Info, Namespaces, Position, read_namespaces};
 use cf_stream::Epochs;
 use std::alloc::Global;
@@ -30,13 +30,16 @@ impl Epochs for Same {
 
 /// A flag for each of two threads.
 #[derive(Drop)]
-struct Flags([AtomicU64; 2]);
+struct Flags {
+    first: AtomicU64,
+    second: AtomicU64,
+}
 
 /// Epochs of which each is drawn only once the other thread draws one too.
 #[derive(Clone, Copy)]
 struct Meeting<'a> {
     flags: &'a Flags,
-    mine: usize,
+    is_first: bool,
 }
 
 impl<'a> Epochs for Meeting<'a> {
@@ -45,11 +48,10 @@ impl<'a> Epochs for Meeting<'a> {
     ghost draws = { λ old r new. ⊤ };
 
     fn draw(&mut self) -> Option<Epoch> {
-        let Flags([first, second]) = self.flags;
-        let (mine, other) = if self.mine == 0 {
-            (first, second)
+        let (mine, other) = if self.is_first {
+            (&self.flags.first, &self.flags.second)
         } else {
-            (second, first)
+            (&self.flags.second, &self.flags.first)
         };
         mine.store(1, Ordering::SeqCst);
         for _ in 0..100_000_000 {
@@ -60,6 +62,14 @@ impl<'a> Epochs for Meeting<'a> {
         }
         None
     }
+}
+
+/// The offset of what comes next over a link.
+fn next_offset(rt: &impl Wait, link: &mut Receiver<Delivery>) -> Option<u64> {
+    let delivery = link.receive(rt)?;
+    let publication = delivery.publication;
+    let offset = publication.offset;
+    Some(offset)
 }
 
 fn info(alloc: Global) -> Result<Info, Fail> {
@@ -118,17 +128,12 @@ fn streams_called<N: Naming, R: Wait + Abort>(
     assert!(rt; broker.position(rt, "news").is_none());
     let refused = broker.history(rt, "news", Some(since), -1, 0);
     assert!(rt; matches!(refused, Err(Refused::WrongEpoch)));
-    let first = lossy.receive(rt);
-    assert_eq!(rt; first.map(|delivery| delivery.publication.offset), Some(1));
-    assert!(rt; lossy.receive(rt).is_none());
+    assert_eq!(rt; next_offset(rt, &mut lossy), Some(1));
+    assert_eq!(rt; next_offset(rt, &mut lossy), None);
     for offset in 1..4 {
-        let delivery = whole.receive(rt);
-        assert_eq!(rt;
-            delivery.map(|delivery| delivery.publication.offset),
-            Some(offset)
-        );
+        assert_eq!(rt; next_offset(rt, &mut whole), Some(offset));
     }
-    assert!(rt; whole.receive(rt).is_none());
+    assert_eq!(rt; next_offset(rt, &mut whole), None);
     Ok(())
 }
 
@@ -201,12 +206,18 @@ fn two_publish<N: Naming + Send + Sync, R: Threads + Wait + Abort + Sync>(
 ) -> Result<(), Fail>
     requires { namespaces.now ≡ N.namespaces }
 {
-    let flags = Flags([AtomicU64::new(0), AtomicU64::new(0)]);
+    let flags = Flags {
+        first: AtomicU64::new(0),
+        second: AtomicU64::new(0),
+    };
     let mut epochs = [Meeting {
         flags: &flags,
-        mine: 0,
+        is_first: true,
     }; 16];
-    epochs[2].mine = 1;
+    epochs[2] = Meeting {
+        flags: &flags,
+        is_first: false,
+    };
     let broker = Broker::<N, Meeting<'_>>::new(alloc, namespaces, epochs, Vec::new(alloc))?;
     let (news, other) = thread::join(
         rt,

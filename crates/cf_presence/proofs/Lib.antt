@@ -2,3 +2,4 @@ pub mod Texts
 pub mod Rooms
 pub mod Ticks
 pub mod Lists
+pub mod UserCounts

@@ -1,10 +1,8 @@
 -- The users of a channel's clients.
-use Rattle.std.proofs.Common.{◌≡◌, ℕ, List, [], ◌∷◌, Bool, true, false, cond, Option, Some, None, refl, sym, ap, ◌∙◌, map, length, drop, drop-drop, arith, ◌+◌, BTreeMap, String, Global, string_bytes}
-use Rattle.std.specs.Prelude.{◌||◌, if◌then◌else◌}
+use Rattle.std.proofs.Common.{◌≡◌, ℕ, List, [], ◌∷◌, true, false, cond, Option, Some, None, refl, sym, ap, ◌∙◌, map, BTreeMap, String, Global, string_bytes}
 use Rattle.std.specs.Option.{option_map}
 use Rattle.std.specs.Map.{lookup, keys_of, values_of, update_all, update}
-use Rattle.std.specs.List.{list_any}
-use Rattle.std.specs.Set.{distinct_count, is_member, unique_keys}
+use Rattle.std.specs.Set.{distinct_count}
 use Rattle.std.specs.Str.{bytes_eq}
 use Rattle.std.specs.Ordering.{nat_cmp, is_eq, eq_by_cmp}
 use Rattle.std.specs.Cmp.{eq_by_cmp_equiv}
@@ -66,7 +64,7 @@ users-values [] = refl
 users-values (e ∷ es) = ap (λ l. e.1.user ∷ l) (users-values es)
 
 -- the count of different users, by a map's values
-user_count-by_text : (m : BTreeMap (String Global) Seen) → IsOrdered string_cmp m → user_count (by_text m) ≡ distinct_count bytes_eq (map (λ (s : Seen). s.user) (values_of m.entries))
+pub user_count-by_text : (m : BTreeMap (String Global) Seen) → IsOrdered string_cmp m → user_count (by_text m) ≡ distinct_count bytes_eq (map (λ (s : Seen). s.user) (values_of m.entries))
 user_count-by_text m ordered =
     ap (λ es. distinct_count bytes_eq (map (λ (s : Seen). s.user) (map (λ (e : List ℕ × Seen). e.1) es))) (entries-by_text m ordered) ∙ ap (distinct_count bytes_eq) (users-values m.entries)
 
@@ -75,35 +73,6 @@ user_count-empty = ap (λ es. distinct_count bytes_eq (map (λ (s : Seen). s.use
 
 pub users_of-empty : users_of fin.empty ≡ fin.empty
 users_of-empty = ap (λ es. fin.from_entries {R = slice_cmp nat_cmp} (map (λ (e : List ℕ × Seen). (e.0, e.1.user)) es)) entries-empty
-
-pub list_any-map : (t : List ℕ → Bool) (ss : List Seen) → list_any t (map (λ (s : Seen). s.user) ss) ≡ list_any (λ s. t s.user) ss
-list_any-map t [] = refl
-list_any-map t (s ∷ ss) = ap (λ b. t s.user || b) (list_any-map t ss)
-
--- one more client counts where none behind it is of its user
-count_of_one : (s : Seen) (ss : List Seen) → distinct_count bytes_eq (map (λ (x : Seen). x.user) (s ∷ ss))
-    ≡ (if is_member bytes_eq (map (λ (x : Seen). x.user) ss) s.user then 0 else 1) + distinct_count bytes_eq (map (λ (x : Seen). x.user) ss)
-count_of_one s ss = elim (is_member bytes_eq (map (λ (x : Seen). x.user) ss) s.user) as (λ b.
-    length (cond b (unique_keys bytes_eq (map (λ (x : Seen). x.user) ss)) (s.user ∷ unique_keys bytes_eq (map (λ (x : Seen). x.user) ss)))
-    ≡ (if b then 0 else 1) + length (unique_keys bytes_eq (map (λ (x : Seen). x.user) ss))) [ true ↦ omega arith | false ↦ omega arith ]
-
--- what is left behind the first
-behind : (n : ℕ) (xs : List Seen) (x : Seen) (rest : List Seen) → x ∷ rest ≡ drop n xs → rest ≡ drop (n + 1) xs
-behind n xs x rest h = ap (drop 1) h ∙ drop-drop 1 n xs
-
--- a client that is passed
-pub passes_one : (all rest new : List Seen) (s : Seen) (user : List ℕ) (passed count total : ℕ) (found : Bool)
-    → rest ≡ s ∷ new → rest ≡ drop passed all → user ≡ s.user → found ≡ is_member bytes_eq (map (λ (x : Seen). x.user) (drop (passed + 1) all)) user
-    → count + distinct_count bytes_eq (map (λ (x : Seen). x.user) rest) ≡ total
-    → (new ≡ drop (passed + 1) all) × (count + (if found then 0 else 1) + distinct_count bytes_eq (map (λ (x : Seen). x.user) new) ≡ total)
-passes_one all rest new s user passed count total found first at same test sum =
-    let later : new ≡ drop (passed + 1) all = behind passed all s new (sym first ∙ at) in
-    let is : found ≡ is_member bytes_eq (map (λ (x : Seen). x.user) new) s.user =
-    test ∙ (λ i. is_member bytes_eq (map (λ (x : Seen). x.user) (sym later i)) (same i)) in
-    let one : distinct_count bytes_eq (map (λ (x : Seen). x.user) rest) ≡ (if found then 0 else 1) + distinct_count bytes_eq (map (λ (x : Seen). x.user) new) =
-    ap (λ ss. distinct_count bytes_eq (map (λ (x : Seen). x.user) ss)) first ∙ count_of_one s new
-    ∙ ap (λ b. (if b then 0 else 1) + distinct_count bytes_eq (map (λ (x : Seen). x.user) new)) (sym is) in
-    (later, omega (arith, one, sum))
 
 told_after : (users more : BTreeMap (String Global) (String Global)) (k : List ℕ) (v : String Global) → SetsAt users more k (Some v) → (q : List ℕ) → told more q ≡ update bytes_eq (told users) k (Some (string_bytes v)) q
 told_after users more k v h q =
@@ -122,11 +91,3 @@ lists_one users more e v rest new all first sets user stood =
 pub lists_all : (m : BTreeMap (String Global) Seen) (users : BTreeMap (String Global) (String Global)) (rest : List (String Global × Seen)) → IsOrdered string_cmp m → rest ≡ []
     → update_all bytes_eq (told users) (pairs rest) ≡ update_all bytes_eq (λ _. None) (pairs m.entries) → shown_users users ≡ users_of (by_text m)
 lists_all m users rest ordered none stood = listed m users ordered (sym (ap (λ es. update_all bytes_eq (told users) (pairs es)) none) ∙ stood)
-
--- a count for which no client is still to come
-pub counts_all : (m : BTreeMap (String Global) Seen) (rest : List Seen) (count : ℕ) → IsOrdered string_cmp m → rest ≡ []
-    → count + distinct_count bytes_eq (map (λ (x : Seen). x.user) rest) ≡ distinct_count bytes_eq (map (λ (x : Seen). x.user) (values_of m.entries)) → count ≡ user_count (by_text m)
-counts_all m rest count ordered none sum =
-    let left : distinct_count bytes_eq (map (λ (x : Seen). x.user) rest) ≡ 0 = ap (λ ss. distinct_count bytes_eq (map (λ (x : Seen). x.user) ss)) none in
-    let counted : count ≡ distinct_count bytes_eq (map (λ (x : Seen). x.user) (values_of m.entries)) = omega (arith, left, sum) in
-    counted ∙ sym (user_count-by_text m ordered)

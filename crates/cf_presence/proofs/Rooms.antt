@@ -1,6 +1,6 @@
 -- A channel's clients, of whom there may be none.
-use Rattle.std.proofs.Common.{◌≡◌, ℕ, List, [], ◌∷◌, Bool, true, false, cond, Some, None, Option, refl, sym, ap, ◌∙◌, length, suc, arith, BTreeMap, String, Global, string_bytes}
-use Rattle.std.specs.Prelude.{◌==◌, ◌↔◌, IsTrue, if◌then◌else◌, unwrap_or}
+use Rattle.std.proofs.Common.{◌≡◌, ℕ, List, [], ◌∷◌, Bool, true, false, cond, Some, None, Option, refl, sym, ap, subst, ◌∙◌, length, suc, arith, BTreeMap, String, Global, string_bytes}
+use Rattle.std.specs.Prelude.{IsSomeAnd, ◌==◌, ◌↔◌, IsTrue, if◌then◌else◌, unwrap_or}
 use Rattle.std.specs.Ordering.{nat_cmp}
 use Rattle.std.specs.Cmp.Lexicographic.{slice_cmp, nat_list_cmp_total}
 use Rattle.std.specs.Ordering.{is_eq}
@@ -10,7 +10,7 @@ use Rattle.std.specs.BTreeMap.{IsOrdered, get_by_text}
 use Rattle.std.specs.Str.{bytes_eq}
 use Rattle.std.specs.FinMap as fin
 use Rattle.std.proofs.lemmas.Slice.Eq.{bytes_eq-Decides}
-use Rattle.cf_presence.specs.Presence.{Clients, put_at}
+use Rattle.cf_presence.specs.Presence.{Clients, Seen, IsThere, put_at}
 use Rattle.cf_presence.specs.Maps.{by_text, SetsAt, if_any}
 use Rattle.cf_presence.proofs.Texts.{by_bytes, sets, removes, entries-by_text}
 
@@ -44,7 +44,7 @@ puts m n bs r = elim (fin.len r == 0) as (λ b. SetsAt m n bs (if b then None el
   | false ↦ sets m n bs r
 ]
 
-length-by_bytes : {X : Type 0} (es : List (String Global × X)) → length (by_bytes es) ≡ length es
+pub length-by_bytes : {X : Type 0} (es : List (String Global × X)) → length (by_bytes es) ≡ length es
 length-by_bytes [] = refl
 length-by_bytes (e ∷ es) = ap (λ n. suc n) (length-by_bytes es)
 
@@ -75,3 +75,8 @@ none_stays {X = X} m n bs same none q =
       | false ↦ λ e. same q
     ] in
     cases (bytes_eq bs q) refl
+
+-- in a channel without clients nobody is there
+pub nobody_there : (o : Option Clients) (client user : List ℕ) → o ≡ None → IsThere (unwrap_or o fin.empty) client user → ⊥
+nobody_there o client user none h =
+    subst (λ (o : Option Seen). IsSomeAnd o (λ s. s.user ≡ user)) (ap (λ (o : Option Clients). fin.get (unwrap_or o fin.empty) client) none ∙ fin.get-empty (slice_cmp nat_cmp) client) h

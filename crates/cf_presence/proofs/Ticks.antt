@@ -34,7 +34,7 @@ map_filter_same_pairs {K = K} {X = X} T g p f each (e ∷ es) kept h =
     h.6 ∙ (λ i. cond {A = List (K × X)} (one.0 i) ((e.0, one.1 i) ∷ rest i) (rest i)) ∙ step (p e.1)
 
 module _ {X : Type 0} where
-  lookup-by_bytes : (q : List ℕ) (es : List (String Global × X)) → lookup (is_at (λ k. slice_cmp nat_cmp q (string_bytes k))) es ≡ lookup (eq_by_cmp (slice_cmp nat_cmp) q) (by_bytes es)
+  pub lookup-by_bytes : (q : List ℕ) (es : List (String Global × X)) → lookup (is_at (λ k. slice_cmp nat_cmp q (string_bytes k))) es ≡ lookup (eq_by_cmp (slice_cmp nat_cmp) q) (by_bytes es)
   lookup-by_bytes q [] = refl
   lookup-by_bytes q (e ∷ es) = ap (cond (is_eq (slice_cmp nat_cmp q (string_bytes e.0))) (Some e.1)) (lookup-by_bytes q es)
 

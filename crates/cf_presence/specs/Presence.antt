@@ -1,6 +1,6 @@
 -- Who is there: for each channel, a map from client id to the client's user and the moment of its last enter.
 -- Source: Centrifugo, presence; that an entry goes after 60 seconds is this project's own profile.
-use Rattle.std.specs.Prelude.{ℕ, ◌+◌, ◌==◌, List, map, filter, Bool, not, nat_le, refl, if◌then◌else◌, unwrap_or}
+use Rattle.std.specs.Prelude.{◌≡◌, IsSomeAnd, ℕ, ◌+◌, ◌==◌, List, map, filter, Bool, not, nat_le, refl, if◌then◌else◌, unwrap_or}
 use Rattle.std.specs.Coded.{Coded, code_by, coded×, coded_list, coded_ℕ}
 use Rattle.std.specs.Ordering.{nat_cmp}
 use Rattle.std.specs.Cmp.Lexicographic.{slice_cmp}
@@ -33,6 +33,10 @@ coded_channels = fin.code (coded_list coded_ℕ) coded_clients
 -- the clients that are there in a channel
 abbrev pub clients_of : Channels → List ℕ → Clients
 clients_of p c = unwrap_or (fin.get p c) fin.empty
+
+-- a client is there under this user
+abbrev pub IsThere : Clients → (client user : List ℕ) → Type 0
+IsThere m client user = IsSomeAnd (fin.get m client) (λ s. s.user ≡ user)
 
 -- a client enters a channel at a moment, again or for the first time
 abbrev pub entered : Channels → List ℕ → List ℕ → List ℕ → ℕ → Channels

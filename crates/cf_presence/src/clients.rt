@@ -1,14 +1,17 @@
 //! The clients that are there in one channel.
-ghost use Rattle.std.specs.Prelude.{◌≡◌, ◌↔◌, ◌==◌, IfOk, OnOk, OnErr, IsTrue, not, List, ℕ, drop};
-ghost use Rattle.std.specs.Prelude as list;
+ghost use Rattle.std.specs.Prelude.{◌≡◌, ◌==◌, Ok, IfOk, OnOk, OnErr, IsTrue, IsFalse, IsSomeAnd, Some, not, List, ℕ};
+ghost use Rattle.std.specs.BTreeMap.{get_by_text};
 ghost use Rattle.std.specs.Map.{values_of};
-ghost use Rattle.std.specs.Set.{is_member};
 ghost use Rattle.std.specs.Str.{bytes_eq};
 ghost use Rattle.std.specs.FinMap as fin;
 ghost use Rattle.cf_protocol.specs.Shown.{shown_users};
-ghost use Rattle.cf_presence.specs.Presence.{stays, still, users_of, user_count};
+ghost use Rattle.cf_presence.specs.Maps.{SetsAt};
+ghost use Rattle.cf_presence.specs.Presence.{stays, still, users_of, user_count, IsThere};
+ghost use Rattle.cf_presence.specs.UserCounts.{clients_with};
 
+use crate::presence::Stats;
 use crate::refusal::PresenceRefusal;
+use crate::users::{add_user, drop_gone, drop_user};
 use std::alloc::Global;
 use std::collections::BTreeMap;
 use std::marker::Model;
@@ -36,10 +39,16 @@ impl Model for Entry {
 
 impl Entry {
     /// Whether the entry still stands at a moment.
-    fn stands(&self, now: u64) -> bool
+    pub(crate) fn stands(&self, now: u64) -> bool
         ensures { result ≡ stays now self.now }
     {
         now < self.at || now - self.at < ENTRY_SECONDS
+    }
+
+    pub(crate) fn user(&self) -> &str
+        ensures { result.now ≡ self.now.user }
+    {
+        self.user.as_str()
     }
 
     /// Whether the client is of this user.
@@ -50,22 +59,26 @@ impl Entry {
     }
 }
 
-/// The clients of one channel, by their ids.
+/// The clients of one channel, by their ids, and how many of them each user has.
 #[derive(Drop)]
 pub(crate) struct ChannelClients {
     map: BTreeMap<String, Entry>,
+    users: BTreeMap<String, u64>,
     alloc: Global,
 }
 
 impl Model for ChannelClients {
     ghost use Rattle.cf_presence.specs.Presence.{Clients, coded_clients};
     ghost use Rattle.cf_presence.specs.Maps.{by_text};
+    ghost use Rattle.cf_presence.specs.UserCounts.{CountsUsers};
 
     ghost Value = { Clients };
 
     ghost coded = { coded_clients };
 
     ghost view = { λ c. by_text c.map };
+
+    ghost invariant = { λ c. CountsUsers c.users c.map };
 }
 
 impl ChannelClients {
@@ -75,11 +88,12 @@ impl ChannelClients {
     {
         ChannelClients {
             map: BTreeMap::new(alloc),
+            users: BTreeMap::new(alloc),
             alloc,
         }
     }
 
-    /// A client enters at a moment, again or for the first time.
+    /// A client enters at a moment, again or for the first time. Again under the same user it takes no memory.
     pub(crate) fn enter(
         &mut self,
         client: &str,
@@ -88,21 +102,37 @@ impl ChannelClients {
     ) -> Result<(), PresenceRefusal>
         ensures ok { OnOk result (self.new ≡ fin.insert self.old client.now (record { user = user.now; at = now })) }
         ensures err { OnErr result (self.new ≡ self.old) }
+        ensures again { IsThere self.old client.now user.now → result ≡ Ok tt }
     {
+        if renew(&mut self.map, client, user, now) {
+            return Ok(());
+        }
         let entry = Entry {
             user: String::from_str(self.alloc, user)?,
             at: now,
         };
         let key = String::from_str(self.alloc, client)?;
-        self.map.insert(key, entry)?;
-        Ok(())
+        add_user(&mut self.users, self.alloc, user)?;
+        match self.map.insert(key, entry) {
+            Ok(None) => Ok(()),
+            Ok(Some(before)) => {
+                drop_user(&mut self.users, before.user());
+                Ok(())
+            }
+            Err(_) => {
+                drop_user(&mut self.users, user);
+                Err(PresenceRefusal::Memory)
+            }
+        }
     }
 
     /// A client leaves, if it is there.
     pub(crate) fn leave(&mut self, client: &str)
         ensures { self.new ≡ fin.remove self.old client.now }
     {
-        self.map.remove(client);
+        if let Some(entry) = self.map.remove(client) {
+            drop_user(&mut self.users, entry.user());
+        }
     }
 
     /// Whether nobody is there.
@@ -117,6 +147,7 @@ impl ChannelClients {
         ensures left { self.new ≡ still now self.old }
         ensures any { result ≡ not (fin.len (still now self.old) == 0) }
     {
+        drop_gone(&mut self.users, &self.map, now);
         self.map.retain(|_client, entry| { entry.stands(now) });
         !self.map.is_empty()
     }
@@ -134,33 +165,32 @@ impl ChannelClients {
         Ok(users)
     }
 
-    /// How many clients there are.
-    pub(crate) fn count(&self) -> u64
-        ensures { result ≡ fin.len self.now }
+    /// How many clients there are, and how many different users.
+    pub(crate) fn stats(&self) -> Stats
+        ensures clients { result.clients ≡ fin.len self.now }
+        ensures users { result.users ≡ user_count self.now }
     {
-        self.map.len() as u64
-    }
-
-    /// How many different users there are.
-    pub(crate) fn users(&self) -> u64
-        ensures { result ≡ user_count self.now }
-    {
-        let mut count = 0;
-        let mut passed = 0;
-        let mut rest = self.map.values();
-        while let Some(entry) = rest.next() {
-            passed += 1;
-            if !has_user_after(&self.map, passed, entry.user.as_str()) {
-                count += 1;
-            }
+        Stats {
+            clients: self.map.len() as u64,
+            users: self.users.len() as u64,
         }
-        count
     }
 }
 
-/// Whether an entry behind so many others is of this user.
-fn has_user_after(map: &BTreeMap<String, Entry>, passed: usize, user: &str) -> bool
-    ensures { result ≡ is_member bytes_eq (list.map (λ s. s.user) (drop passed (values_of map.now.entries))) user.now }
+/// Sets the moment of a client that is there under this user, if it is. It takes no memory.
+#[tactic(auto, using(std::proofs::lemmas::Map::Text::text_keys))]
+fn renew(map: &mut BTreeMap<String, Entry>, client: &str, user: &str, now: u64) -> bool
+    ensures renewed { IsTrue result → SetsAt map.old map.new client.now (Some (record { user = user.now; at = now })) }
+    ensures users { (u : List ℕ) → clients_with u (values_of map.new.entries) ≡ clients_with u (values_of map.old.entries) }
+    ensures same { IsFalse result → map.new.entries ≡ map.old.entries }
+    ensures there { IsSomeAnd (get_by_text map.old client.now) (λ s. s.user ≡ user.now) → IsTrue result }
 {
-    map.values().skip(passed).any(|entry| { entry.is_of(user) })
+    let Some(entry) = map.get_mut(client) else {
+        return false;
+    };
+    if !entry.is_of(user) {
+        return false;
+    }
+    entry.at = now;
+    true
 }

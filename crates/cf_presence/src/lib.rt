@@ -8,6 +8,7 @@ mod presence;
 mod refusal;
 #[cfg(test)]
 mod tests;
+mod users;
 
 pub use clients::ENTRY_SECONDS;
 pub use presence::{Presence, Stats};

@@ -1,9 +1,9 @@
 //! The clients that are there in each channel.
-ghost use Rattle.std.specs.Prelude.{◌≡◌, ◌≢◌, IfOk, OnOk, OnErr, unwrap_or, Some, List, ℕ};
+ghost use Rattle.std.specs.Prelude.{◌≡◌, ◌≢◌, Ok, IfOk, OnOk, OnErr, unwrap_or, Some, List, ℕ};
 ghost use Rattle.std.specs.BTreeMap.{get_by_text};
 ghost use Rattle.std.specs.FinMap as fin;
 ghost use Rattle.cf_protocol.specs.Shown.{shown_users};
-ghost use Rattle.cf_presence.specs.Presence.{clients_of, entered, left, still, users_of, user_count};
+ghost use Rattle.cf_presence.specs.Presence.{IsThere, clients_of, entered, left, still, users_of, user_count};
 ghost use Rattle.cf_presence.specs.Maps.{SetsAt, if_any, after_tick};
 
 use crate::clients::ChannelClients;
@@ -48,8 +48,8 @@ impl Presence {
         }
     }
 
-    /// A client of a user enters a channel at a moment in seconds. Where it is there already, its user and moment are set anew.
-    /// `Memory` where a growth was refused.
+    /// A client of a user enters a channel at a moment in seconds. Where it is there already, its user and moment are set anew;
+    /// under the same user that takes no memory, and is never refused. `Memory` where a growth was refused.
     pub fn enter(
         &mut self,
         channel: &str,
@@ -59,6 +59,7 @@ impl Presence {
     ) -> Result<(), PresenceRefusal>
         ensures ok { OnOk result (self.new ≡ entered self.old channel.now client.now user.now now) }
         ensures err { OnErr result (self.new ≡ self.old) }
+        ensures again { IsThere (clients_of self.old channel.now) client.now user.now → result ≡ Ok tt }
     {
         enter_in(&mut self.map, self.alloc, channel, client, user, now)
     }
@@ -80,7 +81,7 @@ impl Presence {
         }
     }
 
-    /// How many clients are there in a channel, and how many different users. It takes no memory, and time by the square of the clients.
+    /// How many clients are there in a channel, and how many different users. It takes no memory, and looks at no client.
     pub fn stats(&self, channel: &str) -> Stats
         ensures clients { result.clients ≡ fin.len (clients_of self.now channel.now) }
         ensures users { result.users ≡ user_count (clients_of self.now channel.now) }
@@ -90,10 +91,7 @@ impl Presence {
                 clients: 0,
                 users: 0,
             },
-            Some(clients) => Stats {
-                clients: clients.count(),
-                users: clients.users(),
-            },
+            Some(clients) => clients.stats(),
         }
     }
 
@@ -118,6 +116,7 @@ fn enter_in(
 ) -> Result<(), PresenceRefusal>
     ensures ok { OnOk result (SetsAt map.old map.new channel.now (Some (fin.insert (unwrap_or (get_by_text map.old channel.now) fin.empty) client.now (record { user = user.now; at = now })))) }
     ensures err { OnErr result ((q : List ℕ) → get_by_text map.new q ≡ get_by_text map.old q) }
+    ensures again { IsThere (unwrap_or (get_by_text map.old channel.now) fin.empty) client.now user.now → result ≡ Ok tt }
 {
     match map.get_mut(channel) {
         Some(clients) => clients.enter(client, user, now),

@@ -9,3 +9,6 @@ returns-clause-ok c =
 
 pub returns-clause-err : goal.returns-clause-err
 returns-clause-err c = rw (← c.self.view_is) (on_err_weaker c.enter_in.result (λ h. keeps c.self.inside.map c.enter_in.new.map h) c.enter_in.ensures.err)
+
+pub returns-clause-again : goal.returns-clause-again
+returns-clause-again c = rw (← c.self.view_is, get-by_text) c.enter_in.ensures.again

@@ -14,7 +14,7 @@ pub returns-in-None-clause-users : goal.returns-in-None-clause-users
 returns-in-None-clause-users c = rw (← c.self.view_is, get-by_text, ← c.in-None.ensures.value) (sym user_count-empty)
 
 pub returns-in-Some-clause-clients : goal.returns-in-Some-clause-clients
-returns-in-Some-clause-clients c = rw (← c.self.view_is, get-by_text, ← c.in-Some.ensures.value) c.count.ensures
+returns-in-Some-clause-clients c = rw (← c.self.view_is, get-by_text, ← c.in-Some.ensures.value) c.stats.ensures.clients
 
 pub returns-in-Some-clause-users : goal.returns-in-Some-clause-users
-returns-in-Some-clause-users c = rw (← c.self.view_is, get-by_text, ← c.in-Some.ensures.value) c.users.ensures
+returns-in-Some-clause-users c = rw (← c.self.view_is, get-by_text, ← c.in-Some.ensures.value) c.stats.ensures.users
