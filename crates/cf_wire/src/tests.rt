@@ -316,7 +316,7 @@ fn failing_streams(rt: HostRuntime) -> Result<(), Fail> {
             Ok(mut wire) => {
                 let mut desk = Echo::new(rt.alloc());
                 if wire.turn(&mut desk) == TurnEnd::StreamFault {
-                    met = met + 1;
+                    met = met.saturating_add(1);
                     assert_eq!(rt; wire.turn(&mut desk), TurnEnd::StreamFault);
                 }
             }
@@ -376,7 +376,7 @@ fn gathered(rt: HostRuntime) -> Result<(), Fail> {
     let calls = wire.stream().stream().calls;
     assert!(rt; wire.stream_mut().drain().is_ok());
     assert!(rt; wire.stream().is_drained());
-    assert_eq!(rt; wire.stream().stream().calls, calls + 1);
+    assert_eq!(rt; wire.stream().stream().calls, calls.saturating_add(1));
     let mut shared = Vec::new(rt.alloc());
     wire.stream_mut().lend(&mut shared);
     assert!(rt; shared.is_empty());
