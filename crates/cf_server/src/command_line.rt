@@ -15,6 +15,23 @@ pub const DEFAULT_NAMESPACES: &str = "=100,300,phs";
 const SIMULATE: &str =
     "Reads a schedule from standard input, runs it, and prints what each client gets";
 
+const SERVE: &str = "Serves WebSocket clients on 127.0.0.1 until standard input ends";
+
+const SERVE_NOTES: &str = "Each node listens at a port of its own, and says so:
+  node 0 127.0.0.1:8000
+
+A client connects by WebSocket, at any path, and speaks Centrifugo's client protocol in JSON form:
+  {\"id\":1,\"connect\":{}}
+  {\"id\":2,\"subscribe\":{\"channel\":\"news\"}}
+  {\"id\":3,\"publish\":{\"channel\":\"news\",\"data\":\"hello\"}}
+
+--boot is the number of this start of the program. Never use one twice: clients that come back tell by it whether the
+streams are still those that they know.
+
+It ends at the end of standard input (Ctrl-D at a terminal): each client is closed with 3001. To keep it running without
+a terminal, give it an input that does not end:
+  sleep infinity | cf_server serve --boot 7 --port 8000";
+
 const PROGRAM_NOTES: &str = "With no command it is `simulate`.
 
 Exit status: 0 done, 2 unusable words or input, 3 out of memory, 4 input or output failed.";
@@ -37,11 +54,29 @@ What is printed, each by the `take` that brings it:
   X C sub E O fresh  X is subscribed to C, from offset O of epoch E
   X C pub E O DATA   X got the publication of C at offset O of epoch E";
 
+/// What the program is to do.
+#[derive(Clone, Copy, Debug, PartialEq, Eq)]
+pub enum Job<'a> {
+    Simulate(Options<'a>),
+    Serve(ServeOptions<'a>),
+}
+
 /// What `simulate` runs with: how many nodes, and the text of the namespaces.
 #[derive(Clone, Copy, Debug, PartialEq, Eq)]
 pub struct Options<'a> {
     pub nodes: u8,
     pub namespaces: &'a str,
+}
+
+/// What `serve` runs with: the number of this start, how many nodes, the port of the first (0: any that is free), and the
+/// texts of namespaces and tokens.
+#[derive(Clone, Copy, Debug, PartialEq, Eq)]
+pub struct ServeOptions<'a> {
+    pub boot: u64,
+    pub nodes: u8,
+    pub port: u16,
+    pub namespaces: &'a str,
+    pub tokens: &'a str,
 }
 
 // How many nodes there are.
@@ -71,20 +106,60 @@ fn simulate_command<'a>(alloc: Global) -> Result<Command<'a>, AllocError> {
     command.arg(namespaces_option(alloc))
 }
 
+// Which users the tokens stand for.
+fn tokens_option<'a>(alloc: Global) -> Arg<'a> {
+    Arg::new(alloc, "tokens")
+        .long("tokens")
+        .value_name("SPEC")
+        .help("Who connects by which token, as TOKEN=USER parted by `;`")
+        .default_value("")
+}
+
+fn boot_option<'a>(alloc: Global) -> Arg<'a> {
+    Arg::new(alloc, "boot")
+        .long("boot")
+        .value_name("B")
+        .help("The number of this start, 1 to 999999999999999, never used before")
+        .value_parser(value_parser!(u64).range(1..=999_999_999_999_999))
+        .required(true)
+}
+
+fn port_option<'a>(alloc: Global) -> Arg<'a> {
+    Arg::new(alloc, "port")
+        .long("port")
+        .value_name("P")
+        .help("Node i listens at port P + i; 0: each at a port that is free")
+        .value_parser(value_parser!(u16))
+        .default_value("0")
+}
+
+fn serve_command<'a>(alloc: Global) -> Result<Command<'a>, AllocError> {
+    let command = Command::new(alloc, "serve")
+        .about(SERVE)
+        .after_help(SERVE_NOTES);
+    let command = command.arg(boot_option(alloc))?;
+    let command = command.arg(nodes_option(alloc))?;
+    let command = command.arg(port_option(alloc))?;
+    let command = command.arg(namespaces_option(alloc))?;
+    command.arg(tokens_option(alloc))
+}
+
 fn program<'a>(alloc: Global) -> Result<Command<'a>, AllocError> {
     let program = Command::new(alloc, "cf_server")
         .about(ABOUT)
         .after_help(PROGRAM_NOTES);
-    program.subcommand(simulate_command(alloc)?)
+    let program = program.subcommand(simulate_command(alloc)?)?;
+    program.subcommand(serve_command(alloc)?)
 }
 
 /// Reads the program's words. With none but the program's name they ask for `simulate`. An error is what is to be shown:
 /// the help that was asked for, or why the words can't be used.
-pub fn read<'a>(alloc: Global, words: &'a [String]) -> Result<Options<'a>, Error> {
+pub fn read<'a>(alloc: Global, words: &'a [String]) -> Result<Job<'a>, Error> {
     let matches = program(alloc)?.try_get_matches_from(words)?;
     Ok(match matches.subcommand() {
-        Some((_, found)) => options_of(found),
-        None => options_of(&matches),
+        Some(("serve", found)) => Job::Serve(serve_options(found)),
+        Some((_, found)) => Job::Simulate(options_of(found)),
+        None => Job::Simulate(options_of(&matches)),
     })
 }
 
@@ -93,6 +168,16 @@ fn options_of<'a>(found: &ArgMatches<'a>) -> Options<'a> {
     Options {
         nodes: found.get_one::<u8>("nodes").unwrap_or(1),
         namespaces: found.get_str("ns").unwrap_or(DEFAULT_NAMESPACES),
+    }
+}
+
+fn serve_options<'a>(found: &ArgMatches<'a>) -> ServeOptions<'a> {
+    ServeOptions {
+        boot: found.get_one::<u64>("boot").unwrap_or(1),
+        nodes: found.get_one::<u8>("nodes").unwrap_or(1),
+        port: found.get_one::<u16>("port").unwrap_or(0),
+        namespaces: found.get_str("ns").unwrap_or(DEFAULT_NAMESPACES),
+        tokens: found.get_str("tokens").unwrap_or(""),
     }
 }
 

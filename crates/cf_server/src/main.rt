@@ -1,22 +1,29 @@
 //! The program `cf_server`: broadcast nodes that speak Centrifugo's client protocol.
 #![tactic(auto)]
 
+mod boot_epochs;
 mod command_line;
 mod fault;
 mod schedule;
+mod serve;
 mod simulate;
 #[cfg(test)]
 mod tests;
 
 use cf_protocol::read_namespaces;
 use cf_schedule::Config;
-use command_line::Options;
+use command_line::{Job, Options};
 use fault::Fault;
+use serve::serve;
 use simulate::simulate;
 use std::alloc::Global;
 use std::io::{BufWriter, Write};
+use std::net::Net;
 use std::process::ExitCode;
 use std::rt::Env;
+use std::sync::Wait;
+use std::thread::Threads;
+use std::time::Clock;
 use std::{env, io};
 
 // The settings that the options name. A text that sets up no namespaces, and a number of nodes other than 1 to 8, is an
@@ -57,11 +64,18 @@ fn words<R: Env + AllocGlobal>(rt: &R) -> Result<Vec<String>, Fault> {
     Ok(words)
 }
 
-fn program<R: Input + Print + Eprint + Env + AllocGlobal>(rt: &R) -> Result<ExitCode, Fault> {
+fn program<R>(rt: &R) -> Result<ExitCode, Fault>
+where
+    R: Input + Print + Eprint + Env + AllocGlobal + Threads + Wait + Clock + Net + Sync,
+{
     let words = words(rt)?;
     match command_line::read(rt.alloc(), words.as_slice()) {
-        Ok(options) => {
+        Ok(Job::Simulate(options)) => {
             simulate_standard(rt, options)?;
+            Ok(ExitCode::SUCCESS)
+        }
+        Ok(Job::Serve(options)) => {
+            serve(rt, options)?;
             Ok(ExitCode::SUCCESS)
         }
         Err(shown) => command_line::show(rt, &shown),

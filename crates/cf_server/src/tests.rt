@@ -1,7 +1,8 @@
 //! Whole runs of the program, without its process.
 mod runs;
+mod serving;
 
-use crate::command_line::{self, DEFAULT_NAMESPACES, Options};
+use crate::command_line::{self, DEFAULT_NAMESPACES, Job, Options, ServeOptions};
 use crate::config_of;
 use crate::simulate::simulate;
 use std::alloc::Global;
@@ -386,21 +387,32 @@ fn words_of(alloc: Global, line: &str) -> Result<Vec<String>, Fail> {
 fn options(rt: HostRuntime) -> Result<(), Fail> {
     let alloc = rt.alloc();
     let given = words_of(alloc, "cf_server simulate --ns chat=3,300,ph --nodes 8")?;
-    let Ok(options) = command_line::read(alloc, given.as_slice()) else {
-        return Err(Fail::from("these words can be used"));
+    let wanted = Options {
+        nodes: 8,
+        namespaces: "chat=3,300,ph",
     };
-    assert_eq!(rt; options.nodes, 8);
-    assert_eq!(rt; options.namespaces, "chat=3,300,ph");
+    let job = command_line::read(alloc, given.as_slice()).ok();
+    assert_eq!(rt; job, Some(Job::Simulate(wanted)));
     let given = words_of(alloc, "cf_server")?;
-    let Ok(options) = command_line::read(alloc, given.as_slice()) else {
-        return Err(Fail::from("no words are `simulate`"));
+    let job = command_line::read(alloc, given.as_slice()).ok();
+    assert_eq!(rt; job, Some(Job::Simulate(DEFAULTS)));
+    let given = words_of(alloc, "cf_server serve --boot 7 --nodes 2 --tokens t=ann")?;
+    let wanted = ServeOptions {
+        boot: 7,
+        nodes: 2,
+        port: 0,
+        namespaces: DEFAULT_NAMESPACES,
+        tokens: "t=ann",
     };
-    assert_eq!(rt; options.nodes, 1);
-    assert_eq!(rt; options.namespaces, DEFAULT_NAMESPACES);
+    let job = command_line::read(alloc, given.as_slice()).ok();
+    assert_eq!(rt; job, Some(Job::Serve(wanted)));
     for line in [
         "cf_server simulate --nodes 9",
         "cf_server simulate --nodes 0",
         "cf_server --ns =1,1,",
+        "cf_server serve",
+        "cf_server serve --boot 0",
+        "cf_server serve --boot 1 --port 65536",
     ] {
         let given = words_of(alloc, line)?;
         assert!(rt;

@@ -1,0 +1,245 @@
+//! What a session asks for, done on hub and broker.
+use crate::connection::Member;
+use crate::io_loop::Around;
+use cf_broker::{Naming, Refused};
+use cf_hub::HubRefusal;
+use cf_protocol::{ErrorCode, Info, Position};
+use cf_session::{Action, Answer};
+use cf_stream::{Epochs, History};
+use std::alloc::AllocError;
+use std::collections::BTreeMap;
+use std::sync::Wait;
+
+/// The error that a client gets where the broker refuses.
+fn broker_error(refused: Refused) -> ErrorCode {
+    match refused {
+        Refused::AtLastOffset => ErrorCode::LimitExceeded,
+        Refused::WrongEpoch => ErrorCode::UnrecoverablePosition,
+        Refused::NoEpoch => ErrorCode::Internal,
+        Refused::Memory => ErrorCode::Internal,
+    }
+}
+
+/// The error that a client gets where the hub refuses.
+fn hub_error(refusal: HubRefusal) -> ErrorCode {
+    match refusal {
+        HubRefusal::NoSession => ErrorCode::Internal,
+        HubRefusal::Already => ErrorCode::AlreadySubscribed,
+        HubRefusal::TooMany => ErrorCode::LimitExceeded,
+        HubRefusal::Memory => ErrorCode::Internal,
+    }
+}
+
+impl<'a, R: Wait, N: Naming, E: Epochs + Drop> Around<'a, R, N, E> {
+    /// Does what a session asks for at a moment, and answers it, where it is a call.
+    pub(crate) fn carry_out(
+        &self,
+        member: &mut Member,
+        action: Action,
+        now: u64,
+    ) -> Option<Answer> {
+        match action {
+            Action::Attach { user } => Some(Answer::Attach(self.attach(member, user, now))),
+            Action::Begin { channel, id, since } => {
+                Some(Answer::Begin(self.begin(member, channel.as_str(), id, since)))
+            }
+            Action::Read { channel, since } => {
+                Some(Answer::Read(self.read(member, channel.as_str(), since, now)))
+            }
+            Action::Finish { channel } => {
+                self.finish(member, channel, now);
+                Some(Answer::Finish)
+            }
+            Action::Leave { channel } => {
+                self.leave(member, channel.as_str());
+                Some(Answer::Leave)
+            }
+            Action::Publish {
+                channel,
+                body,
+                info,
+            } => Some(Answer::Publish(self.publish(channel.as_str(), body, info, now))),
+            Action::History {
+                channel,
+                limit,
+                since,
+            } => Some(Answer::History(self.history(channel.as_str(), limit, since, now))),
+            Action::Presence { channel } => Some(Answer::Presence(self.presence(channel.as_str()))),
+            Action::Stats { channel } => {
+                Some(Answer::Stats(self.broker.stats(self.rt, channel.as_str())))
+            }
+            Action::Say(text) => {
+                self.say(member, text);
+                None
+            }
+            Action::Pong => {
+                self.pong(member);
+                None
+            }
+            Action::Close(code) => {
+                self.close(member, code.code());
+                None
+            }
+        }
+    }
+
+    fn attach(&self, member: &mut Member, user: String, now: u64) -> Result<String, ErrorCode> {
+        let Ok(kept) = user.clone() else {
+            return Err(ErrorCode::Internal);
+        };
+        let mut hub = self.shared.hub.lock(self.rt);
+        let number = match hub.attach(user, now) {
+            Ok(number) => number,
+            Err(refusal) => return Err(hub_error(refusal)),
+        };
+        member.number = Some(number);
+        member.user = kept;
+        let client = hub.client_id(number).unwrap_or("");
+        match self.two_of(client) {
+            Ok((kept, given)) => {
+                member.client = kept;
+                Ok(given)
+            }
+            Err(_) => Err(ErrorCode::Internal),
+        }
+    }
+
+    fn two_of(&self, text: &str) -> Result<(String, String), AllocError> {
+        let one = String::from_str(self.alloc, text)?;
+        let other = String::from_str(self.alloc, text)?;
+        Ok((one, other))
+    }
+
+    fn begin(
+        &self,
+        member: &mut Member,
+        channel: &str,
+        id: u32,
+        since: Option<Position>,
+    ) -> Result<(), ErrorCode> {
+        let Some(number) = member.number else {
+            return Err(ErrorCode::Internal);
+        };
+        // Room for the channel at which the client will be present.
+        if member.channels.reserve(1).is_err() {
+            return Err(ErrorCode::Internal);
+        }
+        match self
+            .shared
+            .hub
+            .lock(self.rt)
+            .begin(number, channel, id, since)
+        {
+            Ok(()) => Ok(()),
+            Err(refusal) => Err(hub_error(refusal)),
+        }
+    }
+
+    fn read(
+        &self,
+        member: &Member,
+        channel: &str,
+        since: Option<Position>,
+        now: u64,
+    ) -> Result<(), ErrorCode> {
+        let Some(number) = member.number else {
+            return Err(ErrorCode::Internal);
+        };
+        if self.setup.namespaces.find(channel).is_none() {
+            return Err(ErrorCode::UnknownChannel);
+        }
+        match self.broker.read(self.rt, channel, since, now) {
+            Ok(recovery) => {
+                self.shared
+                    .hub
+                    .lock(self.rt)
+                    .read_done(number, channel, recovery);
+                Ok(())
+            }
+            Err(refused) => Err(broker_error(refused)),
+        }
+    }
+
+    // The subscription is finished, and where it stands then, its client is present.
+    fn finish(&self, member: &mut Member, channel: String, now: u64) {
+        let Some(number) = member.number else {
+            return;
+        };
+        let mut hub = self.shared.hub.lock(self.rt);
+        hub.finish(number, channel.as_str());
+        let stands = hub.is_on(number, channel.as_str());
+        drop(hub);
+        if stands {
+            self.enter(member, channel.as_str(), now);
+            member.add(channel);
+        }
+    }
+
+    fn leave(&self, member: &mut Member, channel: &str) {
+        if let Some(number) = member.number {
+            self.shared.hub.lock(self.rt).leave(number, channel);
+        }
+        self.broker
+            .leave(self.rt, channel, member.client.as_str());
+        member.remove(channel);
+    }
+
+    fn publish(
+        &self,
+        channel: &str,
+        body: String,
+        info: Info,
+        now: u64,
+    ) -> Result<(), ErrorCode> {
+        if self.setup.namespaces.find(channel).is_none() {
+            return Err(ErrorCode::UnknownChannel);
+        }
+        match self.broker.publish(self.rt, channel, body, Some(info), now) {
+            Ok(_) => Ok(()),
+            Err(refused) => Err(broker_error(refused)),
+        }
+    }
+
+    fn history(
+        &self,
+        channel: &str,
+        limit: i32,
+        since: Option<Position>,
+        now: u64,
+    ) -> Result<History, ErrorCode> {
+        if self.setup.namespaces.find(channel).is_none() {
+            return Err(ErrorCode::UnknownChannel);
+        }
+        match self.broker.history(self.rt, channel, since, limit, now) {
+            Ok(history) => Ok(history),
+            Err(refused) => Err(broker_error(refused)),
+        }
+    }
+
+    fn presence(&self, channel: &str) -> Result<BTreeMap<String, String>, ErrorCode> {
+        match self.broker.list(self.rt, channel) {
+            Ok(clients) => Ok(clients),
+            Err(refused) => Err(broker_error(refused)),
+        }
+    }
+
+    fn say(&self, member: &Member, text: String) {
+        if let Some(number) = member.number {
+            self.shared.hub.lock(self.rt).say(number, text);
+        }
+    }
+
+    fn pong(&self, member: &Member) {
+        if let Some(number) = member.number {
+            self.shared.hub.lock(self.rt).pong(number);
+        }
+    }
+
+    // A session that isn't attached has no queue: its close is sent as it is.
+    fn close(&self, member: &mut Member, code: u16) {
+        match member.number {
+            Some(number) => self.shared.hub.lock(self.rt).close(number, code),
+            None => member.refused = Some(code),
+        }
+    }
+}

@@ -1,0 +1,132 @@
+//! One connection: a socket whose head is collected, and then a wire and its session.
+use crate::desk::SessionDesk;
+use crate::socket::Socket;
+use cf_broker::Naming;
+use cf_stream::Epochs;
+use cf_wire::{Gather, Wire};
+use mio::net::TcpStream;
+use std::alloc::Global;
+use std::collections::VecDeque;
+use std::io;
+use std::io::{ErrorKind, Read};
+use std::sync::Wait;
+
+/// The most bytes that a head may have.
+const LONGEST_HEAD: usize = 16_384;
+
+/// What stands at one place of the IO loop.
+#[derive(Drop)]
+pub(crate) enum Connection<'a, R: Wait, N: Naming, E: Epochs + Drop> {
+    Empty,
+    /// The head has not come whole.
+    Head(Head),
+    Open(Box<Open<'a, R, N, E>>),
+}
+
+/// A socket, and what came of its head.
+#[derive(Drop)]
+pub(crate) struct Head {
+    pub(crate) socket: Socket,
+    bytes: Vec<u8>,
+}
+
+/// A connection that speaks: its wire, and the desk at which its session sits.
+#[derive(Drop)]
+pub(crate) struct Open<'a, R: Wait, N: Naming, E: Epochs + Drop> {
+    pub(crate) wire: Wire<Gather<Socket>>,
+    pub(crate) desk: SessionDesk<'a, R, N, E>,
+}
+
+/// What the node keeps of a client.
+#[derive(Drop)]
+pub(crate) struct Member {
+    /// The number of its session in the hub, once it is attached.
+    pub(crate) number: Option<u32>,
+    pub(crate) user: String,
+    pub(crate) client: String,
+    /// The code of a close before it was attached.
+    pub(crate) refused: Option<u16>,
+    /// The channels in which it is present, each once.
+    pub(crate) channels: VecDeque<String>,
+    /// When its presence and positions were looked after last, in seconds.
+    pub(crate) looked: u64,
+}
+
+impl Head {
+    pub(crate) fn new(alloc: Global, stream: TcpStream) -> Head {
+        Head {
+            socket: Socket::new(alloc, stream),
+            bytes: Vec::new(alloc),
+        }
+    }
+
+    /// Reads on. Whether the head is whole; an error where the connection is over, or the head too long.
+    pub(crate) fn read_on(&mut self) -> io::Result<bool> {
+        let mut chunk = [0u8; 1024];
+        for _ in 0..LONGEST_HEAD {
+            let count = match self.socket.read(&mut chunk) {
+                Ok(count) => count,
+                Err(error) if error.kind() == ErrorKind::WouldBlock => return Ok(false),
+                Err(error) => return Err(error),
+            };
+            if count == 0 {
+                return Err(io::Error::from(ErrorKind::UnexpectedEof));
+            }
+            let known = self.bytes.len().saturating_sub(3);
+            self.bytes.extend_from_slice(chunk.get(..count).unwrap_or(&[]))?;
+            if has_blank_line(self.bytes.get(known..).unwrap_or(&[])) {
+                return Ok(true);
+            }
+            if self.bytes.len() >= LONGEST_HEAD {
+                return Err(io::Error::from(ErrorKind::InvalidData));
+            }
+        }
+        Ok(false)
+    }
+
+    /// The socket, whose next reads give the head and what came behind it.
+    pub(crate) fn into_socket(self) -> Socket {
+        let Head { mut socket, bytes } = self;
+        socket.give_first(bytes);
+        socket
+    }
+}
+
+fn has_blank_line(bytes: &[u8]) -> bool {
+    bytes
+        .windows(4)
+        .any(|part| part == b"\r\n\r\n".as_slice())
+}
+
+impl<'a, R: Wait, N: Naming, E: Epochs + Drop> Open<'a, R, N, E> {
+    /// Whether what is taken for it can be sent at once.
+    pub(crate) fn takes_more(&self) -> bool {
+        self.desk.taken.is_empty() && !self.wire.is_unflushed() && self.wire.stream().is_drained()
+    }
+}
+
+impl Member {
+    /// Nobody yet, at this moment.
+    pub(crate) fn new(alloc: Global, now: u64) -> Member {
+        Member {
+            number: None,
+            user: String::new(alloc),
+            client: String::new(alloc),
+            refused: None,
+            channels: VecDeque::new(alloc),
+            looked: now,
+        }
+    }
+
+    /// The client is present in one channel more. Where memory is refused, it isn't noted, and its presence ends by itself.
+    pub(crate) fn add(&mut self, channel: String) {
+        if !self.channels.iter().any(|one| one.as_str() == channel.as_str()) {
+            let _ = self.channels.push_back(channel);
+        }
+    }
+
+    /// The client is present in a channel no more.
+    pub(crate) fn remove(&mut self, channel: &str) {
+        self.channels.retain(|one| one.as_str() != channel);
+    }
+}

@@ -1,0 +1,453 @@
+//! The worker that serves the sockets: it turns a connection that has something to read or something to send, and no other.
+ghost use Rattle.std.specs.Prelude.{◌≡◌};
+
+use crate::connection::{Connection, Head, Open};
+use crate::desk::{SessionDesk, take_some};
+use crate::gate::{Gate, IO_LOOP};
+use crate::node::{LISTENER, Setup, WAKER};
+use crate::shared::Shared;
+use crate::socket::Socket;
+use cf_broker::{Broker, Naming};
+use cf_wire::{Gather, TurnEnd, Wire};
+use cf_stream::Epochs;
+use mio::net::TcpListener;
+use mio::{Events, Interest, Poll, Token};
+use std::alloc::{AllocError, Global};
+use std::collections::VecDeque;
+use std::io;
+use std::io::ErrorKind;
+use std::mem;
+use std::sync::Wait;
+use std::sync::atomic::{AtomicU64, Ordering};
+use std::thread;
+use std::time::{Clock, Duration};
+
+/// For so many sessions what waits is taken under one lock of the hub.
+const SESSIONS_AT_ONCE: usize = 64;
+
+/// The most connections accepted at one turn.
+const MOST_ACCEPTED: usize = 4096;
+
+/// So many bytes are gathered before they are written within a turn.
+const GATHERED: usize = 65_536;
+
+/// The most turns of one wire in a row.
+const MOST_TURNS: usize = 16;
+
+/// The most times that sessions are asked for in one turn of the loop.
+const MOST_BATCHES: usize = 1024;
+
+/// How long the loop waits for readiness where nothing is left to do, in milliseconds, so that it sees each new second.
+const PATIENCE: u64 = 1000;
+
+/// The close of a program that ends.
+const SHUTDOWN: u16 = 3001;
+
+/// What a node's connections are served with.
+#[derive(Drop)]
+pub(crate) struct Around<'a, R, N: Naming, E: Epochs + Drop> {
+    pub(crate) rt: &'a R,
+    pub(crate) alloc: Global,
+    pub(crate) setup: Setup<'a>,
+    pub(crate) shared: &'a Shared,
+    pub(crate) broker: &'a Broker<N, E>,
+    // The namespaces are those of the broker.
+    ghost named: { setup.namespaces.now ≡ N.namespaces },
+}
+
+#[derive(Drop)]
+struct IoLoop<'a, R: Wait, N: Naming, E: Epochs + Drop> {
+    around: &'a Around<'a, R, N, E>,
+    places: Vec<Connection<'a, R, N, E>>,
+    // The places that stand empty.
+    free: Vec<usize>,
+    // At which place each session of the hub is.
+    owners: Vec<usize>,
+    // The places for which something waits in the hub, beside those that the hub names.
+    owed: VecDeque<usize>,
+    // A buffer for what one turn sends, so that idle connections keep none.
+    buffer: Vec<u8>,
+    // Connections wait to be accepted that could not be.
+    behind: bool,
+    now: u64,
+}
+
+/// Serves until `stop` isn't 0, and then closes all sessions with 3001.
+pub(crate) fn serve<'a, R: Wait + Clock, N: Naming, E: Epochs + Drop, G: Gate>(
+    around: &'a Around<'a, R, N, E>,
+    mut poll: Poll,
+    listener: TcpListener,
+    gate: &G,
+    stop: &AtomicU64,
+) -> io::Result<()> {
+    let rt = around.rt;
+    let mut events = Events::with_capacity(around.alloc, 512)?;
+    let mut io_loop = IoLoop::new(around);
+    let mut turn: u64 = 0;
+    for _ in rt.forever() {
+        if stop.load(Ordering::SeqCst) != 0 {
+            break;
+        }
+        turn = turn.wrapping_add(1);
+        if gate.may(io_loop.around.setup.node, IO_LOOP, turn) {
+            wait(&mut poll, &mut events, io_loop.patience())?;
+            io_loop.turn(&poll, &listener, &events, gate.now(rt));
+        } else {
+            thread::yield_now();
+        }
+    }
+    io_loop.shut_down();
+    Ok(())
+}
+
+// Waits for readiness, at most so long. A wait that a signal interrupts has found nothing.
+fn wait(poll: &mut Poll, events: &mut Events, patience: Duration) -> io::Result<()> {
+    match poll.poll(events, Some(patience)) {
+        Err(error) if error.kind() == ErrorKind::Interrupted => {
+            events.clear();
+            Ok(())
+        }
+        waited => waited,
+    }
+}
+
+// Whether a connection goes on, and whether it has more to do at once.
+#[derive(Clone, Copy, Debug, PartialEq, Eq)]
+enum Turned {
+    Idle,
+    More,
+    Over,
+}
+
+// Turns a connection: reads what came, and sends what waits while its socket takes it.
+fn turn_open<R: Wait, N: Naming, E: Epochs + Drop>(
+    buffer: &mut Vec<u8>,
+    open: &mut Open<'_, R, N, E>,
+    now: u64,
+) -> Turned {
+    if !drains(&mut open.wire) {
+        return Turned::Over;
+    }
+    if !open.wire.stream().is_drained() {
+        return Turned::Idle;
+    }
+    open.wire.stream_mut().lend(buffer);
+    open.desk.now = now;
+    let end = turn_wire(&mut open.wire, &mut open.desk);
+    let goes_on = drains(&mut open.wire);
+    if open.wire.stream().is_drained() {
+        open.wire.stream_mut().lend(buffer);
+    }
+    match end {
+        TurnEnd::Idle if goes_on => {
+            if open.desk.owed && open.takes_more() {
+                Turned::More
+            } else {
+                Turned::Idle
+            }
+        }
+        TurnEnd::More if goes_on => Turned::More,
+        _ => Turned::Over,
+    }
+}
+
+// Writes what was gathered, as far as the socket takes it. `false` where the socket fails.
+fn drains(wire: &mut Wire<Gather<Socket>>) -> bool {
+    if wire.stream().is_drained() {
+        return true;
+    }
+    match wire.stream_mut().drain() {
+        Ok(()) => true,
+        Err(error) => error.kind() == ErrorKind::WouldBlock,
+    }
+}
+
+// Up to 16 turns of a wire in a row.
+fn turn_wire<R: Wait, N: Naming, E: Epochs + Drop>(
+    wire: &mut Wire<Gather<Socket>>,
+    desk: &mut SessionDesk<'_, R, N, E>,
+) -> TurnEnd {
+    for _ in 1..MOST_TURNS {
+        let end = wire.turn(desk);
+        if end != TurnEnd::More {
+            return end;
+        }
+    }
+    wire.turn(desk)
+}
+
+// A connection whose head is whole: the handshake is answered. None where it is refused.
+fn opened<'a, R: Wait, N: Naming, E: Epochs + Drop>(
+    around: &'a Around<'a, R, N, E>,
+    head: Head,
+    now: u64,
+) -> Option<Box<Open<'a, R, N, E>>> {
+    let gather = Gather::new(around.alloc, head.into_socket(), GATHERED);
+    let wire = Wire::accept(around.alloc, gather).ok()?;
+    let desk = SessionDesk::new(around, now);
+    Box::new(around.alloc, Open { wire, desk }).ok()
+}
+
+impl<'a, R: Wait, N: Naming, E: Epochs + Drop> IoLoop<'a, R, N, E> {
+    fn new(around: &'a Around<'a, R, N, E>) -> IoLoop<'a, R, N, E> {
+        let alloc = around.alloc;
+        IoLoop {
+            around,
+            places: Vec::new(alloc),
+            free: Vec::new(alloc),
+            owners: Vec::new(alloc),
+            owed: VecDeque::new(alloc),
+            buffer: Vec::new(alloc),
+            behind: false,
+            now: 0,
+        }
+    }
+
+    // How long to wait for readiness.
+    fn patience(&self) -> Duration {
+        Duration::from_millis(if self.owed.is_empty() { PATIENCE } else { 0 })
+    }
+
+    fn turn(&mut self, poll: &Poll, listener: &TcpListener, events: &Events, now: u64) {
+        self.around.shared.look();
+        if now != self.now {
+            self.now = now;
+            self.beat(poll, listener);
+        }
+        for event in events {
+            let token = event.token();
+            if token == LISTENER {
+                self.accept_all(poll, listener);
+            } else if token != WAKER {
+                let ended = event.is_read_closed() || event.is_error();
+                self.notice(token.0, event.is_readable(), ended);
+            }
+        }
+        self.serve_owed();
+        self.serve_named();
+    }
+
+    // What comes with each new second: pings, rounds, and at node 0 the broker's time.
+    fn beat(&mut self, poll: &Poll, listener: &TcpListener) {
+        let now = self.now;
+        self.around.shared.hub.lock(self.around.rt).tick(now);
+        for place in 0..self.places.len() {
+            if !self.looks_after(place) {
+                self.end(place);
+            }
+        }
+        if self.around.setup.node == 0 {
+            self.around.tick_broker(now);
+        }
+        if self.behind {
+            self.accept_all(poll, listener);
+        }
+    }
+
+    // The round of the client at a place. `false` where its connection is over.
+    fn looks_after(&mut self, place: usize) -> bool {
+        match self.places.get_mut(place) {
+            Some(Connection::Open(open)) => self.around.look_after(&mut open.desk.member, self.now),
+            _ => true,
+        }
+    }
+
+    // Accepts what waits to be. Where that fails it is tried again with the next second.
+    fn accept_all(&mut self, poll: &Poll, listener: &TcpListener) {
+        for _ in 0..MOST_ACCEPTED {
+            match listener.accept() {
+                Ok((stream, _)) => {
+                    let _ = stream.set_nodelay(true);
+                    let head = Head::new(self.around.alloc, stream);
+                    self.behind = self.put(poll, head).is_err();
+                }
+                Err(error) if error.kind() == ErrorKind::ConnectionAborted => {}
+                Err(error) => {
+                    self.behind = error.kind() != ErrorKind::WouldBlock;
+                    return;
+                }
+            }
+        }
+        self.behind = true;
+    }
+
+    // Gives a new connection its place. Where that fails the connection is dropped.
+    fn put(&mut self, poll: &Poll, mut head: Head) -> Result<(), AllocError> {
+        let place = match self.free.pop() {
+            Some(place) => place,
+            None => self.new_place()?,
+        };
+        let registered = poll.registry().register(
+            &mut head.socket.stream,
+            Token(place),
+            Interest::READABLE | Interest::WRITABLE,
+        );
+        match self.places.get_mut(place) {
+            Some(connection) if registered.is_ok() => *connection = Connection::Head(head),
+            _ => {
+                let _ = self.free.push(place);
+            }
+        }
+        Ok(())
+    }
+
+    // One place more, and room for the owner of one session more.
+    fn new_place(&mut self) -> Result<usize, AllocError> {
+        self.places.reserve(1)?;
+        self.owners.push(0)?;
+        let place = self.places.len();
+        // There is room for it.
+        let _ = self.places.push(Connection::Empty);
+        Ok(place)
+    }
+
+    // A socket is ready.
+    fn notice(&mut self, place: usize, readable: bool, ended: bool) {
+        let Some(connection) = self.places.get_mut(place) else {
+            return;
+        };
+        match connection {
+            Connection::Empty => {}
+            Connection::Head(head) => {
+                head.socket.notice(readable, ended);
+                self.collect(place);
+            }
+            Connection::Open(open) => {
+                open.wire.stream_mut().stream_mut().notice(readable, ended);
+                self.serve(place);
+            }
+        }
+    }
+
+    // Reads a head on, and opens the connection where it is whole.
+    fn collect(&mut self, place: usize) {
+        let Some(connection) = self.places.get_mut(place) else {
+            return;
+        };
+        let Connection::Head(mut head) = mem::replace(connection, Connection::Empty) else {
+            return;
+        };
+        match head.read_on() {
+            Ok(false) => *connection = Connection::Head(head),
+            Ok(true) => match opened(self.around, head, self.now) {
+                Some(open) => {
+                    *connection = Connection::Open(open);
+                    self.serve(place);
+                }
+                None => self.release(place),
+            },
+            Err(_) => self.release(place),
+        }
+    }
+
+    // A place that stands empty is used again.
+    fn release(&mut self, place: usize) {
+        let _ = self.free.push(place);
+    }
+
+    // Turns the connection at a place.
+    fn serve(&mut self, place: usize) {
+        let Some(Connection::Open(open)) = self.places.get_mut(place) else {
+            return;
+        };
+        let turned = turn_open(&mut self.buffer, open, self.now);
+        if let Some(number) = open.desk.member.number {
+            if let Some(owner) = self.owners.get_mut(number as usize) {
+                *owner = place;
+            }
+        }
+        match turned {
+            Turned::Idle => {}
+            Turned::More => {
+                if self.owed.push_back(place).is_err() {
+                    self.end(place);
+                }
+            }
+            Turned::Over => self.end(place),
+        }
+    }
+
+    // The connection at a place is over.
+    fn end(&mut self, place: usize) {
+        let Some(connection) = self.places.get_mut(place) else {
+            return;
+        };
+        if let Connection::Open(open) = mem::replace(connection, Connection::Empty) {
+            self.around.give_up(&open.desk.member);
+        }
+        self.release(place);
+    }
+
+    // Turns those that had more to do.
+    fn serve_owed(&mut self) {
+        for _ in 0..self.owed.len() {
+            if let Some(place) = self.owed.pop_front() {
+                self.serve(place);
+            }
+        }
+    }
+
+    // Turns those for which the hub has something.
+    fn serve_named(&mut self) {
+        let mut batch = Vec::new(self.around.alloc);
+        if batch.reserve(SESSIONS_AT_ONCE).is_err() {
+            return;
+        }
+        for _ in 0..MOST_BATCHES {
+            self.take_batch(&mut batch);
+            if batch.is_empty() {
+                return;
+            }
+            for place in batch.iter() {
+                self.serve(*place);
+            }
+            batch.clear();
+        }
+    }
+
+    // Takes what waits for some sessions under one lock of the hub, and names their places. What a socket has no room for
+    // stays in the hub.
+    fn take_batch(&mut self, batch: &mut Vec<usize>) {
+        let mut hub = self.around.shared.hub.lock(self.around.rt);
+        for _ in 0..SESSIONS_AT_ONCE {
+            let Some(number) = hub.next_with_output() else {
+                return;
+            };
+            let place = self.owners.get(number as usize).copied().unwrap_or(0);
+            let Some(Connection::Open(open)) = self.places.get_mut(place) else {
+                continue;
+            };
+            open.desk.owed = true;
+            if open.desk.member.number == Some(number) && open.takes_more() {
+                open.desk.owed = take_some(&mut hub, number, &mut open.desk.taken);
+                let _ = batch.push(place);
+            }
+        }
+    }
+
+    // The session of the connection at a place, from which something is owed from now on.
+    fn owes(&mut self, place: usize) -> Option<u32> {
+        match self.places.get_mut(place) {
+            Some(Connection::Open(open)) => {
+                open.desk.owed = true;
+                open.desk.member.number
+            }
+            _ => None,
+        }
+    }
+
+    // All sessions are closed with 3001, and told so as far as their sockets take it.
+    fn shut_down(&mut self) {
+        for place in 0..self.places.len() {
+            if let Some(number) = self.owes(place) {
+                self.around
+                    .shared
+                    .hub
+                    .lock(self.around.rt)
+                    .close(number, SHUTDOWN);
+            }
+            self.serve(place);
+            self.end(place);
+        }
+    }
+}

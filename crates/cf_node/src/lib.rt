@@ -1,0 +1,18 @@
+//! A node: a dispatcher that brings what the broker published to the hub, and an IO loop that serves the clients' sockets.
+//!
+//! Locks are taken in this order: a shard of the broker, then a link; the hub's lock is held with no other.
+#![tactic(auto)]
+
+mod calls;
+mod connection;
+mod desk;
+mod dispatcher;
+mod gate;
+mod io_loop;
+mod node;
+mod rounds;
+mod shared;
+mod socket;
+
+pub use gate::{DISPATCHER, Gate, IO_LOOP};
+pub use node::{Node, Setup};

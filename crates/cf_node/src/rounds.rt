@@ -1,0 +1,91 @@
+//! What is looked after every 25 seconds for each client: where its subscriptions stand, and that it is present.
+use crate::connection::Member;
+use crate::io_loop::Around;
+use cf_broker::{Naming, SHARDS};
+use cf_hub::Checked;
+use cf_stream::Epochs;
+use std::sync::Wait;
+
+/// How many seconds lie between two rounds of a client.
+const ROUND: u64 = 25;
+
+impl<'a, R: Wait, N: Naming, E: Epochs + Drop> Around<'a, R, N, E> {
+    /// A round of a client, where its last was 25 seconds ago: the position of each of its subscriptions is checked, and it
+    /// is present again in each channel that it still has. `false` where its session was closed meanwhile, and the
+    /// connection still stands.
+    pub(crate) fn look_after(&self, member: &mut Member, now: u64) -> bool {
+        let Some(number) = member.number else {
+            return true;
+        };
+        if now.saturating_sub(member.looked) < ROUND {
+            return true;
+        }
+        member.looked = now;
+        if self.shared.hub.lock(self.rt).is_closed(number) {
+            return false;
+        }
+        for _ in 0..member.channels.len() {
+            // Each is taken from the front and, where it stands, put back behind the others.
+            if let Some(channel) = member.channels.pop_front() {
+                if self.stands(number, channel.as_str()) {
+                    self.enter(member, channel.as_str(), now);
+                    member.add(channel);
+                } else {
+                    self.broker
+                        .leave(self.rt, channel.as_str(), member.client.as_str());
+                }
+            }
+        }
+        true
+    }
+
+    /// Brings a moment to all shards of the broker.
+    pub(crate) fn tick_broker(&self, now: u64) {
+        for shard in 0..SHARDS {
+            self.broker.tick(self.rt, shard, now);
+        }
+    }
+
+    // Checks the position of a subscription, and says whether it goes on.
+    fn stands(&self, number: u32, channel: &str) -> bool {
+        let top = self.broker.position(self.rt, channel);
+        let checked = self.shared.hub.lock(self.rt).check(number, channel, top);
+        match checked {
+            Checked::Fine | Checked::Behind => true,
+            Checked::Nothing | Checked::Ended => false,
+        }
+    }
+
+    /// The client is present in the channel from this moment on, where the channel's namespace keeps presence. Where memory
+    /// is refused, it enters with the next round.
+    pub(crate) fn enter(&self, member: &Member, channel: &str, now: u64) {
+        if self.keeps_presence(channel) {
+            let _ = self.broker.enter(
+                self.rt,
+                channel,
+                member.client.as_str(),
+                member.user.as_str(),
+                now,
+            );
+        }
+    }
+
+    fn keeps_presence(&self, channel: &str) -> bool {
+        match self.setup.namespaces.find(channel) {
+            Some(settings) => settings.presence,
+            None => false,
+        }
+    }
+
+    /// A connection is over: the client's session goes, and it is present nowhere.
+    pub(crate) fn give_up(&self, member: &Member) {
+        let Some(number) = member.number else {
+            return;
+        };
+        self.shared.hub.lock(self.rt).detach(number);
+        for channel in member.channels.iter() {
+            self.broker
+                .leave(self.rt, channel.as_str(), member.client.as_str());
+        }
+    }
+}

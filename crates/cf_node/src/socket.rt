@@ -1,0 +1,94 @@
+//! A client's socket: what came with its head is read first, and a read is tried only where it may find something.
+ghost use Rattle.std.specs.Prelude.{◌≤◌, length};
+
+use mio::net::TcpStream;
+use std::alloc::Global;
+use std::io;
+use std::io::{ErrorKind, Read, Write};
+
+#[derive(Drop)]
+pub(crate) struct Socket {
+    pub(crate) stream: TcpStream,
+    // What was read before the handshake, and how much of it was given.
+    early: Vec<u8>,
+    given: usize,
+    // Whether a read may find something. It spares the reads that would block.
+    readable: bool,
+    // The peer sends no more, so that only a read tells the end.
+    ended: bool,
+}
+
+impl Socket {
+    pub(crate) fn new(alloc: Global, stream: TcpStream) -> Socket {
+        Socket {
+            stream,
+            early: Vec::new(alloc),
+            given: 0,
+            readable: true,
+            ended: false,
+        }
+    }
+
+    /// The socket was seen to have something to read, or to be at its end.
+    pub(crate) fn notice(&mut self, readable: bool, ended: bool) {
+        self.readable = self.readable || readable || ended;
+        self.ended = self.ended || ended;
+    }
+
+    /// Gives these bytes to the next reads, before what the peer sends from now on.
+    pub(crate) fn give_first(&mut self, bytes: Vec<u8>) {
+        self.early = bytes;
+        self.given = 0;
+    }
+
+    // What was read early and not given yet.
+    fn read_early(&mut self, room: &mut [u8]) -> usize
+        ensures { result ≤ length room.new }
+    {
+        let rest = self.early.get(self.given..).unwrap_or(&[]);
+        let count = rest.len().min(room.len());
+        room[..count].copy_from_slice(&rest[..count]);
+        if count == rest.len() {
+            self.early.clear();
+            self.given = 0;
+        } else {
+            self.given = self.given.saturating_add(count);
+        }
+        count
+    }
+}
+
+impl Read for Socket {
+    fn read(&mut self, room: &mut [u8]) -> io::Result<usize> {
+        if !self.early.is_empty() {
+            return Ok(self.read_early(room));
+        }
+        if !self.readable {
+            return Err(io::Error::from(ErrorKind::WouldBlock));
+        }
+        match self.stream.read(room) {
+            Ok(count) => {
+                if count < room.len() && !self.ended {
+                    self.readable = false;
+                }
+                Ok(count)
+            }
+            Err(error) => {
+                if error.kind() == ErrorKind::WouldBlock {
+                    self.readable = false;
+                }
+                Err(error)
+            }
+        }
+    }
+}
+
+impl Write for Socket {
+    fn write(&mut self, bytes: &[u8]) -> io::Result<usize> {
+        self.stream.write(bytes)
+    }
+
+    fn flush(&mut self) -> io::Result<()> {
+        Ok(())
+    }
+}

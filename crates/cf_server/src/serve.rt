@@ -1,0 +1,177 @@
+//! The command `serve`: nodes that clients connect to.
+ghost use Rattle.std.specs.Prelude.{◌≡◌};
+
+use crate::boot_epochs::BootEpochs;
+use crate::command_line::ServeOptions;
+use crate::fault::Fault;
+use cf_broker::{Broker, Delivery, Naming};
+use cf_link::{Receiver, pair};
+use cf_node::{Gate, Node, Setup};
+use cf_protocol::{Namespaces, Tokens, read_namespaces, read_tokens};
+use mio::net::TcpListener;
+use std::marker::Brand;
+use std::net::{Ipv4Addr, Net, SocketAddr};
+use std::sync::Wait;
+use std::sync::atomic::{AtomicU64, Ordering};
+use std::thread;
+use std::thread::Threads;
+use std::time::{Clock, Instant};
+
+/// How many publications wait at most on the link from the broker to a node.
+const LINK_CAPACITY: usize = 1024;
+
+// Every worker goes on, and the moment is how long the program runs.
+#[derive(Drop)]
+struct RunningClock {
+    start: Instant,
+}
+
+impl Gate for RunningClock {
+    fn may(&self, _node: u8, _worker: usize, _turn: u64) -> bool {
+        true
+    }
+
+    fn now<R: Clock>(&self, rt: &R) -> u64 {
+        match self.start.elapsed(rt) {
+            Ok(passed) => passed.as_secs(),
+            Err(_) => 0,
+        }
+    }
+}
+
+// What one node is started with.
+#[derive(Drop)]
+struct Start {
+    node: u8,
+    receiver: Receiver<Delivery>,
+    listener: TcpListener,
+}
+
+/// Serves clients until standard input ends. Each node's address is printed as `node I 127.0.0.1:PORT` before it serves.
+pub fn serve<R>(rt: &R, options: ServeOptions<'_>) -> Result<(), Fault>
+where
+    R: Input + Print + AllocGlobal + Threads + Wait + Clock + Net + Sync,
+{
+    let alloc = rt.alloc();
+    let namespaces = read_namespaces(alloc, options.namespaces)?;
+    let tokens = read_tokens(alloc, options.tokens)?;
+    if u32::from(options.port) + u32::from(options.nodes) > 65_536 {
+        return Err(Fault::Setting);
+    }
+    serve_on::<Brand, R>(rt, options, &namespaces, &tokens)
+}
+
+// The same over these namespaces, which the type names.
+fn serve_on<N, R>(
+    rt: &R,
+    options: ServeOptions<'_>,
+    namespaces: &Namespaces,
+    tokens: &Tokens,
+) -> Result<(), Fault>
+where
+    N: Naming + Send + Sync,
+    R: Input + Print + AllocGlobal + Threads + Wait + Clock + Net + Sync,
+    requires { namespaces.now ≡ N.namespaces }
+{
+    let alloc = rt.alloc();
+    let mut senders = Vec::new(alloc);
+    let mut starts = Vec::new(alloc);
+    for node in 0..options.nodes {
+        let (sender, receiver) = pair(alloc, LINK_CAPACITY)?;
+        senders.push(sender)?;
+        starts.push(Start {
+            node,
+            receiver,
+            listener: listen(rt, options, node)?,
+        })?;
+    }
+    let broker = Broker::<N, BootEpochs>::new(alloc, namespaces, epochs_of(options.boot), senders)?;
+    let gate = RunningClock {
+        start: Instant::now(rt)?,
+    };
+    run_nodes(rt, options, namespaces, tokens, &broker, &gate, starts)
+}
+
+// Listens at the node's port, and says where.
+fn listen<R: Print + Net>(rt: &R, options: ServeOptions<'_>, node: u8) -> Result<TcpListener, Fault> {
+    let port = if options.port == 0 {
+        0
+    } else {
+        options.port.saturating_add(u16::from(node))
+    };
+    let listener = TcpListener::bind(rt, SocketAddr::from((Ipv4Addr::LOCALHOST, port)))?;
+    let address = listener.local_addr()?;
+    println!(rt; "node {node} {address}")?;
+    Ok(listener)
+}
+
+/// The epochs of the sixteen shards.
+pub fn epochs_of(boot: u64) -> [BootEpochs; 16] {
+    [
+        BootEpochs::new(boot, 0),
+        BootEpochs::new(boot, 1),
+        BootEpochs::new(boot, 2),
+        BootEpochs::new(boot, 3),
+        BootEpochs::new(boot, 4),
+        BootEpochs::new(boot, 5),
+        BootEpochs::new(boot, 6),
+        BootEpochs::new(boot, 7),
+        BootEpochs::new(boot, 8),
+        BootEpochs::new(boot, 9),
+        BootEpochs::new(boot, 10),
+        BootEpochs::new(boot, 11),
+        BootEpochs::new(boot, 12),
+        BootEpochs::new(boot, 13),
+        BootEpochs::new(boot, 14),
+        BootEpochs::new(boot, 15),
+    ]
+}
+
+// Runs each node in a thread of its own until standard input ends.
+fn run_nodes<N, R>(
+    rt: &R,
+    options: ServeOptions<'_>,
+    namespaces: &Namespaces,
+    tokens: &Tokens,
+    broker: &Broker<N, BootEpochs>,
+    gate: &RunningClock,
+    starts: Vec<Start>,
+) -> Result<(), Fault>
+where
+    N: Naming + Send + Sync,
+    R: Input + AllocGlobal + Threads + Wait + Clock + Net + Sync,
+    requires { namespaces.now ≡ N.namespaces }
+{
+    let stop = AtomicU64::new(0);
+    let stop = &stop;
+    thread::scope(thread::scope_env(), rt, |scope| {
+        for start in starts {
+            let Start {
+                node,
+                receiver,
+                listener,
+            } = start;
+            let setup = Setup {
+                node,
+                boot: options.boot,
+                namespaces,
+                tokens,
+            };
+            let _ = scope.spawn(move || {
+                let _ = Node::run(rt, setup, broker, receiver, listener, gate, stop);
+            });
+        }
+        read_to_end(rt);
+        stop.store(1, Ordering::SeqCst);
+    });
+    Ok(())
+}
+
+// Reads standard input to its end.
+fn read_to_end<R: Input + AllocGlobal>(rt: &R) {
+    for line in rt.lines(rt.alloc()) {
+        if line.is_err() {
+            break;
+        }
+    }
+}

@@ -1,0 +1,208 @@
+//! Nodes that serve clients over real sockets.
+ghost use Rattle.std.specs.Prelude.{◌≡◌};
+
+use crate::boot_epochs::BootEpochs;
+use crate::serve::epochs_of;
+use cf_broker::{Broker, Naming};
+use cf_link::pair;
+use cf_node::{Gate, Node, Setup};
+use cf_protocol::{Namespaces, Tokens, read_namespaces, read_tokens};
+use mio::net::TcpListener;
+use std::alloc::Global;
+use std::io::{Read, Write};
+use std::marker::Brand;
+use std::net::{Ipv4Addr, Net, SocketAddr, TcpStream};
+use std::process::Abort;
+use std::sync::Wait;
+use std::sync::atomic::{AtomicU64, Ordering};
+use std::test::Fail;
+use std::thread;
+use std::thread::Threads;
+use std::time::Clock;
+
+/// So many turns of a wait, and the test has failed.
+const MOST_TURNS: u64 = 100_000_000;
+
+const HANDSHAKE: &[u8] = b"GET / HTTP/1.1\r\nHost: localhost\r\nUpgrade: websocket\r\nConnection: Upgrade\r\n\
+Sec-WebSocket-Key: dGhlIHNhbXBsZSBub25jZQ==\r\nSec-WebSocket-Version: 13\r\n\r\n";
+
+// Holds each of the four workers of two nodes at its first turn until all four are there.
+#[derive(Drop)]
+struct AllFour {
+    there: [AtomicU64; 4],
+    failed: AtomicU64,
+}
+
+impl AllFour {
+    fn new() -> AllFour {
+        AllFour {
+            there: [
+                AtomicU64::new(0),
+                AtomicU64::new(0),
+                AtomicU64::new(0),
+                AtomicU64::new(0),
+            ],
+            failed: AtomicU64::new(0),
+        }
+    }
+
+    fn are_there(&self) -> bool {
+        self.there.iter().all(|one| one.load(Ordering::SeqCst) == 1)
+    }
+}
+
+impl Gate for AllFour {
+    fn may(&self, node: u8, worker: usize, turn: u64) -> bool {
+        if turn != 1 {
+            return true;
+        }
+        if let Some(mine) = self.there.get(usize::from(node % 2) * 2 + worker % 2) {
+            mine.store(1, Ordering::SeqCst);
+        }
+        for _ in 0..MOST_TURNS {
+            if self.are_there() {
+                return true;
+            }
+            thread::yield_now();
+        }
+        self.failed.store(1, Ordering::SeqCst);
+        true
+    }
+
+    fn now<R: Clock>(&self, _rt: &R) -> u64 {
+        0
+    }
+}
+
+// A client's end of a connection.
+#[derive(Drop)]
+struct Peer<S> {
+    stream: S,
+    bytes: Vec<u8>,
+}
+
+fn connect<N: Net>(rt: &N, alloc: Global, address: SocketAddr) -> Result<Peer<N::Stream>, Fail> {
+        let mut peer = Peer {
+            stream: TcpStream::connect(rt, address)?,
+            bytes: Vec::new(alloc),
+        };
+        peer.stream.write_all(HANDSHAKE)?;
+        for _ in 0..1000 {
+            if peer.bytes.as_slice().ends_with(b"\r\n\r\n") {
+                break;
+            }
+            peer.read_more(1)?;
+        }
+        peer.bytes.clear();
+        peer.say("{\"id\":1,\"connect\":{}}")?;
+        peer.hear(alloc)?;
+        Ok(peer)
+}
+
+impl<S: Read + Write> Peer<S> {
+    // Reads up to so many bytes.
+    fn read_more(&mut self, most: usize) -> Result<(), Fail> {
+        let mut room = [0u8; 1024];
+        let count = self.stream.read(&mut room[..most.min(1024)])?;
+        self.bytes.extend_from_slice(&room[..count.min(1024)])?;
+        Ok(())
+    }
+
+    // Sends a text of less than 126 bytes.
+    fn say(&mut self, text: &str) -> Result<(), Fail> {
+        let head = [0x81, 0x80 | (text.len() % 126) as u8, 0, 0, 0, 0];
+        self.stream.write_all(&head)?;
+        self.stream.write_all(text.as_bytes())?;
+        Ok(())
+    }
+
+    // The next text, of less than 126 bytes.
+    fn hear(&mut self, alloc: Global) -> Result<String, Fail> {
+        self.bytes.clear();
+        for _ in 0..1000 {
+            let size = self.bytes.get(1).copied().unwrap_or(126) as usize;
+            if self.bytes.len() == size + 2 {
+                break;
+            }
+            self.read_more(1)?;
+        }
+        Ok(String::from_utf8(self.bytes.get(2..).unwrap_or(&[]).to_vec(alloc)?)?)
+    }
+}
+
+fn listen(rt: &impl Net) -> Result<(TcpListener, SocketAddr), Fail> {
+    let listener = TcpListener::bind(rt, SocketAddr::from((Ipv4Addr::LOCALHOST, 0)))?;
+    let address = listener.local_addr()?;
+    Ok((listener, address))
+}
+
+// Subscribes a client on each node, and publishes: both get it.
+fn talk(
+    rt: &(impl Net + Abort),
+    alloc: Global,
+    first: SocketAddr,
+    second: SocketAddr,
+) -> Result<(), Fail> {
+    let mut ann = connect(rt, alloc, first)?;
+    let mut bob = connect(rt, alloc, second)?;
+    for peer in [&mut ann, &mut bob] {
+        peer.say("{\"id\":2,\"subscribe\":{\"channel\":\"news\"}}")?;
+        assert_eq!(rt; peer.hear(alloc)?.as_str(),
+            "{\"id\":2,\"subscribe\":{\"epoch\":\"7x13x1\",\"positioned\":true,\"recoverable\":true}}");
+    }
+    ann.say("{\"id\":3,\"publish\":{\"channel\":\"news\",\"data\":\"hello\"}}")?;
+    let push = "{\"push\":{\"channel\":\"news\",\"pub\":{\"data\":\"hello\",\"info\":{\"client\":\"0-7-1\"},\"offset\":1}}}";
+    assert_eq!(rt; bob.hear(alloc)?.as_str(), push);
+    let one = ann.hear(alloc)?;
+    let other = ann.hear(alloc)?;
+    let answer = "{\"id\":3,\"publish\":{}}";
+    assert!(rt; (one.as_str() == answer && other.as_str() == push) || (one.as_str() == push && other.as_str() == answer));
+    Ok(())
+}
+
+fn two_nodes<N: Naming + Send + Sync, R: Threads + Wait + Clock + Net + Abort + AllocGlobal + Sync>(
+    rt: &R,
+    namespaces: &Namespaces,
+    tokens: &Tokens,
+) -> Result<(), Fail>
+    requires { namespaces.now ≡ N.namespaces }
+{
+    let alloc = rt.alloc();
+    let (first_sender, first_receiver) = pair(alloc, 1024)?;
+    let (second_sender, second_receiver) = pair(alloc, 1024)?;
+    let senders = Vec::from_array(alloc, [first_sender, second_sender])?;
+    let broker = Broker::<N, BootEpochs>::new(alloc, namespaces, epochs_of(7), senders)?;
+    let (first_listener, first) = listen(rt)?;
+    let (second_listener, second) = listen(rt)?;
+    let gate = AllFour::new();
+    let stop = AtomicU64::new(0);
+    let setup = Setup {
+        node: 0,
+        boot: 7,
+        namespaces,
+        tokens,
+    };
+    let (broker, gate, stop) = (&broker, &gate, &stop);
+    let talked = thread::scope(thread::scope_env(), rt, |scope| {
+        let _ = scope.spawn(move || {
+            let _ = Node::run(rt, setup, broker, first_receiver, first_listener, gate, stop);
+        });
+        let setup = Setup { node: 1, ..setup };
+        let _ = scope.spawn(move || {
+            let _ = Node::run(rt, setup, broker, second_receiver, second_listener, gate, stop);
+        });
+        let talked = talk(rt, alloc, first, second);
+        stop.store(1, Ordering::SeqCst);
+        talked
+    });
+    assert_eq!(rt; gate.failed.load(Ordering::SeqCst), 0);
+    talked
+}
+
+// Each of the four workers waits inside its first turn for the other three; then a publish reaches a client on each node.
+#[test]
+fn gate_two_nodes(rt: HostRuntime) -> Result<(), Fail> {
+    let namespaces = read_namespaces(rt.alloc(), "=100,300,phs")?;
+    let tokens = read_tokens(rt.alloc(), "")?;
+    two_nodes::<Brand, HostRuntime>(&rt, &namespaces, &tokens)
+}
