@@ -1,4 +1,4 @@
-#!/usr/bin/env python3
+#!/usr/bin/python3
 """Follows a channel through losses of its connection, by Debian's python3-websockets.
 
     apt-get install python3-websockets
