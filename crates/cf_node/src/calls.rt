@@ -179,18 +179,11 @@ impl<'a, R: Wait, N: Naming, E: Epochs + Drop> Around<'a, R, N, E> {
         if let Some(number) = member.number {
             self.shared.hub.lock(self.rt).leave(number, channel);
         }
-        self.broker
-            .leave(self.rt, channel, member.client.as_str());
+        self.broker.leave(self.rt, channel, member.client.as_str());
         member.remove(channel);
     }
 
-    fn publish(
-        &self,
-        channel: &str,
-        body: String,
-        info: Info,
-        now: u64,
-    ) -> Result<(), ErrorCode> {
+    fn publish(&self, channel: &str, body: String, info: Info, now: u64) -> Result<(), ErrorCode> {
         if self.setup.namespaces.find(channel).is_none() {
             return Err(ErrorCode::UnknownChannel);
         }

@@ -73,7 +73,8 @@ impl Head {
                 return Err(io::Error::from(ErrorKind::UnexpectedEof));
             }
             let known = self.bytes.len().saturating_sub(3);
-            self.bytes.extend_from_slice(chunk.get(..count).unwrap_or(&[]))?;
+            self.bytes
+                .extend_from_slice(chunk.get(..count).unwrap_or(&[]))?;
             if has_blank_line(self.bytes.get(known..).unwrap_or(&[])) {
                 return Ok(true);
             }
@@ -93,9 +94,7 @@ impl Head {
 }
 
 fn has_blank_line(bytes: &[u8]) -> bool {
-    bytes
-        .windows(4)
-        .any(|part| part == b"\r\n\r\n".as_slice())
+    bytes.windows(4).any(|part| part == b"\r\n\r\n".as_slice())
 }
 
 impl<'a, R: Wait, N: Naming, E: Epochs + Drop> Open<'a, R, N, E> {
@@ -120,7 +119,11 @@ impl Member {
 
     /// The client is present in one channel more. Where memory is refused, it isn't noted, and its presence ends by itself.
     pub(crate) fn add(&mut self, channel: String) {
-        if !self.channels.iter().any(|one| one.as_str() == channel.as_str()) {
+        if !self
+            .channels
+            .iter()
+            .any(|one| one.as_str() == channel.as_str())
+        {
             let _ = self.channels.push_back(channel);
         }
     }

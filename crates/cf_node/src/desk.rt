@@ -8,8 +8,8 @@ use cf_broker::Naming;
 use cf_hub::Hub;
 use cf_queue::Out;
 use cf_session::{Answer, Kind, Session};
-use cf_wire::Desk;
 use cf_stream::Epochs;
+use cf_wire::Desk;
 use std::collections::VecDeque;
 use std::sync::Wait;
 

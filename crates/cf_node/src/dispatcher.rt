@@ -27,7 +27,10 @@ pub(crate) fn dispatch<R: Wait + Clock, G: Gate>(
         }
         turn = turn.wrapping_add(1);
         if gate.may(node, DISPATCHER, turn) {
-            if let Some(delivery) = receiver.receive_within(rt, Duration::from_millis(LONGEST_SLEEP)) {
+            if let Some(delivery) = receiver.receive_within(
+                rt,
+                Duration::from_millis(LONGEST_SLEEP),
+            ) {
                 deliver(rt, shared, &delivery);
             }
         } else {

@@ -8,19 +8,17 @@ use crate::node::{LISTENER, Setup, WAKER};
 use crate::shared::Shared;
 use crate::socket::Socket;
 use cf_broker::{Broker, Naming};
-use cf_wire::{Gather, TurnEnd, Wire};
 use cf_stream::Epochs;
+use cf_wire::{Gather, TurnEnd, Wire};
 use mio::net::TcpListener;
 use mio::{Events, Interest, Poll, Token};
 use std::alloc::{AllocError, Global};
 use std::collections::VecDeque;
-use std::io;
 use std::io::ErrorKind;
-use std::mem;
 use std::sync::Wait;
 use std::sync::atomic::{AtomicU64, Ordering};
-use std::thread;
 use std::time::{Clock, Duration};
+use std::{io, mem, thread};
 
 /// For so many sessions what waits is taken under one lock of the hub.
 const SESSIONS_AT_ONCE: usize = 64;

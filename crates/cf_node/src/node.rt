@@ -13,13 +13,12 @@ use cf_stream::Epochs;
 use mio::net::TcpListener;
 use mio::{Interest, Poll, Token, Waker};
 use std::alloc::Global;
-use std::io;
 use std::net::Net;
 use std::sync::Wait;
 use std::sync::atomic::AtomicU64;
-use std::thread;
 use std::thread::Threads;
 use std::time::Clock;
+use std::{io, thread};
 
 /// The token of the listener's readiness.
 pub(crate) const LISTENER: Token = Token(usize::MAX);

@@ -93,7 +93,11 @@ where
 }
 
 // Listens at the node's port, and says where.
-fn listen<R: Print + Net>(rt: &R, options: ServeOptions<'_>, node: u8) -> Result<TcpListener, Fault> {
+fn listen<R: Print + Net>(
+    rt: &R,
+    options: ServeOptions<'_>,
+    node: u8,
+) -> Result<TcpListener, Fault> {
     let port = if options.port == 0 {
         0
     } else {

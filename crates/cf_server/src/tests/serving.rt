@@ -23,7 +23,8 @@ use std::time::Clock;
 /// So many turns of a wait, and the test has failed.
 const MOST_TURNS: u64 = 100_000_000;
 
-const HANDSHAKE: &[u8] = b"GET / HTTP/1.1\r\nHost: localhost\r\nUpgrade: websocket\r\nConnection: Upgrade\r\n\
+const HANDSHAKE: &[u8] =
+    b"GET / HTTP/1.1\r\nHost: localhost\r\nUpgrade: websocket\r\nConnection: Upgrade\r\n\
 Sec-WebSocket-Key: dGhlIHNhbXBsZSBub25jZQ==\r\nSec-WebSocket-Version: 13\r\n\r\n";
 
 // Holds each of the four workers of two nodes at its first turn until all four are there.
@@ -82,21 +83,21 @@ struct Peer<S> {
 }
 
 fn connect<N: Net>(rt: &N, alloc: Global, address: SocketAddr) -> Result<Peer<N::Stream>, Fail> {
-        let mut peer = Peer {
-            stream: TcpStream::connect(rt, address)?,
-            bytes: Vec::new(alloc),
-        };
-        peer.stream.write_all(HANDSHAKE)?;
-        for _ in 0..1000 {
-            if peer.bytes.as_slice().ends_with(b"\r\n\r\n") {
-                break;
-            }
-            peer.read_more(1)?;
+    let mut peer = Peer {
+        stream: TcpStream::connect(rt, address)?,
+        bytes: Vec::new(alloc),
+    };
+    peer.stream.write_all(HANDSHAKE)?;
+    for _ in 0..1000 {
+        if peer.bytes.as_slice().ends_with(b"\r\n\r\n") {
+            break;
         }
-        peer.bytes.clear();
-        peer.say("{\"id\":1,\"connect\":{}}")?;
-        peer.hear(alloc)?;
-        Ok(peer)
+        peer.read_more(1)?;
+    }
+    peer.bytes.clear();
+    peer.say("{\"id\":1,\"connect\":{}}")?;
+    peer.hear(alloc)?;
+    Ok(peer)
 }
 
 impl<S: Read + Write> Peer<S> {
@@ -147,16 +148,22 @@ fn talk(
     let mut bob = connect(rt, alloc, second)?;
     for peer in [&mut ann, &mut bob] {
         peer.say("{\"id\":2,\"subscribe\":{\"channel\":\"news\"}}")?;
-        assert_eq!(rt; peer.hear(alloc)?.as_str(),
-            "{\"id\":2,\"subscribe\":{\"epoch\":\"7x13x1\",\"positioned\":true,\"recoverable\":true}}");
+        assert_eq!(rt;
+            peer.hear(alloc)?.as_str(),
+            "{\"id\":2,\"subscribe\":{\"epoch\":\"7x13x1\",\"positioned\":true,\"recoverable\":true}}"
+        );
     }
     ann.say("{\"id\":3,\"publish\":{\"channel\":\"news\",\"data\":\"hello\"}}")?;
-    let push = "{\"push\":{\"channel\":\"news\",\"pub\":{\"data\":\"hello\",\"info\":{\"client\":\"0-7-1\"},\"offset\":1}}}";
+    let push =
+        "{\"push\":{\"channel\":\"news\",\"pub\":{\"data\":\"hello\",\"info\":{\"client\":\"0-7-1\"},\"offset\":1}}}";
     assert_eq!(rt; bob.hear(alloc)?.as_str(), push);
     let one = ann.hear(alloc)?;
     let other = ann.hear(alloc)?;
     let answer = "{\"id\":3,\"publish\":{}}";
-    assert!(rt; (one.as_str() == answer && other.as_str() == push) || (one.as_str() == push && other.as_str() == answer));
+    assert!(rt;
+        (one.as_str() == answer && other.as_str() == push)
+            || (one.as_str() == push && other.as_str() == answer)
+    );
     Ok(())
 }
 
@@ -185,11 +192,27 @@ fn two_nodes<N: Naming + Send + Sync, R: Threads + Wait + Clock + Net + Abort + 
     let (broker, gate, stop) = (&broker, &gate, &stop);
     let talked = thread::scope(thread::scope_env(), rt, |scope| {
         let _ = scope.spawn(move || {
-            let _ = Node::run(rt, setup, broker, first_receiver, first_listener, gate, stop);
+            let _ = Node::run(
+                rt,
+                setup,
+                broker,
+                first_receiver,
+                first_listener,
+                gate,
+                stop,
+            );
         });
         let setup = Setup { node: 1, ..setup };
         let _ = scope.spawn(move || {
-            let _ = Node::run(rt, setup, broker, second_receiver, second_listener, gate, stop);
+            let _ = Node::run(
+                rt,
+                setup,
+                broker,
+                second_receiver,
+                second_listener,
+                gate,
+                stop,
+            );
         });
         let talked = talk(rt, alloc, first, second);
         stop.store(1, Ordering::SeqCst);
