@@ -51,12 +51,7 @@ impl Followers {
     /// Adds the row of a session that doesn't follow the channel yet, behind all others.
     ///
     /// It is refused with `Full` exactly where there are 65,536 rows, and with `Memory` where memory is refused.
-    pub fn add(
-        &mut self,
-        alloc: Global,
-        channel: &str,
-        session: u32,
-    ) -> Result<(), FollowRefusal>
+    pub fn add(&mut self, alloc: Global, channel: &str, session: u32) -> Result<(), FollowRefusal>
         requires absent { follows self.old channel.now session ≡ false }
         ensures ok { OnOk result (self.new ≡ with_follow self.old channel.now session) }
         ensures full { IsErrOf result FollowRefusal.Full ↔ (length self.old ≡ most_rows) }

@@ -6,8 +6,11 @@ use std::alloc::{AllocError, Global};
 use std::test::Fail;
 
 const REPLY: &str = r#"{"id":2,"subscribe":{"epoch":"aaaa","positioned":true,"recoverable":true}}"#;
+
 const FIRST: &str = r#"{"push":{"channel":"news","pub":{"data":1,"offset":1}}}"#;
-const END: &str = r#"{"push":{"channel":"news","unsubscribe":{"code":2500,"reason":"insufficient state"}}}"#;
+
+const END: &str =
+    r#"{"push":{"channel":"news","unsubscribe":{"code":2500,"reason":"insufficient state"}}}"#;
 
 fn place(offset: u64) -> Position {
     Position {
@@ -73,7 +76,10 @@ fn refusals(rt: HostRuntime) -> Result<(), Fail> {
     for number in 0..128_u32 {
         let channel = format!(in alloc; "c{number}")?;
         assert_eq!(rt; hub.begin(0, channel.as_str(), 2, None), Ok(()));
-        assert_eq!(rt; hub.begin(0, channel.as_str(), 3, None), Err(HubRefusal::Already));
+        assert_eq!(rt;
+            hub.begin(0, channel.as_str(), 3, None),
+            Err(HubRefusal::Already)
+        );
     }
     assert_eq!(rt; hub.begin(0, "news", 2, None), Err(HubRefusal::TooMany));
     assert!(rt; hub.leave(0, "c7"));
@@ -103,7 +109,11 @@ fn pings(rt: HostRuntime) -> Result<(), Fail> {
         hub.tick(33);
         assert_eq!(rt; hub.is_closed(session), !answers);
         hub.tick(50);
-        let next = if answers { text(alloc, "{}")? } else { Some(Out::Close(3012)) };
+        let next = if answers {
+            text(alloc, "{}")?
+        } else {
+            Some(Out::Close(3012))
+        };
         assert_eq!(rt; hub.take(session), next);
     }
     Ok(())
