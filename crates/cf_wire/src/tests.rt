@@ -308,7 +308,7 @@ fn long_texts(rt: HostRuntime) -> Result<(), Fail> {
 /// Where the stream's kth call fails there is no wire, or it ends with `StreamFault`, and so do the turns after it.
 #[test]
 fn failing_streams(rt: HostRuntime) -> Result<(), Fail> {
-    let mut met = 0;
+    let mut met = 0u32;
     for fails in 1..24 {
         let mut stream = stream_of(rt.alloc(), texts(rt.alloc(), 3)?.as_slice(), 1000)?;
         stream.fails = fails;
