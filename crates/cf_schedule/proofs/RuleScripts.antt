@@ -101,7 +101,7 @@ pub fresh_again_row : shown plain fresh_again ≡ as_lines ("ann news sub aaaa 0
 unfolding shown shown_from note_length command_length command_text outgoing_text digits escape short_letter
 fresh_again_row = refl
 
-pub no_such_publication_row : shown plain no_such_publication ≡ as_lines ("ann news sub aaaa 0 fresh" ∷ "ann news pub aaaa 1 1" ∷ [])
+pub no_such_publication_row : shown plain no_such_publication ≡ as_lines ("ann news sub aaaa 0 fresh" ∷ [])
 unfolding shown shown_from note_length command_length command_text outgoing_text digits escape short_letter
 no_such_publication_row = refl
 

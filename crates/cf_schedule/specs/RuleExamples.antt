@@ -118,7 +118,7 @@ fresh_again = first_publication ++ publishes "2" ∷ Break ann ∷ Connect ann 0
 
 -- a publication that isn't there, and none has number 0
 abbrev pub no_such_publication : List Event
-no_such_publication = opening ++ publishes "1" ∷ Deliver 0 0 ∷ Deliver 0 2 ∷ take ∷ Deliver 0 1 ∷ take ∷ []
+no_such_publication = opening ++ publishes "1" ∷ Deliver 0 0 ∷ Deliver 0 2 ∷ take ∷ []
 
 -- nothing is published where the namespace isn't set up, and that uses no epoch
 abbrev pub publish_elsewhere : List Event

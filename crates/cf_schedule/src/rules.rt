@@ -33,7 +33,7 @@ pub fn rule_examples()
     ensures leaves_waiting { shown plain leaves_waiting ≡ as_lines ("ann news sub aaaa 0 fresh" ∷ []) }
     ensures forget_before_recovery { shown plain forget_before_recovery ≡ as_lines ("ann news sub aaaa 0 fresh" ∷ "ann news pub aaaa 1 {\"t\":1}" ∷ "ann news sub bbbb 0 lost" ∷ []) }
     ensures fresh_again { shown plain fresh_again ≡ as_lines ("ann news sub aaaa 0 fresh" ∷ "ann news pub aaaa 1 {\"t\":1}" ∷ "ann news sub aaaa 2 fresh" ∷ []) }
-    ensures no_such_publication { shown plain no_such_publication ≡ as_lines ("ann news sub aaaa 0 fresh" ∷ "ann news pub aaaa 1 1" ∷ []) }
+    ensures no_such_publication { shown plain no_such_publication ≡ as_lines ("ann news sub aaaa 0 fresh" ∷ []) }
     ensures publish_elsewhere { shown plain publish_elsewhere ≡ as_lines ("ann news list aaaa 1 1" ∷ []) }
     ensures missed_300 { read_of (Some (place 1)) stream_of_301 ≡ reading_from 1 }
     ensures missed_301 { read_of (Some (place 0)) stream_of_301 ≡ not_recovered }
