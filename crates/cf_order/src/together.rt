@@ -46,6 +46,7 @@ impl<N: Naming> Model for NamedOwner<N> {
 }
 
 impl<N: Naming> NamedOwner<N> {
+    /// The owner of the word that `N` names.
     pub fn new(owner: Owner) -> NamedOwner<N>
         requires { owner.word ≡ N.word }
         ensures { result ≡ owner.log }

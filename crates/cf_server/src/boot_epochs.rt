@@ -19,6 +19,7 @@ pub struct BootEpochs {
 }
 
 impl BootEpochs {
+    /// The epochs of one shard at this start of the program.
     pub fn new(boot: u64, shard: u8) -> BootEpochs {
         BootEpochs {
             boot,

@@ -183,30 +183,17 @@ fn two_nodes<N: Naming + Send + Sync, R: Threads + Wait + Clock + Net + Abort + 
     let (second_listener, second) = listen(rt)?;
     let gate = AllFour::new();
     let stop = AtomicU64::new(0);
-    let setup = Setup {
-        node: 0,
-        boot: 7,
-        namespaces,
-        tokens,
-    };
+    let ours = Setup::new(0, 7, namespaces, tokens);
+    let theirs = Setup::new(1, 7, namespaces, tokens);
     let (broker, gate, stop) = (&broker, &gate, &stop);
     let talked = thread::scope(thread::scope_env(), rt, |scope| {
         let _ = scope.spawn(move || {
-            let _ = Node::run(
-                rt,
-                setup,
-                broker,
-                first_receiver,
-                first_listener,
-                gate,
-                stop,
-            );
+            let _ = Node::run(rt, ours, broker, first_receiver, first_listener, gate, stop);
         });
-        let setup = Setup { node: 1, ..setup };
         let _ = scope.spawn(move || {
             let _ = Node::run(
                 rt,
-                setup,
+                theirs,
                 broker,
                 second_receiver,
                 second_listener,
