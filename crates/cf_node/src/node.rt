@@ -12,7 +12,7 @@ use cf_protocol::{Namespaces, Tokens};
 use cf_stream::Epochs;
 use mio::net::TcpListener;
 use mio::{Interest, Poll, Token, Waker};
-use std::marker::PhantomData;
+use std::alloc::Global;
 use std::net::Net;
 use std::sync::Wait;
 use std::sync::atomic::AtomicU64;
@@ -26,37 +26,15 @@ pub(crate) const LISTENER: Token = Token(usize::MAX);
 /// The token of a wake by the dispatcher.
 pub(crate) const WAKER: Token = Token(usize::MAX - 1);
 
-/// What a node is set up with. Its namespaces are those that `N` names.
-#[derive(Drop)]
-pub struct Setup<'a, N: Naming> {
-    node: u8,
-    boot: u64,
-    pub(crate) namespaces: &'a Namespaces,
-    pub(crate) tokens: &'a Tokens,
-    of: PhantomData<N>,
-    ghost named: { namespaces.now ≡ N.namespaces },
-}
-
-impl<'a, N: Naming> Setup<'a, N> {
-    /// A node of this number, from 0, at this start of the program, whose number stands in the ids of its clients.
-    pub fn new(node: u8, boot: u64, namespaces: &'a Namespaces, tokens: &'a Tokens) -> Setup<'a, N>
-        requires { namespaces.now ≡ N.namespaces }
-    {
-        Setup {
-            node,
-            boot,
-            namespaces,
-            tokens,
-            of: PhantomData,
-        }
-    }
-
-    /// The node's number, from 0.
-    pub fn node(&self) -> u8
-        ensures { result ≡ self.now.node }
-    {
-        self.node
-    }
+/// What a node is set up with.
+#[derive(Clone, Copy)]
+pub struct Setup<'a> {
+    /// Its number, from 0.
+    pub node: u8,
+    /// The number of this start of the program, which stands in the ids of its clients.
+    pub boot: u64,
+    pub namespaces: &'a Namespaces,
+    pub tokens: &'a Tokens,
 }
 
 /// A node: the workers that serve the clients that connect to it.
@@ -67,7 +45,7 @@ impl Node {
     /// workers end. An error where the sockets can't be set up, or memory for it is refused.
     pub fn run<'a, R, N, E, G>(
         rt: &'a R,
-        setup: Setup<'a, N>,
+        setup: Setup<'a>,
         broker: &'a Broker<N, E>,
         receiver: Receiver<Delivery>,
         mut listener: TcpListener,
@@ -79,14 +57,14 @@ impl Node {
         N: Naming + Send + Sync,
         E: Epochs + Send + Drop,
         G: Gate + Sync,
+        requires { setup.namespaces.now ≡ N.namespaces }
     {
         let alloc = rt.alloc();
-        let node = setup.node;
         let poll = Poll::new(rt)?;
         poll.registry()
             .register(&mut listener, LISTENER, Interest::READABLE)?;
         let waker = Waker::new(poll.registry(), WAKER)?;
-        let shared = Shared::new(Hub::new(alloc, node, setup.boot), waker);
+        let shared = Shared::new(Hub::new(alloc, setup.node, setup.boot), waker);
         let shared = &shared;
         let around = Around {
             rt,
@@ -97,7 +75,7 @@ impl Node {
         };
         let around = &around;
         thread::scope(thread::scope_env(), rt, |scope| {
-            let _ = scope.spawn(move || dispatch(rt, node, shared, receiver, gate, stop));
+            let _ = scope.spawn(move || dispatch(rt, setup.node, shared, receiver, gate, stop));
             serve(around, poll, listener, gate, stop)
         })
     }

@@ -41,8 +41,8 @@ impl Gate for RunningClock {
 
 // What one node is started with.
 #[derive(Drop)]
-struct Start<'a, N: Naming> {
-    setup: Setup<'a, N>,
+struct Start {
+    node: u8,
     receiver: Receiver<Delivery>,
     listener: TcpListener,
 }
@@ -80,7 +80,7 @@ where
         let (sender, receiver) = pair(alloc, LINK_CAPACITY)?;
         senders.push(sender)?;
         starts.push(Start {
-            setup: Setup::new(node, options.boot, namespaces, tokens),
+            node,
             receiver,
             listener: listen(rt, options, node)?,
         })?;
@@ -89,8 +89,7 @@ where
     let gate = RunningClock {
         start: Instant::now(rt)?,
     };
-    run_nodes(rt, &broker, &gate, starts);
-    Ok(())
+    run_nodes(rt, options, namespaces, tokens, &broker, &gate, starts)
 }
 
 // Listens at the node's port, and says where.
@@ -135,30 +134,51 @@ pub fn epochs_of(boot: u64) -> [BootEpochs; 16] {
 // Runs each node in a thread of its own until standard input ends.
 fn run_nodes<N, R>(
     rt: &R,
+    options: ServeOptions<'_>,
+    namespaces: &Namespaces,
+    tokens: &Tokens,
     broker: &Broker<N, BootEpochs>,
     gate: &RunningClock,
-    starts: Vec<Start<'_, N>>,
-)
+    starts: Vec<Start>,
+) -> Result<(), Fault>
 where
     N: Naming + Send + Sync,
     R: Input + AllocGlobal + Threads + Wait + Clock + Net + Sync,
+    requires { namespaces.now ≡ N.namespaces }
 {
     let stop = AtomicU64::new(0);
     let stop = &stop;
-    thread::scope(thread::scope_env(), rt, |scope| {
-        for start in starts {
-            let Start {
-                setup,
-                receiver,
-                listener,
-            } = start;
-            let _ = scope.spawn(move || {
-                let _ = Node::run(rt, setup, broker, receiver, listener, gate, stop);
-            });
-        }
-        read_to_end(rt);
-        stop.store(1, Ordering::SeqCst);
-    });
+    thread::scope(
+        thread::scope_env(),
+        rt,
+        |scope| -> ()
+            requires { namespaces.now ≡ N.namespaces }
+        {
+            for start in starts {
+                let Start {
+                    node,
+                    receiver,
+                    listener,
+                } = start;
+                let setup = Setup {
+                    node,
+                    boot: options.boot,
+                    namespaces,
+                    tokens,
+                };
+                let _ = scope.spawn(
+                    move || -> ()
+                        requires { setup.namespaces.now ≡ N.namespaces }
+                    {
+                        let _ = Node::run(rt, setup, broker, receiver, listener, gate, stop);
+                    },
+                );
+            }
+            read_to_end(rt);
+            stop.store(1, Ordering::SeqCst);
+        },
+    );
+    Ok(())
 }
 
 // Reads standard input to its end.
