@@ -1,6 +1,4 @@
 //! The worker that serves the sockets: it turns a connection that has something to read or something to send, and no other.
-ghost use Rattle.std.specs.Prelude.{◌≡◌};
-
 use crate::connection::{Connection, Head, Open};
 use crate::desk::{SessionDesk, take_some};
 use crate::gate::{Gate, IO_LOOP};
@@ -46,11 +44,9 @@ const SHUTDOWN: u16 = 3001;
 pub(crate) struct Around<'a, R, N: Naming, E: Epochs + Drop> {
     pub(crate) rt: &'a R,
     pub(crate) alloc: Global,
-    pub(crate) setup: Setup<'a>,
+    pub(crate) setup: Setup<'a, N>,
     pub(crate) shared: &'a Shared,
     pub(crate) broker: &'a Broker<N, E>,
-    // The namespaces are those of the broker.
-    ghost named: { setup.namespaces.now ≡ N.namespaces },
 }
 
 #[derive(Drop)]
@@ -87,7 +83,7 @@ pub(crate) fn serve<'a, R: Wait + Clock, N: Naming, E: Epochs + Drop, G: Gate>(
             break;
         }
         turn = turn.wrapping_add(1);
-        if gate.may(io_loop.around.setup.node, IO_LOOP, turn) {
+        if gate.may(around.setup.node(), IO_LOOP, turn) {
             wait(&mut poll, &mut events, io_loop.patience())?;
             io_loop.turn(&poll, &listener, &events, gate.now(rt));
         } else {
@@ -234,7 +230,7 @@ impl<'a, R: Wait, N: Naming, E: Epochs + Drop> IoLoop<'a, R, N, E> {
                 self.end(place);
             }
         }
-        if self.around.setup.node == 0 {
+        if self.around.setup.node() == 0 {
             self.around.tick_broker(now);
         }
         if self.behind {

@@ -12,7 +12,7 @@ use cf_protocol::{Namespaces, Tokens};
 use cf_stream::Epochs;
 use mio::net::TcpListener;
 use mio::{Interest, Poll, Token, Waker};
-use std::alloc::Global;
+use std::marker::PhantomData;
 use std::net::Net;
 use std::sync::Wait;
 use std::sync::atomic::AtomicU64;
@@ -26,56 +26,105 @@ pub(crate) const LISTENER: Token = Token(usize::MAX);
 /// The token of a wake by the dispatcher.
 pub(crate) const WAKER: Token = Token(usize::MAX - 1);
 
-/// What a node is set up with.
-#[derive(Clone, Copy)]
-pub struct Setup<'a> {
-    /// Its number, from 0.
-    pub node: u8,
-    /// The number of this start of the program, which stands in the ids of its clients.
-    pub boot: u64,
-    pub namespaces: &'a Namespaces,
-    pub tokens: &'a Tokens,
+/// What a node is set up with. Its namespaces are those that `N` names.
+#[derive(Drop)]
+pub struct Setup<'a, N: Naming> {
+    node: u8,
+    boot: u64,
+    pub(crate) namespaces: &'a Namespaces,
+    pub(crate) tokens: &'a Tokens,
+    of: PhantomData<N>,
+    ghost named: { namespaces.now ≡ N.namespaces },
 }
 
-/// A node: the workers that serve the clients that connect to it.
-pub struct Node;
+impl<'a, N: Naming> Setup<'a, N> {
+    /// A node of this number, from 0, at this start of the program, whose number stands in the ids of its clients.
+    pub fn new(node: u8, boot: u64, namespaces: &'a Namespaces, tokens: &'a Tokens) -> Setup<'a, N>
+        requires { namespaces.now ≡ N.namespaces }
+    {
+        Setup {
+            node,
+            boot,
+            namespaces,
+            tokens,
+            of: PhantomData,
+        }
+    }
 
-impl Node {
-    /// Serves the clients that connect to `listener` until `stop` isn't 0: then all sessions are closed with 3001 and both
-    /// workers end. An error where the sockets can't be set up, or memory for it is refused.
-    pub fn run<'a, R, N, E, G>(
-        rt: &'a R,
-        setup: Setup<'a>,
-        broker: &'a Broker<N, E>,
+    /// The node's number, from 0.
+    pub fn node(&self) -> u8
+        ensures { result ≡ self.now.node }
+    {
+        self.node
+    }
+}
+
+/// A node that listens, and serves nobody yet.
+#[derive(Drop)]
+pub struct Node<'a, N: Naming> {
+    setup: Setup<'a, N>,
+    poll: Poll,
+    listener: TcpListener,
+    receiver: Receiver<Delivery>,
+    shared: Shared,
+}
+
+impl<'a, N: Naming> Node<'a, N> {
+    /// A node at this listener, at this end of its link from the broker. An error where its readiness can't be set up.
+    pub fn open<R: Net + AllocGlobal>(
+        rt: &R,
+        setup: Setup<'a, N>,
         receiver: Receiver<Delivery>,
         mut listener: TcpListener,
-        gate: &'a G,
-        stop: &'a AtomicU64,
-    ) -> io::Result<()>
-    where
-        R: Threads + Wait + Clock + Net + AllocGlobal + Sync,
-        N: Naming + Send + Sync,
-        E: Epochs + Send + Drop,
-        G: Gate + Sync,
-        requires { setup.namespaces.now ≡ N.namespaces }
-    {
-        let alloc = rt.alloc();
+    ) -> io::Result<Node<'a, N>> {
         let poll = Poll::new(rt)?;
         poll.registry()
             .register(&mut listener, LISTENER, Interest::READABLE)?;
         let waker = Waker::new(poll.registry(), WAKER)?;
-        let shared = Shared::new(Hub::new(alloc, setup.node, setup.boot), waker);
+        let shared = Shared::new(Hub::new(rt.alloc(), setup.node, setup.boot), waker);
+        Ok(Node {
+            setup,
+            poll,
+            listener,
+            receiver,
+            shared,
+        })
+    }
+
+    /// Serves the clients that connect until `stop` isn't 0: then all sessions are closed with 3001 and both workers end. An
+    /// error where waiting for readiness fails, or memory for it is refused.
+    pub fn run<R, E, G>(
+        self,
+        rt: &'a R,
+        broker: &'a Broker<N, E>,
+        gate: &'a G,
+        stop: &'a AtomicU64,
+    ) -> io::Result<()>
+    where
+        R: Threads + Wait + Clock + AllocGlobal + Sync,
+        N: Send + Sync,
+        E: Epochs + Send + Drop,
+        G: Gate + Sync,
+    {
+        let Node {
+            setup,
+            poll,
+            listener,
+            receiver,
+            shared,
+        } = self;
+        let node = setup.node;
         let shared = &shared;
         let around = Around {
             rt,
-            alloc,
+            alloc: rt.alloc(),
             setup,
             shared,
             broker,
         };
         let around = &around;
         thread::scope(thread::scope_env(), rt, |scope| {
-            let _ = scope.spawn(move || dispatch(rt, setup.node, shared, receiver, gate, stop));
+            let _ = scope.spawn(move || dispatch(rt, node, shared, receiver, gate, stop));
             serve(around, poll, listener, gate, stop)
         })
     }

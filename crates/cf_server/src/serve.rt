@@ -4,8 +4,8 @@ ghost use Rattle.std.specs.Prelude.{◌≡◌};
 use crate::boot_epochs::BootEpochs;
 use crate::command_line::ServeOptions;
 use crate::fault::Fault;
-use cf_broker::{Broker, Delivery, Naming};
-use cf_link::{Receiver, pair};
+use cf_broker::{Broker, Naming};
+use cf_link::pair;
 use cf_node::{Gate, Node, Setup};
 use cf_protocol::{Namespaces, Tokens, read_namespaces, read_tokens};
 use mio::net::TcpListener;
@@ -39,14 +39,6 @@ impl Gate for RunningClock {
     }
 }
 
-// What one node is started with.
-#[derive(Drop)]
-struct Start {
-    node: u8,
-    receiver: Receiver<Delivery>,
-    listener: TcpListener,
-}
-
 /// Serves clients until standard input ends. Each node's address is printed as `node I 127.0.0.1:PORT` before it serves.
 pub fn serve<R>(rt: &R, options: ServeOptions<'_>) -> Result<(), Fault>
 where
@@ -75,21 +67,19 @@ where
 {
     let alloc = rt.alloc();
     let mut senders = Vec::new(alloc);
-    let mut starts = Vec::new(alloc);
+    let mut nodes = Vec::new(alloc);
     for node in 0..options.nodes {
         let (sender, receiver) = pair(alloc, LINK_CAPACITY)?;
         senders.push(sender)?;
-        starts.push(Start {
-            node,
-            receiver,
-            listener: listen(rt, options, node)?,
-        })?;
+        let setup = Setup::new(node, options.boot, namespaces, tokens);
+        nodes.push(Node::open(rt, setup, receiver, listen(rt, options, node)?)?)?;
     }
     let broker = Broker::<N, BootEpochs>::new(alloc, namespaces, epochs_of(options.boot), senders)?;
     let gate = RunningClock {
         start: Instant::now(rt)?,
     };
-    run_nodes(rt, options, namespaces, tokens, &broker, &gate, starts)
+    run_nodes(rt, &broker, &gate, nodes);
+    Ok(())
 }
 
 // Listens at the node's port, and says where.
@@ -134,51 +124,25 @@ pub fn epochs_of(boot: u64) -> [BootEpochs; 16] {
 // Runs each node in a thread of its own until standard input ends.
 fn run_nodes<N, R>(
     rt: &R,
-    options: ServeOptions<'_>,
-    namespaces: &Namespaces,
-    tokens: &Tokens,
     broker: &Broker<N, BootEpochs>,
     gate: &RunningClock,
-    starts: Vec<Start>,
-) -> Result<(), Fault>
+    nodes: Vec<Node<'_, N>>,
+)
 where
     N: Naming + Send + Sync,
-    R: Input + AllocGlobal + Threads + Wait + Clock + Net + Sync,
-    requires { namespaces.now ≡ N.namespaces }
+    R: Input + AllocGlobal + Threads + Wait + Clock + Sync,
 {
     let stop = AtomicU64::new(0);
     let stop = &stop;
-    thread::scope(
-        thread::scope_env(),
-        rt,
-        |scope| -> ()
-            requires { namespaces.now ≡ N.namespaces }
-        {
-            for start in starts {
-                let Start {
-                    node,
-                    receiver,
-                    listener,
-                } = start;
-                let setup = Setup {
-                    node,
-                    boot: options.boot,
-                    namespaces,
-                    tokens,
-                };
-                let _ = scope.spawn(
-                    move || -> ()
-                        requires { setup.namespaces.now ≡ N.namespaces }
-                    {
-                        let _ = Node::run(rt, setup, broker, receiver, listener, gate, stop);
-                    },
-                );
-            }
-            read_to_end(rt);
-            stop.store(1, Ordering::SeqCst);
-        },
-    );
-    Ok(())
+    thread::scope(thread::scope_env(), rt, |scope| {
+        for node in nodes {
+            let _ = scope.spawn(move || {
+                let _ = node.run(rt, broker, gate, stop);
+            });
+        }
+        read_to_end(rt);
+        stop.store(1, Ordering::SeqCst);
+    });
 }
 
 // Reads standard input to its end.

@@ -183,55 +183,22 @@ fn two_nodes<N: Naming + Send + Sync, R: Threads + Wait + Clock + Net + Abort + 
     let (second_listener, second) = listen(rt)?;
     let gate = AllFour::new();
     let stop = AtomicU64::new(0);
-    let setup = Setup {
-        node: 0,
-        boot: 7,
-        namespaces,
-        tokens,
-    };
+    let ours = Setup::new(0, 7, namespaces, tokens);
+    let ours = Node::open(rt, ours, first_receiver, first_listener)?;
+    let theirs = Setup::new(1, 7, namespaces, tokens);
+    let theirs = Node::open(rt, theirs, second_receiver, second_listener)?;
     let (broker, gate, stop) = (&broker, &gate, &stop);
-    let theirs = Setup { node: 1, ..setup };
-    let talked = thread::scope(
-        thread::scope_env(),
-        rt,
-        |scope| -> Result<(), Fail>
-            requires { namespaces.now ≡ N.namespaces }
-        {
-            let _ = scope.spawn(
-                move || -> ()
-                    requires { setup.namespaces.now ≡ N.namespaces }
-                {
-                    let _ = Node::run(
-                        rt,
-                        setup,
-                        broker,
-                        first_receiver,
-                        first_listener,
-                        gate,
-                        stop,
-                    );
-                },
-            );
-            let _ = scope.spawn(
-                move || -> ()
-                    requires { theirs.namespaces.now ≡ N.namespaces }
-                {
-                    let _ = Node::run(
-                        rt,
-                        theirs,
-                        broker,
-                        second_receiver,
-                        second_listener,
-                        gate,
-                        stop,
-                    );
-                },
-            );
-            let talked = talk(rt, alloc, first, second);
-            stop.store(1, Ordering::SeqCst);
-            talked
-        },
-    );
+    let talked = thread::scope(thread::scope_env(), rt, |scope| {
+        let _ = scope.spawn(move || {
+            let _ = ours.run(rt, broker, gate, stop);
+        });
+        let _ = scope.spawn(move || {
+            let _ = theirs.run(rt, broker, gate, stop);
+        });
+        let talked = talk(rt, alloc, first, second);
+        stop.store(1, Ordering::SeqCst);
+        talked
+    });
     assert_eq!(rt; gate.failed.load(Ordering::SeqCst), 0);
     talked
 }
