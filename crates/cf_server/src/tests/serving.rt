@@ -127,7 +127,11 @@ impl<S: Read + Write> Peer<S> {
             }
             self.read_more(1)?;
         }
-        Ok(String::from_utf8(self.bytes.get(2..).unwrap_or(&[]).to_vec(alloc)?)?)
+        let text = match self.bytes.get(2..) {
+            Some(rest) => rest.to_vec(alloc)?,
+            None => Vec::new(alloc),
+        };
+        Ok(String::from_utf8(text)?)
     }
 }
 
@@ -135,6 +139,20 @@ fn listen(rt: &impl Net) -> Result<(TcpListener, SocketAddr), Fail> {
     let listener = TcpListener::bind(rt, SocketAddr::from((Ipv4Addr::LOCALHOST, 0)))?;
     let address = listener.local_addr()?;
     Ok((listener, address))
+}
+
+fn subscribe<S: Read + Write>(
+    rt: &impl Abort,
+    alloc: Global,
+    peer: &mut Peer<S>,
+) -> Result<(), Fail> {
+    peer.say("{\"id\":2,\"subscribe\":{\"channel\":\"news\"}}")?;
+    let answer = peer.hear(alloc)?;
+    assert_eq!(rt;
+        answer.as_str(),
+        "{\"id\":2,\"subscribe\":{\"epoch\":\"7x13x1\",\"positioned\":true,\"recoverable\":true}}"
+    );
+    Ok(())
 }
 
 // Subscribes a client on each node, and publishes: both get it.
@@ -146,13 +164,8 @@ fn talk(
 ) -> Result<(), Fail> {
     let mut ann = connect(rt, alloc, first)?;
     let mut bob = connect(rt, alloc, second)?;
-    for peer in [&mut ann, &mut bob] {
-        peer.say("{\"id\":2,\"subscribe\":{\"channel\":\"news\"}}")?;
-        assert_eq!(rt;
-            peer.hear(alloc)?.as_str(),
-            "{\"id\":2,\"subscribe\":{\"epoch\":\"7x13x1\",\"positioned\":true,\"recoverable\":true}}"
-        );
-    }
+    subscribe(rt, alloc, &mut ann)?;
+    subscribe(rt, alloc, &mut bob)?;
     ann.say("{\"id\":3,\"publish\":{\"channel\":\"news\",\"data\":\"hello\"}}")?;
     let push =
         "{\"push\":{\"channel\":\"news\",\"pub\":{\"data\":\"hello\",\"info\":{\"client\":\"0-7-1\"},\"offset\":1}}}";
@@ -167,11 +180,11 @@ fn talk(
     Ok(())
 }
 
-fn two_nodes<N: Naming + Send + Sync, R: Threads + Wait + Clock + Net + Abort + AllocGlobal + Sync>(
-    rt: &R,
-    namespaces: &Namespaces,
-    tokens: &Tokens,
-) -> Result<(), Fail>
+fn two_nodes<
+    'a,
+    N: Naming + Send + Sync,
+    R: Threads + Wait + Clock + Net + Abort + AllocGlobal + Sync,
+>(rt: &'a R, namespaces: &'a Namespaces, tokens: &'a Tokens) -> Result<(), Fail>
     requires { namespaces.now ≡ N.namespaces }
 {
     let alloc = rt.alloc();
