@@ -180,40 +180,55 @@ fn talk(
     Ok(())
 }
 
-fn two_nodes<
-    'a,
+// Runs two nodes while two clients talk.
+fn run_two<N, R>(
+    rt: &R,
+    broker: &Broker<N, BootEpochs>,
+    gate: &AllFour,
+    ours: Node<'_, N>,
+    theirs: Node<'_, N>,
+    addresses: (SocketAddr, SocketAddr),
+) -> Result<(), Fail>
+where
     N: Naming + Send + Sync,
     R: Threads + Wait + Clock + Net + Abort + AllocGlobal + Sync,
->(rt: &'a R, namespaces: &'a Namespaces, tokens: &'a Tokens) -> Result<(), Fail>
-    requires { namespaces.now ≡ N.namespaces }
 {
-    let alloc = rt.alloc();
-    let (first_sender, first_receiver) = pair(alloc, 1024)?;
-    let (second_sender, second_receiver) = pair(alloc, 1024)?;
-    let senders = Vec::from_array(alloc, [first_sender, second_sender])?;
-    let broker = Broker::<N, BootEpochs>::new(alloc, namespaces, epochs_of(7), senders)?;
-    let (first_listener, first) = listen(rt)?;
-    let (second_listener, second) = listen(rt)?;
-    let gate = AllFour::new();
     let stop = AtomicU64::new(0);
-    let ours = Setup::new(0, 7, namespaces, tokens);
-    let ours = Node::open(rt, ours, first_receiver, first_listener)?;
-    let theirs = Setup::new(1, 7, namespaces, tokens);
-    let theirs = Node::open(rt, theirs, second_receiver, second_listener)?;
-    let (broker, gate, stop) = (&broker, &gate, &stop);
-    let talked = thread::scope(thread::scope_env(), rt, |scope| {
+    let stop = &stop;
+    thread::scope(thread::scope_env(), rt, |scope| {
         let _ = scope.spawn(move || {
             let _ = ours.run(rt, broker, gate, stop);
         });
         let _ = scope.spawn(move || {
             let _ = theirs.run(rt, broker, gate, stop);
         });
-        let talked = talk(rt, alloc, first, second);
+        let talked = talk(rt, rt.alloc(), addresses.0, addresses.1);
         stop.store(1, Ordering::SeqCst);
         talked
-    });
+    })
+}
+
+fn two_nodes<N, R>(rt: &R, namespaces: &Namespaces, tokens: &Tokens) -> Result<(), Fail>
+where
+    N: Naming + Send + Sync,
+    R: Threads + Wait + Clock + Net + Abort + AllocGlobal + Sync,
+    requires { namespaces.now ≡ N.namespaces }
+{
+    let alloc = rt.alloc();
+    let (first_sender, first_receiver) = pair(alloc, 1024)?;
+    let (second_sender, second_receiver) = pair(alloc, 1024)?;
+    let senders = Vec::from_array(alloc, [first_sender, second_sender])?;
+    let (first_listener, first) = listen(rt)?;
+    let (second_listener, second) = listen(rt)?;
+    let ours = Setup::new(0, 7, namespaces, tokens);
+    let ours = Node::open(rt, ours, first_receiver, first_listener)?;
+    let theirs = Setup::new(1, 7, namespaces, tokens);
+    let theirs = Node::open(rt, theirs, second_receiver, second_listener)?;
+    let broker = Broker::<N, BootEpochs>::new(alloc, namespaces, epochs_of(7), senders)?;
+    let gate = AllFour::new();
+    run_two(rt, &broker, &gate, ours, theirs, (first, second))?;
     assert_eq!(rt; gate.failed.load(Ordering::SeqCst), 0);
-    talked
+    Ok(())
 }
 
 // Each of the four workers waits inside its first turn for the other three; then a publish reaches a client on each node.
