@@ -1,5 +1,5 @@
 -- What adding and removing rows makes of a table's rows.
-use Rattle.std.proofs.Common.{◌≡◌, Bool, true, false, ◌-◌, ◌==◌, ◌≤◌, ◌<◌, not, List, [], ◌∷◌, length, ℕ, ltb, refl, sym, arith, cond}
+use Rattle.std.proofs.Common.{◌≡◌, Bool, true, false, ◌-◌, ◌==◌, ◌≤◌, ◌<◌, ◌||◌, ◌∙◌, not, List, [], ◌∷◌, length, map, ℕ, ltb, refl, sym, ap, arith, cond}
 use Rattle.std.specs.Prelude.{filter}
 use Rattle.std.specs.List.{list_any}
 use Rattle.std.specs.Str.{bytes_eq}
@@ -11,22 +11,29 @@ use Rattle.std.proofs.lemmas.List.Folds.{list_any-append}
 use Rattle.cf_followers.specs.Follows.{Follow, follows, is_of, follow, with_follow, without_session, channels_of, AreOnce, AreFollows, most_rows}
 
 -- what passes a test in no element passes it in none that a filter keeps
-list_any-filter : {X : Type 0} (q p : X → Bool) (xs : List X) → list_any q xs ≡ false → list_any q (filter p xs) ≡ false
-list_any-filter q p [] h = refl
-list_any-filter q p (x ∷ xs) h = grind (arith, list_any-filter q p xs)
+any_fewer : {X : Type 0} (p : Follow → Bool) (f : X → Follow) (q : X → Bool) (xs : List X) → list_any p (map f xs) ≡ false → list_any p (map f (filter q xs)) ≡ false
+any_fewer p f q [] h = refl
+any_fewer p f q (x ∷ xs) h = by_value (q x) (p (f x)) refl (any_fewer p f q xs) h
+  where
+    by_value : (t u : Bool) → p (f x) ≡ u → (list_any p (map f xs) ≡ false → list_any p (map f (filter q xs)) ≡ false) → (u || list_any p (map f xs)) ≡ false → list_any p (map f (cond t (x ∷ filter q xs) (filter q xs))) ≡ false
+    by_value true true e g k = absurd (cc)
+    by_value true false e g k = ap (λ b. b || list_any p (map f (filter q xs))) e ∙ g k
+    by_value false true e g k = absurd (cc)
+    by_value false false e g k = g k
 
-kept_or_not : (b : Bool) (r : Follow) (rows : List Follow) → follows rows r.channel r.session ≡ false → AreOnce rows → AreOnce (cond b (r ∷ rows) rows)
-kept_or_not true r rows h k = (h, k)
-kept_or_not false r rows h k = k
+once_fewer : {X : Type 0} (f : X → Follow) (q : X → Bool) (xs : List X) → AreOnce (map f xs) → AreOnce (map f (filter q xs))
+once_fewer f q [] h = h
+once_fewer f q (x ∷ xs) h = by_value (q x) (any_fewer (is_of (f x).channel (f x).session) f q xs h.0) (once_fewer f q xs h.1)
+  where
+    by_value : (t : Bool) → follows (map f (filter q xs)) (f x).channel (f x).session ≡ false → AreOnce (map f (filter q xs)) → AreOnce (map f (cond t (x ∷ filter q xs) (filter q xs)))
+    by_value true e g = (e, g)
+    by_value false e g = g
 
-AreOnce-filter : (p : Follow → Bool) (rows : List Follow) → AreOnce rows → AreOnce (filter p rows)
-AreOnce-filter p [] h = h
-AreOnce-filter p (r ∷ rows) h = kept_or_not (p r) r (filter p rows) (list_any-filter (is_of r.channel r.session) p rows h.0) (AreOnce-filter p rows h.1)
-
-pub AreFollows-filter : (p : Follow → Bool) (rows : List Follow) → AreFollows rows → AreFollows (filter p rows)
-AreFollows-filter p rows h =
-    let few : length rows ≤ most_rows = h.few in
-    record { once = AreOnce-filter p rows h.once; few = omega (arith, length-filter_both p (λ r. not (p r)) (λ _. refl) rows, few) }
+-- some of these rows are left
+pub AreFollows-fewer : {X : Type 0} (f : X → Follow) (q : X → Bool) (xs : List X) → AreFollows (map f xs) → AreFollows (map f (filter q xs))
+AreFollows-fewer f q xs h =
+    let few : length (map f xs) ≤ most_rows = h.few in
+    record { once = once_fewer f q xs h.once; few = omega (arith, length-map xs f, length-map (filter q xs) f, length-filter_both q (λ x. not (q x)) (λ _. refl) xs, few) }
 
 turned : (a b : List ℕ) → bytes_eq a b ≡ bytes_eq b a
 turned a b = by_value (bytes_eq a b) (bytes_eq b a) (bytes_decides a b) (bytes_decides b a)
@@ -64,9 +71,9 @@ fewer_kept : {X : Type 0} (p : X → Bool) (xs : List X) → ltb (length (filter
 fewer_kept p [] = refl
 fewer_kept p (x ∷ xs) = grind (arith, nat_tests, fewer_kept p xs, length-filter_both p (λ y. not (p y)) (λ _. refl) xs)
 
--- fewer are left exactly where some element passed the test
-pub fewer_where_any : {X : Type 0} (p : X → Bool) (xs ys left : List X) → xs ≡ ys → left ≡ filter (λ x. not (p x)) ys → ltb (length left) (length xs) ≡ list_any p ys
-fewer_where_any p xs ys left same is = rw (same, is) (fewer_kept p ys)
+-- fewer are left where some element passed the test
+pub one_shorter : {X : Type 0} (p : X → Bool) (xs left : List X) → left ≡ filter (λ x. not (p x)) xs → list_any p xs ≡ true → length left < length xs
+one_shorter p xs left is any = let less = fewer_kept p xs in rw is (grind (arith, nat_tests, less, any))
 
 -- as many went as the session had
 pub gone_from : (rows old left : List Follow) (s : ℕ) → rows ≡ old → left ≡ without_session old s → length rows - length left ≡ length (channels_of old s)

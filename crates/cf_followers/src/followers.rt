@@ -1,10 +1,11 @@
 //! The table of rows.
 ghost use Rattle.std.specs.Prelude.{◌≡◌, ◌↔◌, [], length, false, OnOk, OnErr, IsErrOf, slice_get};
-ghost use Rattle.cf_followers.specs.Follows.{AreFollows, after_in, channels_of, follows, is_of, most_rows, sessions_of, with_follow, without_follow, without_session};
+ghost use Rattle.cf_followers.specs.Follows.{AreFollows, after_in, channels_of, follows, most_rows, sessions_of, with_follow, without_follow, without_session};
 
+use crate::named_rows::{add_first_row, add_row, remove_row};
+use crate::names::Names;
 use crate::refusal::FollowRefusal;
-use crate::row::Row;
-use crate::walk::Walk;
+use cf_subs::SubTable;
 use std::alloc::Global;
 use std::marker::Model;
 
@@ -12,9 +13,13 @@ use std::marker::Model;
 pub const MOST_ROWS: usize = 65_536;
 
 /// The rows of one node, in order of adding: each at most once, and at most 65,536.
+///
+/// A channel has a number while it has rows, and the rows are linked by number. So no call searches the rows of other channels
+/// and of other sessions.
 #[derive(Drop)]
 pub struct Followers {
-    rows: Vec<Row>,
+    names: Names,
+    rows: SubTable,
 }
 
 impl Model for Followers {
@@ -23,11 +28,11 @@ impl Model for Followers {
 
     ghost Value = { List Follow };
 
-    ghost use Rattle.cf_followers.specs.Follows.{AreFollows};
+    ghost use Rattle.cf_followers.specs.Names.{AreKept, named};
 
-    ghost view = { λ t. t.rows.items };
+    ghost view = { λ t. named t.names t.rows };
 
-    ghost invariant = { λ t. AreFollows t.rows.items };
+    ghost invariant = { λ t. AreKept t.names t.rows };
 }
 
 impl Followers {
@@ -36,7 +41,8 @@ impl Followers {
         ensures { result ≡ [] }
     {
         Followers {
-            rows: Vec::new(alloc),
+            names: Names::new(alloc),
+            rows: SubTable::new(alloc),
         }
     }
 
@@ -45,6 +51,7 @@ impl Followers {
         ensures len { result ≡ length self.now }
         ensures rows { AreFollows self.now }
     {
+        let _names = &self.names;
         self.rows.len()
     }
 
@@ -61,8 +68,11 @@ impl Followers {
         if self.rows.len() >= MOST_ROWS {
             return Err(FollowRefusal::Full);
         }
-        let channel = String::from_str(alloc, channel)?;
-        self.rows.push(Row { channel, session })?;
+        let Some(number) = self.names.number(channel) else {
+            add_first_row(&mut self.names, &mut self.rows, alloc, channel, session)?;
+            return Ok(());
+        };
+        add_row(&mut self.rows, number, session)?;
         Ok(())
     }
 
@@ -70,20 +80,18 @@ impl Followers {
     pub fn has(&self, channel: &str, session: u32) -> bool
         ensures { result ≡ follows self.now channel.now session }
     {
-        self.rows.iter().any(|row| row.is_of(channel, session))
+        match self.names.number(channel) {
+            Some(number) => self.rows.has(number, session),
+            None => false,
+        }
     }
 
     /// How many channels a session follows. It takes no memory.
     pub fn count(&self, session: u32) -> usize
         ensures { result ≡ length (channels_of self.now session) }
     {
-        let mut count = 0;
-        for row in &self.rows {
-            if row.session == session {
-                count += 1;
-            }
-        }
-        count
+        let _names = &self.names;
+        self.rows.channel_count(session)
     }
 
     /// Removes the row of a channel and a session, and says whether there was one. It takes no memory.
@@ -92,9 +100,10 @@ impl Followers {
         ensures found { result ≡ follows self.old channel.now session }
         ensures rows { AreFollows self.new }
     {
-        let count = self.rows.len();
-        self.rows.retain(|row| !row.is_of(channel, session));
-        self.rows.len() < count
+        match self.names.number(channel) {
+            Some(number) => remove_row(&mut self.names, &mut self.rows, number, session),
+            None => false,
+        }
     }
 
     /// Removes all rows of a session, and says how many they were. It takes no memory.
@@ -104,19 +113,10 @@ impl Followers {
         ensures rows { AreFollows self.new }
     {
         let count = self.rows.len();
-        self.rows.retain(|row| row.session != session);
-        count - self.rows.len()
-    }
-
-    /// The sessions that follow a channel, in order of adding.
-    fn walk<'a>(&'a self, channel: &'a str) -> Walk<'a>
-        ensures sessions { result ≡ sessions_of self.now channel.now }
-        ensures rows { AreFollows self.now }
-    {
-        Walk {
-            rest: self.rows.iter(),
-            channel,
+        while let Some(number) = self.rows.walk_session(session).next() {
+            remove_row(&mut self.names, &mut self.rows, number, session);
         }
+        count - self.rows.len()
     }
 
     /// The first session that follows a channel. It takes no memory.
@@ -124,7 +124,10 @@ impl Followers {
         ensures first { result ≡ slice_get (sessions_of self.now channel.now) 0 }
         ensures rows { AreFollows self.now }
     {
-        self.walk(channel).next()
+        let Some(number) = self.names.number(channel) else {
+            return None;
+        };
+        self.rows.first(number)
     }
 
     /// The session that follows a channel next after another one that does. Rows may go between two of these calls, so that
@@ -133,12 +136,9 @@ impl Followers {
         ensures next { result ≡ after_in session (sessions_of self.now channel.now) }
         ensures rows { AreFollows self.now }
     {
-        let mut walk = self.walk(channel);
-        while let Some(follower) = walk.next() {
-            if follower == session {
-                return walk.next();
-            }
-        }
-        None
+        let Some(number) = self.names.number(channel) else {
+            return None;
+        };
+        self.rows.after(number, session)
     }
 }

@@ -4,10 +4,9 @@
 #![tactic(auto)]
 
 mod followers;
+mod named_rows;
+mod names;
 mod refusal;
-mod row;
-mod walk;
 
 pub use followers::{Followers, MOST_ROWS};
 pub use refusal::FollowRefusal;
-pub use row::Row;

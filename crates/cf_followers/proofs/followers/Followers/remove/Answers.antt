@@ -1,19 +1,42 @@
-use Rattle.std.proofs.Common.{rules, not}
-use Rattle.std.proofs.lemmas.Fn.{filter_same}
-use Rattle.cf_followers.specs.Follows.{is_of}
-use Rattle.cf_followers.proofs.Keeping.{AreFollows-filter, fewer_where_any}
+use Rattle.std.proofs.Common.{◌∙◌, ◌&&◌, ◌==◌, sym, ap, not}
+use Rattle.std.specs.Prelude.{unwrap_or, []}
+use Rattle.cf_followers.specs.Follows.{follow, follows, without_follow}
+use Rattle.cf_followers.specs.Names.{name_at, number_at}
+use Rattle.cf_followers.proofs.ByName.{follows_known, follows_unknown, without_known, without_unknown}
+use Rattle.cf_followers.proofs.Keeping.{AreFollows-fewer}
 use Rattle.cf_followers.proofs.followers.Followers.remove.Goals as goal
 
-pub returns-clause-removed : goal.returns-clause-removed
-returns-clause-removed c = rw (← c.self.view_is) (filter_same _ _ _ (λ x b f' k. search rules) _ _ c.retain.ensures.filtered)
+pub returns-in-Some-clause-rows : goal.returns-in-Some-clause-rows
+returns-in-Some-clause-rows c =
+    rw c.remove_row.ensures.removed
+    (AreFollows-fewer (λ r. follow (unwrap_or (name_at c.self.inside.names r.channel) []) r.session) (λ r. not ((r.channel == c.in-Some.number) && (r.session == c.args.session))) c.self.inside.rows c.self.invariant.follows)
 
 pub invariant_of-self : goal.invariant_of-self
-invariant_of-self c =
-    rw (returns-clause-removed c, ← c.self.view_is) (AreFollows-filter (λ r. not (is_of c.args.channel.now c.args.session r)) c.self.inside.rows.items c.self.invariant)
+invariant_of-self c = record { numbered = c.remove_row.ensures.numbered; used = c.remove_row.ensures.used; follows = returns-in-Some-clause-rows c }
 
-pub returns-clause-found : goal.returns-clause-found
-returns-clause-found c =
-    let found = fewer_where_any (is_of c.args.channel.now c.args.session) c.self.inside.rows.items _ _ c.self.view_is (returns-clause-removed c) in search (rules, found)
+pub returns-in-Some-clause-removed : goal.returns-in-Some-clause-removed
+returns-in-Some-clause-removed c =
+    let ns = c.self.inside.names in
+    c.remove_row.ensures.removed
+    ∙ sym (without_known (number_at ns) (name_at ns) c.self.invariant.numbered c.args.channel.now c.self.inside.rows c.in-Some.number c.args.session c.self.invariant.used (sym c.number.ensures ∙ c.in-Some.is))
+    ∙ ap (λ l. without_follow l c.args.channel.now c.args.session) c.self.view_is
 
-pub returns-clause-rows : goal.returns-clause-rows
-returns-clause-rows c = invariant_of-self c
+pub returns-in-Some-clause-found : goal.returns-in-Some-clause-found
+returns-in-Some-clause-found c =
+    let ns = c.self.inside.names in
+    c.remove_row.ensures.found
+    ∙ sym (follows_known (number_at ns) (name_at ns) c.self.invariant.numbered c.args.channel.now c.self.inside.rows c.in-Some.number c.args.session c.self.invariant.used (sym c.number.ensures ∙ c.in-Some.is))
+    ∙ ap (λ l. follows l c.args.channel.now c.args.session) c.self.view_is
+
+pub returns-in-None-clause-removed : goal.returns-in-None-clause-removed
+returns-in-None-clause-removed c =
+    let ns = c.self.inside.names in
+    sym c.self.view_is
+    ∙ sym (without_unknown (number_at ns) (name_at ns) c.self.invariant.numbered c.args.channel.now c.self.inside.rows c.args.session c.self.invariant.used (sym c.number.ensures ∙ c.in-None.is))
+    ∙ ap (λ l. without_follow l c.args.channel.now c.args.session) c.self.view_is
+
+pub returns-in-None-clause-found : goal.returns-in-None-clause-found
+returns-in-None-clause-found c =
+    let ns = c.self.inside.names in
+    sym (follows_unknown (number_at ns) (name_at ns) c.self.invariant.numbered c.args.channel.now c.self.inside.rows c.args.session c.self.invariant.used (sym c.number.ensures ∙ c.in-None.is))
+    ∙ ap (λ l. follows l c.args.channel.now c.args.session) c.self.view_is
