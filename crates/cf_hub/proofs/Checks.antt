@@ -1,5 +1,5 @@
 -- What a position check makes of a session.
-use Rattle.std.proofs.Common.{◌≡◌, ◌⊎◌, inl, inr, ℕ, Bool, true, false, Option, Some, None, List, refl, sym, ap, ◌∙◌, subst}
+use Rattle.std.proofs.Common.{◌≡◌, ◌⊎◌, inl, inr, ℕ, Bool, true, Option, Some, List, refl, sym, ap, ◌∙◌}
 use Rattle.cf_protocol.specs.Position.{Position}
 use Rattle.cf_queue.specs.OutQueue.{Item, Close}
 use Rattle.cf_hub.specs.Checked.{answer_of, check_answer, stand_of}

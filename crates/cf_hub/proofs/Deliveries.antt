@@ -1,10 +1,10 @@
 -- A delivery on its way along the sessions of its channel.
-use Rattle.std.proofs.Common.{◌≡◌, ◌≢◌, ◌⊎◌, inl, inr, ℕ, zero, suc, ◌+◌, ◌-◌, ◌==◌, ◌≤◌, ◌<◌, not, Bool, true, false, if◌then◌else◌, Option, Some, None, List, [], ◌∷◌, ◌++◌, length, arith, refl, sym, ap, ◌∙◌, subst, slice_get}
+use Rattle.std.proofs.Common.{◌≡◌, ◌≢◌, inl, inr, ℕ, ◌+◌, ◌==◌, ◌≤◌, ◌<◌, not, Bool, true, false, if◌then◌else◌, Option, Some, None, List, [], ◌∷◌, ◌++◌, length, arith, refl, sym, ap, ◌∙◌, subst, slice_get}
 use Rattle.std.proofs.lemmas.Bool.Decides.{Decides-eqb, nat_tests}
 use Rattle.std.proofs.lemmas.List.{length-append}
 use Rattle.cf_protocol.specs.Datum.{Placed}
 use Rattle.cf_protocol.specs.Position.{Position}
-use Rattle.cf_followers.specs.Follows.{Follow, follows, sessions_of, after_in, AreFollows, most_rows}
+use Rattle.cf_followers.specs.Follows.{Follow, sessions_of, after_in, AreFollows, most_rows}
 use Rattle.cf_queue.specs.OutQueue.{Item}
 use Rattle.cf_hub.specs.declared.delivered.Fate.{Fate}
 use Rattle.cf_hub.specs.declared.delivered.Fate.TheVariants as fate
@@ -14,7 +14,7 @@ use Rattle.cf_hub.specs.Hub.{Node, BringStep, Brings, Delivers, attached_at, cou
 use Rattle.cf_hub.specs.Rows.{Agrees, sub_in, rows_after}
 use Rattle.cf_hub.specs.Session.{Attached}
 use Rattle.cf_hub.specs.SessionState.{Subscription, Off, Asked, Ready, On, SessionState, come_at, is_off}
-use Rattle.cf_hub.specs.WantOfMemory.{Both, Serves}
+use Rattle.cf_hub.specs.WantOfMemory.{Both}
 use Rattle.cf_hub.specs.Wordings.{Held, at_offset, delivering}
 use Rattle.cf_hub.proofs.Rows.{has, without, Once, follows_has, once_sessions, few_sessions, sessions_without_follow, sessions_without_session}
 use Rattle.cf_hub.proofs.Walks.{once_rest, once_before, after_split, without_split, tally_snoc, tally_same, total_more}

@@ -1,19 +1,17 @@
 -- A reply and what follows it are said.
-use Rattle.std.proofs.Common.{◌≡◌, ◌⊎◌, inl, inr, ◌||◌, ◌&&◌, ◌+◌, length, ℕ, not, Bool, true, false, if◌then◌else◌, Option, Some, None, List, [], ◌∷◌, ◌++◌, refl, sym, ap, ◌∙◌, subst, map}
+use Rattle.std.proofs.Common.{◌≡◌, inl, inr, ◌&&◌, ◌+◌, length, ℕ, not, Bool, true, false, if◌then◌else◌, None, List, [], ◌∷◌, ◌++◌, refl, sym, ap, ◌∙◌, subst}
 use Rattle.cf_protocol.specs.Datum.{Placed}
-use Rattle.cf_protocol.specs.Note.{Reading}
 use Rattle.cf_queue.specs.OutQueue.{Item, Text}
-use Rattle.cf_hub.specs.declared.delivered.Fate.{Fate}
 use Rattle.cf_hub.specs.declared.delivered.Fate.TheVariants as fate
 use Rattle.cf_hub.specs.declared.reply.Answered.{Answered}
 use Rattle.cf_hub.specs.Delivery.{fate_or}
-use Rattle.cf_hub.specs.Finish.{Finishes, FinishesAt}
+use Rattle.cf_hub.specs.Finish.{FinishesAt}
 use Rattle.cf_hub.specs.Reply.{IsAnswered, answer_notes}
 use Rattle.cf_hub.specs.Rows.{off_after}
-use Rattle.cf_hub.specs.SessionState.{Subscription, Off, Asked, Ready, On, SessionState, is_ready, closes, finished, finish_notes, is_off, no_memory, push, put_sub, says}
+use Rattle.cf_hub.specs.SessionState.{Subscription, Off, Asked, Ready, On, SessionState, is_ready, closes, finish_notes, is_off, no_memory, push, put_sub, says}
 use Rattle.cf_hub.specs.Subscriptions.{reading_of}
-use Rattle.cf_hub.specs.WantOfMemory.{SaysAll, ClosesAmid}
-use Rattle.cf_hub.specs.Wordings.{Held, held, end_text, no_publication, plain, push_text, releasing, texts}
+use Rattle.cf_hub.specs.WantOfMemory.{SaysAll}
+use Rattle.cf_hub.specs.Wordings.{Held, held, end_text, no_publication, plain, releasing, texts}
 use Rattle.cf_hub.proofs.States.{all_said_off, ends_off, puts_off}
 
 -- the code says texts in one way, whatever they are about

@@ -1,11 +1,11 @@
 -- A hub's sessions as its model shows them.
-use Rattle.std.proofs.Common.{◌≡◌, ◌≢◌, ◌⊎◌, inl, inr, ◌||◌, ℕ, ◌+◌, min, Bool, true, false, cond, Option, Some, None, List, [], ◌∷◌, arith, refl, sym, ap, ◌∙◌, subst, option_map, BTreeMap}
-use Rattle.std.specs.BTreeMap.{get, is_at}
+use Rattle.std.proofs.Common.{◌≡◌, ℕ, ◌+◌, Bool, true, false, cond, Option, Some, List, [], ◌∷◌, arith, refl, sym, ap, ◌∙◌, subst, option_map, BTreeMap}
+use Rattle.std.specs.BTreeMap.{is_at}
 use Rattle.std.specs.Map.{lookup}
 use Rattle.std.specs.Ordering.{nat_cmp}
 use Rattle.cf_followers.specs.Follows.{Follow}
 use Rattle.cf_hub.specs.declared.session.Session.{Session}
-use Rattle.cf_hub.specs.Hub.{IsBounded, Node, attached_at, attached_in, counted, largest}
+use Rattle.cf_hub.specs.Hub.{IsBounded, Node, attached_at, attached_in, counted}
 use Rattle.cf_hub.specs.Rows.{Agrees}
 use Rattle.cf_hub.specs.Session.{Attached, Shown, shown, shown_all, attached_shown, attached_of}
 

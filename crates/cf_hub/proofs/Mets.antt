@@ -1,5 +1,5 @@
 -- One session meets a call that may want memory, and its rows go with what ended.
-use Rattle.std.proofs.Common.{◌≡◌, ◌≢◌, ℕ, Bool, Option, Some, None, List, sym, ap, ◌∙◌, subst, BTreeMap}
+use Rattle.std.proofs.Common.{◌≡◌, ◌≢◌, ℕ, Bool, Option, List, sym, ap, ◌∙◌, subst, BTreeMap}
 use Rattle.cf_followers.specs.Follows.{Follow}
 use Rattle.cf_queue.specs.OutQueue.{Item}
 use Rattle.cf_hub.specs.declared.session.Session.{Session}

@@ -7,14 +7,14 @@ use Rattle.cf_protocol.specs.Note.{Reading}
 use Rattle.cf_hub.specs.declared.session.Session.{Session}
 use Rattle.cf_hub.specs.declared.delivered.Fate.{Fate}
 use Rattle.cf_hub.specs.declared.delivered.Fate.TheVariants as fate
-use Rattle.cf_hub.specs.Hub.{Node, One, attached_at, attached_in, is_open, moves}
+use Rattle.cf_hub.specs.Hub.{Node, One, attached_in, is_open, moves}
 use Rattle.cf_hub.specs.Rows.{Agrees, off_after, rows_after, sub_in}
 use Rattle.cf_hub.specs.Session.{Attached, shown_all}
-use Rattle.cf_hub.specs.SessionState.{SessionState, Subscription, Wording, Off, Asked, Ready, On, reads, read_at, closes, closes_now, leaves, takes_front, is_off}
+use Rattle.cf_hub.specs.SessionState.{SessionState, Subscription, Wording, Off, Asked, Ready, On, reads, read_at, closes, closes_now, leaves, is_off}
 use Rattle.cf_hub.specs.Wordings.{Held}
 use Rattle.cf_hub.proofs.States.{ends_off, puts_off}
 use Rattle.cf_hub.proofs.Walks.{agrees_by}
-use Rattle.cf_hub.proofs.Hubs.{seen, seen_in, agrees_seen}
+use Rattle.cf_hub.proofs.Hubs.{seen, agrees_seen}
 
 off_stays : (f : Fate) (c d : List ℕ) → true ≡ off_after f c d true
 off_stays fate.Passed c d = refl

@@ -1,13 +1,13 @@
 -- A session that was just attached.
-use Rattle.std.proofs.Common.{◌≡◌, ◌≢◌, ℕ, ◌==◌, ◌≤◌, ◌<◌, Bool, true, false, Option, Some, None, List, [], arith, refl, sym, ap, ◌∙◌, subst, BTreeMap}
+use Rattle.std.proofs.Common.{◌≡◌, ◌≢◌, ℕ, ◌==◌, ◌<◌, ◌+◌, is_some, Bool, true, false, Some, None, List, [], arith, refl, sym, ap, ◌∙◌, BTreeMap}
 use Rattle.std.proofs.lemmas.Bool.Decides.{Decides-eqb}
 use Rattle.cf_followers.specs.Follows.{Follow}
 use Rattle.cf_queue.specs.OutQueue.{Item}
 use Rattle.cf_hub.specs.declared.session.Session.{Session}
 use Rattle.cf_hub.specs.declared.delivered.Fate.TheVariants as fate
-use Rattle.cf_hub.specs.Hub.{IsBounded, attached_in, fresh, most_sessions}
+use Rattle.cf_hub.specs.Hub.{AreNumbered, attached_in, fresh, most_sessions}
 use Rattle.cf_hub.specs.Rows.{Agrees, sub_in}
-use Rattle.cf_hub.specs.Session.{Attached, attached_of, badge_of, state_of}
+use Rattle.cf_hub.specs.Session.{attached_of, badge_of, state_of}
 use Rattle.cf_hub.specs.SessionState.{SessionState, is_off, opens}
 use Rattle.cf_hub.specs.Wordings.{Held}
 use Rattle.cf_hub.proofs.Walks.{agrees_by}
@@ -21,5 +21,15 @@ module _ (k : ℕ) (m n : BTreeMap ℕ Session) where
       agrees_by fate.Passed [] k (attached_in m) (attached_in n) rows agrees
       (λ d. ap (λ o. is_off (sub_in o d)) here ∙ ap (λ (x : SessionState Held Item). is_off (x.subs d)) e ∙ sym (ap (λ o. is_off (sub_in o d)) free)) others
 
-  pub fresh_bounded : IsBounded (attached_in m) → k < most_sessions → ((j : ℕ) → j ≢ k → attached_in n j ≡ attached_in m j) → IsBounded (attached_in n)
-  fresh_bounded few below others = λ j h. others j (λ e. absurd (omega (arith, e, h, below))) ∙ few j h
+  pub fresh_bounded : {from : ℕ} (s : Session) → AreNumbered from (attached_in m) → k < most_sessions → ((j : ℕ) → j < k → is_some (attached_in m j) ≡ true) → attached_in n k ≡ Some (attached_of s)
+      → ((j : ℕ) → j ≢ k → attached_in n j ≡ attached_in m j) → AreNumbered (k + 1) (attached_in n)
+  fresh_bounded s few below least here others =
+      record {
+        below = λ j h. others j (λ e. absurd (omega (arith, e, h, below))) ∙ few.below j h;
+        taken = λ j h. by_value j h (j == k) ((Decides-eqb j k).0) (Decides-eqb j k).1;
+      }
+    where
+      by_value : (j : ℕ) → j < k + 1 → (t : Bool) → (t ≡ true → j ≡ k) → (j ≡ k → t ≡ true) → is_some (attached_in n j) ≡ true
+      by_value j h true e f = ap (λ i. is_some (attached_in n i)) (e refl) ∙ ap is_some here
+      by_value j h false e f =
+          let other : j ≢ k = λ g. absurd (let i = f g in cc) in let less : j < k = omega (arith, h, other) in ap is_some (others j other) ∙ least j less

@@ -1,8 +1,8 @@
 -- A tick on its way along the numbers of sessions.
-use Rattle.std.proofs.Common.{◌≡◌, ◌≢◌, ℕ, ◌+◌, ◌==◌, ◌≤◌, ◌<◌, Bool, true, false, Option, Some, None, List, [], ◌∷◌, length, arith, refl, sym, ap, ◌∙◌, subst, inl, inr}
-use Rattle.std.specs.Prelude.{nat_le}
+use Rattle.std.proofs.Common.{◌≡◌, ◌≢◌, ℕ, ◌+◌, ◌==◌, ◌≤◌, ◌<◌, Bool, true, false, Option, Some, None, List, [], length, is_some, arith, refl, sym, ap, ◌∙◌, subst, inl, inr}
+use Rattle.std.specs.Prelude.{nat_le, IfSome}
 use Rattle.std.proofs.lemmas.Bool.Decides.{Decides-eqb, nat_tests}
-use Rattle.cf_hub.specs.Hub.{IsBounded, Node, PingStep, Pings, Ticks, attached_at, counted, is_in, one_if, most_sessions}
+use Rattle.cf_hub.specs.Hub.{HasNoneFrom, IsBounded, IsNextFrom, Node, PingStep, Pings, Ticks, attached_at, counted, is_in, one_if, most_sessions}
 use Rattle.cf_hub.specs.Rows.{Agrees}
 use Rattle.cf_hub.specs.Session.{Attached}
 use Rattle.cf_hub.specs.WantOfMemory.{Both}
@@ -60,20 +60,46 @@ none_both R None None e f = tt
 none_both R None (Some b) e f = absurd (cc)
 none_both R (Some a) b e f = absurd (cc)
 
-pub ends_pinging : (now : ℕ) (old new : Node) (n : ℕ) → most_sessions ≤ n → IsBounded (attached_at old) → IsPinging now n old new → Ticks now old new
-ends_pinging now old new n far few w =
-    record {
-      hit = w.hit;
-      each = λ k. by_value k (nat_le n k) refl;
-      requests = w.requests;
-      few_hit = w.few_hit;
-      count = w.count;
-      agrees = w.agrees;
-    }
+module _ (now n : ℕ) (old new : Node) (w : IsPinging now n old new) where
+  -- a number without a session is passed over
+  done_too : (j : ℕ) → (n ≤ j → attached_at new j ≡ None) → Both (Pings (is_in j w.hit) now) (attached_at old j) (attached_at new j)
+  done_too j none = by_value (nat_le n j) refl
+    where
+      by_value : (t : Bool) → nat_le n j ≡ t → Both (Pings (is_in j w.hit) now) (attached_at old j) (attached_at new j)
+      by_value true e =
+          let behind : n ≤ j = grind (arith, nat_tests, e) in
+          none_both (Pings (is_in j w.hit) now) (attached_at old j) (attached_at new j) (sym (w.rest j behind) ∙ none behind) (w.rest j behind)
+      by_value false e = let near : j < n = grind (arith, nat_tests, e) in w.done j near
+
+  pub skips_pinging : (k : ℕ) → n ≤ k → ((j : ℕ) → n ≤ j → j < k → attached_at new j ≡ None) → IsPinging now k old new
+  skips_pinging k far none =
+      record {
+        hit = w.hit;
+        requests = w.requests;
+        few_hit = w.few_hit;
+        count = w.count;
+        done = λ j l. done_too j (λ g. none j g l);
+        rest = λ j l. w.rest j (omega (arith, far, l));
+        agrees = w.agrees;
+      }
+
+  pub ends_pinging : HasNoneFrom n (attached_at new) → Ticks now old new
+  ends_pinging none =
+      record {
+        hit = w.hit;
+        each = λ k. done_too k (none k);
+        requests = w.requests;
+        few_hit = w.few_hit;
+        count = w.count;
+        agrees = w.agrees;
+      }
+
+-- a session's number is below the most
+pub next_below : (o : Option ℕ) (n : ℕ) (f : ℕ → Option Attached) → IsBounded f → IfSome o (λ k. IsNextFrom n k f) → IfSome o (λ k. IsNextFrom n k f × (k < most_sessions))
+next_below None n f few h = tt
+next_below (Some k) n f few h = (h, by_value (nat_le most_sessions k) refl)
   where
-    by_value : (k : ℕ) (t : Bool) → nat_le n k ≡ t → Both (Pings (is_in k w.hit) now) (attached_at old k) (attached_at new k)
-    by_value k true e =
-        let behind : n ≤ k = grind (arith, nat_tests, e) in
-        let past : most_sessions ≤ k = omega (arith, far, behind) in
-        none_both (Pings (is_in k w.hit) now) (attached_at old k) (attached_at new k) (few k past) (w.rest k behind)
-    by_value k false e = let near : k < n = grind (arith, nat_tests, e) in w.done k near
+    by_value : (t : Bool) → nat_le most_sessions k ≡ t → k < most_sessions
+    by_value true e =
+        let far : most_sessions ≤ k = grind (arith, nat_tests, e) in let gone : f k ≡ None = few k far in let there = h.taken in let same = ap is_some gone in absurd (let w : false ≡ true = sym same ∙ there in cc)
+    by_value false e = grind (arith, nat_tests, e)

@@ -1,5 +1,5 @@
 -- A session's subscriptions, where one of them changes.
-use Rattle.std.proofs.Common.{◌≡◌, ◌≢◌, ◌⊎◌, inl, inr, ℕ, ◌&&◌, not, Bool, true, false, cond, if◌then◌else◌, Option, Some, None, List, [], ◌∷◌, ◌++◌, refl, sym, ap, ◌∙◌, subst, option_map, BTreeMap, is_some}
+use Rattle.std.proofs.Common.{◌≡◌, ◌⊎◌, inl, inr, ℕ, ◌&&◌, not, Bool, true, false, cond, if◌then◌else◌, Option, Some, None, List, [], refl, sym, ap, ◌∙◌, option_map, is_some}
 use Rattle.std.specs.BTreeMap.{get_by_text}
 use Rattle.std.specs.Cmp.Lexicographic.{bytes_decides}
 use Rattle.std.specs.Prelude.{OnOk, Result, Ok, Err, ⊤}
@@ -9,18 +9,17 @@ use Rattle.cf_recovery.specs.Kept.{Kept, nothing_kept}
 use Rattle.cf_protocol.specs.Datum.{Placed}
 use Rattle.cf_protocol.specs.Names.{with}
 use Rattle.cf_protocol.specs.Position.{Position}
-use Rattle.cf_queue.specs.OutQueue.{OutQueue, Item, Text, Close}
+use Rattle.cf_queue.specs.OutQueue.{OutQueue, Item, Close}
 use Rattle.cf_recovery.specs.Verdict.{Verdict, Drop, Pass, Insufficient, verdict}
 use Rattle.cf_hub.specs.declared.delivered.Fate.{Fate}
 use Rattle.cf_hub.specs.declared.delivered.Fate.TheVariants as fate
-use Rattle.cf_hub.specs.declared.session.Meets.{Meets}
 use Rattle.cf_hub.specs.declared.session.Meets.TheVariants as meets
 use Rattle.cf_hub.specs.declared.subscription.Progress.{Progress}
 use Rattle.cf_hub.specs.declared.subscription.Progress.TheVariants as code
-use Rattle.cf_hub.specs.SessionState.{Subscription, Off, Asked, Ready, On, SessionState, begins, put_sub, push, closes, comes, come_at, by_verdict, is_off, is_unfinished, no_memory}
-use Rattle.cf_hub.specs.WantOfMemory.{Serves, ClosesWith, GivesUp, without_buffer}
-use Rattle.cf_hub.specs.Delivery.{fate_of, fate_or, sub_fate}
-use Rattle.cf_hub.specs.Subscriptions.{Subscriptions, SetsAt, sub_of, keeps, loses, coming, meeting, verdict_code}
+use Rattle.cf_hub.specs.SessionState.{Subscription, Asked, SessionState, begins, put_sub, push, closes, comes, come_at, by_verdict, is_unfinished, no_memory}
+use Rattle.cf_hub.specs.WantOfMemory.{Serves, ClosesWith, without_buffer}
+use Rattle.cf_hub.specs.Delivery.{fate_of, sub_fate}
+use Rattle.cf_hub.specs.Subscriptions.{Subscriptions, SetsAt, sub_of, keeps, loses, meeting, verdict_code}
 use Rattle.cf_hub.specs.Wordings.{Held, held, plain, delivering, at_offset}
 use Rattle.cf_hub.proofs.States.{state_is}
 use Rattle.cf_hub.proofs.Notes.{with_queue}

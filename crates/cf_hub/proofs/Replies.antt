@@ -1,18 +1,17 @@
 -- A subscription's read and its reply, in a session's state.
-use Rattle.std.proofs.Common.{◌≡◌, ◌||◌, ◌+◌, ℕ, Bool, true, false, cond, if◌then◌else◌, Option, Some, None, List, [], ◌∷◌, length, refl, sym, ap, ◌∙◌, subst, option_map, is_some}
+use Rattle.std.proofs.Common.{◌≡◌, ◌||◌, ◌+◌, ℕ, Bool, true, false, cond, if◌then◌else◌, Option, Some, None, List, length, refl, sym, ap, ◌∙◌, option_map, is_some}
 use Rattle.std.specs.BTreeMap.{get_by_text}
 use Rattle.std.specs.Cmp.Lexicographic.{bytes_decides}
 use Rattle.std.specs.Str.{bytes_eq}
-use Rattle.cf_protocol.specs.Note.{Reading}
 use Rattle.cf_queue.specs.OutQueue.{OutQueue, Item}
-use Rattle.cf_recovery.specs.Kept.{Kept, places, ended_at}
+use Rattle.cf_recovery.specs.Kept.{places}
 use Rattle.cf_recovery.specs.Release.{falls_short}
 use Rattle.cf_stream.specs.declared.answer.Recovery.{Recovery}
 use Rattle.cf_hub.specs.declared.reply.Answered.{Answered}
 use Rattle.cf_hub.specs.declared.subscription.Progress.{Progress}
 use Rattle.cf_hub.specs.declared.subscription.Progress.TheVariants as code
-use Rattle.cf_hub.specs.Reply.{Answers, AnswersIn, IsAnswered, stands, was_read}
-use Rattle.cf_hub.specs.SessionState.{Subscription, Off, Asked, Ready, On, SessionState, finished, put_sub, reads, read_at}
+use Rattle.cf_hub.specs.Reply.{AnswersIn, IsAnswered, stands, was_read}
+use Rattle.cf_hub.specs.SessionState.{Subscription, Off, On, SessionState, finished, put_sub, reads, read_at}
 use Rattle.cf_hub.specs.Subscriptions.{Subscriptions, SetsAt, reading_of, sub_of}
 use Rattle.cf_hub.specs.Wordings.{Held, held, reading, releasing}
 use Rattle.cf_hub.proofs.States.{state_is}

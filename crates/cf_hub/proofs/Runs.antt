@@ -1,5 +1,5 @@
 -- The last of publications that follow an offset.
-use Rattle.std.proofs.Common.{◌≡◌, ℕ, suc, zero, ◌+◌, ◌-◌, ◌<◌, Option, Some, None, List, [], ◌∷◌, length, arith, refl, sym, ap, ◌∙◌, subst, slice_get, map}
+use Rattle.std.proofs.Common.{◌≡◌, ℕ, suc, zero, ◌+◌, ◌-◌, Option, Some, List, [], ◌∷◌, length, arith, sym, ap, ◌∙◌, subst, slice_get, map}
 use Rattle.cf_protocol.specs.Datum.{Datum, Placed, numbered}
 
 last_at : (o : ℕ) (ds : List Datum) (i : ℕ) (x : Placed) → slice_get (numbered o ds) i ≡ Some x → x.offset ≡ o + i + 1

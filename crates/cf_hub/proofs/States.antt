@@ -1,20 +1,16 @@
 -- States of a session: when they are the same, and which channels are off after a call.
-use Rattle.std.proofs.Common.{◌≡◌, ◌≢◌, ◌⊎◌, inl, inr, ℕ, ◌&&◌, ◌+◌, not, Bool, true, false, if◌then◌else◌, Option, Some, None, List, [], ◌∷◌, ◌++◌, refl, sym, ap, ◌∙◌, subst}
+use Rattle.std.proofs.Common.{◌≡◌, ◌⊎◌, inl, inr, ℕ, ◌&&◌, ◌+◌, not, Bool, true, false, if◌then◌else◌, Option, List, [], ◌∷◌, ◌++◌, refl, sym, ap, ◌∙◌, subst}
 use Rattle.std.specs.Prelude.{nat_le, sum_by}
 use Rattle.std.specs.Cmp.Lexicographic.{bytes_decides}
 use Rattle.std.specs.Str.{bytes_eq}
-use Rattle.cf_protocol.specs.Note.{Reading}
 use Rattle.cf_protocol.specs.Position.{Position}
 use Rattle.cf_recovery.specs.Verdict.{Verdict, Drop, Pass, Insufficient, verdict}
-use Rattle.cf_queue.specs.OutQueue.{Item}
-use Rattle.cf_hub.specs.PositionCheck.{Checked, Fine, Behind, Ended, position_check}
 use Rattle.cf_hub.specs.declared.delivered.Fate.{Fate}
 use Rattle.cf_hub.specs.declared.delivered.Fate.TheVariants as fate
-use Rattle.cf_hub.specs.SessionState.{Subscription, Off, Asked, Ready, On, SessionState, Wording, put_sub, push, says, closes, closes_now, comes, come_at, by_verdict, by_check, check_at, checks, is_off, is_unfinished, most_waiting, no_memory, slow}
-use Rattle.cf_hub.specs.WantOfMemory.{Serves, ClosesWith, GivesUp, ClosesAmid, SaysAll, without_buffer}
+use Rattle.cf_hub.specs.SessionState.{Subscription, Off, Asked, Ready, On, SessionState, Wording, put_sub, push, says, closes, closes_now, comes, come_at, by_verdict, is_off, is_unfinished, most_waiting, no_memory, slow}
+use Rattle.cf_hub.specs.WantOfMemory.{Serves, ClosesWith, GivesUp, SaysAll, without_buffer}
 use Rattle.cf_hub.specs.Delivery.{fate_of, fate_or, sub_fate, verdict_fate}
 use Rattle.cf_hub.specs.Rows.{off_after}
-use Rattle.cf_hub.specs.Wordings.{Held}
 
 pub state_is : {B N : Type 0} (a b : SessionState B N) → ((c : List ℕ) → a.subs c ≡ b.subs c) → a.notes ≡ b.notes → a.closed ≡ b.closed → a ≡ b
 state_is a b s n c = λ i. record { subs = λ d. s d i; notes = n i; closed = c i }

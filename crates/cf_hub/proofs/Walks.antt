@@ -1,25 +1,19 @@
 -- A walk over the sessions of a channel, while rows go that it has passed.
-use Rattle.std.proofs.Common.{◌≡◌, ◌≢◌, ◌⊎◌, inl, inr, ℕ, zero, suc, ◌+◌, ◌-◌, ◌==◌, ◌&&◌, ◌||◌, ◌≤◌, ◌<◌, not, Bool, true, false, cond, if◌then◌else◌, Option, Some, None, List, [], ◌∷◌, ◌++◌, length, arith, refl, sym, ap, ◌∙◌, subst, slice_get}
-use Rattle.std.specs.Prelude.{filter}
-use Rattle.std.specs.List.{list_any}
-use Rattle.std.specs.Str.{bytes_eq}
-use Rattle.std.specs.Cmp.Lexicographic.{bytes_decides}
+use Rattle.std.proofs.Common.{◌≡◌, ◌≢◌, ℕ, ◌+◌, ◌==◌, ◌||◌, not, Bool, true, false, Option, Some, None, List, [], ◌∷◌, ◌++◌, arith, refl, sym, ap, ◌∙◌, subst, slice_get}
 use Rattle.std.proofs.lemmas.Bool.Decides.{nat_tests, Decides-eqb}
-use Rattle.std.proofs.lemmas.List.{length-append}
 use Rattle.cf_protocol.specs.Datum.{Placed}
-use Rattle.cf_protocol.specs.Position.{Position}
-use Rattle.cf_followers.specs.Follows.{Follow, follows, sessions_of, after_in, AreFollows, most_rows}
+use Rattle.cf_followers.specs.Follows.{Follow, follows, after_in}
 use Rattle.cf_hub.specs.declared.delivered.Fate.{Fate}
 use Rattle.cf_hub.specs.declared.delivered.Fate.TheVariants as fate
 use Rattle.cf_hub.specs.declared.delivered.Delivered.{Delivered}
-use Rattle.cf_hub.specs.Delivery.{fate_at, none, one_more, tally, total}
+use Rattle.cf_hub.specs.Delivery.{fate_at, one_more, tally, total}
 use Rattle.cf_hub.specs.Hub.{Brings}
 use Rattle.cf_hub.specs.Rows.{Agrees, sub_in, rows_after, off_after}
 use Rattle.cf_hub.specs.Session.{Attached}
 use Rattle.cf_hub.specs.SessionState.{is_off}
 use Rattle.cf_hub.specs.WantOfMemory.{Both}
 use Rattle.cf_hub.specs.Wordings.{at_offset, delivering}
-use Rattle.cf_hub.proofs.Rows.{has, without, Once, follows_has, once_sessions, few_sessions, sessions_without_follow, sessions_without_session, follows_without_follow, follows_without_session}
+use Rattle.cf_hub.proofs.Rows.{has, without, Once, follows_without_follow, follows_without_session}
 use Rattle.cf_hub.proofs.States.{served_off}
 
 -- ---- lists of sessions

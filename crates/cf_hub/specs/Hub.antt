@@ -1,5 +1,5 @@
 -- A node's sessions by number, and which session follows which channel.
-use Rattle.std.specs.Prelude.{◌≡◌, ◌≢◌, ◌≤◌, ◌<◌, ◌⊎◌, ◌&&◌, ℕ, ◌+◌, ◌-◌, ◌==◌, min, not, Bool, true, false, if◌then◌else◌, Option, Some, None, option_map, is_some, List, [], length, filter, codes, ◌++◌, ◌∷◌}
+use Rattle.std.specs.Prelude.{◌≡◌, ◌≢◌, ◌≤◌, ◌<◌, ◌⊎◌, ℕ, ◌+◌, ◌==◌, min, not, Bool, true, false, if◌then◌else◌, Option, Some, None, option_map, is_some, List, [], length, ◌++◌, ◌∷◌}
 use Rattle.std.specs.BTreeMap.{BTreeMap, get, is_at}
 use Rattle.std.specs.Fmt.{decimal}
 use Rattle.std.specs.List.{list_any}
@@ -57,6 +57,21 @@ most_channels = 128
 abbrev pub IsBounded : (ℕ → Option Attached) → Type 0
 IsBounded sessions = (k : ℕ) → most_sessions ≤ k → sessions k ≡ None
 
+-- the numbers of all sessions are below the most, and each number below n has one
+pub record AreNumbered (n : ℕ) (sessions : ℕ → Option Attached) : Type 0 where
+  pub below : IsBounded sessions
+  pub taken : (k : ℕ) → k < n → is_some (sessions k) ≡ true
+
+-- no number from n on has a session
+abbrev pub HasNoneFrom : ℕ → (ℕ → Option Attached) → Type 0
+HasNoneFrom n sessions = (k : ℕ) → n ≤ k → sessions k ≡ None
+
+-- k is the least number from n on that has a session
+pub record IsNextFrom (n k : ℕ) (sessions : ℕ → Option Attached) : Type 0 where
+  pub above : n ≤ k
+  pub taken : is_some (sessions k) ≡ true
+  pub between : (j : ℕ) → n ≤ j → j < k → sessions j ≡ None
+
 -- ---- one session changes
 
 -- what a move of states makes of a session
@@ -84,6 +99,11 @@ sub_at h k c = sub_in (attached_at h k) c
 abbrev pub is_open : Option Attached → Bool
 is_open None = false
 is_open (Some a) = not a.state.closed
+
+-- what waits for a session's client
+abbrev pub waits_in : Option Attached → List Item
+waits_in None = []
+waits_in (Some a) = a.state.notes
 
 -- ---- want of memory
 

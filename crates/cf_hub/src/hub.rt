@@ -34,6 +34,8 @@ pub struct Hub {
     pub(crate) boot: u64,
     pub(crate) used: u64,
     pub(crate) sessions: BTreeMap<u32, Session>,
+    /// Each number below this one has a session.
+    pub(crate) free_from: u32,
     pub(crate) rows: Followers,
     pub(crate) refused: u64,
     pub(crate) listed: Listed,
@@ -45,13 +47,13 @@ impl Model for Hub {
 
     ghost Value = { Node };
 
-    ghost use Rattle.cf_hub.specs.Hub.{IsBounded, attached_in};
+    ghost use Rattle.cf_hub.specs.Hub.{AreNumbered, attached_in};
     ghost use Rattle.cf_hub.specs.Rows.{Agrees};
     ghost use Rattle.cf_hub.specs.Session.{shown_all};
 
     ghost view = { λ h. record { node = h.node; boot = h.boot; used = h.used; sessions = shown_all h.sessions.entries; rows = h.rows; refused = h.refused } };
 
-    ghost invariant = { λ h. Agrees (attached_in h.sessions) h.rows × IsBounded (attached_in h.sessions) };
+    ghost invariant = { λ h. Agrees (attached_in h.sessions) h.rows × AreNumbered h.free_from (attached_in h.sessions) };
 }
 
 impl Hub {
@@ -64,6 +66,7 @@ impl Hub {
             boot,
             used: 0,
             sessions: BTreeMap::new(alloc),
+            free_from: 0,
             rows: Followers::new(alloc),
             refused: 0,
             listed: Listed::new(alloc),
@@ -132,6 +135,7 @@ impl Hub {
         ensures rest { SameRest self.old self.new }
     {
         drop_one(&mut self.sessions, session);
+        self.free_from = self.free_from.min(session);
         self.rows.detach(session)
     }
 

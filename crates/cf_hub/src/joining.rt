@@ -46,7 +46,7 @@ impl Hub {
         if self.used == u64::MAX {
             return None;
         }
-        for number in 0..MOST_SESSIONS {
+        for number in self.free_from..MOST_SESSIONS {
             if !self.is_taken(number) {
                 return Some(number);
             }
@@ -56,7 +56,7 @@ impl Hub {
 
     /// Opens a session under a number that is free.
     fn open(&mut self, number: u32, user: String, now: u64) -> Result<(), AllocError>
-        requires free { attached_at self.old number ≡ None }
+        requires free { IsLeastFree self.old number }
         requires below { number < most_sessions }
         requires left { self.old.used < largest }
         ensures opens { OnOk result (Opens number (string_bytes user) now self.old self.new) }
@@ -66,6 +66,7 @@ impl Hub {
         let client = write_client_id(self.alloc, self.node, self.boot, self.used + 1)?;
         let session = Session::new(self.alloc, client, user, now);
         insert_one(&mut self.sessions, number, session)?;
+        self.free_from = number + 1;
         self.used += 1;
         Ok(())
     }

@@ -2,20 +2,21 @@
 ghost use Rattle.std.specs.Prelude.{◌≡◌};
 
 use crate::checked::Checked;
-use crate::hub::{Hub, MOST_SESSIONS};
+use crate::hub::Hub;
 use crate::said::Said;
 use crate::sessions::{
-    check_one, count_more, finish_one, next_in, pong_one, read_one, say_one, settle, tick_one,
+    check_one, count_more, finish_one, next_from, next_in, pong_one, read_one, say_one, settle,
+    tick_one,
 };
 use cf_protocol::Position;
 use cf_stream::Recovery;
 
 impl Hub {
-    ghost use Rattle.std.specs.Prelude.{◌≡◌, ◌≢◌, ◌≤◌, ℕ, Bool, List, [], not, string_bytes, Some, None, option_map, is_some};
+    ghost use Rattle.std.specs.Prelude.{◌≡◌, ◌≢◌, ◌≤◌, ◌<◌, ℕ, Bool, List, [], not, string_bytes, IfNone, IfSome, Some, None, option_map, is_some};
     ghost use Rattle.cf_queue.specs.OutQueue.{Text};
     ghost use Rattle.cf_hub.specs.Checked.{check_answer, stand_of};
     ghost use Rattle.cf_hub.specs.Finish.{FinishesAt};
-    ghost use Rattle.cf_hub.specs.Hub.{IsBounded, Meets, One, PingStep, largest, SameNode, SameRest, Ticks, attached_at, is_open, said_in, sub_at};
+    ghost use Rattle.cf_hub.specs.Hub.{HasNoneFrom, IsBounded, IsNextFrom, Meets, One, PingStep, largest, most_sessions, SameNode, SameRest, Ticks, attached_at, is_open, said_in, sub_at, waits_in};
     ghost use Rattle.cf_hub.specs.Rows.{Agrees};
     ghost use Rattle.cf_hub.specs.Session.{badge_ponged};
     ghost use Rattle.cf_hub.specs.SessionState.{checks, is_asked, is_ready, push, reads};
@@ -90,15 +91,18 @@ impl Hub {
         ensures rest { SameNode self.old self.new }
     {
         self.known();
-        for number in 0..MOST_SESSIONS {
+        let mut from = 0;
+        while let Some(number) = self.next_from(from) {
             self.ping(number, now);
+            from = number + 1;
         }
     }
 
     /// The number of a session that has got something to send since it was last named, each once, the longest waiting first.
     /// No session changes. It takes no memory.
     pub fn next_with_output(&mut self) -> Option<u32>
-        ensures { self.new ≡ self.old }
+        ensures waiting { IfSome result (λ k. waits_in (attached_at self.old k) ≢ []) }
+        ensures same { self.new ≡ self.old }
     {
         next_in(&mut self.listed, &self.sessions)
     }
@@ -111,6 +115,14 @@ impl Hub {
     {
         let _sessions = &self.sessions;
         let _refused = self.refused;
+    }
+
+    /// The least number from this one on that has a session.
+    fn next_from(&self, from: u32) -> Option<u32>
+        ensures none { IfNone result (HasNoneFrom from (attached_at self.now)) }
+        ensures next { IfSome result (λ k. IsNextFrom from k (attached_at self.now) × (k < most_sessions)) }
+    {
+        next_from(&self.sessions, from)
     }
 
     fn ping(&mut self, session: u32, now: u64)

@@ -125,7 +125,9 @@ impl Session {
     }
 
     /// Whether nothing waits.
-    pub(crate) fn is_silent(&self) -> bool {
+    pub(crate) fn is_silent(&self) -> bool
+        ensures { (state_of self.now).notes ≡ [] → result ≡ true }
+    {
         self.queue.is_empty()
     }
 

@@ -1,11 +1,11 @@
 //! A node's sessions by number: what a call makes of one of them.
-ghost use Rattle.std.specs.Prelude.{◌≡◌, ◌≢◌, ℕ, List, [], true, not, is_some, IfSome, OnOk, OnErr, Some, None, string_bytes, option_map, option_and_then, slice_get};
+ghost use Rattle.std.specs.Prelude.{◌≡◌, ◌≢◌, ℕ, List, [], true, false, not, is_some, IfNone, IfSome, OnOk, OnErr, Some, None, string_bytes, option_map, option_and_then, slice_get};
 ghost use Rattle.std.specs.BTreeMap.{get};
 ghost use Rattle.std.specs.Ordering.{nat_cmp};
 ghost use Rattle.cf_queue.specs.Meaning.{meaning};
 ghost use Rattle.cf_queue.specs.OutQueue.{Close, Text};
 ghost use Rattle.cf_hub.specs.Delivery.{fate_at};
-ghost use Rattle.cf_hub.specs.Hub.{Brings, InState, Pings, attached_in, counted, is_open, moves, one_if, said_in};
+ghost use Rattle.cf_hub.specs.Hub.{Brings, HasNoneFrom, InState, IsNextFrom, Pings, attached_in, counted, is_open, moves, one_if, said_in, waits_in};
 ghost use Rattle.cf_hub.specs.Checked.{check_answer, stand_of};
 ghost use Rattle.cf_hub.specs.Finish.{FinishesAt};
 ghost use Rattle.cf_hub.specs.Rows.{off_after, rows_after, sub_in};
@@ -221,6 +221,17 @@ pub(crate) fn tick_one(
     }
 }
 
+/// The least number from this one on that has a session.
+pub(crate) fn next_from(sessions: &BTreeMap<u32, Session>, from: u32) -> Option<u32>
+    ensures none { IfNone result (HasNoneFrom from (attached_in sessions.now)) }
+    ensures next { IfSome result (λ k. IsNextFrom from k (attached_in sessions.now)) }
+{
+    match sessions.range(from..).next() {
+        Some((number, _)) => Some(*number),
+        None => None,
+    }
+}
+
 /// Whether one session is closed, or there is none.
 pub(crate) fn is_closed_in(sessions: &BTreeMap<u32, Session>, number: u32) -> bool
     ensures { result ≡ not (is_open (attached_in sessions.now number)) }
@@ -293,7 +304,9 @@ pub(crate) fn insert_one(
 }
 
 /// Whether something waits for one session's client.
-fn has_output(sessions: &BTreeMap<u32, Session>, number: u32) -> bool {
+fn has_output(sessions: &BTreeMap<u32, Session>, number: u32) -> bool
+    ensures { waits_in (attached_in sessions.now number) ≡ [] → result ≡ false }
+{
     match sessions.get(&number) {
         None => false,
         Some(session) => !session.is_silent(),
@@ -301,7 +314,9 @@ fn has_output(sessions: &BTreeMap<u32, Session>, number: u32) -> bool {
 }
 
 /// The first listed number of a session for whose client something waits. It and those before it are no longer listed.
-pub(crate) fn next_in(listed: &mut Listed, sessions: &BTreeMap<u32, Session>) -> Option<u32> {
+pub(crate) fn next_in(listed: &mut Listed, sessions: &BTreeMap<u32, Session>) -> Option<u32>
+    ensures { IfSome result (λ k. waits_in (attached_in sessions.now k) ≢ []) }
+{
     for _ in 0..listed.len() {
         if let Some(number) = listed.take() {
             if has_output(sessions, number) {

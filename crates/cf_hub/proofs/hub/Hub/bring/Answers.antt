@@ -1,4 +1,4 @@
-use Rattle.std.proofs.Common.{◌≡◌, ◌∙◌, List, sym, subst, ap, refl}
+use Rattle.std.proofs.Common.{◌∙◌, List, sym, subst, ap, refl}
 use Rattle.cf_followers.specs.Follows.{Follow}
 use Rattle.cf_hub.specs.Hub.{Node, Brings, attached_in, counted, one_if}
 use Rattle.cf_hub.specs.Rows.{Agrees}

@@ -1,8 +1,7 @@
-use Rattle.std.proofs.Common.{rules, arith, ◌≡◌, ◌<◌, ◌≤◌, ℕ, Option, Some, None, subst, sym, ap, length, slice_get}
+use Rattle.std.proofs.Common.{rules, ◌≡◌, ℕ, Option, Some, None, subst, sym, slice_get}
 use Rattle.cf_followers.specs.Follows.{sessions_of, after_in}
-use Rattle.cf_hub.specs.Delivery.{none, one_more, total}
 use Rattle.cf_hub.specs.declared.delivered.Delivered.{Delivered}
-use Rattle.cf_hub.proofs.Deliveries.{IsOnItsWay, starts, steps, goes_on, ends_served, ends_counted, ends_so_many}
+use Rattle.cf_hub.proofs.Deliveries.{IsOnItsWay, starts, steps, ends_served, ends_counted, ends_so_many}
 use Rattle.cf_hub.proofs.hub.Hub.bring_to_all.Goals as goal
 
 pub loop-next-init : goal.loop-next-init

@@ -1,4 +1,4 @@
-use Rattle.std.proofs.Common.{ℕ, ◌-◌, length}
+use Rattle.std.proofs.Common.{◌-◌, length}
 use Rattle.cf_followers.specs.Follows.{sessions_of}
 use Rattle.cf_hub.specs.Delivery.{total}
 use Rattle.cf_hub.specs.Hub.{SameNode}

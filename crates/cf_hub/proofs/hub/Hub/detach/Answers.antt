@@ -1,22 +1,20 @@
-use Rattle.std.proofs.Common.{rules, ◌≡◌, ◌≢◌, ◌∙◌, not, true, false, Option, Some, None, List, [], ℕ, subst, sym, ap, refl, option_map, option_and_then, slice_get}
+use Rattle.std.proofs.Common.{◌∙◌, Option, List, [], ℕ, subst, sym, ap}
 use Rattle.cf_followers.specs.Follows.{Follow}
-use Rattle.cf_queue.specs.OutQueue.{Item, Close}
 use Rattle.cf_hub.specs.declared.delivered.Fate.TheVariants as fate
-use Rattle.cf_hub.specs.Hub.{Node, One, is_open, attached_at, attached_in}
-use Rattle.cf_hub.specs.Rows.{Agrees, rows_after, sub_in}
-use Rattle.cf_hub.specs.Session.{Attached, shown_all}
-use Rattle.cf_hub.specs.SessionState.{SessionState, closes_now, leaves, takes_front, is_off}
+use Rattle.cf_hub.specs.Hub.{Node, attached_in}
+use Rattle.cf_hub.specs.Rows.{Agrees, sub_in}
+use Rattle.cf_hub.specs.Session.{Attached}
+use Rattle.cf_hub.specs.SessionState.{is_off}
 use Rattle.cf_hub.proofs.Walks.{agrees_by}
 use Rattle.cf_hub.proofs.Hubs.{seen, seen_in, agrees_shown}
-use Rattle.cf_hub.proofs.Bounds.{bounded_by, bounded_move}
-use Rattle.cf_hub.proofs.Ones.{one_agrees, one_seen, leaves_off, closes_off, stays_off, opened, shut}
+use Rattle.cf_hub.proofs.Bounds.{bounded_gone}
 use Rattle.cf_hub.proofs.hub.Hub.detach.Goals as goal
 
 pub invariant_of-self : goal.invariant_of-self
 invariant_of-self c = (
   subst (λ (rows : List Follow). Agrees (attached_in c.drop_one.new.sessions) rows) (sym c.detach.ensures.removed)
       (agrees_by fate.Closed [] c.args.session (attached_in c.self.inside.sessions) (attached_in c.drop_one.new.sessions) c.self.inside.rows c.self.invariant.0 (λ d. ap (λ (o : Option Attached). is_off (sub_in o d)) c.drop_one.ensures.here) c.drop_one.ensures.others),
-  bounded_by c.args.session c.self.inside.sessions c.drop_one.new.sessions c.self.invariant.1 (λ e. c.drop_one.ensures.here) c.drop_one.ensures.others,
+  rw c.min-self-inside.ensures (bounded_gone c.args.session c.self.inside.sessions c.drop_one.new.sessions c.self.invariant.1 c.drop_one.ensures.here c.drop_one.ensures.others),
 )
 
 pub returns-clause-gone : goal.returns-clause-gone

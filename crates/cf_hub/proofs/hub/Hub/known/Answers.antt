@@ -6,4 +6,4 @@ pub returns-clause-agrees : goal.returns-clause-agrees
 returns-clause-agrees c = agrees_view _ _ c.self.inside.sessions c.self.view_is refl c.self.invariant.0
 
 pub returns-clause-bounded : goal.returns-clause-bounded
-returns-clause-bounded c = bounded_view _ _ c.self.inside.sessions c.self.view_is refl c.self.invariant.1
+returns-clause-bounded c = bounded_view _ _ c.self.inside.sessions c.self.view_is refl c.self.invariant.1.below

@@ -1,15 +1,13 @@
-use Rattle.std.proofs.Common.{rules, ◌≡◌, ◌≢◌, ◌∙◌, not, true, false, Option, Some, None, List, [], ℕ, subst, sym, ap, refl, option_map, option_and_then, slice_get}
+use Rattle.std.proofs.Common.{◌∙◌, not, Option, List, ℕ, subst, sym, ap, refl}
 use Rattle.cf_followers.specs.Follows.{Follow}
-use Rattle.cf_queue.specs.OutQueue.{Item, Close}
 use Rattle.cf_hub.specs.declared.delivered.Fate.TheVariants as fate
-use Rattle.cf_hub.specs.Hub.{Node, One, is_open, attached_at, attached_in}
-use Rattle.cf_hub.specs.Rows.{Agrees, rows_after, sub_in}
-use Rattle.cf_hub.specs.Session.{Attached, shown_all}
-use Rattle.cf_hub.specs.SessionState.{SessionState, closes_now, leaves, takes_front, is_off}
-use Rattle.cf_hub.proofs.Walks.{agrees_by}
-use Rattle.cf_hub.proofs.Hubs.{seen, seen_in, agrees_seen}
-use Rattle.cf_hub.proofs.Bounds.{bounded_by, bounded_move}
-use Rattle.cf_hub.proofs.Ones.{one_agrees, one_seen, leaves_off, closes_off, stays_off, opened, shut}
+use Rattle.cf_hub.specs.Hub.{Node, attached_in}
+use Rattle.cf_hub.specs.Rows.{Agrees, sub_in}
+use Rattle.cf_hub.specs.Session.{Attached}
+use Rattle.cf_hub.specs.SessionState.{leaves, is_off}
+use Rattle.cf_hub.proofs.Hubs.{seen}
+use Rattle.cf_hub.proofs.Bounds.{bounded_move}
+use Rattle.cf_hub.proofs.Ones.{one_agrees, one_seen, leaves_off}
 use Rattle.cf_hub.proofs.hub.Hub.leave.Goals as goal
 
 pub invariant_of-self : goal.invariant_of-self

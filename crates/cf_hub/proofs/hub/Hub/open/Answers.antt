@@ -1,7 +1,6 @@
-use Rattle.std.proofs.Common.{rules, ◌≡◌, ◌≢◌, ◌∙◌, ◌+◌, ℕ, Option, Some, None, List, [], sym, ap, refl, subst, string_bytes, false}
-use Rattle.cf_hub.specs.declared.delivered.Fate.TheVariants as fate
-use Rattle.cf_hub.specs.Hub.{Node, attached_at, attached_in, client_id, fresh}
-use Rattle.cf_hub.specs.Session.{Attached, Badge, attached_of}
+use Rattle.std.proofs.Common.{rules, ◌≡◌, ◌∙◌, ◌+◌, ℕ, Option, Some, None, List, sym, ap, string_bytes, is_some, false}
+use Rattle.cf_hub.specs.Hub.{Node, attached_in, client_id, fresh}
+use Rattle.cf_hub.specs.Session.{Attached, Badge}
 use Rattle.cf_hub.proofs.Hubs.{seen, seen_in, agrees_shown}
 use Rattle.cf_hub.proofs.Opening.{fresh_agrees, fresh_bounded, fresh_is}
 use Rattle.cf_hub.proofs.hub.Hub.open.Goals as goal
@@ -11,9 +10,11 @@ badge_with client user now = record { client = client; user = user; pinged = now
 
 pub invariant_of-self-2 : goal.invariant_of-self-2
 invariant_of-self-2 c =
-    let free : attached_in c.self.inside.sessions c.args.number ≡ None = sym (ap (λ (g : ℕ → Option Attached). g c.args.number) (seen c.args.self.now c.self.inside.sessions (ap (λ (h : Node). h.sessions) (sym c.self.view_is)))) ∙ c.requires.free in (
+    let free : attached_in c.self.inside.sessions c.args.number ≡ None = sym (ap (λ (g : ℕ → Option Attached). g c.args.number) (seen c.args.self.now c.self.inside.sessions (ap (λ (h : Node). h.sessions) (sym c.self.view_is)))) ∙ c.requires.free.free in (
       fresh_agrees c.args.number c.self.inside.sessions c.insert_one.new.sessions c.self.inside.rows c.new-session.result c.self.invariant.0 free c.in_ok-insert_one.ensures.here c.in_ok-insert_one.ensures.others c.new-session.ensures.state,
-      fresh_bounded c.args.number c.self.inside.sessions c.insert_one.new.sessions c.self.invariant.1 c.requires.below c.in_ok-insert_one.ensures.others,
+      fresh_bounded c.args.number c.self.inside.sessions c.insert_one.new.sessions c.new-session.result c.self.invariant.1 c.requires.below
+          (λ j h. sym (ap (λ (g : ℕ → Option Attached). is_some (g j)) (seen c.args.self.now c.self.inside.sessions (ap (λ (h : Node). h.sessions) (sym c.self.view_is)))) ∙ c.requires.free.least j h)
+          c.in_ok-insert_one.ensures.here c.in_ok-insert_one.ensures.others,
     )
 
 pub returns-clause-opens : goal.returns-clause-opens

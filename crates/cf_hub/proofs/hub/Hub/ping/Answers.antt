@@ -1,15 +1,7 @@
-use Rattle.std.proofs.Common.{◌≡◌, ◌∙◌, ℕ, Bool, Option, Some, None, List, [], sym, ap, refl, subst, not, true, false}
-use Rattle.cf_queue.specs.OutQueue.{Item, Text}
-use Rattle.cf_hub.specs.declared.delivered.Fate.TheVariants as fate
-use Rattle.cf_hub.specs.Hub.{Node, InState, Pings, attached_at, attached_in, counted, is_open, one_if}
-use Rattle.cf_hub.specs.Rows.{sub_in}
-use Rattle.cf_hub.specs.Session.{Attached, badge_ponged}
-use Rattle.cf_hub.specs.SessionState.{SessionState, checks, is_asked, is_off, is_ready, push, reads}
-use Rattle.cf_hub.proofs.Bounds.{bounded_both, bounded_map, bounded_move}
-use Rattle.cf_hub.proofs.Hubs.{seen, seen_in, agrees_seen, agrees_shown}
-use Rattle.cf_hub.proofs.Mets.{met_agrees, met_seen, ping_seen}
-use Rattle.cf_hub.proofs.Ones.{one_agrees, one_seen, reads_off}
-use Rattle.cf_hub.proofs.Walks.{agrees_by}
+use Rattle.std.proofs.Common.{◌∙◌, [], sym, ap, refl}
+use Rattle.cf_hub.specs.Hub.{Node, Pings, counted, one_if}
+use Rattle.cf_hub.proofs.Bounds.{bounded_both}
+use Rattle.cf_hub.proofs.Mets.{met_agrees, ping_seen}
 use Rattle.cf_hub.proofs.hub.Hub.ping.Goals as goal
 
 pub invariant_of-self : goal.invariant_of-self

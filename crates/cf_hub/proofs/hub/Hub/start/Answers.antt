@@ -1,5 +1,5 @@
-use Rattle.std.proofs.Common.{rules, ◌≡◌, ◌∙◌, ℕ, Bool, Option, Some, None, List, [], option_map, is_some, sym, ap, refl, subst, not, true, false}
-use Rattle.cf_hub.specs.Hub.{Node, attached_at, attached_in, is_open, moves}
+use Rattle.std.proofs.Common.{◌≡◌, ◌∙◌, ℕ, Option, List, option_map, is_some, sym, ap, subst, not, false}
+use Rattle.cf_hub.specs.Hub.{Node, attached_in, is_open, moves}
 use Rattle.cf_hub.specs.Rows.{Agrees, sub_in}
 use Rattle.cf_hub.specs.Session.{Attached}
 use Rattle.cf_hub.specs.SessionState.{is_off, begins}
@@ -56,7 +56,7 @@ invariant_of-self-in-Err-begin_one c =
     ∙ ap not c.requires.may.1 in
     let left : c.remove-added.new.self ≡ c.self.inside.rows = c.remove-added.ensures.removed ∙ ap (gone c.args.channel.now c.args.session) c.in-Ok.ensures.ok ∙ with_without c.self.inside.rows c.args.channel.now c.args.session absent in (
       undone_agrees c.self.inside.sessions c.begin_one.new.sessions c.self.inside.rows c.remove-added.new.self c.self.invariant.0 (same_all c.args.session c.self.inside.sessions c.begin_one.new.sessions c.in-Err-begin_one.ensures.err c.begin_one.ensures.others) left,
-      bounded_by c.args.session c.self.inside.sessions c.begin_one.new.sessions c.self.invariant.1 (λ e. c.in-Err-begin_one.ensures.err ∙ e) c.begin_one.ensures.others,
+      bounded_by c.args.session c.self.inside.sessions c.begin_one.new.sessions c.self.invariant.1 (ap is_some c.in-Err-begin_one.ensures.err) c.begin_one.ensures.others,
     )
 
 pub returns-in-Err-begin_one-clause-err : goal.returns-in-Err-begin_one-clause-err

@@ -1,14 +1,19 @@
-use Rattle.std.proofs.Common.{rules}
-use Rattle.cf_hub.proofs.Pinging.{begins_pinging, goes_on_pinging, ends_pinging}
+use Rattle.std.proofs.Common.{rules, arith}
+use Rattle.cf_hub.proofs.Pinging.{begins_pinging, ends_pinging, goes_on_pinging, skips_pinging}
 use Rattle.cf_hub.proofs.hub.Hub.tick.Goals as goal
 
 pub loop-number-init : goal.loop-number-init
-loop-number-init c = (begins_pinging c.args.now c.args.self.now c.known.ensures.agrees c.known.ensures.small, search rules)
+loop-number-init c = record { pinging = begins_pinging c.args.now c.args.self.now c.known.ensures.agrees c.known.ensures.small; same = search rules; within = omega arith }
 
 pub loop-number-preserved : goal.loop-number-preserved
 loop-number-preserved c =
-    (goes_on_pinging c.args.now c.loop-number.number c.args.self.now c.loop-number.self c.ping.new.self c.ping.ensures.step c.loop-number.invariant.0, search rules)
+    let next = c.in-Some.ensures.next.0 in let below = c.in-Some.ensures.next.1 in record {
+      pinging =
+          goes_on_pinging c.args.now c.in-Some.number c.args.self.now c.loop-number.self c.ping.new.self c.ping.ensures.step
+          (skips_pinging c.args.now c.loop-number.from c.args.self.now c.loop-number.self c.loop-number.invariant.pinging c.in-Some.number next.above next.between);
+      same = search rules;
+      within = omega (arith, below);
+    }
 
 pub returns-clause-each : goal.returns-clause-each
-returns-clause-each c =
-    ends_pinging c.args.now c.args.self.now c.loop-number.self c.loop-number.number c.loop-number-test.false c.known.ensures.bounded c.loop-number.invariant.0
+returns-clause-each c = ends_pinging c.args.now c.loop-number.from c.args.self.now c.loop-number.self c.loop-number.invariant.pinging c.in_default.ensures.none

@@ -1,7 +1,14 @@
-use Rattle.std.proofs.Common.{◌≡◌, ℕ}
-use Rattle.cf_hub.specs.Hub.{SameNode}
+use Rattle.std.proofs.Common.{◌≤◌, ◌-◌}
+use Rattle.cf_hub.specs.Hub.{SameNode, most_sessions}
 use Rattle.cf_hub.proofs.Pinging.{IsPinging}
 use Rattle.cf_hub.proofs.hub.Hub.tick.Given as goal
 
 abbrev pub invariant-loop-number : goal.invariant-loop-number
-invariant-loop-number l = IsPinging l.now l.number l.fn.self l.self × SameNode l.fn.self l.self
+invariant-loop-number l = record {
+  pinging : IsPinging l.now l.from l.fn.self l.self;
+  same : SameNode l.fn.self l.self;
+  within : l.from ≤ most_sessions;
+}
+
+abbrev pub decreases-loop-number : goal.decreases-loop-number
+decreases-loop-number l = most_sessions - l.from

@@ -1,9 +1,6 @@
-use Rattle.std.proofs.Common.{◌≡◌, ◌∙◌, ℕ, Bool, Option, Some, None, List, [], option_map, is_some, sym, ap, refl, subst, not, true, false}
-use Rattle.cf_hub.specs.Checked.{stand_of}
-use Rattle.cf_hub.specs.Hub.{Node, attached_at, attached_in, is_open}
-use Rattle.cf_hub.specs.Rows.{sub_in}
+use Rattle.std.proofs.Common.{◌∙◌, ℕ, Option, option_map, sym, ap}
+use Rattle.cf_hub.specs.Hub.{Node}
 use Rattle.cf_hub.specs.Session.{Attached}
-use Rattle.cf_hub.specs.SessionState.{is_off}
 use Rattle.cf_hub.proofs.Hubs.{seen}
 use Rattle.cf_hub.proofs.hub.Hub.user.Goals as goal
 

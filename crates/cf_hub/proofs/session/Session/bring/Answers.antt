@@ -1,10 +1,10 @@
-use Rattle.std.proofs.Common.{rules, ◌≡◌, ◌⊎◌, ℕ, List, Bool, Option, Some, string_bytes, subst, sym, ap, refl, IfSome, true}
+use Rattle.std.proofs.Common.{rules, ◌≡◌, ℕ, Bool, Option, subst, sym, ap, refl}
 use Rattle.std.specs.BTreeMap.{get_by_text}
-use Rattle.cf_queue.specs.OutQueue.{Text, Close}
+use Rattle.cf_queue.specs.OutQueue.{Text}
 use Rattle.cf_recovery.specs.Verdict.{Pass, Insufficient}
 use Rattle.cf_recovery.specs.declared.verdict.Verdict.TheVariants as answer
 use Rattle.cf_hub.specs.declared.session.Meets.TheVariants as meets
-use Rattle.cf_hub.specs.SessionState.{Off, On, comes, push, put_sub, no_memory}
+use Rattle.cf_hub.specs.SessionState.{Off, On, comes, put_sub}
 use Rattle.cf_hub.specs.WantOfMemory.{Serves}
 use Rattle.cf_hub.specs.Subscriptions.{meeting}
 use Rattle.cf_hub.specs.Session.{state_of}

@@ -1,4 +1,4 @@
-use Rattle.std.proofs.Common.{rules, ◌≡◌, ◌||◌, ◌∙◌, ◌+◌, ◌++◌, Bool, List, [], ◌∷◌, ℕ, sym, ap, subst, map, take, get_or}
+use Rattle.std.proofs.Common.{◌≡◌, ◌||◌, ◌∙◌, ◌+◌, ◌++◌, Bool, List, [], ◌∷◌, ℕ, sym, ap, subst, map, take}
 use Rattle.std.proofs.lemmas.List.{map_more}
 use Rattle.cf_protocol.specs.Datum.{Placed}
 use Rattle.cf_queue.specs.OutQueue.{Item, Text}
