@@ -11,3 +11,4 @@ pub mod Finish
 pub mod Rows
 pub mod Hub
 pub mod Reply
+pub mod Spoken
