@@ -68,6 +68,9 @@ newest-push es ps e p h = ap (λ v. reverse v) (stored-push es ps e p h) ∙ rev
 pub kept-push : (es : List (List ℕ)) (ps : List Placed) (top : ℕ) (overflow short : Bool) (e : List ℕ) (p : Placed) → IsStored es ps top overflow short → kept_of (es ++ e ∷ []) (ps ++ p ∷ []) overflow short ≡ record (kept_of es ps overflow short) { arrived = arrival e p ∷ reverse (stored es ps) }
 kept-push es ps top overflow short e p h = let n = newest-push es ps e p h.beside in cc
 
+both_false : (a b : Bool) → (a || b) ≡ false → (a ≡ false) × (b ≡ false)
+both_false a b h = grind arith
+
 pub within-push : (a : Arrival) (k : Kept) → TakesRoom a k → IsWithin k → IsWithin (record k { arrived = a ∷ k.arrived })
 within-push a k r w =
     record {
@@ -88,6 +91,18 @@ stored_more es ps top more overflow short e p r h is =
       within = rw (kept-push es ps top overflow short e p h) (within-push (arrival e p) (kept_of es ps overflow short) r h.within);
     }
 
+-- however it is with the place
+pub within-arrival : (a : Arrival) (k : Kept) → IsWithin k → IsWithin (with_arrival a k)
+within-arrival a k w = by_test (k.overflow || has (places k.arrived) a.at.epoch a.at.offset) (overfull (a.at ∷ places k.arrived)) refl refl
+  where
+    by_test : (known many : Bool) → (k.overflow || has (places k.arrived) a.at.epoch a.at.offset) ≡ known → overfull (a.at ∷ places k.arrived) ≡ many
+        → IsWithin (if known then k else if many then given_up k.short else record k { arrived = a ∷ k.arrived })
+    by_test true many h m = w
+    by_test false true h m = record { once = tt; few = refl; nothing = λ e. refl; cause = λ e. refl }
+    by_test false false h m =
+        let two = both_false k.overflow (has (places k.arrived) a.at.epoch a.at.offset) h in
+        within-push a k (record { whole = two.0; first = two.1; fits = m }) w
+
 -- the same length, in whatever order
 pub length-kept : (es : List (List ℕ)) (ps : List Placed) → length es ≡ length ps → length (places (reverse (stored es ps))) ≡ length ps
 length-kept es ps h = length-map (reverse (stored es ps)) (λ (a : Arrival). a.at) ∙ length-reverse (stored es ps) ∙ length-stored es ps h
@@ -100,9 +115,6 @@ pub full-test : (es : List (List ℕ)) (ps : List Placed) (n : ℕ) → length e
 full-test es ps n h k q = one_below n ∙ ap (λ m. nat_lt 1000 (suc m)) (k ∙ sym (length-kept es ps h))
 
 -- ---- what a call makes of it
-
-both_false : (a b : Bool) → (a || b) ≡ false → (a ≡ false) × (b ≡ false)
-both_false a b h = grind arith
 
 pub neither : (a b : Bool) → a ≡ false → b ≡ false → (a || b) ≡ false
 neither a b h k = grind arith
