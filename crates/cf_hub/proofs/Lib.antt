@@ -16,3 +16,6 @@ pub mod Begun
 pub mod Finishing
 pub mod Checks
 pub mod Opening
+pub mod Alikes
+pub mod InNotes
+pub mod AlikeMoves

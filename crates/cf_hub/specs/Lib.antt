@@ -12,3 +12,6 @@ pub mod Rows
 pub mod Hub
 pub mod Reply
 pub mod Spoken
+pub mod Alike
+pub mod InNotes
+pub mod AlikeMoves

@@ -5,6 +5,7 @@ mod checked;
 mod delivered;
 mod hub;
 mod joining;
+pub mod laws;
 mod listed;
 mod refusal;
 mod reply;
