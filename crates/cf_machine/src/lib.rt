@@ -3,3 +3,6 @@
 //! Nothing here runs. Each function is a law: its contract is what is proved.
 #![tactic(auto)]
 
+pub mod examples;
+pub mod laws;
+pub mod rules;

@@ -1,0 +1,139 @@
+-- A finish, note by note: after its reply a subscription passes one place after another, and then may end.
+use Rattle.std.proofs.Common.{◌≡◌, ℕ, zero, suc, ◌+◌, ◌∙◌, Bool, true, false, if◌then◌else◌, Option, None, List, [], ◌∷◌, ◌++◌, refl, sym, ap, subst, arith, nat_le, sum_by}
+use Rattle.std.specs.Str.{bytes_eq}
+use Rattle.cf_protocol.specs.Names.{with}
+use Rattle.cf_protocol.specs.Position.{Position}
+use Rattle.cf_protocol.specs.Note.{Lists, Reading, Note, Reply, Pub, End, Close}
+use Rattle.cf_recovery.specs.Release.{run_length, falls_short}
+use Rattle.cf_recovery.specs.Verdict.{next}
+use Rattle.cf_hub.specs.SessionState.{Off, Asked, Ready, On, closes, finish_at, most_waiting, push, put_sub, says, slow}
+use Rattle.cf_hub.specs.Spoken.{pushes}
+use Rattle.cf_client.specs.ClientState.{read_to}
+use Rattle.cf_machine.specs.ClientLink.{over_at}
+use Rattle.cf_machine.specs.Session.{Sub, Session}
+use Rattle.cf_machine.specs.Weights.{wording}
+use Rattle.cf_machine.proofs.Names.{with-same}
+
+-- the subscription passes its next place
+abbrev pub pass_at : Lists → List ℕ → Sub → Session → Session
+pass_at lists c Off s = s
+pass_at lists c (Asked id since arrived) s = s
+pass_at lists c (Ready id was r arrived) s = s
+pass_at lists c (On p mark) s = push (wording lists) (Pub c (next p)) (put_sub c (On (next p) mark) s)
+
+abbrev pub passes : Lists → List ℕ → ℕ → Session → Session
+passes lists c zero s = s
+passes lists c (suc n) s = passes lists c n (pass_at lists c (s.subs c) s)
+
+-- it ends
+abbrev pub end_at : Lists → List ℕ → Sub → Session → Session
+end_at lists c Off s = s
+end_at lists c (Asked id since arrived) s = s
+end_at lists c (Ready id was r arrived) s = s
+end_at lists c (On p mark) s = push (wording lists) (End c) (put_sub c Off s)
+
+abbrev pub ends : Lists → List ℕ → Session → Session
+ends lists c s = end_at lists c (s.subs c) s
+
+-- ---- a channel that changes twice
+
+twice : (f : List ℕ → Sub) (c : List ℕ) (a b : Sub) (d : List ℕ) → with (with f c a) c b d ≡ with f c b d
+twice f c a b d = by_value (bytes_eq d c)
+  where
+    by_value : (t : Bool) → (if t then b else if t then a else f d) ≡ (if t then b else f d)
+    by_value true = refl
+    by_value false = refl
+
+put_put : (c : List ℕ) (a b : Sub) (s : Session) → put_sub c b (put_sub c a s) ≡ put_sub c b s
+put_put c a b s = λ i. record { subs = λ d. twice s.subs c a b d i; notes = s.notes; closed = s.closed }
+
+-- ---- one note more, where the channel has one or another subscription
+
+both : (f g : Session → Session) (a b : Bool) (x y z u v t : Session) → f x ≡ g u → f y ≡ g v → f z ≡ g t
+    → f (if a then x else if b then y else z) ≡ g (if a then u else if b then v else t)
+both f g true b x y z u v t h i j = h
+both f g false true x y z u v t h i j = i
+both f g false false x y z u v t h i j = j
+
+module _ (lists : Lists) (c : List ℕ) where
+  says-closed : (ns : List Note) (s : Session) → s.closed ≡ true → says (wording lists) ns s ≡ s
+  says-closed [] s e = refl
+  says-closed (n ∷ ns) s e = ap (says (wording lists) ns) (stays s.closed e) ∙ says-closed ns s e
+    where
+      stays : (t : Bool) → t ≡ true → (if t then s else if nat_le (sum_by (wording lists).weight s.notes + (wording lists).weight n) most_waiting then record s { notes = s.notes ++ n ∷ [] } else closes (Close slow) s) ≡ s
+      stays true e = refl
+      stays false e = absurd (cc)
+
+  -- where the rest is said alike, it is so behind one note more
+  one-more : (n : Note) (ns : List Note) (x y : Sub) (G : Session → Session)
+      → ((s : Session) → says (wording lists) ns (put_sub c x s) ≡ G (put_sub c y s))
+      → ((s : Session) → G (closes (Close slow) s) ≡ closes (Close slow) s)
+      → (s : Session) → says (wording lists) (n ∷ ns) (put_sub c x s) ≡ G (push (wording lists) n (put_sub c y s))
+  one-more n ns x y G h g s =
+      both (says (wording lists) ns) G s.closed (nat_le (sum_by (wording lists).weight s.notes + (wording lists).weight n) most_waiting) _ _ _ _ _ _
+      (h s) (h (record s { notes = s.notes ++ n ∷ [] })) (says-closed ns (closes (Close slow) s) refl ∙ sym (g s))
+
+  passes-closed : (n : ℕ) (s : Session) → passes lists c n (closes (Close slow) s) ≡ closes (Close slow) s
+  passes-closed zero s = refl
+  passes-closed (suc n) s = passes-closed n s
+
+  passes-on : (n : ℕ) (p : Position) (s : Session) → passes lists c (suc n) (put_sub c (On p None) s) ≡ passes lists c n (push (wording lists) (Pub c (next p)) (put_sub c (On (next p) None) s))
+  passes-on n p s =
+      ap (λ (x : Sub). passes lists c n (pass_at lists c x (put_sub c (On p None) s))) (with-same s.subs c (On p None))
+      ∙ ap (λ (v : Session). passes lists c n (push (wording lists) (Pub c (next p)) v)) (put_put c (On p None) (On (next p) None) s)
+
+  abbrev beyond : Position → ℕ → Position
+  beyond p n = record { epoch = p.epoch; offset = p.offset + n }
+
+  none-beyond : (p : Position) → beyond p 0 ≡ p
+  none-beyond p = λ i. record { epoch = p.epoch; offset = (same p.offset) i }
+    where
+      same : (n : ℕ) → n + 0 ≡ n
+      same n = omega arith
+
+  next-beyond : (p : Position) (n : ℕ) → beyond p (suc n) ≡ beyond (next p) n
+  next-beyond p n = λ i. record { epoch = p.epoch; offset = (same p.offset) i }
+    where
+      same : (m : ℕ) → m + suc n ≡ (m + 1) + n
+      same m = omega arith
+
+  -- so many places, and then what is said alike
+  run-alike : (last : Position → Sub) (tail : List Note) (G : Session → Session)
+      → ((q : Position) (s : Session) → says (wording lists) tail (put_sub c (last q) s) ≡ G (put_sub c (On q None) s))
+      → ((s : Session) → G (closes (Close slow) s) ≡ closes (Close slow) s)
+      → (n : ℕ) (p : Position) (s : Session) → says (wording lists) (pushes c p n ++ tail) (put_sub c (last (beyond p n)) s) ≡ G (passes lists c n (put_sub c (On p None) s))
+  run-alike last tail G h g zero p s = subst (λ (q : Position). says (wording lists) tail (put_sub c (last q) s) ≡ G (put_sub c (On p None) s)) (sym (none-beyond p)) (h p s)
+  run-alike last tail G h g (suc n) p s =
+      ap (λ (q : Position). says (wording lists) (pushes c p (suc n) ++ tail) (put_sub c (last q) s)) (next-beyond p n)
+      ∙ one-more (Pub c (next p)) (pushes c (next p) n ++ tail) (last (beyond (next p) n)) (On (next p) None) (λ v. G (passes lists c n v))
+      (run-alike last tail G h g n (next p)) (λ v. ap G (passes-closed n v) ∙ g v) s
+      ∙ sym (ap G (passes-on n p s))
+
+  ends-on : (q : Position) (s : Session) → says (wording lists) (End c ∷ []) (put_sub c Off s) ≡ ends lists c (put_sub c (On q None) s)
+  ends-on q s = sym (ap (λ (x : Sub). end_at lists c x (put_sub c (On q None) s)) (with-same s.subs c (On q None)) ∙ ap (push (wording lists) (End c)) (put_put c (On q None) Off s))
+
+  abbrev by_short : Bool → Session → Session
+  by_short t s = if t then ends lists c s else s
+
+  -- with the end or without it
+  run-or_end : (t : Bool) (n : ℕ) (p : Position) (s : Session)
+      → says (wording lists) (pushes c p n ++ (if t then End c ∷ [] else [])) (put_sub c (if t then Off else On (beyond p n) None) s) ≡ by_short t (passes lists c n (put_sub c (On p None) s))
+  run-or_end true n p s = run-alike (λ q. Off) (End c ∷ []) (ends lists c) ends-on (λ v. refl) n p s
+  run-or_end false n p s = run-alike (λ q. On q None) [] (λ v. v) (λ q v. refl) (λ v. refl) n p s
+
+  closed-by : (t : Bool) (n : ℕ) (s : Session) → by_short t (passes lists c n (closes (Close slow) s)) ≡ closes (Close slow) s
+  closed-by true n s = ap (ends lists c) (passes-closed n s)
+  closed-by false n s = passes-closed n s
+
+  -- A FINISH, NOTE BY NOTE
+  pub finish_steps : (k : ℕ) (was : Bool) (r : Reading) (arrived : List Position) (s : Session)
+      → finish_at (wording lists) c (Ready k was r arrived) s ≡ by_short (falls_short arrived r) (passes lists c (run_length arrived r) (push (wording lists) (Reply c k was r) (put_sub c (On (read_to r) None) s)))
+  finish_steps k was r arrived s =
+      one-more (Reply c k was r) (pushes c (read_to r) (run_length arrived r) ++ (if falls_short arrived r then End c ∷ [] else []))
+      (if falls_short arrived r then Off else On (beyond (read_to r) (run_length arrived r)) None) (On (read_to r) None)
+      (λ v. by_short (falls_short arrived r) (passes lists c (run_length arrived r) v))
+      (run-or_end (falls_short arrived r) (run_length arrived r) (read_to r)) (closed-by (falls_short arrived r) (run_length arrived r)) s
+
+  pub over_steps : (k : ℕ) (was : Bool) (r : Reading) (arrived : List Position) (s : Session)
+      → over_at (wording lists) c (Ready k was r arrived) s ≡ ends lists c (push (wording lists) (Reply c k was r) (put_sub c (On (read_to r) None) s))
+  over_steps k was r arrived s = one-more (Reply c k was r) (End c ∷ []) Off (On (read_to r) None) (ends lists c) (ends-on (read_to r)) (λ v. refl) s

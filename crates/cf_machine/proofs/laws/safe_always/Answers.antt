@@ -1,0 +1,5 @@
+use Rattle.cf_machine.proofs.Headline.{safe_run}
+use Rattle.cf_machine.proofs.laws.safe_always.Goals as goal
+
+pub returns : goal.returns
+returns c = safe_run
