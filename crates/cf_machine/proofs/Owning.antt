@@ -13,7 +13,7 @@ use Rattle.cf_machine.specs.Session.{Sub, Session}
 use Rattle.cf_client.specs.ClientState.{Mode, Idle, Asking, Live, idle, takes, read_to, hears as takes_note}
 use Rattle.cf_machine.specs.ClientRequest.{ClientRequest, SentCommand, Subscribe, Unsubscribe, Publish as PublishRequest, History, channel_of}
 use Rattle.cf_machine.specs.Weights.{wording}
-use Rattle.cf_machine.specs.ClientLink.{ClientLink, with_session, sends, is_heard, hears_subscribe, hears_request, hears, is_waiting, errs, find, errs_for, errs_late, says, fail_at, fails, over_at, finishes_over, closes_with, breaks, gets, hold_first, holds, receive_first, receives}
+use Rattle.cf_machine.specs.ClientLink.{ClientLink, with_session, sends, hears_subscribe, hears_request, hears, is_waiting, errs, find, errs_for, errs_late, says, fail_at, fails, over_at, finishes_over, closes_with, breaks, gets, hold_first, holds, receive_first, receives}
 use Rattle.cf_machine.specs.Leading.{coming}
 use Rattle.cf_machine.specs.AnswersById.{IsForChannel, AreForChannel}
 use Rattle.cf_machine.proofs.Stepwise.{pass_at, passes, end_at, ends, finish_steps, over_steps}

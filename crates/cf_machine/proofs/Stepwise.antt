@@ -1,5 +1,5 @@
 -- A finish, note by note: after its reply a subscription passes one place after another, and then may end.
-use Rattle.std.proofs.Common.{◌≡◌, ℕ, zero, suc, ◌+◌, ◌∙◌, Bool, true, false, if◌then◌else◌, Option, None, List, [], ◌∷◌, ◌++◌, refl, sym, ap, subst, arith, nat_le, sum_by}
+use Rattle.std.proofs.Common.{◌≡◌, ℕ, zero, suc, ◌+◌, ◌∙◌, Bool, true, false, if◌then◌else◌, None, List, [], ◌∷◌, ◌++◌, refl, sym, ap, subst, arith, nat_le, sum_by}
 use Rattle.std.specs.Str.{bytes_eq}
 use Rattle.cf_protocol.specs.Names.{with}
 use Rattle.cf_protocol.specs.Position.{Position}
