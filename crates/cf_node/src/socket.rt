@@ -8,6 +8,7 @@ use std::io::{ErrorKind, Read, Write};
 
 #[derive(Drop)]
 pub(crate) struct Socket {
+    alloc: Global,
     pub(crate) stream: TcpStream,
     // What was read before the handshake, and how much of it was given.
     early: Vec<u8>,
@@ -21,6 +22,7 @@ pub(crate) struct Socket {
 impl Socket {
     pub(crate) fn new(alloc: Global, stream: TcpStream) -> Socket {
         Socket {
+            alloc,
             stream,
             early: Vec::new(alloc),
             given: 0,
@@ -49,7 +51,8 @@ impl Socket {
         let count = rest.len().min(room.len());
         room[..count].copy_from_slice(&rest[..count]);
         if count == rest.len() {
-            self.early.clear();
+            // An idle connection keeps no room for it.
+            self.early = Vec::new(self.alloc);
             self.given = 0;
         } else {
             self.given = self.given.saturating_add(count);

@@ -300,6 +300,8 @@ impl<'a> Session<'a> {
                 return Some(action);
             }
         }
+        // A client that says nothing keeps no room for its next frame.
+        self.frame = VecDeque::new(self.alloc);
         None
     }
 
