@@ -23,3 +23,4 @@ pub mod Telling
 pub mod Tracing
 pub mod Within
 pub mod Stepwise
+pub mod Tellable

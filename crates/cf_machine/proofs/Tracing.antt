@@ -32,7 +32,7 @@ use Rattle.cf_machine.proofs.Stepping.{IsFine, marks, client-hold_first}
 use Rattle.cf_machine.proofs.Steps.{step, fine-start}
 
 -- the lists of one broker go on in the other's: what stands there stays
-GoesOn : Lists → Lists → Type 0
+unfoldable pub GoesOn : Lists → Lists → Type 0
 GoesOn a b = (c e : List ℕ) (i : ℕ) → i < length (a c e) → (i < length (b c e)) × (slice_get (b c e) i ≡ slice_get (a c e) i)
 
 on-same : (a b : Lists) → b ≡ a → GoesOn a b
@@ -61,7 +61,7 @@ on-add_at size c d (Some s) b =
     by_test (λ (v : Broker). GoesOn b.lists v.lists) (nat_lt s.top last_offset) _ _
     (λ h. on-list_with b.lists c s.epoch d) (λ h. on-same b.lists b.lists refl)
 
-on-opened : (c : List ℕ) (b : Broker) → GoesOn b.lists (opened c b).lists
+pub on-opened : (c : List ℕ) (b : Broker) → GoesOn b.lists (opened c b).lists
 on-opened c b = on-same b.lists (opened c b).lists (lists-opened c b)
 
 on-publish : (size : ℕ) (c : List ℕ) (d : Datum) (b : Broker) → GoesOn b.lists (publish size c d b).lists
@@ -73,7 +73,7 @@ on-carried cfg l (Unsubscribe c) b = on-same _ _ refl
 on-carried cfg l (PublishRequest c body) b = on-publish (size_of cfg c) c (datum_by l body) b
 on-carried cfg l (History c limit) b = on-opened c b
 
-on-broker_by : (cfg : Config) (l : ClientLink) (e : ClientRequest) (j : Judgement) (b : Broker) → GoesOn b.lists (broker_by cfg l e j b).lists
+pub on-broker_by : (cfg : Config) (l : ClientLink) (e : ClientRequest) (j : Judgement) (b : Broker) → GoesOn b.lists (broker_by cfg l e j b).lists
 on-broker_by cfg l e Unheard b = on-same _ _ refl
 on-broker_by cfg l e TooLong b = on-same _ _ refl
 on-broker_by cfg l e (Rejected code) b = on-same _ _ refl
@@ -86,7 +86,7 @@ on-hear : (cfg : Config) (x : List ℕ) (failing : Bool) (w : World) (ks : List 
 on-hear cfg x failing w [] = on-same _ _ refl
 on-hear cfg x failing w (k ∷ ks) = on-broker_by cfg (w.links x) k.request (failed_if failing (judged cfg w (w.links x) k)) w.broker
 
-on-effect : (cfg : Config) (w : World) (e : Event) → GoesOn w.broker.lists (effect cfg w e).broker.lists
+pub on-effect : (cfg : Config) (w : World) (e : Event) → GoesOn w.broker.lists (effect cfg w e).broker.lists
 on-effect cfg w (Epoch e) = on-same _ _ (lists-epoch e w.broker)
 on-effect cfg w (Connect x n) = on-same _ _ refl
 on-effect cfg w (Ask x c) = on-exchange cfg x (Subscribe c None) w

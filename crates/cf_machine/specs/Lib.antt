@@ -19,3 +19,4 @@ pub mod Leading
 pub mod AnswersById
 pub mod Examples
 pub mod RuleExamples
+pub mod Tellable

@@ -1,7 +1,7 @@
 //! What holds of every run of the interval machine: stream safety.
 //!
 //! Each law is a function that does nothing: its contract is the law.
-ghost use Rattle.std.specs.Prelude.{◌≡◌, List, ℕ};
+ghost use Rattle.std.specs.Prelude.{◌≡◌, All, List, ℕ};
 ghost use Rattle.cf_client.specs.ClientState.{last_of};
 ghost use Rattle.cf_machine.specs.AnswersById.{AreForChannel};
 ghost use Rattle.cf_machine.specs.Config.{Config};
@@ -12,6 +12,7 @@ ghost use Rattle.cf_machine.specs.Leading.{IsListed, LeadsOn, coming};
 ghost use Rattle.cf_machine.specs.LooseRun.{Happening, lines, loose_run};
 ghost use Rattle.cf_machine.specs.PublicationList.{StandsOver, tops};
 ghost use Rattle.cf_machine.specs.StreamSafety.{AreTrueTo, Safe};
+ghost use Rattle.cf_machine.specs.Tellable.{IsTellable};
 ghost use Rattle.cf_machine.specs.Told.{loose_trace, trace};
 ghost use Rattle.cf_machine.specs.World.{start};
 
@@ -67,4 +68,11 @@ pub fn streams_stand_over_lists()
 pub fn schedules_are_loose_runs()
     ensures world { (config : Config) (events : List Event) → loose_run config start (lines events) ≡ run config start events }
     ensures trace { (config : Config) (events : List Event) → loose_trace config 1 start (lines events) ≡ trace config 1 start events }
+{}
+
+/// After every run what waits at a node for a client can be told off the publication lists: the publications that a reply or a
+/// history brings are listed, and a reply that didn't recover brings none. No ping waits, since no event makes one.
+#[tactic(auto, using(crate::proofs::Tellable::what_waits))]
+pub fn what_waits_is_listed()
+    ensures { (config : Config) (events : List Event) (client : List ℕ) → All (IsTellable (run config start events).broker.lists) ((run config start events).links client).session.notes }
 {}
