@@ -16,5 +16,5 @@ mod tests;
 
 pub use action::{Action, Answer};
 pub use kind::Kind;
-pub use refused::{presence_error, stream_error};
+pub use refused::{hub_error, presence_error, stream_error};
 pub use session::Session;
