@@ -1,0 +1,179 @@
+//! A conversation with one client, line by line.
+ghost use Rattle.std.specs.Prelude.{◌≡◌, true, false, IfOk, IfSome, OnOk, option_map, []};
+ghost use Rattle.std.specs.Io.KnownBytes.{Appends};
+ghost use Rattle.cf_queue.specs.Meaning.{meaning};
+ghost use Rattle.cf_session.specs.Standing.{is_idle, tables_of, progress_of};
+ghost use Rattle.cf_speak.specs.Conversation.{AnswersLine, ReadsLine, Leaves, Speaks, SpeaksFrom, line_of, lines_of, reason_by};
+ghost use Rattle.cf_speak.specs.Scene.{is_over, waits};
+ghost use Rattle.cf_speak.specs.Shown.{scene_of};
+
+use crate::epochs::GivenEpochs;
+use crate::fault::SpeakFault;
+use crate::solo::Solo;
+use cf_protocol::{CloseCode, Namespaces, Tokens};
+use cf_queue::Out;
+use cf_session::Session;
+use cf_talk::{Node, serve_text};
+use std::alloc::Global;
+use std::io::{BufRead, Write};
+use std::str;
+
+/// What a conversation is set up with: the namespaces, who connects by which token, and the epochs of new streams, in order.
+#[derive(Drop)]
+pub struct Setup {
+    pub namespaces: Namespaces,
+    pub tokens: Tokens,
+    pub epochs: GivenEpochs,
+}
+
+/// Each line of the input is a text of one client, and what the client gets is written, a line for each text. A close ends the
+/// conversation.
+pub fn converse<R: BufRead, W: Write>(
+    alloc: Global,
+    reader: &mut R,
+    writer: &mut W,
+    setup: Setup,
+) -> Result<(), SpeakFault>
+    ensures done { OnOk result (IfSome (R.remaining reader.old) (λ input.
+        Speaks (record { namespaces = setup.namespaces; tokens = setup.tokens }) setup.epochs input
+        (W.contents writer.old) (W.contents writer.new))) }
+{
+    let Setup {
+        namespaces,
+        tokens,
+        epochs,
+    } = setup;
+    let mut node = Solo::new(alloc, &namespaces, epochs)?;
+    let mut session = Session::new(alloc, &namespaces, &tokens);
+    serve_lines(alloc, reader, writer, &mut session, &mut node)
+}
+
+// Serves the lines that are left, up to a close.
+fn serve_lines<R: BufRead, W: Write>(
+    alloc: Global,
+    reader: &mut R,
+    writer: &mut W,
+    session: &mut Session<'_>,
+    node: &mut Solo,
+) -> Result<(), SpeakFault>
+    requires idle { is_idle session.old ≡ true }
+    requires stands { is_over (scene_of node.old) ≡ false }
+    requires tables { (scene_of node.old).streams.namespaces ≡ (tables_of session.old).namespaces }
+    ensures done { OnOk result (IfSome (R.remaining reader.old) (λ input.
+        SpeaksFrom (tables_of session.old) (progress_of session.old) (scene_of node.old) input
+        (W.contents writer.old) (W.contents writer.new))) }
+{
+    for _ in 0..u64::MAX {
+        let Some(line) = read_line(alloc, reader)? else {
+            return Ok(());
+        };
+        answer(alloc, session, node, line.as_slice(), writer)?;
+        if node.is_closed() {
+            return Ok(());
+        }
+    }
+    Err(SpeakFault::InputOutput)
+}
+
+// The next line without its line feed, if there is one.
+fn read_line<R: BufRead>(alloc: Global, reader: &mut R) -> Result<Option<Vec<u8>>, SpeakFault>
+    ensures { IfOk result (λ line. ReadsLine (R.remaining reader.old) (R.remaining reader.new) (option_map (λ v. v.items) line)) }
+{
+    let mut line = Vec::new(alloc);
+    if reader.read_until(b'\n', &mut line)? == 0 {
+        return Ok(None);
+    }
+    if line.last() == Some(&b'\n') {
+        line.pop();
+    }
+    Ok(Some(line))
+}
+
+// Carries out one line, and writes what the client gets by it.
+fn answer<W: Write>(
+    alloc: Global,
+    session: &mut Session<'_>,
+    node: &mut Solo,
+    line: &[u8],
+    writer: &mut W,
+) -> Result<(), SpeakFault>
+    requires idle { is_idle session.old ≡ true }
+    requires stands { is_over (scene_of node.old) ≡ false }
+    requires tables { (scene_of node.old).streams.namespaces ≡ (tables_of session.old).namespaces }
+    ensures answers { OnOk result (AnswersLine (tables_of session.old) (progress_of session.old) (scene_of node.old) line.now
+        (scene_of node.new) (progress_of session.new) (W.contents writer.old) (W.contents writer.new)) }
+    ensures idle { OnOk result (is_over (scene_of node.new) ≡ false → is_idle session.new ≡ true) }
+    ensures tables { OnOk result (tables_of session.new ≡ tables_of session.old) }
+    ensures namespaces { OnOk result ((scene_of node.new).streams.namespaces ≡ (tables_of session.new).namespaces) }
+{
+    let Ok(text) = str::from_utf8(line) else {
+        return Err(SpeakFault::NotUtf8);
+    };
+    serve_text(session, node, text);
+    if session.short() {
+        return Err(SpeakFault::Memory);
+    }
+    if node.short() {
+        return Err(SpeakFault::Memory);
+    }
+    write_waiting(alloc, node, writer)?;
+    writer.flush()?;
+    Ok(())
+}
+
+// Writes all that waits for the client.
+fn write_waiting<W: Write>(alloc: Global, node: &mut Solo, writer: &mut W) -> Result<(), SpeakFault>
+    ensures written { OnOk result (Appends (W.contents writer.old) (W.contents writer.new) (lines_of (waits (scene_of node.old)))) }
+    ensures drained { OnOk result (Leaves [] (scene_of node.old) (scene_of node.new)) }
+{
+    while let Some(out) = node.take() {
+        write_one(alloc, writer, &out)?;
+    }
+    match node.turned_away() {
+        Some(code) => write_one(alloc, writer, &Out::Close(code.code())),
+        None => Ok(()),
+    }
+}
+
+fn write_one<W: Write>(alloc: Global, writer: &mut W, out: &Out) -> Result<(), SpeakFault>
+    ensures { OnOk result (Appends (W.contents writer.old) (W.contents writer.new) (line_of (meaning out.now))) }
+{
+    match out {
+        Out::Text(text) => {
+            let line = format!(in alloc; "{text}\n")?;
+            writer.write_all(line.as_bytes())?;
+            Ok(())
+        }
+        Out::Close(code) => {
+            let reason = reason_of(*code);
+            let line = format!(in alloc; "close {code} {reason}\n")?;
+            writer.write_all(line.as_bytes())?;
+            Ok(())
+        }
+    }
+}
+
+// The reason that stands beside a close code; empty for a code that isn't one of the protocol's.
+fn reason_of(code: u16) -> &'static str
+    ensures { result.now ≡ reason_by code }
+{
+    if code == CloseCode::Shutdown.code() {
+        return CloseCode::Shutdown.reason();
+    }
+    if code == CloseCode::InternalError.code() {
+        return CloseCode::InternalError.reason();
+    }
+    if code == CloseCode::Slow.code() {
+        return CloseCode::Slow.reason();
+    }
+    if code == CloseCode::NoPong.code() {
+        return CloseCode::NoPong.reason();
+    }
+    if code == CloseCode::InvalidToken.code() {
+        return CloseCode::InvalidToken.reason();
+    }
+    if code == CloseCode::BadRequest.code() {
+        return CloseCode::BadRequest.reason();
+    }
+    ""
+}

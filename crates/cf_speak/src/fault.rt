@@ -1,0 +1,35 @@
+//! How a conversation ends where it doesn't succeed.
+ghost use Rattle.std.specs.Prelude.{◌≡◌};
+
+use std::alloc::{AllocError, AllocFailed};
+use std::io;
+use thiserror::Error;
+
+/// Why a conversation ended before its end.
+#[derive(Clone, Copy, Debug, PartialEq, Eq, Drop, Error)]
+pub enum SpeakFault {
+    /// A line isn't UTF-8.
+    #[error("not UTF-8")]
+    NotUtf8,
+    /// Memory was refused.
+    #[error("out of memory")]
+    Memory,
+    /// A read or a write failed, or gave no end.
+    #[error("input or output failed")]
+    InputOutput,
+}
+
+impl From<AllocError> for SpeakFault {
+    fn from(_refused: AllocError) -> SpeakFault {
+        SpeakFault::Memory
+    }
+}
+
+impl From<io::Error> for SpeakFault {
+    fn from(error: io::Error) -> SpeakFault {
+        match error.kind() {
+            io::ErrorKind::OutOfMemory => SpeakFault::Memory,
+            _ => SpeakFault::InputOutput,
+        }
+    }
+}

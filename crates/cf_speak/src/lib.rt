@@ -1,0 +1,14 @@
+//! One client's session on a node of its own, text by text: what `cf_server speak` does, without its process.
+#![tactic(auto)]
+
+mod conversation;
+mod epochs;
+mod fault;
+mod solo;
+#[cfg(test)]
+mod tests;
+
+pub use conversation::{Setup, converse};
+pub use epochs::GivenEpochs;
+pub use fault::SpeakFault;
+pub use solo::Solo;
