@@ -5,7 +5,6 @@ ghost use Rattle.cf_followers.specs.Follows.{with_follow};
 ghost use Rattle.cf_followers.specs.Names.{AreNumbered, AreUsed, named, number_at};
 
 use crate::names::Names;
-use crate::refusal::FollowRefusal;
 use cf_subs::SubTable;
 use std::alloc::{AllocError, Global};
 
