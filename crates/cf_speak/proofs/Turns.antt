@@ -9,7 +9,7 @@ use Rattle.std.specs.Prelude.{IfSome}
 use Rattle.cf_queue.specs.OutQueue.{Item}
 use Rattle.cf_session.specs.CommandScripts.{Tables}
 use Rattle.cf_session.specs.SessionMachine.{Progress}
-use Rattle.cf_speak.specs.Conversation.{AnswersLine, Begins, Converses, ReadsLine, SpeaksFrom, Turn, line_of, lines_of}
+use Rattle.cf_speak.specs.Conversation.{AnswersLine, Begins, BreaksOffFrom, IsNoText, Converses, ReadsLine, SpeaksFrom, Turn, line_of, lines_of}
 use Rattle.cf_speak.specs.Scene.{Scene, is_over}
 
 begins_more : (input rest line : List ℕ) (lines : List (List ℕ))
@@ -98,6 +98,15 @@ goes_on t p0 s0 (Some input) left next old new then s m p q line over g r a =
       written = adds_lines old new then g.given a.given g.written a.written;
     }
 
+-- the same where tables and line go by other names
+pub goes_heard : (t u : Tables) (p0 : Progress) (s0 : Scene) (known left next old new then : Option (List ℕ)) (s m : Scene) (p q : Progress)
+    (line said : List ℕ) → u ≡ t → said ≡ line
+    → is_over s ≡ false → GoesFrom t p0 s0 known left old new s p → ReadsLine left next (Some line) → AnswersLine u p s said m q new then
+    → GoesFrom t p0 s0 known next old then m q
+goes_heard t u p0 s0 known left next old new then s m p q line said e f over g r a =
+    goes_on t p0 s0 known left next old new then s m p q line over g r
+    (subst (λ (x : List ℕ). AnswersLine t p s x m q new then) f (subst (λ (v : Tables). AnswersLine v p s said m q new then) e a))
+
 no_line : (left next : Option (List ℕ)) (rest : List ℕ) → left ≡ Some rest → ReadsLine left next None → rest ≡ []
 no_line left next rest e h = subst (λ (x : Option (List ℕ)). ReadsLine x next None) e h
 
@@ -133,4 +142,25 @@ speaks_closed t p0 s0 (Some input) left old new s p over g =
       turns = g.turns;
       ends = inr over;
       written = g.written;
+    }
+
+-- the next line is no text
+pub breaks_off : (t : Tables) (p0 : Progress) (s0 : Scene) (known left next old new then : Option (List ℕ)) (s : Scene) (p : Progress) (line : List ℕ)
+    → is_over s ≡ false → GoesFrom t p0 s0 known left old new s p → ReadsLine left next (Some line) → IsNoText line → then ≡ new
+    → IfSome known (λ input. BreaksOffFrom t p0 s0 input old then)
+breaks_off t p0 s0 None left next old new then s p line over g r bad same = tt
+breaks_off t p0 s0 (Some input) left next old new then s p line over g r bad same =
+    let is : (g.rest ≢ []) × (line ≡ first_piece 10 g.rest) × (next ≡ Some (drop_through 10 g.rest)) = line_read left next g.rest line g.reader r in
+    record {
+      lines = g.lines;
+      rest = g.rest;
+      given = g.given;
+      last = s;
+      progress = p;
+      cut = g.cut;
+      turns = g.turns;
+      stands = over;
+      more = is.0;
+      no_text = subst IsNoText is.1 bad;
+      written = subst (λ (w : Option (List ℕ)). Appends old w (lines_of g.given)) (sym same) g.written;
     }

@@ -83,6 +83,9 @@ Converses t p s (line ∷ lines) given m q =
     × ((next : Scene) × (between : Progress) × (first : List Item) × (others : List Item)
     × Turn t p s line first next between × (given ≡ first ++ others) × Converses t between next lines others m q)
 
+abbrev pub IsNoText : List ℕ → Type 0
+IsNoText line = IsUtf8 line → ⊥
+
 -- one line is answered
 pub record AnswersLine (t : Tables) (p : Progress) (s : Scene) (line : List ℕ) (m : Scene) (q : Progress) (old new : Option (List ℕ)) : Type 0 where
   pub text : IsUtf8 line
@@ -115,3 +118,21 @@ pub record SpeaksFrom (t : Tables) (p : Progress) (s : Scene) (input : List ℕ)
 -- so they are by a session that waits for its client's connect, on a node on which nothing has happened
 abbrev pub Speaks : Tables → List (List ℕ) → List ℕ → Option (List ℕ) → Option (List ℕ) → Type 0
 Speaks t epochs input old new = SpeaksFrom t (Todo (Served None)) (opening t.namespaces epochs) input old new
+
+-- The input's lines are served from here on up to one that is not UTF-8, no earlier one closed the session, and what they gave
+-- is written.
+pub record BreaksOffFrom (t : Tables) (p : Progress) (s : Scene) (input : List ℕ) (old new : Option (List ℕ)) : Type 0 where
+  pub lines : List (List ℕ)
+  pub rest : List ℕ
+  pub given : List Item
+  pub last : Scene
+  pub progress : Progress
+  pub cut : Begins input lines rest
+  pub turns : Converses t p s lines given last progress
+  pub stands : is_over last ≡ false
+  pub more : rest ≢ []
+  pub no_text : IsNoText (first_piece 10 rest)
+  pub written : Appends old new (lines_of given)
+
+abbrev pub BreaksOff : Tables → List (List ℕ) → List ℕ → Option (List ℕ) → Option (List ℕ) → Type 0
+BreaksOff t epochs input old new = BreaksOffFrom t (Todo (Served None)) (opening t.namespaces epochs) input old new

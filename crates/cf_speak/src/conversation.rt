@@ -1,9 +1,9 @@
 //! A conversation with one client, line by line.
-ghost use Rattle.std.specs.Prelude.{◌≡◌, true, false, IfOk, IfSome, OnOk, option_map, []};
+ghost use Rattle.std.specs.Prelude.{◌≡◌, ◌≢◌, true, false, IfErr, IfOk, IfSome, IsErrOf, OnOk, option_map, []};
 ghost use Rattle.std.specs.Io.KnownBytes.{Appends};
 ghost use Rattle.cf_queue.specs.Meaning.{meaning};
 ghost use Rattle.cf_session.specs.Standing.{is_idle, tables_of, progress_of};
-ghost use Rattle.cf_speak.specs.Conversation.{AnswersLine, ReadsLine, Leaves, Speaks, SpeaksFrom, line_of, lines_of, reason_by};
+ghost use Rattle.cf_speak.specs.Conversation.{AnswersLine, BreaksOff, BreaksOffFrom, IsNoText, ReadsLine, Leaves, Speaks, SpeaksFrom, line_of, lines_of, reason_by};
 ghost use Rattle.cf_speak.specs.Scene.{is_over, waits};
 ghost use Rattle.cf_speak.specs.Shown.{scene_of};
 
@@ -37,6 +37,10 @@ pub fn converse<R: BufRead, W: Write>(
     ensures done { OnOk result (IfSome (R.remaining reader.old) (λ input.
         Speaks (record { namespaces = setup.namespaces; tokens = setup.tokens }) setup.epochs input
         (W.contents writer.old) (W.contents writer.new))) }
+    // What isn't UTF-8 is met at its line, after what the earlier lines gave.
+    ensures not_utf8 { IsErrOf result SpeakFault.NotUtf8 → IfSome (R.remaining reader.old) (λ input.
+        BreaksOff (record { namespaces = setup.namespaces; tokens = setup.tokens }) setup.epochs input
+        (W.contents writer.old) (W.contents writer.new)) }
 {
     let Setup {
         namespaces,
@@ -62,6 +66,9 @@ fn serve_lines<R: BufRead, W: Write>(
     ensures done { OnOk result (IfSome (R.remaining reader.old) (λ input.
         SpeaksFrom (tables_of session.old) (progress_of session.old) (scene_of node.old) input
         (W.contents writer.old) (W.contents writer.new))) }
+    ensures not_utf8 { IsErrOf result SpeakFault.NotUtf8 → IfSome (R.remaining reader.old) (λ input.
+        BreaksOffFrom (tables_of session.old) (progress_of session.old) (scene_of node.old) input
+        (W.contents writer.old) (W.contents writer.new)) }
 {
     for _ in 0..u64::MAX {
         let Some(line) = read_line(alloc, reader)? else {
@@ -77,7 +84,9 @@ fn serve_lines<R: BufRead, W: Write>(
 
 // The next line without its line feed, if there is one.
 fn read_line<R: BufRead>(alloc: Global, reader: &mut R) -> Result<Option<Vec<u8>>, SpeakFault>
-    ensures { IfOk result (λ line. ReadsLine (R.remaining reader.old) (R.remaining reader.new) (option_map (λ v. v.items) line)) }
+    ensures line { IfOk result (λ line.
+        ReadsLine (R.remaining reader.old) (R.remaining reader.new) (option_map (λ v. v.items) line)) }
+    ensures outside { IfErr result (λ fault. fault ≢ SpeakFault.NotUtf8) }
 {
     let mut line = Vec::new(alloc);
     if reader.read_until(b'\n', &mut line)? == 0 {
@@ -102,6 +111,8 @@ fn answer<W: Write>(
     requires tables { (scene_of node.old).streams.namespaces ≡ (tables_of session.old).namespaces }
     ensures answers { OnOk result (AnswersLine (tables_of session.old) (progress_of session.old) (scene_of node.old) line.now
         (scene_of node.new) (progress_of session.new) (W.contents writer.old) (W.contents writer.new)) }
+    ensures not_utf8 { IsErrOf result SpeakFault.NotUtf8 →
+        IsNoText line.now × (W.contents writer.new ≡ W.contents writer.old) }
     ensures idle { OnOk result (is_over (scene_of node.new) ≡ false → is_idle session.new ≡ true) }
     ensures tables { OnOk result (tables_of session.new ≡ tables_of session.old) }
     ensures namespaces { OnOk result ((scene_of node.new).streams.namespaces ≡ (tables_of session.new).namespaces) }
@@ -123,8 +134,10 @@ fn answer<W: Write>(
 
 // Writes all that waits for the client.
 fn write_waiting<W: Write>(alloc: Global, node: &mut Solo, writer: &mut W) -> Result<(), SpeakFault>
-    ensures written { OnOk result (Appends (W.contents writer.old) (W.contents writer.new) (lines_of (waits (scene_of node.old)))) }
+    ensures written { OnOk result
+        (Appends (W.contents writer.old) (W.contents writer.new) (lines_of (waits (scene_of node.old)))) }
     ensures drained { OnOk result (Leaves [] (scene_of node.old) (scene_of node.new)) }
+    ensures outside { IfErr result (λ fault. fault ≢ SpeakFault.NotUtf8) }
 {
     while let Some(out) = node.take() {
         write_one(alloc, writer, &out)?;
@@ -136,7 +149,9 @@ fn write_waiting<W: Write>(alloc: Global, node: &mut Solo, writer: &mut W) -> Re
 }
 
 fn write_one<W: Write>(alloc: Global, writer: &mut W, out: &Out) -> Result<(), SpeakFault>
-    ensures { OnOk result (Appends (W.contents writer.old) (W.contents writer.new) (line_of (meaning out.now))) }
+    ensures written { OnOk result
+        (Appends (W.contents writer.old) (W.contents writer.new) (line_of (meaning out.now))) }
+    ensures outside { IfErr result (λ fault. fault ≢ SpeakFault.NotUtf8) }
 {
     match out {
         Out::Text(text) => {

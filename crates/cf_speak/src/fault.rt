@@ -1,6 +1,4 @@
 //! How a conversation ends where it doesn't succeed.
-ghost use Rattle.std.specs.Prelude.{◌≡◌};
-
 use std::alloc::{AllocError, AllocFailed};
 use std::io;
 use thiserror::Error;
@@ -20,12 +18,22 @@ pub enum SpeakFault {
 }
 
 impl From<AllocError> for SpeakFault {
+    ghost use Rattle.std.specs.Prelude.{◌≡◌};
+    ghost use Rattle.cf_speak.specs.declared.fault.SpeakFault.TheVariants.{Memory};
+
+    ghost from_gives = { λ _ fault. fault ≡ Memory };
+
     fn from(_refused: AllocError) -> SpeakFault {
         SpeakFault::Memory
     }
 }
 
 impl From<io::Error> for SpeakFault {
+    ghost use Rattle.std.specs.Prelude.{◌≢◌};
+    ghost use Rattle.cf_speak.specs.declared.fault.SpeakFault.TheVariants.{NotUtf8};
+
+    ghost from_gives = { λ _ fault. fault ≢ NotUtf8 };
+
     fn from(error: io::Error) -> SpeakFault {
         match error.kind() {
             io::ErrorKind::OutOfMemory => SpeakFault::Memory,
