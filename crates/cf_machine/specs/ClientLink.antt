@@ -20,7 +20,8 @@ pub record ClientLink : Type 0 where
   pub channels : List (List ℕ)
   -- the notes that left the node and did not reach the client yet
   pub way : List Note
-  -- the commands that left the client and were not heard yet; those that were heard, the latest first, and a bound of their ids
+  -- the commands that left the client and were not heard yet; those that were heard, the latest first; and a number above the
+  -- ids of these
   pub up : List SentCommand
   pub done : List SentCommand
   pub heard : ℕ
@@ -36,7 +37,7 @@ with_session s l = record l { session = s }
 
 -- ---- the client's side
 
--- what the client makes of an errand that it sends
+-- what a client becomes by a request that it sends
 abbrev pub client_sends : ClientRequest → Client → Client
 client_sends (Subscribe c from) x = asks c from x
 client_sends (Unsubscribe c) x = client.leaves c x
@@ -106,7 +107,7 @@ is_waiting k (Asked i since arrived) = i == k
 is_waiting k (Ready i was r arrived) = i == k
 is_waiting k (On q mark) = false
 
--- an error answers a command that was heard, and that is no ask still under way
+-- An error answers a command that was heard, unless that is an ask which still waits for its reply.
 abbrev pub errs : Words → List ℕ → ℕ → ℕ → ClientLink → ClientLink
 errs w c id code l =
     if nat_lt id l.heard && not (is_waiting id (l.session.subs c)) then with_session (push w (Fails c id code) l.session) l else l
@@ -120,11 +121,11 @@ abbrev pub errs_for : Words → ℕ → Option SentCommand → ClientLink → Cl
 errs_for w code None l = l
 errs_for w code (Some k) l = errs w (channel_of k.request) k.id code l
 
--- the same at any time later: the error is for the channel of that command
+-- The same at any later time, by the command's id alone: the error is for the channel of that command.
 abbrev pub errs_late : Words → ℕ → ℕ → ClientLink → ClientLink
 errs_late w id code l = errs_for w code (find id l.done) l
 
--- the notes that answer other commands than a subscribe, and the ping
+-- an answer to a publish, an unsubscribe or a history, or a ping
 abbrev pub is_plain : Note → Bool
 is_plain (Reply c id was r) = false
 is_plain (Pub c q) = false

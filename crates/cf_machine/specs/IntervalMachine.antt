@@ -1,5 +1,5 @@
--- The interval machine: what each line of a schedule makes of the world. It has positions, numbers and sets on the way, and no
--- data; what was published stands in the publication lists.
+-- The interval machine: what each line of a schedule makes of the world. What is on its way has positions and numbers, and no
+-- data: what was published stands in the publication lists alone.
 use Rattle.std.specs.Prelude.{ℕ, ℤ, ◌+◌, nat_le, nat_lt, ◌&&◌, not, Bool, true, false, if◌then◌else◌, is_some, Option, Some, None, List, [], ◌∷◌, ◌++◌, decimal}
 use Rattle.cf_protocol.specs.Names.{with, and_also}
 use Rattle.cf_protocol.specs.declared.settings.Settings.{Settings}
@@ -62,7 +62,7 @@ abbrev pub is_refused : Judgement → Bool
 is_refused Accepted = false
 is_refused j = true
 
--- the node of x does what the judgement of a command says, and `rest` is left on its way
+-- The node of x hears its command k and does what the judgement says; the commands behind k are still on their way.
 abbrev pub heard_as : Config → List ℕ → SentCommand → List SentCommand → Judgement → World → World
 heard_as cfg x k rest j w =
     record w {

@@ -2,10 +2,10 @@
 -- travel, answers come late or never, an error comes in place of an answer, a finish goes as if more had arrived than are
 -- kept, a ping enters or a session is closed at any time, a position check is made against anything; and others publish any
 -- datum and open streams in any fresh epoch at any time.
--- A connection may end on one side first. Where the client's side does, `Break` says what is seen of it: its old session may be
--- served on for a while, and what that does to anybody else is to publish, to open streams and to take up room, which
--- others may do here at any time, so that a node may fail any command. Where the node's side does, the session is closed
--- here: what is on its way may still come to the client, or not, and its place may be given to another (`Join`).
+-- A connection may end on one side first. Where that is the client's side, it is a `Break`: its node may go on serving the old
+-- session for a while. To all others that session then only publishes, opens streams and takes up room; and here anybody may
+-- publish and open streams, and a node may fail any command. Where it is the node's side, the session is closed: what is on its
+-- way may still reach the client, or not, and another client may have its place (`Join`).
 use Rattle.std.specs.Prelude.{ℕ, ℤ, nat_lt, ◌&&◌, not, Bool, true, false, if◌then◌else◌, is_some, Option, None, List, [], ◌∷◌, map}
 use Rattle.cf_protocol.specs.Datum.{Datum}
 use Rattle.cf_protocol.specs.Position.{Position}

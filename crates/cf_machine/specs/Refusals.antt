@@ -16,8 +16,8 @@ use Rattle.cf_machine.specs.Weights.{command_length}
 use Rattle.cf_machine.specs.ClientLink.{ClientLink}
 use Rattle.cf_machine.specs.World.{World, rows, rows_of}
 
--- The limits are named where they are kept: that of a text in Checks, the channels of a session and the sessions of a node in
--- cf_hub's Hub, as the last client id of a boot; the subscriptions of a node in Follows, the last id of a command in ClientCalls.
+-- Each limit has its name where it is kept: longest_text in cf_protocol's Checks; most_channels, most_sessions and the largest
+-- client id in cf_hub's Hub; most_rows in cf_followers' Follows; last_id, of a command, in cf_client's ClientCalls.
 
 -- the close code of a message that is too long
 abbrev pub bad_message : ℕ

@@ -11,11 +11,12 @@ pub record World : Type 0 where
   -- by node: its boot number, and how many sessions it had in this boot
   pub boots : ℕ → ℕ
   pub counters : ℕ → ℕ
-  -- the clients that ever connected, each once; and by client
+  -- the clients that ever connected, each once
   pub clients : List (List ℕ)
+  -- by client
   pub links : List ℕ → ClientLink
 
--- a number's value changed
+-- the function, with one number's value changed
 abbrev pub with_at : (ℕ → ℕ) → ℕ → ℕ → ℕ → ℕ
 with_at f k v j = if j == k then v else f j
 
