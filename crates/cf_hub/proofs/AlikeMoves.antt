@@ -1,24 +1,23 @@
 -- Each move, and each call of the hub, keeps what a session says.
-use Rattle.std.proofs.Common.{◌≡◌, ◌≢◌, ◌⊎◌, inl, inr, ℕ, ◌+◌, ◌≤◌, min, Bool, true, false, Option, Some, None, option_map, List, [], ◌∷◌, length, arith, refl, sym, ap, ◌∙◌, subst, ◌||◌}
+use Rattle.std.proofs.Common.{◌≡◌, ◌⊎◌, inl, inr, ℕ, ◌≤◌, Bool, true, false, Option, Some, None, option_map, List, [], ◌∷◌, length, arith, refl, sym, ◌∙◌, subst, ◌||◌}
 use Rattle.cf_protocol.specs.Datum.{Placed}
 use Rattle.cf_protocol.specs.Note.{Lists, Note, Reading}
 use Rattle.cf_protocol.specs.Note as note
 use Rattle.cf_protocol.specs.Position.{Position}
-use Rattle.cf_protocol.specs.Regular.{IsCode}
-use Rattle.cf_queue.specs.OutQueue.{Item, Text, Close}
+use Rattle.cf_queue.specs.OutQueue.{Close}
 use Rattle.cf_recovery.specs.Arrivals.{arrives}
 use Rattle.cf_recovery.specs.Kept.{Arrival, IsWithin, Kept, StandsFor, places, with_arrival}
 use Rattle.cf_recovery.specs.Release.{falls_short, run_length}
 use Rattle.cf_hub.specs.AlikeMoves.{AreAlike, CallsAreAlike, GoesOn, MovesAreAlike, Notes, Texts}
 use Rattle.cf_hub.specs.Finish.{FinishesAt}
-use Rattle.cf_hub.specs.Hub.{Brings, Delivers, InState, Meets, Node, One, Opens, OthersStay, attached_at, counted, is_in, largest, moves, one_if, sub_at}
-use Rattle.cf_hub.specs.InNotes.{AreMissed, IsKept, IsListed, SaysAt, SaysNote, SaysSession}
+use Rattle.cf_hub.specs.Hub.{Delivers, InState, Meets, Node, attached_at, counted, is_in, moves, one_if, sub_at}
+use Rattle.cf_hub.specs.InNotes.{IsKept, IsListed, SaysAt, SaysNote, SaysSession}
 use Rattle.cf_hub.specs.Rows.{sub_in}
 use Rattle.cf_hub.specs.Session.{Attached}
-use Rattle.cf_hub.specs.SessionState.{SessionState, begins, checks, closes_now, comes, finishes, leaves, opens, push, reads, takes_front}
+use Rattle.cf_hub.specs.SessionState.{comes, finishes, opens}
 use Rattle.cf_hub.specs.Spoken.{spoken}
 use Rattle.cf_hub.specs.WantOfMemory.{Both, OrCloses, Serves}
-use Rattle.cf_hub.specs.Wordings.{Held, at_offset, delivering, plain, reading}
+use Rattle.cf_hub.specs.Wordings.{at_offset, delivering, plain, reading}
 use Rattle.cf_hub.proofs.Alikes.{begins_alike, checks_alike, closes_now_alike, comes_alike, leaves_alike, opens_alike, push_alike, reads_alike, takes_alike}
 use Rattle.cf_hub.proofs.InNotes.{finish_alike, keeps_nothing, keeps_one, keeps_read, says_end, says_place, weighs}
 

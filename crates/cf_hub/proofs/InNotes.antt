@@ -1,27 +1,26 @@
 -- What the code says and keeps is what the notes and positions are.
-use Rattle.std.proofs.Common.{◌≡◌, ◌⊎◌, inl, inr, ℕ, suc, zero, ◌+◌, ◌-◌, ◌≤◌, ◌||◌, Bool, true, false, if◌then◌else◌, Option, Some, None, List, [], ◌∷◌, ◌++◌, length, map, take, drop, option_map, slice_get, arith, refl, sym, ap, ◌∙◌, subst, append_assoc, append-nil}
+use Rattle.std.proofs.Common.{◌≡◌, inl, inr, ℕ, suc, zero, ◌+◌, ◌-◌, ◌≤◌, ◌||◌, Bool, true, false, if◌then◌else◌, Option, Some, None, List, [], ◌∷◌, ◌++◌, length, map, take, drop, option_map, slice_get, arith, refl, sym, ap, ◌∙◌, subst, append_assoc, append-nil}
 use Rattle.std.specs.List.{All, AllByRecursion, AllZip, Contains}
 use Rattle.std.proofs.lemmas.Bool.{cases_lt}
 use Rattle.std.proofs.lemmas.List.{drop-append-le, length-drop, take-append-le}
 use Rattle.std.proofs.lemmas.List.Elements.{All-cons, All-contains, All-from_recursion, All-nil, recursion_from_All}
 use Rattle.cf_protocol.specs.Datum.{Datum, Placed, numbered}
 use Rattle.cf_protocol.specs.Note.{Lists, Note, Reading, Reply, Pub, End, PingDue, insufficient, outgoing_of, placed_at, placed_from}
-use Rattle.cf_protocol.specs.Note as note
-use Rattle.cf_protocol.specs.Outgoing.{Outgoing, Ping, Answer, Subscribed, Push, Publication, Unsubscribe}
+use Rattle.cf_protocol.specs.Outgoing.{Ping, Answer, Subscribed, Push, Publication, Unsubscribe}
 use Rattle.cf_protocol.specs.Position.{Position}
 use Rattle.cf_protocol.specs.Regular.{IsCode}
-use Rattle.cf_protocol.specs.Written.{outgoing_text, text_or_none}
+use Rattle.cf_protocol.specs.Written.{text_or_none}
 use Rattle.cf_queue.specs.OutQueue.{Item, Text, Close}
 use Rattle.cf_recovery.specs.Arrivals.{arrives, has, overfull}
 use Rattle.cf_recovery.specs.Kept.{Arrival, IsRun, IsWithin, Kept, StandsFor, arrival, given_up, nothing_kept, places, with_arrival}
 use Rattle.cf_recovery.specs.Release.{falls_short, run_length}
 use Rattle.cf_recovery.specs.Verdict.{next}
-use Rattle.cf_hub.specs.Alike.{Alike, AlikeSub}
+use Rattle.cf_hub.specs.Alike.{AlikeSub}
 use Rattle.cf_hub.specs.Finish.{Finishes, FinishesAt}
 use Rattle.cf_hub.specs.InNotes.{AreMissed, Grown, IsKept, IsListed, IsSaid, MissedBy, SaysNote, SaysSession, placed_of}
 use Rattle.cf_hub.specs.SessionState.{Subscription, Off, Asked, Ready, On, SessionState, finish_at, finish_notes, finished, finishes, put_sub, says}
 use Rattle.cf_hub.specs.Spoken.{note_length, pushes, spoken}
-use Rattle.cf_hub.specs.Wordings.{Held, at_offset, delivering, end_text, held, item_weight, ping_text, plain, push_text, reading, releasing, reply_text, texts}
+use Rattle.cf_hub.specs.Wordings.{Held, at_offset, end_text, held, item_weight, ping_text, push_text, releasing, reply_text}
 use Rattle.cf_hub.proofs.Alikes.{put_alike, says_alike, zip_both}
 
 -- ---- the lists only grow

@@ -19,3 +19,5 @@ pub mod Opening
 pub mod Alikes
 pub mod InNotes
 pub mod AlikeMoves
+pub mod Settling
+pub mod Counts

@@ -1,5 +1,5 @@
 -- A node's sessions by number, and which session follows which channel.
-use Rattle.std.specs.Prelude.{◌≡◌, ◌≢◌, ◌≤◌, ◌<◌, ◌⊎◌, ℕ, ◌+◌, ◌==◌, min, not, Bool, true, false, if◌then◌else◌, Option, Some, None, option_map, is_some, List, [], length, ◌++◌, ◌∷◌}
+use Rattle.std.specs.Prelude.{◌≡◌, ◌≢◌, ◌≤◌, ◌<◌, ◌⊎◌, ◌&&◌, ℕ, ◌+◌, ◌-◌, ◌==◌, min, not, Bool, true, false, if◌then◌else◌, Option, Some, None, option_map, is_some, List, [], length, filter, codes, ◌++◌, ◌∷◌}
 use Rattle.std.specs.BTreeMap.{BTreeMap, get, is_at}
 use Rattle.std.specs.Fmt.{decimal}
 use Rattle.std.specs.List.{list_any}

@@ -6,6 +6,7 @@ pub mod Wordings
 pub mod Delivery
 pub mod Subscriptions
 pub mod Session
+pub mod Asking
 pub mod Checked
 pub mod Finish
 pub mod Rows
@@ -15,3 +16,4 @@ pub mod Spoken
 pub mod Alike
 pub mod InNotes
 pub mod AlikeMoves
+pub mod Counts

@@ -2,8 +2,9 @@
 use Rattle.std.specs.Prelude.{◌≡◌, ℕ, not, Bool, true, if◌then◌else◌, Option, Some, None, List}
 use Rattle.std.specs.Str.{bytes_eq}
 use Rattle.cf_followers.specs.Follows.{Follow, follows, without_follow, without_session}
+use Rattle.cf_queue.specs.OutQueue.{Item}
 use Rattle.cf_hub.specs.Session.{Attached}
-use Rattle.cf_hub.specs.SessionState.{Subscription, Off, is_off}
+use Rattle.cf_hub.specs.SessionState.{Subscription, Off, SessionState, is_off}
 use Rattle.cf_hub.specs.Wordings.{Held}
 use Rattle.cf_hub.specs.declared.delivered.Fate.{Fate}
 use Rattle.cf_hub.specs.declared.delivered.Fate.TheVariants as fate

@@ -1,6 +1,7 @@
 //! One node's sessions: their subscriptions, and what waits for each client.
 #![tactic(auto)]
 
+mod asking;
 mod checked;
 mod delivered;
 mod hub;
@@ -19,6 +20,7 @@ mod tests;
 mod upkeep;
 mod wording;
 
+pub use asking::Asked;
 pub use checked::Checked;
 pub use delivered::{Delivered, Fate};
 pub use hub::{Hub, MOST_CHANNELS, MOST_SESSIONS};

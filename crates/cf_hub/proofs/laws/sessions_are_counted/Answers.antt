@@ -1,0 +1,5 @@
+use Rattle.cf_hub.proofs.Counts.{counts_sessions}
+use Rattle.cf_hub.proofs.laws.sessions_are_counted.Goals as goal
+
+pub returns : goal.returns
+returns c = counts_sessions

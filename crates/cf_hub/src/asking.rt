@@ -1,0 +1,117 @@
+//! What a session's subscriptions wait for.
+ghost use Rattle.std.specs.Prelude.{◌≡◌, ◌↔◌, ℕ, List, false, true, not, IsTrue};
+ghost use Rattle.std.specs.BTreeMap.{IsOrdered};
+ghost use Rattle.std.specs.List.{list_all};
+ghost use Rattle.std.specs.Map.{values_of};
+ghost use Rattle.std.specs.String.{string_cmp};
+ghost use Rattle.cf_hub.specs.Asking.{asked_of};
+ghost use Rattle.cf_hub.specs.Hub.{attached_in};
+ghost use Rattle.cf_hub.specs.Rows.{sub_in};
+ghost use Rattle.cf_hub.specs.SessionState.{is_unfinished};
+ghost use Rattle.cf_hub.specs.Subscriptions.{sub_of};
+
+use crate::hub::Hub;
+use crate::session::Session;
+use crate::subscription::Progress;
+use cf_protocol::Position;
+use std::collections::BTreeMap;
+
+/// A subscription for which the stream was not read yet.
+#[derive(Clone, Copy, PartialEq, Eq, Debug)]
+pub struct Asked {
+    /// The position from which it asked, if it did from one.
+    pub since: Option<Position>,
+}
+
+impl Hub {
+    ghost use Rattle.std.specs.Prelude.{◌≡◌, ◌↔◌, ℕ, List, false, IsTrue};
+    ghost use Rattle.cf_followers.specs.Follows.{AreFollows};
+    ghost use Rattle.cf_hub.specs.Asking.{asked_of};
+    ghost use Rattle.cf_hub.specs.Hub.{IsBounded, attached_at, sub_at};
+    ghost use Rattle.cf_hub.specs.Rows.{Agrees};
+    ghost use Rattle.cf_hub.specs.SessionState.{is_unfinished};
+
+    /// The subscription of a session to a channel, while the stream was not read for it. It takes no memory.
+    pub fn asked(&self, session: u32, channel: &str) -> Option<Asked>
+        ensures { result ≡ asked_of (sub_at self.now session channel.now) }
+    {
+        asked_in(&self.sessions, session, channel)
+    }
+
+    /// Whether no subscription of a session waits for its reply. It takes no memory.
+    pub fn is_settled(&self, session: u32) -> bool
+        ensures { IsTrue result ↔ ((c : List ℕ) → is_unfinished (sub_at self.now session c) ≡ false) }
+    {
+        is_settled_in(&self.sessions, session)
+    }
+
+    /// What always holds of a node: a row stands exactly where a session's channel isn't off, each once, and the sessions have
+    /// numbers below the most.
+    pub fn is_sound(&self)
+        ensures agrees { Agrees (attached_at self.now) self.now.rows }
+        ensures bounded { IsBounded (attached_at self.now) }
+        ensures rows { AreFollows self.now.rows }
+    {
+        let _sessions = &self.sessions;
+        let _first = self.rows.first("");
+    }
+}
+
+fn asked_in(sessions: &BTreeMap<u32, Session>, number: u32, channel: &str) -> Option<Asked>
+    ensures { result ≡ asked_of (sub_in (attached_in sessions.now number) channel.now) }
+{
+    match sessions.get(&number) {
+        None => None,
+        Some(session) => session.asked(channel),
+    }
+}
+
+fn is_settled_in(sessions: &BTreeMap<u32, Session>, number: u32) -> bool
+    ensures { IsTrue result ↔ ((c : List ℕ) → is_unfinished (sub_in (attached_in sessions.now number) c) ≡ false) }
+{
+    match sessions.get(&number) {
+        None => true,
+        Some(session) => session.is_settled(),
+    }
+}
+
+impl Session {
+    ghost use Rattle.std.specs.Prelude.{◌≡◌, ◌↔◌, ℕ, List, false, IsTrue};
+    ghost use Rattle.cf_hub.specs.Asking.{asked_of};
+    ghost use Rattle.cf_hub.specs.Session.{state_of};
+    ghost use Rattle.cf_hub.specs.SessionState.{is_unfinished};
+
+    fn asked(&self, channel: &str) -> Option<Asked>
+        ensures { result ≡ asked_of ((state_of self.now).subs channel.now) }
+    {
+        match self.subscriptions.get(channel)? {
+            Progress::Asked { since, .. } => Some(Asked { since: *since }),
+            _ => None,
+        }
+    }
+
+    fn is_settled(&self) -> bool
+        ensures { IsTrue result ↔ ((c : List ℕ) → is_unfinished ((state_of self.now).subs c) ≡ false) }
+    {
+        all_finished(&self.subscriptions)
+    }
+}
+
+impl Progress {
+    /// Whether its reply was queued.
+    fn is_finished(&self) -> bool
+        ensures { result ≡ not (is_unfinished (sub_of (Some self.now))) }
+    {
+        matches!(self, Progress::On { .. })
+    }
+}
+
+// Whether the reply of each was queued.
+fn all_finished(subscriptions: &BTreeMap<String, Progress>) -> bool
+    ensures all { result ≡ list_all (λ s. not (is_unfinished (sub_of (Some s)))) (values_of subscriptions.now.entries) }
+    ensures ordered { IsOrdered string_cmp subscriptions.now }
+{
+    subscriptions
+        .values()
+        .all(|progress| progress.is_finished())
+}
