@@ -4,6 +4,7 @@ pub mod Schedules
 pub mod Sentences
 pub mod Spacing
 pub mod Numbers
+pub mod Limits
 pub mod Lines
 pub mod Data
 pub mod Refusals

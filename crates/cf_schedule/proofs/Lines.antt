@@ -1,11 +1,11 @@
 -- A line, cut behind its first word: of the kinds of line one alone has that word.
-use Rattle.std.proofs.Common.{◌≡◌, ◌≢◌, ℕ, ◌<◌, ◌≤◌, ℤ, true, false, IsTrue, List, [], ◌∷◌, ◌++◌, codes, refl, sym, ap, ◌∙◌}
+use Rattle.std.proofs.Common.{◌≡◌, ◌≢◌, ℕ, ◌<◌, ◌≤◌, ℤ, true, false, List, [], ◌∷◌, ◌++◌, codes, refl, sym, ap, ◌∙◌}
 use Rattle.std.specs.Str.{bytes_eq}
 use Rattle.std.specs.Fmt.{decimal}
 use Rattle.std.proofs.lemmas.Bool.{false≢true}
 use Rattle.cf_schedule.specs.Word.{IsClientName, IsChannelName}
 use Rattle.cf_schedule.specs.Event.{Event, Epoch, Connect, Ask, AskFrom, Read, Finish, Publish, PublishBy, Deliver, Take, Break, Leave, Trim, Forget, BrokerRestart, Restart, Check, ListHistory}
-use Rattle.cf_schedule.specs.ScheduleLine.{Says, spaced, IsEpochWord, IsLimit, IsData, is_built, last_number, most_left}
+use Rattle.cf_schedule.specs.ScheduleLine.{Says, spaced, IsEpochWord, IsLimit, IsData, last_number, most_left}
 use Rattle.cf_schedule.specs.LineRead.{IsUnspaced, IsNone}
 use Rattle.cf_schedule.proofs.Spacing.{one_cut, never_cut, unspaced_word}
 
@@ -146,94 +146,153 @@ is_list nodes r f v h = absurd (other (codes "list") (word_of f) v refl refl)
 -- ---- where there is none
 
 pub no_epoch : (nodes : ℕ) (r : List ℕ) → ((e : List ℕ) → Rest nodes r (Epoch e) → ⊥) → IsNone (Says nodes (codes "epoch" ++ 32 ∷ r))
-no_epoch nodes r lacks = λ e built h.
+no_epoch nodes r lacks = λ e h.
     let s = splits nodes (codes "epoch") r e (unspaced_word (codes "epoch") refl) h in
     let i = is_epoch nodes r e s.0 s.1 in
     lacks i.0 i.2
 
 pub no_connect : (nodes : ℕ) (r : List ℕ) → ((x : List ℕ) (n : ℕ) → Rest nodes r (Connect x n) → ⊥) → IsNone (Says nodes (codes "connect" ++ 32 ∷ r))
-no_connect nodes r lacks = λ e built h.
+no_connect nodes r lacks = λ e h.
     let s = splits nodes (codes "connect") r e (unspaced_word (codes "connect") refl) h in
     let i = is_connect nodes r e s.0 s.1 in
     lacks i.0 i.1 i.3
 
 pub no_ask : (nodes : ℕ) (r : List ℕ) → ((x : List ℕ) (c : List ℕ) → Rest nodes r (Ask x c) → ⊥) → IsNone (Says nodes (codes "ask" ++ 32 ∷ r))
-no_ask nodes r lacks = λ e built h.
+no_ask nodes r lacks = λ e h.
     let s = splits nodes (codes "ask") r e (unspaced_word (codes "ask") refl) h in
     let i = is_ask nodes r e s.0 s.1 in
     lacks i.0 i.1 i.3
 
 pub no_read : (nodes : ℕ) (r : List ℕ) → ((x : List ℕ) (c : List ℕ) → Rest nodes r (Read x c) → ⊥) → IsNone (Says nodes (codes "read" ++ 32 ∷ r))
-no_read nodes r lacks = λ e built h.
+no_read nodes r lacks = λ e h.
     let s = splits nodes (codes "read") r e (unspaced_word (codes "read") refl) h in
     let i = is_read nodes r e s.0 s.1 in
     lacks i.0 i.1 i.3
 
 pub no_finish : (nodes : ℕ) (r : List ℕ) → ((x : List ℕ) (c : List ℕ) → Rest nodes r (Finish x c) → ⊥) → IsNone (Says nodes (codes "finish" ++ 32 ∷ r))
-no_finish nodes r lacks = λ e built h.
+no_finish nodes r lacks = λ e h.
     let s = splits nodes (codes "finish") r e (unspaced_word (codes "finish") refl) h in
     let i = is_finish nodes r e s.0 s.1 in
     lacks i.0 i.1 i.3
 
 pub no_publish : (nodes : ℕ) (r : List ℕ) → ((c : List ℕ) (body : List ℕ) → Rest nodes r (Publish c body) → ⊥) → IsNone (Says nodes (codes "publish" ++ 32 ∷ r))
-no_publish nodes r lacks = λ e built h.
+no_publish nodes r lacks = λ e h.
     let s = splits nodes (codes "publish") r e (unspaced_word (codes "publish") refl) h in
     let i = is_publish nodes r e s.0 s.1 in
     lacks i.0 i.1 i.3
 
 pub no_deliver : (nodes : ℕ) (r : List ℕ) → ((n : ℕ) (i : ℕ) → Rest nodes r (Deliver n i) → ⊥) → IsNone (Says nodes (codes "deliver" ++ 32 ∷ r))
-no_deliver nodes r lacks = λ e built h.
+no_deliver nodes r lacks = λ e h.
     let s = splits nodes (codes "deliver") r e (unspaced_word (codes "deliver") refl) h in
     let i = is_deliver nodes r e s.0 s.1 in
     lacks i.0 i.1 i.3
 
 pub no_take : (nodes : ℕ) (r : List ℕ) → ((x : List ℕ) → Rest nodes r (Take x) → ⊥) → IsNone (Says nodes (codes "take" ++ 32 ∷ r))
-no_take nodes r lacks = λ e built h.
+no_take nodes r lacks = λ e h.
     let s = splits nodes (codes "take") r e (unspaced_word (codes "take") refl) h in
     let i = is_take nodes r e s.0 s.1 in
     lacks i.0 i.2
 
 pub no_trim : (nodes : ℕ) (r : List ℕ) → ((c : List ℕ) (k : ℕ) → Rest nodes r (Trim c k) → ⊥) → IsNone (Says nodes (codes "trim" ++ 32 ∷ r))
-no_trim nodes r lacks = λ e built h.
+no_trim nodes r lacks = λ e h.
     let s = splits nodes (codes "trim") r e (unspaced_word (codes "trim") refl) h in
     let i = is_trim nodes r e s.0 s.1 in
     lacks i.0 i.1 i.3
 
 pub no_forget : (nodes : ℕ) (r : List ℕ) → ((c : List ℕ) → Rest nodes r (Forget c) → ⊥) → IsNone (Says nodes (codes "forget" ++ 32 ∷ r))
-no_forget nodes r lacks = λ e built h.
+no_forget nodes r lacks = λ e h.
     let s = splits nodes (codes "forget") r e (unspaced_word (codes "forget") refl) h in
     let i = is_forget nodes r e s.0 s.1 in
     lacks i.0 i.2
 
--- a line whose first word is none of those that are read today
-unknown : (nodes : ℕ) (w r : List ℕ) → w ≢ codes "epoch" → w ≢ codes "connect" → w ≢ codes "ask" → w ≢ codes "read" → w ≢ codes "finish" → w ≢ codes "publish" → w ≢ codes "deliver" → w ≢ codes "take" → w ≢ codes "trim" → w ≢ codes "forget" → (e : Event) → IsTrue (is_built e) → w ≡ word_of e → Rest nodes r e → ⊥
-unknown nodes w r n0 n1 n2 n3 n4 n5 n6 n7 n8 n9 (Epoch e) b h rest = n0 h
-unknown nodes w r n0 n1 n2 n3 n4 n5 n6 n7 n8 n9 (Connect x n) b h rest = n1 h
-unknown nodes w r n0 n1 n2 n3 n4 n5 n6 n7 n8 n9 (Ask x c) b h rest = n2 h
-unknown nodes w r n0 n1 n2 n3 n4 n5 n6 n7 n8 n9 (Read x c) b h rest = n3 h
-unknown nodes w r n0 n1 n2 n3 n4 n5 n6 n7 n8 n9 (Finish x c) b h rest = n4 h
-unknown nodes w r n0 n1 n2 n3 n4 n5 n6 n7 n8 n9 (Publish c body) b h rest = n5 h
-unknown nodes w r n0 n1 n2 n3 n4 n5 n6 n7 n8 n9 (Deliver n i) b h rest = n6 h
-unknown nodes w r n0 n1 n2 n3 n4 n5 n6 n7 n8 n9 (Take x) b h rest = n7 h
-unknown nodes w r n0 n1 n2 n3 n4 n5 n6 n7 n8 n9 (Trim c k) b h rest = n8 h
-unknown nodes w r n0 n1 n2 n3 n4 n5 n6 n7 n8 n9 (Forget c) b h rest = n9 h
-unknown nodes w r n0 n1 n2 n3 n4 n5 n6 n7 n8 n9 BrokerRestart b h rest = rest
-unknown nodes w r n0 n1 n2 n3 n4 n5 n6 n7 n8 n9 e b h rest = absurd (false≢true b)
+pub no_askfrom : (nodes : ℕ) (r : List ℕ) → ((x : List ℕ) (c : List ℕ) → Rest nodes r (AskFrom x c) → ⊥) → IsNone (Says nodes (codes "askfrom" ++ 32 ∷ r))
+no_askfrom nodes r lacks = λ e h.
+    let s = splits nodes (codes "askfrom") r e (unspaced_word (codes "askfrom") refl) h in
+    let i = is_askfrom nodes r e s.0 s.1 in
+    lacks i.0 i.1 i.3
 
-pub no_word : (nodes : ℕ) (w r : List ℕ) → IsUnspaced w → w ≢ codes "epoch" → w ≢ codes "connect" → w ≢ codes "ask" → w ≢ codes "read" → w ≢ codes "finish" → w ≢ codes "publish" → w ≢ codes "deliver" → w ≢ codes "take" → w ≢ codes "trim" → w ≢ codes "forget" → IsNone (Says nodes (w ++ 32 ∷ r))
-no_word nodes w r u n0 n1 n2 n3 n4 n5 n6 n7 n8 n9 = λ e built h. let s = splits nodes w r e u h in unknown nodes w r n0 n1 n2 n3 n4 n5 n6 n7 n8 n9 e built s.0 s.1
+pub no_put : (nodes : ℕ) (r : List ℕ) → ((x : List ℕ) (c : List ℕ) (body : List ℕ) → Rest nodes r (PublishBy x c body) → ⊥) → IsNone (Says nodes (codes "put" ++ 32 ∷ r))
+no_put nodes r lacks = λ e h.
+    let s = splits nodes (codes "put") r e (unspaced_word (codes "put") refl) h in
+    let i = is_put nodes r e s.0 s.1 in
+    lacks i.0 i.1 i.2 i.4
 
--- a line of one word is no event that is read today but one
+pub no_break : (nodes : ℕ) (r : List ℕ) → ((x : List ℕ) → Rest nodes r (Break x) → ⊥) → IsNone (Says nodes (codes "break" ++ 32 ∷ r))
+no_break nodes r lacks = λ e h.
+    let s = splits nodes (codes "break") r e (unspaced_word (codes "break") refl) h in
+    let i = is_break nodes r e s.0 s.1 in
+    lacks i.0 i.2
+
+pub no_leave : (nodes : ℕ) (r : List ℕ) → ((x : List ℕ) (c : List ℕ) → Rest nodes r (Leave x c) → ⊥) → IsNone (Says nodes (codes "leave" ++ 32 ∷ r))
+no_leave nodes r lacks = λ e h.
+    let s = splits nodes (codes "leave") r e (unspaced_word (codes "leave") refl) h in
+    let i = is_leave nodes r e s.0 s.1 in
+    lacks i.0 i.1 i.3
+
+pub no_restart : (nodes : ℕ) (r : List ℕ) → ((n : ℕ) → Rest nodes r (Restart n) → ⊥) → IsNone (Says nodes (codes "restart" ++ 32 ∷ r))
+no_restart nodes r lacks = λ e h.
+    let s = splits nodes (codes "restart") r e (unspaced_word (codes "restart") refl) h in
+    let i = is_restart nodes r e s.0 s.1 in
+    lacks i.0 i.2
+
+pub no_check : (nodes : ℕ) (r : List ℕ) → ((x : List ℕ) (c : List ℕ) → Rest nodes r (Check x c) → ⊥) → IsNone (Says nodes (codes "check" ++ 32 ∷ r))
+no_check nodes r lacks = λ e h.
+    let s = splits nodes (codes "check") r e (unspaced_word (codes "check") refl) h in
+    let i = is_check nodes r e s.0 s.1 in
+    lacks i.0 i.1 i.3
+
+pub no_list : (nodes : ℕ) (r : List ℕ) → ((x : List ℕ) (c : List ℕ) (limit : ℤ) → Rest nodes r (ListHistory x c limit) → ⊥) → IsNone (Says nodes (codes "list" ++ 32 ∷ r))
+no_list nodes r lacks = λ e h.
+    let s = splits nodes (codes "list") r e (unspaced_word (codes "list") refl) h in
+    let i = is_list nodes r e s.0 s.1 in
+    lacks i.0 i.1 i.2 i.4
+
+-- the word is none of a line's
+abbrev pub IsStrange : List ℕ → Type 0
+IsStrange w =
+    (w ≢ codes "epoch") × (w ≢ codes "connect") × (w ≢ codes "ask") × (w ≢ codes "askfrom") × (w ≢ codes "read") × (w ≢ codes "finish") × (w ≢ codes "publish") × (w ≢ codes "put") × (w ≢ codes "deliver")
+    × (w ≢ codes "take") × (w ≢ codes "break") × (w ≢ codes "leave") × (w ≢ codes "trim") × (w ≢ codes "forget") × (w ≢ codes "restart") × (w ≢ codes "check") × (w ≢ codes "list")
+
+unknown : (nodes : ℕ) (w r : List ℕ) → IsStrange w → (e : Event) → w ≡ word_of e → Rest nodes r e → ⊥
+unknown nodes w r d (Epoch e) h rest = d.0 h
+unknown nodes w r d (Connect x n) h rest = d.1 h
+unknown nodes w r d (Ask x c) h rest = d.2 h
+unknown nodes w r d (AskFrom x c) h rest = d.3 h
+unknown nodes w r d (Read x c) h rest = d.4 h
+unknown nodes w r d (Finish x c) h rest = d.5 h
+unknown nodes w r d (Publish c body) h rest = d.6 h
+unknown nodes w r d (PublishBy x c body) h rest = d.7 h
+unknown nodes w r d (Deliver n i) h rest = d.8 h
+unknown nodes w r d (Take x) h rest = d.9 h
+unknown nodes w r d (Break x) h rest = d.10 h
+unknown nodes w r d (Leave x c) h rest = d.11 h
+unknown nodes w r d (Trim c k) h rest = d.12 h
+unknown nodes w r d (Forget c) h rest = d.13 h
+unknown nodes w r d (Restart n) h rest = d.14 h
+unknown nodes w r d (Check x c) h rest = d.15 h
+unknown nodes w r d (ListHistory x c limit) h rest = d.16 h
+unknown nodes w r d BrokerRestart h rest = rest
+
+pub no_word : (nodes : ℕ) (w r : List ℕ) → IsUnspaced w → IsStrange w → IsNone (Says nodes (w ++ 32 ∷ r))
+no_word nodes w r u d = λ e h. let s = splits nodes w r e u h in unknown nodes w r d e s.0 s.1
+
+-- a line of one word is no event but one
 pub no_space : (nodes : ℕ) (line : List ℕ) → IsUnspaced line → line ≢ codes "brokerrestart" → IsNone (Says nodes line)
-no_space nodes line u differs (Epoch e) b h = never_cut line (codes "epoch") e u h.1
-no_space nodes line u differs (Connect x n) b h = never_cut line (codes "connect") (spaced (x ∷ decimal n ∷ [])) u h.2
-no_space nodes line u differs (Ask x c) b h = never_cut line (codes "ask") (spaced (x ∷ c ∷ [])) u h.2
-no_space nodes line u differs (Read x c) b h = never_cut line (codes "read") (spaced (x ∷ c ∷ [])) u h.2
-no_space nodes line u differs (Finish x c) b h = never_cut line (codes "finish") (spaced (x ∷ c ∷ [])) u h.2
-no_space nodes line u differs (Publish c body) b h = never_cut line (codes "publish") (spaced (c ∷ h.1 ∷ [])) u h.3
-no_space nodes line u differs (Deliver n i) b h = never_cut line (codes "deliver") (spaced (decimal n ∷ decimal i ∷ [])) u h.2
-no_space nodes line u differs (Take x) b h = never_cut line (codes "take") x u h.1
-no_space nodes line u differs (Trim c k) b h = never_cut line (codes "trim") (spaced (c ∷ decimal k ∷ [])) u h.2
-no_space nodes line u differs (Forget c) b h = never_cut line (codes "forget") c u h.1
-no_space nodes line u differs BrokerRestart b h = differs h
-no_space nodes line u differs e b h = absurd (false≢true b)
+no_space nodes line u differs (Epoch e) h = never_cut line (codes "epoch") e u h.1
+no_space nodes line u differs (Connect x n) h = never_cut line (codes "connect") (spaced (x ∷ decimal n ∷ [])) u h.2
+no_space nodes line u differs (Ask x c) h = never_cut line (codes "ask") (spaced (x ∷ c ∷ [])) u h.2
+no_space nodes line u differs (AskFrom x c) h = never_cut line (codes "askfrom") (spaced (x ∷ c ∷ [])) u h.2
+no_space nodes line u differs (Read x c) h = never_cut line (codes "read") (spaced (x ∷ c ∷ [])) u h.2
+no_space nodes line u differs (Finish x c) h = never_cut line (codes "finish") (spaced (x ∷ c ∷ [])) u h.2
+no_space nodes line u differs (Publish c body) h = never_cut line (codes "publish") (spaced (c ∷ h.1 ∷ [])) u h.3
+no_space nodes line u differs (PublishBy x c body) h = never_cut line (codes "put") (spaced (x ∷ c ∷ h.2 ∷ [])) u h.4
+no_space nodes line u differs (Deliver n i) h = never_cut line (codes "deliver") (spaced (decimal n ∷ decimal i ∷ [])) u h.2
+no_space nodes line u differs (Take x) h = never_cut line (codes "take") x u h.1
+no_space nodes line u differs (Break x) h = never_cut line (codes "break") x u h.1
+no_space nodes line u differs (Leave x c) h = never_cut line (codes "leave") (spaced (x ∷ c ∷ [])) u h.2
+no_space nodes line u differs (Trim c k) h = never_cut line (codes "trim") (spaced (c ∷ decimal k ∷ [])) u h.2
+no_space nodes line u differs (Forget c) h = never_cut line (codes "forget") c u h.1
+no_space nodes line u differs (Restart n) h = never_cut line (codes "restart") (decimal n) u h.1
+no_space nodes line u differs (Check x c) h = never_cut line (codes "check") (spaced (x ∷ c ∷ [])) u h.2
+no_space nodes line u differs (ListHistory x c limit) h = never_cut line (codes "list") (spaced (x ∷ c ∷ h.2 ∷ [])) u h.4
+no_space nodes line u differs BrokerRestart h = differs h

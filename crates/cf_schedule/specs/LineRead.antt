@@ -1,8 +1,8 @@
 -- What the readers of a line's parts answer. (This project's own format.)
-use Rattle.std.specs.Prelude.{◌≡◌, ◌≢◌, ℕ, ◌≤◌, List, [], ◌∷◌, ◌++◌, IsTrue, Result, Ok, Err, Option, Some, None}
+use Rattle.std.specs.Prelude.{◌≡◌, ◌≢◌, ℕ, ◌≤◌, List, [], ◌∷◌, ◌++◌, Result, Ok, Err, Option, Some, None}
 use Rattle.std.specs.Fmt.{decimal}
 use Rattle.cf_schedule.specs.Event.{Event}
-use Rattle.cf_schedule.specs.ScheduleLine.{is_built, IsData, last_number}
+use Rattle.cf_schedule.specs.ScheduleLine.{spaced, IsData, last_number}
 use Rattle.cf_schedule.specs.Seen.{seen}
 use Rattle.cf_schedule.specs.declared.event.Event as declared
 use Rattle.cf_schedule.specs.declared.event.EventFault.{EventFault}
@@ -23,6 +23,10 @@ pub record CutsAtSpace (s before after : List ℕ) : Type 0 where
 abbrev pub IsNoNumber : List ℕ → Type 0
 IsNoNumber s = (n : ℕ) → n ≤ last_number → s ≢ decimal n
 
+-- r is the word c and, behind a space, a last word as P says
+abbrev pub IsLastWord : (List ℕ → Type 0) → List ℕ → List ℕ → Type 0
+IsLastWord P c r = (s : List ℕ) × P s × (r ≡ spaced (c ∷ s ∷ []))
+
 -- ---- what is refused
 
 -- where something is refused as unreadable, this holds of it
@@ -34,9 +38,9 @@ Refused Memory P = Unit {0}
 abbrev pub IsNoData : List ℕ → Type 0
 IsNoData s = (body : List ℕ) → IsData s body → ⊥
 
--- no event that is read today is as Q says
+-- no event is as Q says
 abbrev pub IsNone : (Event → Type 0) → Type 0
-IsNone Q = (e : Event) → IsTrue (is_built e) → Q e → ⊥
+IsNone Q = (e : Event) → Q e → ⊥
 
 -- the event that was read is as Q says, or there is none
 abbrev pub Answers : (Event → Type 0) → Result declared.Event EventFault → Type 0

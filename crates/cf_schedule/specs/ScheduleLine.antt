@@ -1,6 +1,6 @@
 -- What each line of a schedule says. (This project's own format.)
 -- A line ends at a line feed or at the end of the input; its bytes are those before the line feed.
-use Rattle.std.specs.Prelude.{◌≡◌, ◌≢◌, ◌⊎◌, ℕ, ◌^◌, ◌-◌, ◌<◌, ◌≤◌, ℤ, pos, neg_ℤ, List, [], ◌∷◌, ◌++◌, codes, Bool, true, false}
+use Rattle.std.specs.Prelude.{◌≡◌, ◌≢◌, ◌⊎◌, ℕ, ◌^◌, ◌-◌, ◌<◌, ◌≤◌, ℤ, pos, neg_ℤ, List, [], ◌∷◌, ◌++◌, codes}
 use Rattle.std.specs.Fmt.{decimal}
 use Rattle.cf_json.specs.Grammar.{Tree, depth}
 use Rattle.cf_json.specs.Spans.{Span, Document}
@@ -67,19 +67,3 @@ Says nodes line (ListHistory x c limit) = IsClientName x × IsChannelName c × (
 abbrev pub IsPassedOver : List ℕ → Type 0
 IsPassedOver [] = Unit {0}
 IsPassedOver (b ∷ bs) = b ≡ 35
-
--- ---- what the program reads today
-
-abbrev pub is_built : Event → Bool
-is_built (Epoch e) = true
-is_built (Connect x n) = true
-is_built (Ask x c) = true
-is_built (Read x c) = true
-is_built (Finish x c) = true
-is_built (Publish c body) = true
-is_built (Deliver n i) = true
-is_built (Take x) = true
-is_built (Trim c k) = true
-is_built (Forget c) = true
-is_built BrokerRestart = true
-is_built e = false

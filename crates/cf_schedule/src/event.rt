@@ -1,12 +1,12 @@
 //! One line of a schedule, as a value.
 
-ghost use Rattle.std.specs.Prelude.{◌≡◌, ◌≢◌, ℕ, ◌<◌, List, [], ◌∷◌, ◌++◌, codes, IfOk, IfErr, MatchOption, IsTrue, ◌≤◌};
+ghost use Rattle.std.specs.Prelude.{◌≡◌, ◌≢◌, ℕ, ℤ, pos, neg_ℤ, ◌^◌, ◌<◌, List, [], ◌∷◌, ◌++◌, codes, IfOk, IfErr, MatchOption, ◌≤◌};
 ghost use Rattle.std.specs.Fmt.{decimal};
 ghost use Rattle.cf_schedule.specs.Word.{IsClientName, IsChannelName};
-ghost use Rattle.cf_schedule.specs.ScheduleLine.{Says, IsPassedOver, spaced, is_built, last_number, most_left};
+ghost use Rattle.cf_schedule.specs.ScheduleLine.{Says, IsPassedOver, IsLimit, IsData, spaced, last_number, most_left};
 ghost use Rattle.cf_schedule.specs.Event.{Event as SaidEvent};
 ghost use Rattle.cf_schedule.specs.Seen.{seen};
-ghost use Rattle.cf_schedule.specs.LineRead.{IsUnspaced, CutsAtSpace, Refused, IsNone, Answers, ReadAs};
+ghost use Rattle.cf_schedule.specs.LineRead.{IsUnspaced, CutsAtSpace, IsLastWord, Refused, IsNone, Answers, ReadAs};
 
 use crate::body::Body;
 use crate::name::{ChannelName, ClientName};
@@ -18,6 +18,9 @@ use thiserror::Error;
 
 /// The most publications that a trim leaves.
 const MOST_LEFT: u64 = 10_000;
+
+/// The least number above all limits of a history.
+const END_OF_LIMITS: u64 = 2_147_483_648;
 
 /// What a line of a schedule says. A client, a channel, an epoch and a datum are such as a line can name.
 #[derive(Debug, Drop)]
@@ -36,6 +39,11 @@ pub enum Event {
         client: ClientName,
         channel: ChannelName,
     },
+    /// A client sends a subscribe command that asks from its last position, if it has one, and its node reads it.
+    AskFrom {
+        client: ClientName,
+        channel: ChannelName,
+    },
     /// The channel's stream is read for the client's subscription.
     Read {
         client: ClientName,
@@ -51,6 +59,12 @@ pub enum Event {
         channel: ChannelName,
         body: Body,
     },
+    /// A client publishes a datum to a channel.
+    PublishBy {
+        client: ClientName,
+        channel: ChannelName,
+        body: Body,
+    },
     /// A node is given a publication, by its number from 1 in the order of all that were accepted.
     Deliver {
         node: u8,
@@ -59,6 +73,15 @@ pub enum Event {
     /// A client takes the front text of its connection.
     Take {
         client: ClientName,
+    },
+    /// A client's connection breaks.
+    Break {
+        client: ClientName,
+    },
+    /// A client leaves a channel.
+    Leave {
+        client: ClientName,
+        channel: ChannelName,
     },
     /// The channel's stream holds no more than so many publications, the newest.
     Trim {
@@ -71,6 +94,21 @@ pub enum Event {
     },
     /// All streams are gone.
     BrokerRestart,
+    /// A node restarts: its sessions are gone.
+    Restart {
+        node: u8,
+    },
+    /// A node checks where a client's subscription stands against the channel's stream.
+    Check {
+        client: ClientName,
+        channel: ChannelName,
+    },
+    /// A client asks for a channel's history, at most `limit` publications of it; a negative limit is none.
+    ListHistory {
+        client: ClientName,
+        channel: ChannelName,
+        limit: i32,
+    },
 }
 
 /// Why a line of a schedule was not read.
@@ -103,9 +141,9 @@ impl Event {
         ensures found { IfOk result (λ o. MatchOption o (IsPassedOver line.now) (λ e. Says nodes line.now (seen e))) }
         // A line that is passed over is.
         ensures passed_over { IsPassedOver line.now → result ≡ Ok None }
-        // A line that says an event which is read today is read as it, unless memory runs out.
-        ensures only { (e : SaidEvent) → IsTrue (is_built e) → Says nodes line.now e → ReadAs e result }
-        // A line that is unreadable says no event that is read today.
+        // A line that says an event is read as it, unless memory runs out.
+        ensures only { (e : SaidEvent) → Says nodes line.now e → ReadAs e result }
+        // A line that is unreadable says no event.
         ensures unreadable { IfErr result (λ e. Refused e (IsNone (Says nodes line.now))) }
     {
         one_event();
@@ -137,13 +175,20 @@ fn event_of(alloc: Global, line: &str, nodes: u8) -> Result<Event, EventFault>
         "epoch" => epoch(rest),
         "connect" => connect(alloc, rest, nodes),
         "ask" => ask(alloc, rest),
+        "askfrom" => ask_from(alloc, rest),
         "read" => read(alloc, rest),
         "finish" => finish(alloc, rest),
         "publish" => publish(alloc, rest),
+        "put" => put(alloc, rest),
         "deliver" => deliver(rest, nodes),
         "take" => take(alloc, rest),
+        "break" => break_off(alloc, rest),
+        "leave" => leave(alloc, rest),
         "trim" => trim(alloc, rest),
         "forget" => forget(alloc, rest),
+        "restart" => restart(rest, nodes),
+        "check" => check(alloc, rest),
+        "list" => list(alloc, rest),
         _ => Err(EventFault::Unreadable),
     }
 }
@@ -174,6 +219,40 @@ fn count_left(text: &str) -> Option<usize>
     let number = whole_number(text)?;
     if number <= MOST_LEFT {
         Some(number as usize)
+    } else {
+        None
+    }
+}
+
+// The limit of a history: a number of 32 bits, perhaps with a minus sign.
+fn limit_of(text: &str) -> Option<i32>
+    ensures { MatchOption result ((limit : ℤ) → IsLimit text.now limit → ⊥) (IsLimit text.now) }
+{
+    match text.strip_prefix('-') {
+        Some(digits) => least_of(digits),
+        None => most_of(text),
+    }
+}
+
+// A limit without a sign.
+fn most_of(digits: &str) -> Option<i32>
+    ensures { MatchOption result ((n : ℕ) → n < 2 ^ 31 → digits.now ≢ decimal n) (λ limit. (n : ℕ) × (n < 2 ^ 31) × (limit ≡ pos n) × (digits.now ≡ decimal n)) }
+{
+    let number = whole_number(digits)?;
+    if number < END_OF_LIMITS {
+        Some(number as i32)
+    } else {
+        None
+    }
+}
+
+// The limit that has these digits behind a minus sign.
+fn least_of(digits: &str) -> Option<i32>
+    ensures { MatchOption result ((n : ℕ) → n ≤ 2 ^ 31 → digits.now ≢ decimal n) (λ limit. (n : ℕ) × (n ≤ 2 ^ 31) × (limit ≡ neg_ℤ (pos n)) × (digits.now ≡ decimal n)) }
+{
+    let number = whole_number(digits)?;
+    if number <= END_OF_LIMITS {
+        Some((0 - number as i64) as i32)
     } else {
         None
     }
@@ -231,6 +310,13 @@ fn ask(alloc: Global, text: &str) -> Result<Event, EventFault>
     Ok(Event::Ask { client, channel })
 }
 
+fn ask_from(alloc: Global, text: &str) -> Result<Event, EventFault>
+    ensures { (nodes : ℕ) → Answers (Says nodes (codes "askfrom" ++ 32 ∷ text.now)) result }
+{
+    let (client, channel) = client_and_channel(alloc, text)?;
+    Ok(Event::AskFrom { client, channel })
+}
+
 fn read(alloc: Global, text: &str) -> Result<Event, EventFault>
     ensures { (nodes : ℕ) → Answers (Says nodes (codes "read" ++ 32 ∷ text.now)) result }
 {
@@ -245,15 +331,38 @@ fn finish(alloc: Global, text: &str) -> Result<Event, EventFault>
     Ok(Event::Finish { client, channel })
 }
 
-fn publish(alloc: Global, text: &str) -> Result<Event, EventFault>
-    ensures { (nodes : ℕ) → Answers (Says nodes (codes "publish" ++ 32 ∷ text.now)) result }
+fn channel_and_data(alloc: Global, text: &str) -> Result<(ChannelName, Body), EventFault>
+    ensures ok { IfOk result (λ p. IsChannelName p.0 × IsLastWord (λ s. IsData s p.1) p.0 text.now) }
+    ensures err { IfErr result (λ e. Refused e ((c s body : List ℕ) → IsChannelName c → IsData s body → text.now ≢ spaced (c ∷ s ∷ []))) }
 {
     let Some((channel, data)) = cut(text) else {
         return Err(EventFault::Unreadable);
     };
     let channel = ChannelName::read(alloc, channel)?;
     let body = Body::read(alloc, data)?;
+    Ok((channel, body))
+}
+
+fn publish(alloc: Global, text: &str) -> Result<Event, EventFault>
+    ensures { (nodes : ℕ) → Answers (Says nodes (codes "publish" ++ 32 ∷ text.now)) result }
+{
+    let (channel, body) = channel_and_data(alloc, text)?;
     Ok(Event::Publish { channel, body })
+}
+
+fn put(alloc: Global, text: &str) -> Result<Event, EventFault>
+    ensures { (nodes : ℕ) → Answers (Says nodes (codes "put" ++ 32 ∷ text.now)) result }
+{
+    let Some((client, rest)) = cut(text) else {
+        return Err(EventFault::Unreadable);
+    };
+    let client = ClientName::read(alloc, client)?;
+    let (channel, body) = channel_and_data(alloc, rest)?;
+    Ok(Event::PublishBy {
+        client,
+        channel,
+        body,
+    })
 }
 
 fn deliver(text: &str, nodes: u8) -> Result<Event, EventFault>
@@ -278,6 +387,20 @@ fn take(alloc: Global, text: &str) -> Result<Event, EventFault>
     Ok(Event::Take { client })
 }
 
+fn break_off(alloc: Global, text: &str) -> Result<Event, EventFault>
+    ensures { (nodes : ℕ) → Answers (Says nodes (codes "break" ++ 32 ∷ text.now)) result }
+{
+    let client = ClientName::read(alloc, text)?;
+    Ok(Event::Break { client })
+}
+
+fn leave(alloc: Global, text: &str) -> Result<Event, EventFault>
+    ensures { (nodes : ℕ) → Answers (Says nodes (codes "leave" ++ 32 ∷ text.now)) result }
+{
+    let (client, channel) = client_and_channel(alloc, text)?;
+    Ok(Event::Leave { client, channel })
+}
+
 fn trim(alloc: Global, text: &str) -> Result<Event, EventFault>
     ensures { (nodes : ℕ) → Answers (Says nodes (codes "trim" ++ 32 ∷ text.now)) result }
 {
@@ -296,4 +419,49 @@ fn forget(alloc: Global, text: &str) -> Result<Event, EventFault>
 {
     let channel = ChannelName::read(alloc, text)?;
     Ok(Event::Forget { channel })
+}
+
+fn restart(text: &str, nodes: u8) -> Result<Event, EventFault>
+    ensures { Answers (Says nodes (codes "restart" ++ 32 ∷ text.now)) result }
+{
+    let Some(node) = node(text, nodes) else {
+        return Err(EventFault::Unreadable);
+    };
+    Ok(Event::Restart { node })
+}
+
+fn check(alloc: Global, text: &str) -> Result<Event, EventFault>
+    ensures { (nodes : ℕ) → Answers (Says nodes (codes "check" ++ 32 ∷ text.now)) result }
+{
+    let (client, channel) = client_and_channel(alloc, text)?;
+    Ok(Event::Check { client, channel })
+}
+
+fn channel_and_limit(alloc: Global, text: &str) -> Result<(ChannelName, i32), EventFault>
+    ensures ok { IfOk result (λ p. IsChannelName p.0 × IsLastWord (λ s. IsLimit s p.1) p.0 text.now) }
+    ensures err { IfErr result (λ e. Refused e ((c s : List ℕ) (limit : ℤ) → IsChannelName c → IsLimit s limit → text.now ≢ spaced (c ∷ s ∷ []))) }
+{
+    let Some((channel, limit)) = cut(text) else {
+        return Err(EventFault::Unreadable);
+    };
+    let Some(limit) = limit_of(limit) else {
+        return Err(EventFault::Unreadable);
+    };
+    let channel = ChannelName::read(alloc, channel)?;
+    Ok((channel, limit))
+}
+
+fn list(alloc: Global, text: &str) -> Result<Event, EventFault>
+    ensures { (nodes : ℕ) → Answers (Says nodes (codes "list" ++ 32 ∷ text.now)) result }
+{
+    let Some((client, rest)) = cut(text) else {
+        return Err(EventFault::Unreadable);
+    };
+    let client = ClientName::read(alloc, client)?;
+    let (channel, limit) = channel_and_limit(alloc, rest)?;
+    Ok(Event::ListHistory {
+        client,
+        channel,
+        limit,
+    })
 }

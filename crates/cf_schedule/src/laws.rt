@@ -1,18 +1,19 @@
 //! What holds of every run of the interval machine: stream safety.
 //!
 //! Each law is a function that does nothing: its contract is the law.
-ghost use Rattle.std.specs.Prelude.{◌≡◌, List, ℕ};
+ghost use Rattle.std.specs.Prelude.{◌≡◌, List, [], ◌∷◌, ◌++◌, length, ◌+◌, ℕ};
 ghost use Rattle.cf_client.specs.ClientState.{last_of};
 ghost use Rattle.cf_schedule.specs.AnswersById.{AreForChannel};
 ghost use Rattle.cf_schedule.specs.Config.{Config};
 ghost use Rattle.cf_schedule.specs.Event.{Event};
 ghost use Rattle.cf_schedule.specs.FreshEpochs.{AreFresh};
-ghost use Rattle.cf_schedule.specs.IntervalMachine.{run};
+ghost use Rattle.cf_schedule.specs.IntervalMachine.{happens, run};
 ghost use Rattle.cf_schedule.specs.Leading.{IsListed, LeadsOn, coming};
 ghost use Rattle.cf_schedule.specs.LooseRun.{Happening, lines, loose_run};
+ghost use Rattle.cf_schedule.specs.NotYet.{IsNotYet, NoneIsNotYet};
 ghost use Rattle.cf_schedule.specs.PublicationList.{StandsOver, tops};
 ghost use Rattle.cf_schedule.specs.StreamSafety.{AreTrueTo, Safe};
-ghost use Rattle.cf_schedule.specs.Told.{loose_trace, trace};
+ghost use Rattle.cf_schedule.specs.Told.{loose_trace, trace, writes};
 ghost use Rattle.cf_schedule.specs.World.{start};
 
 /// The headline, of every schedule under every configuration: no two clients ever hold different publications at one place;
@@ -67,4 +68,11 @@ pub fn streams_stand_over_lists()
 pub fn schedules_are_loose_runs()
     ensures world { (config : Config) (events : List Event) → loose_run config start (lines events) ≡ run config start events }
     ensures trace { (config : Config) (events : List Event) → loose_trace config 1 start (lines events) ≡ trace config 1 start events }
+{}
+
+/// One event more takes the world that a run led to one step on, and adds its entries to the run's trace.
+pub fn one_event_more()
+    ensures run { (config : Config) (events : List Event) (event : Event) → run config start (events ++ event ∷ []) ≡ happens config (run config start events) event }
+    ensures trace { (config : Config) (events : List Event) (event : Event) → trace config 1 start (events ++ event ∷ []) ≡ trace config 1 start events ++ writes config (1 + length events) (run config start events) event }
+    ensures built { (config : Config) (events : List Event) (event : Event) → NoneIsNotYet config start events → (IsNotYet config (run config start events) event → ⊥) → NoneIsNotYet config start (events ++ event ∷ []) }
 {}

@@ -28,6 +28,8 @@ pub use body::{Body, MAX_BODY_DEPTH};
 pub use client::AppEvent;
 pub use config::Config;
 pub use event::{Event, EventFault};
+pub use halt::Halt;
 pub use name::{ChannelName, ClientName};
 pub use trace::{Entry, Trace};
 pub use whole::{Stopped, fresh, run};
+pub use world::World;

@@ -38,7 +38,7 @@ struct Peer {
 
 /// The broker, nodes and clients, and all that lies between them.
 #[derive(Drop)]
-pub(crate) struct World {
+pub struct World {
     namespaces: Namespaces,
     broker: Broker,
     nodes: Nodes,
@@ -48,7 +48,7 @@ pub(crate) struct World {
 
 impl World {
     /// A world in which nothing has happened.
-    pub(crate) fn new(alloc: Global, config: &Config) -> Result<World, AllocError>
+    pub fn new(alloc: Global, config: &Config) -> Result<World, AllocError>
         ensures { IfOk result (λ w. Tied (shown_config config.now) w start) }
     {
         Ok(World {
@@ -62,7 +62,7 @@ impl World {
 
     /// Carries out an event, the one of number `at`, and gives what applications got by it.
     #[tactic(auto, using(crate::proofs::TieRuns::silent))]
-    pub(crate) fn step(&mut self, at: usize, event: &Event) -> Result<Vec<Entry>, Halt>
+    pub fn step(&mut self, at: usize, event: &Event) -> Result<Vec<Entry>, Halt>
         ensures ok { OnOk result (GoesOn (seen event.now) self.old self.new) }
         ensures writes { IfOk result (λ es. Writes at (seen event.now) self.old es.items) }
         ensures not_yet { IsErrOf result Halt.NotYet → StopsAt (seen event.now) self.old }
@@ -109,6 +109,13 @@ impl World {
                 self.restart_broker();
                 Ok(Vec::new(self.alloc))
             }
+            Event::AskFrom { .. } => Err(Halt::NotYet),
+            Event::PublishBy { .. } => Err(Halt::NotYet),
+            Event::Break { .. } => Err(Halt::NotYet),
+            Event::Leave { .. } => Err(Halt::NotYet),
+            Event::Restart { .. } => Err(Halt::NotYet),
+            Event::Check { .. } => Err(Halt::NotYet),
+            Event::ListHistory { .. } => Err(Halt::NotYet),
         }
     }
 

@@ -13,20 +13,20 @@ use Rattle.cf_server.specs.Simulation.{AddsPart, Leaves}
 abbrev pub lines_of_entries : List declared.Entry → List ℕ
 lines_of_entries es = printed (map shown_entry es)
 
-abbrev Bytes : Type 0
+abbrev pub Bytes : Type 0
 Bytes = Option (List ℕ)
 
-none_added : (x : Bytes) → Appends x x []
+pub none_added : (x : Bytes) → Appends x x []
 none_added None = tt
 none_added (Some xs) = sym (append-nil xs)
 
-adds_more : (a b c : Bytes) (xs ys : List ℕ) → Appends a b xs → Appends b c ys → Appends a c (xs ++ ys)
+pub adds_more : (a b c : Bytes) (xs ys : List ℕ) → Appends a b xs → Appends b c ys → Appends a c (xs ++ ys)
 adds_more None b c xs ys h k = tt
 adds_more (Some p) (Some q) (Some r) xs ys h k = k ∙ ap (λ t. t ++ ys) h ∙ append_assoc p xs ys
 adds_more (Some p) (Some q) None xs ys h k = absurd k
 adds_more (Some p) None c xs ys h k = absurd h
 
-adds_kept : (a b c : Bytes) (xs : List ℕ) → Appends a b xs → Keeps b c → Appends a c xs
+pub adds_kept : (a b c : Bytes) (xs : List ℕ) → Appends a b xs → Keeps b c → Appends a c xs
 adds_kept None b c xs h k = tt
 adds_kept (Some p) (Some q) (Some r) xs h k = k ∙ h
 adds_kept (Some p) (Some q) None xs h k = absurd k
@@ -70,6 +70,9 @@ further_part a b c xs ys zs bs e h k = record {
   cut = e ∙ ap (λ t. xs ++ (t ++ zs)) k.cut ∙ ap (λ t. xs ++ t) (append_assoc k.part k.rest zs) ∙ sym (append_assoc xs k.part (k.rest ++ zs));
   adds = adds_more a b c xs k.part h k.adds;
 }
+
+pub part_kept : (a b c : Bytes) (bs : List ℕ) → AddsPart a b bs → Keeps b c → AddsPart a c bs
+part_kept a b c bs h k = record { part = h.part; rest = h.rest; cut = h.cut; adds = adds_kept a b c h.part h.adds k }
 
 pub on_err : {T E : Type 0} (P : Type 0) (r : Result T E) → P → OnErr r P
 on_err P (Ok x) h = tt

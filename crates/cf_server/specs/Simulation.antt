@@ -6,9 +6,12 @@ use Rattle.cf_schedule.specs.Config.{Config}
 use Rattle.cf_schedule.specs.Event.{Event}
 use Rattle.cf_schedule.specs.NotYet.{NoneIsNotYet}
 use Rattle.cf_schedule.specs.Stopping.{IsNextNotYet}
-use Rattle.cf_schedule.specs.Told.{trace}
+use Rattle.cf_schedule.specs.IntervalMachine.{run}
+use Rattle.cf_schedule.specs.Running.Tie.{Tied}
+use Rattle.cf_schedule.specs.Told.{trace, writes}
 use Rattle.cf_schedule.specs.TraceLine.{printed}
 use Rattle.cf_schedule.specs.World.{start}
+use Rattle.cf_schedule.specs.declared.world.World.{World}
 use Rattle.cf_server.specs.ScheduleText.{IsSchedule, IsUnreadableAt, IsRepeatedAt}
 use Rattle.cf_server.specs.declared.fault.Fault.{Fault}
 use Rattle.cf_server.specs.declared.fault.Fault.TheVariants.{Unreadable, UsedTwice, NotUtf8, NotYet, Setting, Memory, InputOutput}
@@ -40,7 +43,14 @@ pub record WritesAll (cfg : Config) (events : List Event) (old new : Option (Lis
 -- the first `done` events were carried out and their lines written, and the next can't be carried out yet
 pub record PrintsTo (cfg : Config) (events : List Event) (old new : Option (List ℕ)) : Type 0 where
   pub done : ℕ
+  pub within : done ≤ length events
   pub next : IsNextNotYet cfg events done
+  pub lines : Appends old new (lines_of_run cfg (take done events))
+
+-- some first events were carried out, and their lines are written, none but theirs
+pub record PrintsWhole (cfg : Config) (events : List Event) (old new : Option (List ℕ)) : Type 0 where
+  pub done : ℕ
+  pub within : done ≤ length events
   pub lines : Appends old new (lines_of_run cfg (take done events))
 
 -- some first events were carried out, and the front of their lines is written
@@ -51,13 +61,17 @@ pub record PrintsPart (cfg : Config) (events : List Event) (old new : Option (Li
 
 abbrev pub EndsRun : Config → List Event → Option (List ℕ) → Option (List ℕ) → Fault → Type 0
 EndsRun cfg events old new (NotYet n) = PrintsTo cfg events old new
-EndsRun cfg events old new Memory = PrintsPart cfg events old new
+EndsRun cfg events old new Memory = PrintsWhole cfg events old new
 EndsRun cfg events old new InputOutput = PrintsPart cfg events old new
 EndsRun cfg events old new f = ⊥
 
--- memory was refused, or a read or a write failed
+-- memory was refused, or a read failed
 abbrev pub IsOutside : Fault → Type 0
 IsOutside f = (f ≡ Memory) ⊎ (f ≡ InputOutput)
+
+-- these are the lines of event number n
+abbrev pub PrintsEvent : ℕ → Event → World → List ℕ → Type 0
+PrintsEvent n e old lines = (cfg : Config) (past : List Event) → Tied cfg old (run cfg start past) → lines ≡ printed (writes cfg n (run cfg start past) e)
 
 -- ---- the whole
 

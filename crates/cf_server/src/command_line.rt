@@ -48,6 +48,8 @@ const SCHEDULE_NOTES: &str = "A schedule has a line for each event, its words pa
   trim C K        C's stream holds the newest K publications and no more
   forget C        C's stream is gone, and the next one has a new epoch
   brokerrestart   all streams are gone
+These are read, but the program can't carry them out yet, and stops there:
+  askfrom X C, break X, leave X C, put X C DATA, list X C LIMIT, check X C, restart N
 A line that is empty or begins with # is passed over. An event that can't happen changes nothing.
 
 What is printed, each by the `take` that brings it:

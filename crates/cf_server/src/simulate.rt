@@ -1,15 +1,17 @@
-//! The command `simulate`: a schedule is read, run, and its trace printed.
-ghost use Rattle.std.specs.Prelude.{◌++◌, ◌∷◌, [], map, OnOk, OnErr, IfOk, IfErr, IfSome};
+//! The command `simulate`: a schedule is read, and run event by event; the lines of each are written before the next.
+ghost use Rattle.std.specs.Prelude.{◌≡◌, map, string_bytes, OnOk, OnErr, IfOk, IfErr, IsErrOf, IfSome};
 ghost use Rattle.std.specs.Io.KnownBytes.{Appends, Keeps};
+ghost use Rattle.cf_schedule.specs.Running.Tie.{GoesOn, StopsAt};
 ghost use Rattle.cf_schedule.specs.Seen.{seen, shown_config};
-ghost use Rattle.cf_schedule.specs.TraceLine.{line_of, printed};
-ghost use Rattle.cf_schedule.specs.Shown.{shown_entry, shown_trace};
-ghost use Rattle.cf_server.specs.Simulation.{AddsPart, Leaves, WritesAll, Prints, Ends, EndsRun, IsOutside};
+ghost use Rattle.cf_schedule.specs.Shown.{shown_entry};
+ghost use Rattle.cf_schedule.specs.TraceLine.{printed};
+ghost use Rattle.cf_server.specs.Simulation.{AddsPart, Leaves, WritesAll, Prints, PrintsEvent, Ends, EndsRun};
 
 use crate::fault::Fault;
 use crate::schedule::Schedule;
-use cf_schedule::{Config, Entry, Stopped, Trace, run};
-use std::alloc::Global;
+use cf_schedule::laws::one_event_more;
+use cf_schedule::{Config, Entry, Event, Halt, World};
+use std::alloc::{AllocError, Global};
 use std::io::{ErrorKind, Read, Write};
 use std::str;
 
@@ -17,7 +19,8 @@ use std::str;
 const MAX_WRITES: u64 = 4_294_967_296;
 
 /// Reads all of a schedule, runs it, and writes its trace, a line for each entry. Nothing is written where the input can't
-/// be used. Where the run stops before its end, the trace up to there is written first.
+/// be used. Each event's lines are written before the next event, so where the run stops for want of memory the lines of the
+/// events before it stand written, and no part of another's.
 pub fn simulate<R: Read, W: Write>(
     alloc: Global,
     reader: &mut R,
@@ -59,51 +62,68 @@ fn write_run<W: Write>(
     ensures done { OnOk result (WritesAll (shown_config config.now) (map seen schedule.now.events.items) (W.contents writer.old) (W.contents writer.new)) }
     ensures ends { IfErr result (EndsRun (shown_config config.now) (map seen schedule.now.events.items) (W.contents writer.old) (W.contents writer.new)) }
 {
-    match run(alloc, config, schedule.events.as_slice()) {
-        Ok(trace) => {
-            write_trace(alloc, writer, &trace)?;
-            Ok(())
-        }
-        Err(Stopped::NotYet { done, trace }) => {
-            write_trace(alloc, writer, &trace)?;
-            Err(Fault::NotYet {
-                line: schedule.line_after(done),
-            })
-        }
-        Err(Stopped::Memory { trace, .. }) => {
-            write_trace(alloc, writer, &trace)?;
-            Err(Fault::Memory)
-        }
+    let run = write_events(alloc, writer, config, schedule);
+    match writer.flush() {
+        Ok(()) => run,
+        Err(_) => Err(Fault::InputOutput),
     }
 }
 
-fn write_trace<W: Write>(alloc: Global, writer: &mut W, trace: &Trace) -> Result<(), Fault>
-    ensures all { OnOk result (Appends (W.contents writer.old) (W.contents writer.new) (printed (shown_trace trace.now))) }
-    ensures part { OnErr result (AddsPart (W.contents writer.old) (W.contents writer.new) (printed (shown_trace trace.now))) }
-    ensures outside { IfErr result IsOutside }
+// Carries out the events of a schedule one after another, and writes the lines of each before the next.
+fn write_events<W: Write>(
+    alloc: Global,
+    writer: &mut W,
+    config: &Config,
+    schedule: &Schedule,
+) -> Result<(), Fault>
+    ensures done { OnOk result (WritesAll (shown_config config.now) (map seen schedule.now.events.items) (W.contents writer.old) (W.contents writer.new)) }
+    ensures ends { IfErr result (EndsRun (shown_config config.now) (map seen schedule.now.events.items) (W.contents writer.old) (W.contents writer.new)) }
 {
-    for entry in &trace.entries {
-        write_entry(alloc, writer, entry)?;
+    one_event_more();
+    let events = schedule.events.as_slice();
+    let mut world = World::new(alloc, config)?;
+    for (done, event) in events.iter().enumerate() {
+        match event_lines(alloc, &mut world, done + 1, event) {
+            Ok(lines) => write_bytes(writer, lines.as_bytes())?,
+            Err(Halt::NotYet) => {
+                return Err(Fault::NotYet {
+                    line: schedule.line_after(done),
+                });
+            }
+            Err(Halt::Memory) => return Err(Fault::Memory),
+        }
     }
-    writer.flush()?;
     Ok(())
 }
 
-// Writes the line of an entry, or its front where a write fails.
-fn write_entry<W: Write>(alloc: Global, writer: &mut W, entry: &Entry) -> Result<(), Fault>
-    ensures all { OnOk result (Appends (W.contents writer.old) (W.contents writer.new) (line_of (shown_entry entry.now) ++ 10 ∷ [])) }
-    ensures part { OnErr result (AddsPart (W.contents writer.old) (W.contents writer.new) (line_of (shown_entry entry.now) ++ 10 ∷ [])) }
-    ensures outside { IfErr result IsOutside }
+// Carries out an event, the one of number `at`, and gives the lines of what applications got by it.
+fn event_lines(alloc: Global, world: &mut World, at: usize, event: &Event) -> Result<String, Halt>
+    ensures ok { OnOk result (GoesOn (seen event.now) world.old world.new) }
+    ensures prints { IfOk result (λ lines. PrintsEvent at (seen event.now) world.old (string_bytes lines)) }
+    ensures not_yet { IsErrOf result Halt.NotYet → StopsAt (seen event.now) world.old }
 {
-    let line = format!(in alloc; "{entry}\n")?;
-    write_bytes(writer, line.as_bytes())
+    let entries = world.step(at, event)?;
+    let lines = entry_lines(alloc, entries.as_slice())?;
+    Ok(lines)
+}
+
+// The lines of entries.
+fn entry_lines(alloc: Global, entries: &[Entry]) -> Result<String, AllocError>
+    ensures { IfOk result (λ lines. string_bytes lines ≡ printed (map shown_entry entries.now)) }
+{
+    let mut lines = String::new(alloc);
+    for entry in entries {
+        let line = format!(in alloc; "{entry}\n")?;
+        lines.push_str(line.as_str())?;
+    }
+    Ok(lines)
 }
 
 // Writes these bytes, or their front where a write fails.
 fn write_bytes<W: Write>(writer: &mut W, bytes: &[u8]) -> Result<(), Fault>
     ensures all { OnOk result (Appends (W.contents writer.old) (W.contents writer.new) bytes.now) }
     ensures part { OnErr result (AddsPart (W.contents writer.old) (W.contents writer.new) bytes.now) }
-    ensures outside { IfErr result IsOutside }
+    ensures fault { IfErr result (λ f. f ≡ Fault.InputOutput) }
 {
     let mut rest = bytes;
     for _ in 0..MAX_WRITES {
@@ -119,12 +139,12 @@ fn write_bytes<W: Write>(writer: &mut W, bytes: &[u8]) -> Result<(), Fault>
 fn write_some<'a, W: Write>(writer: &mut W, bytes: &'a [u8]) -> Result<&'a [u8], Fault>
     ensures some { IfOk result (λ rest. Leaves (W.contents writer.old) (W.contents writer.new) bytes.now rest.now) }
     ensures none { OnErr result (Keeps (W.contents writer.old) (W.contents writer.new)) }
-    ensures outside { IfErr result IsOutside }
+    ensures fault { IfErr result (λ f. f ≡ Fault.InputOutput) }
 {
     match writer.write(bytes) {
         Ok(0) => Err(Fault::InputOutput),
         Ok(count) => Ok(&bytes[count..]),
         Err(error) if error.kind() == ErrorKind::Interrupted => Ok(bytes),
-        Err(error) => Err(Fault::from(error)),
+        Err(_) => Err(Fault::InputOutput),
     }
 }

@@ -1,4 +1,6 @@
 //! Whole runs of the program, without its process.
+ghost use Rattle.std.specs.Prelude.{◌≤◌, length, IfOk};
+
 mod runs;
 mod serving;
 
@@ -59,12 +61,7 @@ take ann
 
 #[test]
 fn first_publication(rt: HostRuntime) -> Result<(), Fail> {
-    prints(
-        &rt,
-        rt.alloc(),
-        FIRST_PUBLICATION,
-        "ann news sub aaaa 0 fresh\nann news pub aaaa 1 {\"t\":1}\n",
-    )
+    prints(&rt, rt.alloc(), FIRST_PUBLICATION, FIRST_LINES)
 }
 
 #[test]
@@ -87,7 +84,12 @@ fn schedule_faults(rt: HostRuntime) -> Result<(), Fail> {
         ("# a comment\n\nconnect ann 00\n", 2, "line 3: unreadable"),
         ("epoch aaaa\r\n", 2, "line 1: unreadable"),
         (" # no comment", 2, "line 1: unreadable"),
-        ("break ann", 2, "line 1: unreadable"),
+        ("break ann bob", 2, "line 1: unreadable"),
+        ("restart 1", 2, "line 1: unreadable"),
+        ("put ann news", 2, "line 1: unreadable"),
+        ("list ann news", 2, "line 1: unreadable"),
+        ("list ann news 2147483648", 2, "line 1: unreadable"),
+        ("list ann news -2147483648", 2, "line 1: not yet"),
         ("deliver 0 18446744073709551616", 2, "line 1: unreadable"),
         ("trim news 10001", 2, "line 1: unreadable"),
         ("forget news 0", 2, "line 1: unreadable"),
@@ -461,6 +463,11 @@ ask ann news
             "",
             "line 8: not yet",
         ),
+        (
+            "read ann news\nfinish ann news\ntake ann\n\nbreak ann\n",
+            "ann news sub aaaa 0 fresh\n",
+            "line 10: not yet",
+        ),
     ];
     for (more, output, fault) in cases {
         let mut input = String::from_str(rt.alloc(), subscribed)?;
@@ -515,6 +522,89 @@ impl Write for Failing {
     fn flush(&mut self) -> io::Result<()> {
         Err(io::Error::from(io::ErrorKind::BrokenPipe))
     }
+}
+
+/// How a writer takes bytes.
+#[derive(Clone, Copy, PartialEq, Eq)]
+enum Manner {
+    /// It takes them, and fails when it is flushed.
+    FailsAtFlush,
+    /// It takes none.
+    TakesNothing,
+    /// It is interrupted each second time, and takes one else.
+    IsInterrupted,
+}
+
+/// A writer, and what it took.
+#[derive(Drop)]
+struct Awkward {
+    manner: Manner,
+    taken: Vec<u8>,
+    is_interrupted: bool,
+}
+
+impl Awkward {
+    // Takes the first of these bytes.
+    fn take_one(&mut self, bytes: &[u8]) -> io::Result<usize>
+        ensures { IfOk result (λ count. count ≤ length bytes.now) }
+    {
+        self.is_interrupted = !self.is_interrupted;
+        if self.is_interrupted {
+            return Err(io::Error::from(io::ErrorKind::Interrupted));
+        }
+        let Some(byte) = bytes.first() else {
+            return Ok(0);
+        };
+        self.taken.push(*byte)?;
+        Ok(1)
+    }
+}
+
+impl Write for Awkward {
+    fn write(&mut self, bytes: &[u8]) -> io::Result<usize> {
+        match self.manner {
+            Manner::TakesNothing => Ok(0),
+            Manner::IsInterrupted => self.take_one(bytes),
+            Manner::FailsAtFlush => {
+                self.taken.extend_from_slice(bytes)?;
+                Ok(bytes.len())
+            }
+        }
+    }
+
+    fn flush(&mut self) -> io::Result<()> {
+        if self.manner == Manner::FailsAtFlush {
+            return Err(io::Error::from(io::ErrorKind::BrokenPipe));
+        }
+        Ok(())
+    }
+}
+
+const FIRST_LINES: &str = "ann news sub aaaa 0 fresh\nann news pub aaaa 1 {\"t\":1}\n";
+
+#[test]
+fn awkward_writers(rt: HostRuntime) -> Result<(), Fail> {
+    let alloc = rt.alloc();
+    let config = config_of(alloc, DEFAULTS)?;
+    for (manner, status, lines) in [
+        (Manner::FailsAtFlush, 4, FIRST_LINES),
+        (Manner::TakesNothing, 4, ""),
+        (Manner::IsInterrupted, 0, FIRST_LINES),
+    ] {
+        let mut writer = Awkward {
+            manner,
+            taken: Vec::new(alloc),
+            is_interrupted: false,
+        };
+        let mut reader = FIRST_PUBLICATION.as_bytes();
+        let got = match simulate(alloc, &mut reader, &mut writer, &config) {
+            Ok(()) => 0,
+            Err(fault) => fault.status(),
+        };
+        assert_eq!(rt; got, status);
+        assert_eq!(rt; String::from_utf8(writer.taken)?.as_str(), lines);
+    }
+    Ok(())
 }
 
 #[test]

@@ -27,6 +27,24 @@ returns-in-trim c = answers_at c.args.nodes c.args.line.now c.in-Some.word.now (
 pub returns-in-forget : goal.returns-in-forget
 returns-in-forget c = answers_at c.args.nodes c.args.line.now c.in-Some.word.now (codes "forget") c.in-Some.rest.now c.forget.result c.in-Some.ensures c.in-forget.is (c.forget.ensures c.args.nodes)
 
+pub returns-in-askfrom : goal.returns-in-askfrom
+returns-in-askfrom c = answers_at c.args.nodes c.args.line.now c.in-Some.word.now (codes "askfrom") c.in-Some.rest.now c.ask_from.result c.in-Some.ensures c.in-askfrom.is (c.ask_from.ensures c.args.nodes)
+
+pub returns-in-put : goal.returns-in-put
+returns-in-put c = answers_at c.args.nodes c.args.line.now c.in-Some.word.now (codes "put") c.in-Some.rest.now c.put.result c.in-Some.ensures c.in-put.is (c.put.ensures c.args.nodes)
+
+pub returns-in-break : goal.returns-in-break
+returns-in-break c = answers_at c.args.nodes c.args.line.now c.in-Some.word.now (codes "break") c.in-Some.rest.now c.break_off.result c.in-Some.ensures c.in-break.is (c.break_off.ensures c.args.nodes)
+
+pub returns-in-leave : goal.returns-in-leave
+returns-in-leave c = answers_at c.args.nodes c.args.line.now c.in-Some.word.now (codes "leave") c.in-Some.rest.now c.leave.result c.in-Some.ensures c.in-leave.is (c.leave.ensures c.args.nodes)
+
+pub returns-in-check : goal.returns-in-check
+returns-in-check c = answers_at c.args.nodes c.args.line.now c.in-Some.word.now (codes "check") c.in-Some.rest.now c.check.result c.in-Some.ensures c.in-check.is (c.check.ensures c.args.nodes)
+
+pub returns-in-list : goal.returns-in-list
+returns-in-list c = answers_at c.args.nodes c.args.line.now c.in-Some.word.now (codes "list") c.in-Some.rest.now c.list.result c.in-Some.ensures c.in-list.is (c.list.ensures c.args.nodes)
+
 pub returns-in_default : goal.returns-in_default
 returns-in_default c = c.one_word.ensures c.args.nodes c.in_default.ensures
 
@@ -34,4 +52,5 @@ pub returns-in_default-word : goal.returns-in_default-word
 returns-in_default-word c =
     let d = c.in_default-word in
     none_at c.args.nodes c.args.line.now c.in-Some.word.now c.in-Some.rest.now c.in-Some.ensures
-    (no_word c.args.nodes c.in-Some.word.now c.in-Some.rest.now c.in-Some.ensures.word d.not-epoch d.not-connect d.not-ask d.not-read d.not-finish d.not-publish d.not-deliver d.not-take d.not-trim d.not-forget)
+    (no_word c.args.nodes c.in-Some.word.now c.in-Some.rest.now c.in-Some.ensures.word
+    (d.not-epoch, d.not-connect, d.not-ask, d.not-askfrom, d.not-read, d.not-finish, d.not-publish, d.not-put, d.not-deliver, d.not-take, d.not-break, d.not-leave, d.not-trim, d.not-forget, d.not-restart, d.not-check, d.not-list))

@@ -1,0 +1,25 @@
+use Rattle.std.proofs.Common.{◌≢◌, ℕ, ℤ, List, [], ◌∷◌, sym, subst}
+use Rattle.std.proofs.lemmas.Result.{err_from_is_err_and}
+use Rattle.cf_schedule.specs.Word.{IsClientName, IsChannelName}
+use Rattle.cf_schedule.specs.ScheduleLine.{IsLimit, spaced}
+use Rattle.cf_schedule.proofs.Spacing.{never_cut, unspaced_client}
+use Rattle.cf_schedule.proofs.Lines.{no_list}
+use Rattle.cf_schedule.proofs.Refusals.{refused_name, refused_so, same_cut}
+use Rattle.cf_schedule.proofs.event.list.Goals as goal
+
+pub returns-in_default : goal.returns-in_default
+returns-in_default c = λ nodes. no_list nodes c.args.text.now (λ x d limit h. never_cut c.args.text.now x (spaced (d ∷ h.2 ∷ [])) c.in_default.ensures h.4)
+
+pub returns-in_err-client : goal.returns-in_err-client
+returns-in_err-client c = λ nodes.
+    let p = err_from_is_err_and c.from_residual.result c.from_residual.ensures.1 in
+    rw (p.1, p.2) (refused_name _ _ _ c.in_err-client.ensures.unreadable (λ not_name. no_list nodes c.args.text.now (λ x d limit h.
+    let cut = same_cut c.args.text.now c.in-Some.client.now c.in-Some.rest.now x (spaced (d ∷ h.2 ∷ [])) c.in-Some.ensures (unspaced_client x h.0) h.4 in
+    not_name (subst IsClientName cut.0 h.0))))
+
+pub returns-in_err-channel : goal.returns-in_err-channel
+returns-in_err-channel c = λ nodes.
+    let p = err_from_is_err_and c.from_residual-in_err-channel.result c.from_residual-in_err-channel.ensures.1 in
+    rw (p.1, p.2) (refused_so _ ((d s : List ℕ) (limit : ℤ) → IsChannelName d → IsLimit s limit → c.in-Some.rest.now ≢ spaced (d ∷ s ∷ [])) _ (λ none. no_list nodes c.args.text.now (λ x d limit h.
+    let cut = same_cut c.args.text.now c.in-Some.client.now c.in-Some.rest.now x (spaced (d ∷ h.2 ∷ [])) c.in-Some.ensures (unspaced_client x h.0) h.4 in
+    none d h.2 limit h.1 h.3 (sym cut.1))) c.in_err-channel.ensures.err)
