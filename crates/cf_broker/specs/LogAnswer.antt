@@ -1,13 +1,17 @@
--- What calls of the broker answer: what one thread's broker answers at some point of a shard's log. (This project's own profile.)
-use Rattle.std.specs.Prelude.{◌≡◌, ℕ, ℤ, Bool, List, [], ◌∷◌, ◌++◌, Option, Some}
+-- What calls of the broker make of a shard's log, and what they answer: what one thread's broker does at some point of the log,
+-- which begins with all that the caller's pass had seen. (This project's own profile.)
+use Rattle.std.specs.Prelude.{◌≡◌, ℕ, ◌+◌, ℤ, Bool, List, [], ◌∷◌, ◌++◌, Option, Some}
 use Rattle.std.specs.Option.{option_map}
+use mathlib.Core.List.{IsPrefix}
 use Rattle.cf_protocol.specs.declared.position.Position.{Position}
 use Rattle.cf_protocol.specs.Datum.{Datum, Placed}
 use Rattle.cf_protocol.specs.LogEntry.{Entry}
-use Rattle.cf_protocol.specs.LogEntry.Entry.{Publish}
+use Rattle.cf_protocol.specs.LogEntry.Entry.{Publish, Trim, Forget}
 use Rattle.cf_protocol.specs.Settings.{NamespaceTable}
+use Rattle.cf_order.specs.Passes.{PassState}
+use Rattle.cf_stream.specs.declared.due.Due.{Due}
 use Rattle.cf_stream.specs.ChannelLists.{life_or, stands_at}
-use Rattle.cf_stream.specs.LogState.{life_in, opening}
+use Rattle.cf_stream.specs.LogState.{life_in, opening, if_stands, due_entries}
 use Rattle.cf_stream.specs.PublicationList.{Life, IsRead, IsListed}
 use Rattle.cf_stream.specs.Streams.{size_at}
 
@@ -15,22 +19,48 @@ use Rattle.cf_stream.specs.Streams.{size_at}
 abbrev pub life_after : NamespaceTable → List Entry → (channel : List ℕ) → Option Life
 life_after t log c = life_in (size_at t) log c
 
--- where the channel's stream stands after some log
-abbrev pub IsPosition : NamespaceTable → (channel : List ℕ) → Option Position → Type 0
-IsPosition t c position = (log : List Entry) × (position ≡ option_map stands_at (life_after t log c))
+-- the pass has seen a log that begins with all that it had seen, and so many publishes more are its own
+pub record Follows (old new : PassState) (own : ℕ) : Type 0 where
+  pub begins : IsPrefix old.log new.log
+  pub found : new.found ≡ new.log
+  pub word : new.word ≡ old.word
+  pub looks : new.looks ≡ old.looks
+  pub share : new.share ≡ old.share + own
 
--- where it stands once a publish has added its entries to some log
-abbrev pub IsPublished : NamespaceTable → (channel : List ℕ) → Datum → Position → Type 0
-IsPublished t c d p =
-    (log : List Entry)
-    × (Some p ≡ option_map stands_at (life_after t (log ++ opening (life_after t log c) c p.epoch (Publish c d ∷ [])) c))
+-- a call at some point of the log: all that was seen stands before it, the log after it has the call's entries more, and this holds
+-- of its answer
+pub record IsCall (seen after : List Entry) (entries : List Entry → List Entry) (answer : List Entry → Type 0) : Type 0 where
+  pub before : List Entry
+  pub begins : IsPrefix seen before
+  pub gained : after ≡ before ++ entries before
+  pub answered : answer before
 
--- the answer to a read after some log
-abbrev pub IsReadAnswer : NamespaceTable → (channel : List ℕ) → (since : Option Position) → Position → (recovered : Bool) → List Placed → Type 0
-IsReadAnswer t c since p recovered items =
-    (log : List Entry) × IsRead (life_or (life_after t log c) p.epoch) since p recovered items
+-- where the channel's stream stands after the log
+abbrev pub IsPosition : NamespaceTable → (log : List Entry) → (channel : List ℕ) → Option Position → Type 0
+IsPosition t log c position = position ≡ option_map stands_at (life_after t log c)
 
--- the answer to a history after some log
-abbrev pub IsHistoryAnswer : NamespaceTable → (channel : List ℕ) → (since : Option Position) → (limit : ℤ) → Position → List Placed → Type 0
-IsHistoryAnswer t c since limit p items =
-    (log : List Entry) × IsListed (life_or (life_after t log c) p.epoch) since limit p items
+-- an accepted publish: the log ends with its one entry, after the opening where the stream opened, and the answer is where it stands then
+abbrev pub IsPublished : NamespaceTable → (seen after : List Entry) → (channel : List ℕ) → Datum → Position → Type 0
+IsPublished t seen after c d p =
+    IsCall seen after (λ log. opening (life_after t log c) c p.epoch (Publish c d ∷ [])) (λ log. IsPosition t after c (Some p))
+
+-- a read
+abbrev pub IsReadAnswer : NamespaceTable → (seen after : List Entry) → (channel : List ℕ) → (since : Option Position) → Position → (recovered : Bool) → List Placed → Type 0
+IsReadAnswer t seen after c since p recovered items =
+    IsCall seen after (λ log. opening (life_after t log c) c p.epoch []) (λ log. IsRead (life_or (life_after t log c) p.epoch) since p recovered items)
+
+-- a history
+abbrev pub IsHistoryAnswer : NamespaceTable → (seen after : List Entry) → (channel : List ℕ) → (since : Option Position) → (limit : ℤ) → Position → List Placed → Type 0
+IsHistoryAnswer t seen after c since limit p items =
+    IsCall seen after (λ log. opening (life_after t log c) c p.epoch []) (λ log. IsListed (life_or (life_after t log c) p.epoch) since limit p items)
+
+-- a trim and a forget: one entry where the channel has a stream
+abbrev pub IsTrimmed : NamespaceTable → (seen after : List Entry) → (channel : List ℕ) → (count : ℕ) → Type 0
+IsTrimmed t seen after c n = IsCall seen after (λ log. if_stands (life_after t log c) (Trim c n)) (λ log. Unit {0})
+
+abbrev pub IsForgotten : NamespaceTable → (seen after : List Entry) → (channel : List ℕ) → Type 0
+IsForgotten t seen after c = IsCall seen after (λ log. if_stands (life_after t log c) (Forget c)) (λ log. Unit {0})
+
+-- a tick: entries of what was due, which are trims to none and forgets
+abbrev pub IsTicked : (seen after : List Entry) → Type 0
+IsTicked seen after = (due : List (List ℕ × Due)) × IsCall seen after (λ log. due_entries due) (λ log. Unit {0})

@@ -1,11 +1,14 @@
 -- What lies under a shard's lock, and what its calls make of it. (This project's own profile.)
-use Rattle.std.specs.Prelude.{◌≡◌, ℕ, List, Some, refl}
+use Rattle.std.specs.Prelude.{◌≡◌, ℕ, ◌+◌, ◌<◌, ◌^◌, List, Some, refl, length}
 use Rattle.std.specs.Coded.{Coded, code_by, coded×}
 use Rattle.std.specs.FinMap as fin
 use Rattle.cf_protocol.specs.Datum.{Datum}
 use Rattle.cf_protocol.specs.LogEntry.{Entry}
 use Rattle.cf_protocol.specs.Settings.{NamespaceTable}
 use Rattle.cf_presence.specs.Presence.{Channels, coded_channels}
+use Rattle.atomic_table.specs.Seated.{TableId}
+use Rattle.cf_order.specs.Passes.{OwnerState}
+use Rattle.cf_order.specs.View.{coded_log}
 use Rattle.cf_stream.specs.declared.refusal.StreamRefusal.{StreamRefusal}
 use Rattle.cf_stream.specs.declared.refusal.StreamRefusal.TheVariants.{AtLastOffset, WrongEpoch, NoEpoch, Memory}
 use Rattle.cf_stream.specs.LogState.{IsState}
@@ -14,26 +17,31 @@ use Rattle.cf_stream.specs.Streams.{Kept, coded_kept, put_at, stood_or_opened}
 use Rattle.cf_broker.specs.declared.refusal.Refused.{Refused}
 use Rattle.cf_broker.specs.declared.refusal.Refused.TheVariants.{AtLastOffset as LastOffset, WrongEpoch as OtherEpoch, NoEpoch as NoneDrawn, Memory as NoMemory}
 
--- the streams, who is there, and where the epochs of new streams come from
+-- the streams, who is there, where the epochs of new streams come from, and the log that made the streams
 pub record Lent (E : Type 0) : Type 0 where
   pub streams : Kept
   pub presence : Channels
   pub epochs : E
+  pub log : List Entry
 
 abbrev pub lent_code : {E : Type 0} → Coded E → Coded (Lent E)
 lent_code {E} e =
-    code_by (Kept × (Channels × E)) (coded× coded_kept (coded× coded_channels e))
-    (λ s. (s.streams, (s.presence, s.epochs))) (λ p. record { streams = p.0; presence = p.1.0; epochs = p.1.1 }) (λ _. refl)
+    code_by (Kept × (Channels × (E × List Entry))) (coded× coded_kept (coded× coded_channels (coded× e coded_log)))
+    (λ s. (s.streams, (s.presence, (s.epochs, s.log)))) (λ p. record { streams = p.0; presence = p.1.0; epochs = p.1.1.0; log = p.1.1.1 }) (λ _. refl)
 
 -- no streams, over these namespaces
 abbrev pub no_streams : NamespaceTable → Kept
 no_streams t = record { namespaces = t; streams = fin.empty }
 
--- the streams are those of these namespaces, and what some log leaves
-pub record IsShard (namespaces : NamespaceTable) (streams : Kept) : Type 0 where
+-- the owner is of this word, the streams are those of these namespaces, and what the owner's log leaves
+pub record IsShard (namespaces : NamespaceTable) (word : TableId) (streams : Kept) (owner : OwnerState) : Type 0 where
+  pub named : owner.word ≡ word
   pub settings : streams.namespaces ≡ namespaces
-  pub log : List Entry
-  pub state : IsState streams log
+  pub state : IsState streams owner.log
+
+-- the log has no room for these entries
+abbrev pub IsFull : (log entries : List Entry) → Type 0
+IsFull log entries = 2 ^ 62 < length log + length entries
 
 -- the streams after a publish, and after a read or a history, at a moment: the channel's stream opens in this epoch where there is none
 abbrev pub after_publish : Kept → (channel epoch : List ℕ) → Datum → (now : ℕ) → Kept

@@ -1,9 +1,10 @@
 -- Which calls add which entries to the log of a shard. (This project's own profile.)
-use Rattle.std.specs.Prelude.{ℕ, List, [], ◌∷◌}
+use Rattle.std.specs.Prelude.{◌≡◌, ℕ, ◌+◌, ◌<◌, ◌^◌, List, [], ◌∷◌, Option, Some, None}
 use Rattle.std.specs.FinMap as fin
 use Rattle.cf_protocol.specs.Datum.{Datum}
 use Rattle.cf_protocol.specs.LogEntry.{Entry}
 use Rattle.cf_protocol.specs.LogEntry.Entry.{Publish, Trim, Forget}
+use Rattle.cf_order.specs.Passes.{PassState}
 use Rattle.cf_stream.specs.Streams.{Kept, stream_of, due_channels}
 use Rattle.cf_stream.specs.LogState.{opening, if_stands, due_entries}
 
@@ -25,3 +26,26 @@ entries_of_forget k c = if_stands (stream_of k c) (Forget c)
 -- a tick: a forget for each stream that ends, and a trim to none for each other one that is emptied while it holds something
 abbrev pub entries_of_tick : Kept → (now : ℕ) → List Entry
 entries_of_tick k now = due_entries (due_channels now k.namespaces (fin.entries k.streams))
+
+-- how many entries open a channel's stream
+abbrev pub to_open : {X : Type 0} → Option X → ℕ
+to_open None = 1
+to_open (Some x) = 0
+
+-- a log of this length has room for the entry of a stream that opens, where none stands
+abbrev pub HasRoom : {X : Type 0} → Option X → ℕ → Type 0
+HasRoom None n = n < 2 ^ 62
+HasRoom (Some x) n = Unit {0}
+
+-- a log of this length has room for the entry of a call on a stream, where one stands
+abbrev pub HasRoomOn : {X : Type 0} → Option X → ℕ → Type 0
+HasRoomOn None n = Unit {0}
+HasRoomOn (Some x) n = n < 2 ^ 62
+
+-- the pass has seen this log whole
+abbrev pub HasWhole : PassState → List Entry → Type 0
+HasWhole p log = (p.log ≡ log) × (p.found ≡ log)
+
+-- the pass is of the same word, has looked as often, and so many publishes more are its own
+abbrev pub KeepsShare : (old new : PassState) → (own : ℕ) → Type 0
+KeepsShare old new own = (new.word ≡ old.word) × (new.looks ≡ old.looks) × (new.share ≡ old.share + own)

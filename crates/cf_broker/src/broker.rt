@@ -1,19 +1,24 @@
-//! The sixteen shards, each under a lock of its own.
-ghost use Rattle.std.specs.Prelude.{◌≡◌, ◌≢◌, ◌+◌, ◌<◌, IfOk, IfErr, IsSome, vec_len};
+//! The sixteen shards, each under a lock of its own, beside its word.
+ghost use Rattle.std.specs.Prelude.{◌≡◌, ◌≢◌, ◌+◌, ◌<◌, ◌≤◌, ◌↔◌, length, IfOk, IfErr, OnOk, OnErr, IsSome, IsTrue, vec_len};
+ghost use mathlib.Core.List.{IsPrefix};
 ghost use Rattle.std.specs.String.{string_bytes};
 ghost use Rattle.cf_protocol.specs.Settings.{settings_of};
-ghost use Rattle.cf_broker.specs.LogAnswer.{IsPosition, IsPublished, IsReadAnswer, IsHistoryAnswer};
+ghost use Rattle.cf_order.specs.Passes.{first_pass};
+ghost use Rattle.cf_broker.specs.LogAnswer.{Follows, IsPosition, IsPublished, IsReadAnswer, IsHistoryAnswer, IsTrimmed, IsForgotten, IsTicked};
 ghost use Rattle.cf_broker.specs.Shard.{no_streams};
-ghost use Rattle.cf_broker.specs.Shards.{number_of};
+ghost use Rattle.cf_broker.specs.Shards.{number_of, names, first_passes};
 
 use crate::delivery::Delivery;
 use crate::naming::Naming;
 use crate::place::Place;
 use crate::refusal::Refused;
+use crate::shard::ReadAnswer;
+use crate::words::{NewWord, Passes, Words};
 use cf_link::Sender;
+use cf_order::{Pass, ShardWord};
 use cf_presence::Stats;
 use cf_protocol::{Info, Namespaces, Position};
-use cf_stream::{Epochs, History, Recovery, Streams};
+use cf_stream::{Epochs, History, Streams};
 use std::alloc::{AllocError, Global};
 use std::collections::BTreeMap;
 use std::marker::PhantomData;
@@ -129,35 +134,39 @@ macro_rules! at_place {
 }
 
 impl<N: Naming, E: Epochs + Drop> Broker<N, E> {
-    /// A broker without streams, over these namespaces. The first shard draws from the first epochs, and the first node
-    /// is sent to by the first of the senders. An `AllocError` where memory was refused.
+    /// A broker without streams, over these words and namespaces, and the first pass of each shard. The first shard draws from
+    /// the first epochs, and the first node is sent to by the first of the senders. An `AllocError` where memory was refused.
     pub fn new(
         alloc: Global,
+        words: Words,
         namespaces: &Namespaces,
         epochs: [E; 16],
         links: Vec<Sender<Delivery>>,
-    ) -> Result<Broker<N, E>, AllocError>
-        requires { namespaces.now ≡ N.namespaces }
+    ) -> Result<(Broker<N, E>, Passes<N>), AllocError>
+        requires words { words ≡ names N.words 16 }
+        requires namespaces { namespaces.now ≡ N.namespaces }
+        ensures { IfOk result (λ r. r.1 ≡ first_passes N.words) }
     {
         let senders = locked(alloc, links)?;
         let mut parts = parts(alloc, namespaces, Vec::from_array(alloc, epochs)?)?;
-        let place_0 = last_place::<N, E, 0>(alloc, &mut parts);
-        let place_1 = last_place::<N, E, 1>(alloc, &mut parts);
-        let place_2 = last_place::<N, E, 2>(alloc, &mut parts);
-        let place_3 = last_place::<N, E, 3>(alloc, &mut parts);
-        let place_4 = last_place::<N, E, 4>(alloc, &mut parts);
-        let place_5 = last_place::<N, E, 5>(alloc, &mut parts);
-        let place_6 = last_place::<N, E, 6>(alloc, &mut parts);
-        let place_7 = last_place::<N, E, 7>(alloc, &mut parts);
-        let place_8 = last_place::<N, E, 8>(alloc, &mut parts);
-        let place_9 = last_place::<N, E, 9>(alloc, &mut parts);
-        let place_10 = last_place::<N, E, 10>(alloc, &mut parts);
-        let place_11 = last_place::<N, E, 11>(alloc, &mut parts);
-        let place_12 = last_place::<N, E, 12>(alloc, &mut parts);
-        let place_13 = last_place::<N, E, 13>(alloc, &mut parts);
-        let place_14 = last_place::<N, E, 14>(alloc, &mut parts);
-        let place_15 = last_place::<N, E, 15>(alloc, &mut parts);
-        Ok(Broker {
+        let Words { mut list } = words;
+        let (place_15, pass_15) = last_place::<N, E, 15>(alloc, &mut parts, &mut list);
+        let (place_14, pass_14) = last_place::<N, E, 14>(alloc, &mut parts, &mut list);
+        let (place_13, pass_13) = last_place::<N, E, 13>(alloc, &mut parts, &mut list);
+        let (place_12, pass_12) = last_place::<N, E, 12>(alloc, &mut parts, &mut list);
+        let (place_11, pass_11) = last_place::<N, E, 11>(alloc, &mut parts, &mut list);
+        let (place_10, pass_10) = last_place::<N, E, 10>(alloc, &mut parts, &mut list);
+        let (place_9, pass_9) = last_place::<N, E, 9>(alloc, &mut parts, &mut list);
+        let (place_8, pass_8) = last_place::<N, E, 8>(alloc, &mut parts, &mut list);
+        let (place_7, pass_7) = last_place::<N, E, 7>(alloc, &mut parts, &mut list);
+        let (place_6, pass_6) = last_place::<N, E, 6>(alloc, &mut parts, &mut list);
+        let (place_5, pass_5) = last_place::<N, E, 5>(alloc, &mut parts, &mut list);
+        let (place_4, pass_4) = last_place::<N, E, 4>(alloc, &mut parts, &mut list);
+        let (place_3, pass_3) = last_place::<N, E, 3>(alloc, &mut parts, &mut list);
+        let (place_2, pass_2) = last_place::<N, E, 2>(alloc, &mut parts, &mut list);
+        let (place_1, pass_1) = last_place::<N, E, 1>(alloc, &mut parts, &mut list);
+        let (place_0, pass_0) = last_place::<N, E, 0>(alloc, &mut parts, &mut list);
+        let broker = Broker {
             place_0,
             place_1,
             place_2,
@@ -175,84 +184,168 @@ impl<N: Naming, E: Epochs + Drop> Broker<N, E> {
             place_14,
             place_15,
             senders,
-        })
+        };
+        let list = Vec::from_array(
+            alloc,
+            [
+                pass_0, pass_1, pass_2, pass_3, pass_4, pass_5, pass_6, pass_7, pass_8, pass_9,
+                pass_10, pass_11, pass_12, pass_13, pass_14, pass_15,
+            ],
+        )?;
+        Ok((
+            broker,
+            Passes {
+                list,
+                of: PhantomData,
+            },
+        ))
+    }
+
+    /// The word of a shard, by which passes are lent, met and joined.
+    pub fn word(&self, shard: usize) -> &ShardWord
+        requires { shard < SHARDS }
+        ensures { result.now ≡ N.words shard }
+    {
+        at_place!(self, shard, place => place.word())
     }
 
     /// Publishes to a channel at a moment in seconds, offers the publication to each node, and answers its position. The
     /// channel's stream opens where there is none. A node whose link is full loses it. `AtLastOffset` at the stream's last
-    /// offset, `NoEpoch` where a stream would open and none was drawn, `Memory` where a growth was refused.
+    /// offset, `NoEpoch` where a stream would open and none was drawn, `Memory` where a growth was refused, `AtLastCount` where
+    /// the shard's log has no room.
     pub fn publish<R: Wait>(
         &self,
         rt: &R,
+        pass: &mut Pass,
         channel: &str,
         body: String,
         info: Option<Info>,
         now: u64,
     ) -> Result<Position, Refused>
+        requires pass { pass.old.word ≡ N.words (number_of channel.now) }
         requires set_up { IsSome (settings_of N.namespaces channel.now) }
-        ensures answer { IfOk result (λ p. IsPublished N.namespaces channel.now (record { body = string_bytes body; info = info }) p) }
+        ensures answer { IfOk result (λ p. IsPublished N.namespaces pass.old.log pass.new.log channel.now (record { body = string_bytes body; info = info }) p) }
+        ensures own { IfOk result (λ _. Follows pass.old pass.new 1) }
         ensures refusals { IfErr result (λ e. e ≢ Refused.WrongEpoch) }
+        ensures seen { OnErr result (Follows pass.old pass.new 0) }
     {
         let senders = self.senders.as_slice();
-        at_place!(self, shard_of(channel), place => place.publish(rt, senders, channel, body, info, now))
+        at_place!(self, shard_of(channel), place => place.publish(rt, pass, senders, channel, body, info, now))
     }
 
-    /// The publications of a channel after a position, where all are held, at a moment in seconds. Its stream opens where
-    /// there is none. `NoEpoch` and `Memory` as for a publish.
+    /// The publications of a channel after a position, where all are held, at a moment in seconds, and the length of the
+    /// shard's log then. Its stream opens where there is none. `NoEpoch`, `Memory` and `AtLastCount` as for a publish.
     pub fn read<R: Wait>(
         &self,
         rt: &R,
+        pass: &mut Pass,
         channel: &str,
         since: Option<Position>,
         now: u64,
-    ) -> Result<Recovery, Refused>
+    ) -> Result<ReadAnswer, Refused>
+        requires pass { pass.old.word ≡ N.words (number_of channel.now) }
         requires set_up { IsSome (settings_of N.namespaces channel.now) }
-        ensures answer { IfOk result (λ r. IsReadAnswer N.namespaces channel.now since r.position r.recovered r.publications.items) }
-        ensures refusals { IfErr result (λ e. e ≢ Refused.NoEpoch → e ≡ Refused.Memory) }
+        ensures answer { IfOk result (λ r. IsReadAnswer N.namespaces pass.old.log pass.new.log channel.now since r.recovery.position r.recovery.recovered r.recovery.publications.items) }
+        ensures mark { IfOk result (λ r. r.mark ≡ length pass.new.log) }
+        ensures refusals { IfErr result (λ e. e ≢ Refused.AtLastOffset × e ≢ Refused.WrongEpoch) }
+        ensures seen { Follows pass.old pass.new 0 }
     {
-        at_place!(self, shard_of(channel), place => place.read(rt, channel, since, now))
+        at_place!(self, shard_of(channel), place => place.read(rt, pass, channel, since, now))
     }
 
     /// The first publications of a channel that are held after a position, up to a limit. Without a position its stream opens
-    /// where there is none. `WrongEpoch` where the position is of another epoch, or where there is no stream; `NoEpoch` and
-    /// `Memory` as for a publish.
+    /// where there is none. `WrongEpoch` where the position is of another epoch, or where there is no stream; `NoEpoch`,
+    /// `Memory` and `AtLastCount` as for a publish.
     pub fn history<R: Wait>(
         &self,
         rt: &R,
+        pass: &mut Pass,
         channel: &str,
         since: Option<Position>,
         limit: i32,
         now: u64,
     ) -> Result<History, Refused>
+        requires pass { pass.old.word ≡ N.words (number_of channel.now) }
         requires set_up { IsSome (settings_of N.namespaces channel.now) }
-        ensures answer { IfOk result (λ h. IsHistoryAnswer N.namespaces channel.now since limit h.position h.publications.items) }
+        ensures answer { IfOk result (λ h. IsHistoryAnswer N.namespaces pass.old.log pass.new.log channel.now since limit h.position h.publications.items) }
         ensures refusals { IfErr result (λ e. e ≢ Refused.AtLastOffset) }
+        ensures seen { Follows pass.old pass.new 0 }
     {
-        at_place!(self, shard_of(channel), place => place.history(rt, channel, since, limit, now))
+        at_place!(self, shard_of(channel), place => place.history(rt, pass, channel, since, limit, now))
     }
 
-    /// Where a channel's stream stands, if it has one. It takes no memory and opens nothing.
-    pub fn position<R: Wait>(&self, rt: &R, channel: &str) -> Option<Position>
-        ensures answer { IsPosition N.namespaces channel.now result }
+    /// Where a channel's stream stands, if it has one, and the length of the shard's log. It takes no memory and opens nothing.
+    pub fn position<R: Wait>(
+        &self,
+        rt: &R,
+        pass: &mut Pass,
+        channel: &str,
+    ) -> (Option<Position>, u64)
+        requires pass { pass.old.word ≡ N.words (number_of channel.now) }
+        ensures answer { IsPosition N.namespaces pass.new.log channel.now result.0 }
+        ensures mark { result.1 ≡ length pass.new.log }
+        ensures seen { Follows pass.old pass.new 0 }
     {
-        at_place!(self, shard_of(channel), place => place.position(rt, channel))
+        at_place!(self, shard_of(channel), place => place.position(rt, pass, channel))
     }
 
-    /// Keeps at most the newest publications of a channel. It takes no memory.
-    pub fn trim<R: Wait>(&self, rt: &R, channel: &str, count: usize) {
-        at_place!(self, shard_of(channel), place => place.trim(rt, channel, count));
+    /// Keeps at most the newest publications of a channel. It takes no memory. `AtLastCount` where the log has no room.
+    pub fn trim<R: Wait>(
+        &self,
+        rt: &R,
+        pass: &mut Pass,
+        channel: &str,
+        count: usize,
+    ) -> Result<(), Refused>
+        requires pass { pass.old.word ≡ N.words (number_of channel.now) }
+        ensures done { OnOk result (IsTrimmed N.namespaces pass.old.log pass.new.log channel.now count) }
+        ensures refusals { IfErr result (λ e. e ≡ Refused.AtLastCount) }
+        ensures seen { Follows pass.old pass.new 0 }
+    {
+        at_place!(self, shard_of(channel), place => place.trim(rt, pass, channel, count))
     }
 
-    /// Ends a channel's stream. It takes no memory.
-    pub fn forget<R: Wait>(&self, rt: &R, channel: &str) {
-        at_place!(self, shard_of(channel), place => place.forget(rt, channel));
+    /// Ends a channel's stream. It takes no memory. `AtLastCount` where the log has no room.
+    pub fn forget<R: Wait>(&self, rt: &R, pass: &mut Pass, channel: &str) -> Result<(), Refused>
+        requires pass { pass.old.word ≡ N.words (number_of channel.now) }
+        ensures done { OnOk result (IsForgotten N.namespaces pass.old.log pass.new.log channel.now) }
+        ensures refusals { IfErr result (λ e. e ≡ Refused.AtLastCount) }
+        ensures seen { Follows pass.old pass.new 0 }
+    {
+        at_place!(self, shard_of(channel), place => place.forget(rt, pass, channel))
     }
 
     /// Empties the histories of one shard whose time is over at a moment in seconds, ends the streams that were not used for
-    /// long, and lets go of the clients that entered 60 seconds ago or more. It takes no memory. Shards are numbered from 0; a
-    /// number from 15 on is that of the last one.
-    pub fn tick<R: Wait>(&self, rt: &R, shard: usize, now: u64) {
-        at_place!(self, shard, place => place.tick(rt, now));
+    /// long, and lets go of the clients that entered 60 seconds ago or more. It takes no memory. `AtLastCount` where the log has
+    /// no room.
+    pub fn tick<R: Wait>(
+        &self,
+        rt: &R,
+        pass: &mut Pass,
+        shard: usize,
+        now: u64,
+    ) -> Result<(), Refused>
+        requires shard { shard < SHARDS }
+        requires pass { pass.old.word ≡ N.words shard }
+        ensures done { OnOk result (IsTicked pass.old.log pass.new.log) }
+        ensures refusals { IfErr result (λ e. e ≡ Refused.AtLastCount) }
+        ensures seen { Follows pass.old pass.new 0 }
+    {
+        at_place!(self, shard, place => place.tick(rt, pass, now))
+    }
+
+    /// Whether the log of a channel's shard has no more entries than a mark, by one load: it waits for nobody and takes no
+    /// memory. Where it says so to a pass that has seen as many entries as the mark, the log then was what the pass had seen.
+    #[tactic(auto, using(crate::proofs::Calls::still_that))]
+    pub fn quiet_since(&self, pass: &mut Pass, channel: &str, mark: u64) -> bool
+        requires { pass.old.word ≡ N.words (number_of channel.now) }
+        ensures looked { pass.new ≡ record pass.old { found = pass.new.found; looks = pass.old.looks + 1 } }
+        ensures answer { IsTrue result ↔ length pass.new.found ≤ mark }
+        ensures seen { IsPrefix pass.old.log pass.new.found }
+        ensures rises { IsPrefix pass.old.found pass.new.found }
+        ensures still { IsTrue result → length pass.old.log ≡ mark → pass.new.found ≡ pass.old.log }
+    {
+        self.word(shard_of(channel)).look(pass) <= mark
     }
 
     /// A client of a user enters a channel at a moment in seconds, again or for the first time. `Memory` where a growth was
@@ -297,17 +390,17 @@ struct Part<N: Naming, E: Epochs> {
     ghost empty: { streams ≡ no_streams N.namespaces },
 }
 
-/// The parts of a shard for each of these epochs, the last of them first.
+/// The parts of a shard for each of these epochs, in their order.
 fn parts<N: Naming, E: Epochs + Drop>(
     alloc: Global,
     namespaces: &Namespaces,
-    mut epochs: Vec<E>,
+    epochs: Vec<E>,
 ) -> Result<Vec<Part<N, E>>, AllocError>
     requires { namespaces.now ≡ N.namespaces }
     ensures { IfOk result (λ v. vec_len v ≡ vec_len epochs) }
 {
     let mut parts = Vec::new(alloc);
-    while let Some(source) = epochs.pop() {
+    for source in epochs {
         let streams = Streams::new(alloc, namespaces)?;
         parts.push(Part {
             streams,
@@ -318,18 +411,27 @@ fn parts<N: Naming, E: Epochs + Drop>(
     Ok(parts)
 }
 
-/// A shard of the last of these parts.
+/// A shard of the last of these parts, beside the last of these words, and the word's first pass.
 fn last_place<N: Naming, E: Epochs, const I: usize>(
     alloc: Global,
     parts: &mut Vec<Part<N, E>>,
-) -> Place<N, E, I>
-    requires { 0 < vec_len parts.old }
-    ensures { vec_len parts.new + 1 ≡ vec_len parts.old }
+    words: &mut Vec<NewWord>,
+) -> (Place<N, E, I>, Pass)
+    requires parts { 0 < vec_len parts.old }
+    requires words { words.old.items ≡ names N.words (I + 1) }
+    ensures parts { vec_len parts.new + 1 ≡ vec_len parts.old }
+    ensures words { words.new.items ≡ names N.words I }
+    ensures pass { result.1 ≡ first_pass (N.words I) }
 {
     let Some(part) = parts.pop() else {
         unreachable!()
     };
-    Place::new(alloc, part.streams, part.epochs)
+    let Some(new) = words.pop() else {
+        unreachable!()
+    };
+    let NewWord { word, owner, pass } = new;
+    let place = Place::new(alloc, part.streams, part.epochs, word, owner);
+    (place, pass)
 }
 
 /// Each sender under a lock of its own.

@@ -1,18 +1,19 @@
-//! One shard under its lock.
-ghost use Rattle.std.specs.Prelude.{◌≡◌, ◌≢◌, IfOk, IfErr, IsSome};
+//! One shard under its lock, beside its word.
+ghost use Rattle.std.specs.Prelude.{◌≡◌, ◌≢◌, [], length, IfOk, IfErr, OnOk, OnErr, IsSome};
 ghost use Rattle.std.specs.String.{string_bytes};
 ghost use Rattle.cf_protocol.specs.Settings.{settings_of};
-ghost use Rattle.cf_broker.specs.LogAnswer.{IsPosition, IsPublished, IsReadAnswer, IsHistoryAnswer};
+ghost use Rattle.cf_broker.specs.LogAnswer.{Follows, IsPosition, IsPublished, IsReadAnswer, IsHistoryAnswer, IsTrimmed, IsForgotten, IsTicked};
 ghost use Rattle.cf_broker.specs.Shard.{no_streams};
 
 use crate::delivery::{Delivery, NodeLinks};
 use crate::naming::Naming;
 use crate::refusal::Refused;
-use crate::shard::Shard;
+use crate::shard::{ReadAnswer, Shard};
 use cf_link::Sender;
+use cf_order::{Owner, Pass, ShardWord};
 use cf_presence::Stats;
 use cf_protocol::{Info, Position};
-use cf_stream::{Epochs, History, Recovery, Streams};
+use cf_stream::{Epochs, History, Streams};
 use std::alloc::Global;
 use std::collections::BTreeMap;
 use std::sync::{Mutex, Wait};
@@ -20,81 +21,146 @@ use std::sync::{Mutex, Wait};
 /// A shard under its lock. Each call is the shard's method of the same name, while the lock is held.
 #[derive(Drop)]
 pub(crate) struct Place<N: Naming, E: Epochs, const I: usize> {
+    word: ShardWord,
     lock: Mutex<Shard<N, E, I>>,
+    ghost named: { word ≡ N.words I },
 }
 
 impl<N: Naming, E: Epochs, const I: usize> Place<N, E, I> {
-    /// A shard without streams.
-    pub(crate) fn new(alloc: Global, streams: Streams, epochs: Box<E>) -> Place<N, E, I>
-        requires { streams ≡ no_streams N.namespaces }
+    /// A shard without streams, beside its word, whose log has no entries.
+    pub(crate) fn new(
+        alloc: Global,
+        streams: Streams,
+        epochs: Box<E>,
+        word: ShardWord,
+        owner: Owner,
+    ) -> Place<N, E, I>
+        requires streams { streams ≡ no_streams N.namespaces }
+        requires word { (word ≡ N.words I) × (owner.word ≡ word) × (owner.log ≡ []) }
     {
-        Place {
-            lock: Mutex::new(Shard::new(alloc, streams, epochs)),
-        }
+        let lock = Mutex::new(Shard::new(alloc, streams, epochs, owner));
+        Place { word, lock }
+    }
+
+    /// The shard's word, by which passes are lent, met and joined, and at which they look.
+    pub(crate) fn word(&self) -> &ShardWord
+        ensures { result.now ≡ N.words I }
+    {
+        &self.word
     }
 
     pub(crate) fn publish<R: Wait>(
         &self,
         rt: &R,
+        pass: &mut Pass,
         senders: &[Mutex<Sender<Delivery>>],
         channel: &str,
         body: String,
         info: Option<Info>,
         now: u64,
     ) -> Result<Position, Refused>
+        requires pass { pass.old.word ≡ N.words I }
         requires set_up { IsSome (settings_of N.namespaces channel.now) }
-        ensures answer { IfOk result (λ p. IsPublished N.namespaces channel.now (record { body = string_bytes body; info = info }) p) }
+        ensures answer { IfOk result (λ p. IsPublished N.namespaces pass.old.log pass.new.log channel.now (record { body = string_bytes body; info = info }) p) }
+        ensures own { IfOk result (λ _. Follows pass.old pass.new 1) }
         ensures refusals { IfErr result (λ e. e ≢ Refused.WrongEpoch) }
+        ensures seen { OnErr result (Follows pass.old pass.new 0) }
     {
         let mut shard = self.lock.lock(rt);
-        shard.publish(&mut NodeLinks { rt, senders }, channel, body, info, now)
+        let mut links = NodeLinks { rt, senders };
+        shard.publish(&self.word, pass, &mut links, channel, body, info, now)
     }
 
     pub(crate) fn read<R: Wait>(
         &self,
         rt: &R,
+        pass: &mut Pass,
         channel: &str,
         since: Option<Position>,
         now: u64,
-    ) -> Result<Recovery, Refused>
+    ) -> Result<ReadAnswer, Refused>
+        requires pass { pass.old.word ≡ N.words I }
         requires set_up { IsSome (settings_of N.namespaces channel.now) }
-        ensures answer { IfOk result (λ r. IsReadAnswer N.namespaces channel.now since r.position r.recovered r.publications.items) }
-        ensures refusals { IfErr result (λ e. e ≢ Refused.NoEpoch → e ≡ Refused.Memory) }
+        ensures answer { IfOk result (λ r. IsReadAnswer N.namespaces pass.old.log pass.new.log channel.now since r.recovery.position r.recovery.recovered r.recovery.publications.items) }
+        ensures mark { IfOk result (λ r. r.mark ≡ length pass.new.log) }
+        ensures refusals { IfErr result (λ e. e ≢ Refused.AtLastOffset × e ≢ Refused.WrongEpoch) }
+        ensures seen { Follows pass.old pass.new 0 }
     {
-        self.lock.lock(rt).read(channel, since, now)
+        self.lock
+            .lock(rt)
+            .read(&self.word, pass, channel, since, now)
     }
 
     pub(crate) fn history<R: Wait>(
         &self,
         rt: &R,
+        pass: &mut Pass,
         channel: &str,
         since: Option<Position>,
         limit: i32,
         now: u64,
     ) -> Result<History, Refused>
+        requires pass { pass.old.word ≡ N.words I }
         requires set_up { IsSome (settings_of N.namespaces channel.now) }
-        ensures answer { IfOk result (λ h. IsHistoryAnswer N.namespaces channel.now since limit h.position h.publications.items) }
+        ensures answer { IfOk result (λ h. IsHistoryAnswer N.namespaces pass.old.log pass.new.log channel.now since limit h.position h.publications.items) }
         ensures refusals { IfErr result (λ e. e ≢ Refused.AtLastOffset) }
+        ensures seen { Follows pass.old pass.new 0 }
     {
-        self.lock.lock(rt).history(channel, since, limit, now)
+        self.lock
+            .lock(rt)
+            .history(&self.word, pass, channel, since, limit, now)
     }
 
-    pub(crate) fn position<R: Wait>(&self, rt: &R, channel: &str) -> Option<Position>
-        ensures answer { IsPosition N.namespaces channel.now result }
+    pub(crate) fn position<R: Wait>(
+        &self,
+        rt: &R,
+        pass: &mut Pass,
+        channel: &str,
+    ) -> (Option<Position>, u64)
+        requires pass { pass.old.word ≡ N.words I }
+        ensures answer { IsPosition N.namespaces pass.new.log channel.now result.0 }
+        ensures mark { result.1 ≡ length pass.new.log }
+        ensures seen { Follows pass.old pass.new 0 }
     {
-        self.lock.lock(rt).position(channel)
+        self.lock.lock(rt).position(&self.word, pass, channel)
     }
 
-    pub(crate) fn trim<R: Wait>(&self, rt: &R, channel: &str, count: usize) {
-        self.lock.lock(rt).trim(channel, count);
+    pub(crate) fn trim<R: Wait>(
+        &self,
+        rt: &R,
+        pass: &mut Pass,
+        channel: &str,
+        count: usize,
+    ) -> Result<(), Refused>
+        requires pass { pass.old.word ≡ N.words I }
+        ensures done { OnOk result (IsTrimmed N.namespaces pass.old.log pass.new.log channel.now count) }
+        ensures refusals { IfErr result (λ e. e ≡ Refused.AtLastCount) }
+        ensures seen { Follows pass.old pass.new 0 }
+    {
+        self.lock.lock(rt).trim(&self.word, pass, channel, count)
     }
 
-    pub(crate) fn forget<R: Wait>(&self, rt: &R, channel: &str) {
-        self.lock.lock(rt).forget(channel);
+    pub(crate) fn forget<R: Wait>(
+        &self,
+        rt: &R,
+        pass: &mut Pass,
+        channel: &str,
+    ) -> Result<(), Refused>
+        requires pass { pass.old.word ≡ N.words I }
+        ensures done { OnOk result (IsForgotten N.namespaces pass.old.log pass.new.log channel.now) }
+        ensures refusals { IfErr result (λ e. e ≡ Refused.AtLastCount) }
+        ensures seen { Follows pass.old pass.new 0 }
+    {
+        self.lock.lock(rt).forget(&self.word, pass, channel)
     }
 
-    pub(crate) fn tick<R: Wait>(&self, rt: &R, now: u64) {
-        self.lock.lock(rt).tick(now);
+    pub(crate) fn tick<R: Wait>(&self, rt: &R, pass: &mut Pass, now: u64) -> Result<(), Refused>
+        requires pass { pass.old.word ≡ N.words I }
+        ensures done { OnOk result (IsTicked pass.old.log pass.new.log) }
+        ensures refusals { IfErr result (λ e. e ≡ Refused.AtLastCount) }
+        ensures seen { Follows pass.old pass.new 0 }
+    {
+        self.lock.lock(rt).tick(&self.word, pass, now)
     }
 
     pub(crate) fn enter<R: Wait>(

@@ -23,6 +23,9 @@ pub enum Refused {
     /// Memory was refused.
     #[error("out of memory")]
     Memory,
+    /// The shard's log has no room for the call's entries: it has at most 2^62.
+    #[error("at the last count")]
+    AtLastCount,
 }
 
 impl From<AllocError> for Refused {

@@ -1,8 +1,12 @@
 ghost use Rattle.std.specs.Prelude.{◌≡◌, IsSome};
 ghost use Rattle.cf_protocol.specs.Settings.{settings_of};
+ghost use Rattle.cf_broker.specs.Shards.{names, number_of};
 
-use crate::{Broker, Delivery, Naming, Refused, shard_of};
+mod threads;
+
+use crate::{Broker, Delivery, Naming, Passes, Refused, Words, shard_of};
 use cf_link::{Receiver, pair};
+use cf_order::Pass;
 use cf_protocol::{Epoch, Info, Namespaces, Position, read_namespaces};
 use cf_stream::Epochs;
 use std::alloc::Global;
@@ -79,55 +83,67 @@ fn info(alloc: Global) -> Result<Info, Fail> {
     })
 }
 
-fn streams_called<N: Naming, R: Wait + Abort>(
+/// Publishes three times to `news` and reads, trims, ticks and forgets it.
+fn streams_of_news<N: Naming, R: Wait + Abort>(
     rt: &R,
     alloc: Global,
+    broker: &Broker<N, Same>,
     namespaces: &Namespaces,
+    pass: &mut Pass,
 ) -> Result<(), Fail>
-    requires { namespaces.now ≡ N.namespaces }
+    requires namespaces { namespaces.now ≡ N.namespaces }
+    requires pass { pass.old.word ≡ N.words 13 }
 {
-    let (narrow, mut lossy) = pair(alloc, 1)?;
-    let (wide, mut whole) = pair(alloc, 8)?;
-    let links = Vec::from_array(alloc, [narrow, wide])?;
-    let broker = Broker::<N, Same>::new(alloc, namespaces, [Same; 16], links)?;
-    if namespaces.find("news").is_none() {
+    let news = "news";
+    if namespaces.find(news).is_none() || shard_of(news) != 13 {
         return Ok(());
     }
     for (offset, body) in [(1, "1"), (2, "2"), (3, "3")] {
         let body = String::from_str(alloc, body)?;
-        let position = broker.publish(rt, "news", body, Some(info(alloc)?), 0)?;
+        let position = broker.publish(rt, pass, news, body, Some(info(alloc)?), 0)?;
         assert_eq!(rt; position.offset, offset);
     }
-    let at = broker.position(rt, "news");
-    assert_eq!(rt; at.map(|position| position.offset), Some(3));
+    let (at, mark) = broker.position(rt, pass, news);
+    assert_eq!(rt; (at.map(|position| position.offset), mark), (Some(3), 4));
     let since = Position {
         epoch: Epoch::from_text("aaaa"),
         offset: 1,
     };
-    let recovery = broker.read(rt, "news", Some(since), 0)?;
-    assert!(rt; recovery.recovered);
-    assert_eq!(rt; recovery.publications.len(), 2);
-    assert_eq!(rt;
-        broker.history(rt, "news", None, 1, 0)?.publications.len(),
-        1
-    );
-    broker.trim(rt, "news", 1);
-    assert_eq!(rt;
-        broker.history(rt, "news", None, -1, 0)?.publications.len(),
-        1
-    );
-    broker.tick(rt, shard_of("news"), 100);
-    assert_eq!(rt;
-        broker
-            .history(rt, "news", None, -1, 100)?
-            .publications
-            .len(),
-        0
-    );
-    broker.forget(rt, "news");
-    assert!(rt; broker.position(rt, "news").is_none());
-    let refused = broker.history(rt, "news", Some(since), -1, 0);
+    let answer = broker.read(rt, pass, news, Some(since), 0)?;
+    assert!(rt; answer.recovery.recovered);
+    assert_eq!(rt; (answer.recovery.publications.len(), answer.mark), (2, 4));
+    let first = broker.history(rt, pass, news, None, 1, 0)?;
+    assert_eq!(rt; first.publications.len(), 1);
+    broker.trim(rt, pass, news, 1)?;
+    let held = broker.history(rt, pass, news, None, -1, 0)?;
+    assert_eq!(rt; held.publications.len(), 1);
+    broker.tick(rt, pass, 13, 100)?;
+    let empty = broker.history(rt, pass, news, None, -1, 100)?;
+    assert_eq!(rt; empty.publications.len(), 0);
+    broker.forget(rt, pass, news)?;
+    let (gone, mark) = broker.position(rt, pass, news);
+    assert_eq!(rt; (gone.is_none(), mark), (true, 7));
+    let refused = broker.history(rt, pass, news, Some(since), -1, 0);
     assert!(rt; matches!(refused, Err(Refused::WrongEpoch)));
+    assert_eq!(rt; pass.share(), 3);
+    Ok(())
+}
+
+fn streams_called<N: Naming, R: Wait + Abort>(
+    rt: &R,
+    alloc: Global,
+    words: Words,
+    namespaces: &Namespaces,
+) -> Result<(), Fail>
+    requires words { words ≡ names N.words 16 }
+    requires namespaces { namespaces.now ≡ N.namespaces }
+{
+    let (narrow, mut lossy) = pair(alloc, 1)?;
+    let (wide, mut whole) = pair(alloc, 8)?;
+    let links = Vec::from_array(alloc, [narrow, wide])?;
+    let (broker, mut passes) = Broker::<N, Same>::new(alloc, words, namespaces, [Same; 16], links)?;
+    let mut pass = passes.take(&broker, 13);
+    streams_of_news(rt, alloc, &broker, namespaces, &mut pass)?;
     assert_eq!(rt; next_offset(rt, &mut lossy), Some(1));
     assert_eq!(rt; next_offset(rt, &mut lossy), None);
     for offset in 1..4 {
@@ -140,17 +156,20 @@ fn streams_called<N: Naming, R: Wait + Abort>(
 #[test]
 fn streams_and_links(rt: HostRuntime) -> Result<(), Fail> {
     let namespaces = read_namespaces(rt.alloc(), "=100,100,phs")?;
-    streams_called::<Brand, _>(&rt, rt.alloc(), &namespaces)
+    streams_called::<Brand, _>(&rt, rt.alloc(), Words::new(rt.alloc())?, &namespaces)
 }
 
 fn presence_called<N: Naming, R: Wait + Abort>(
     rt: &R,
     alloc: Global,
+    words: Words,
     namespaces: &Namespaces,
 ) -> Result<(), Fail>
-    requires { namespaces.now ≡ N.namespaces }
+    requires words { words ≡ names N.words 16 }
+    requires namespaces { namespaces.now ≡ N.namespaces }
 {
-    let broker = Broker::<N, Same>::new(alloc, namespaces, [Same; 16], Vec::new(alloc))?;
+    let links = Vec::new(alloc);
+    let (broker, mut passes) = Broker::<N, Same>::new(alloc, words, namespaces, [Same; 16], links)?;
     broker.enter(rt, "news", "0-1-1", "ann", 0)?;
     let stats = broker.stats(rt, "news");
     assert_eq!(rt; stats.clients, 1);
@@ -161,7 +180,8 @@ fn presence_called<N: Naming, R: Wait + Abort>(
     broker.leave(rt, "news", "0-1-1");
     assert!(rt; broker.list(rt, "news")?.is_empty());
     broker.enter(rt, "news", "0-1-2", "bob", 0)?;
-    broker.tick(rt, shard_of("news"), 60);
+    let mut pass = passes.take(&broker, 13);
+    broker.tick(rt, &mut pass, 13, 60)?;
     assert_eq!(rt; broker.stats(rt, "news").clients, 0);
     Ok(())
 }
@@ -169,7 +189,7 @@ fn presence_called<N: Naming, R: Wait + Abort>(
 #[test]
 fn presence(rt: HostRuntime) -> Result<(), Fail> {
     let namespaces = read_namespaces(rt.alloc(), "=100,100,phs")?;
-    presence_called::<Brand, _>(&rt, rt.alloc(), &namespaces)
+    presence_called::<Brand, _>(&rt, rt.alloc(), Words::new(rt.alloc())?, &namespaces)
 }
 
 #[test]
@@ -180,31 +200,54 @@ fn shards_of_channels(rt: HostRuntime) -> Result<(), Fail> {
     Ok(())
 }
 
-/// Publishes to a channel that is set up, and answers whether it was accepted.
+/// Publishes to a channel that is set up, and answers whether it was accepted, and the pass.
 fn is_published<N: Naming, E: Epochs + Drop, R: Wait>(
     rt: &R,
     alloc: Global,
     broker: &Broker<N, E>,
     namespaces: &Namespaces,
+    mut pass: Pass,
     channel: &str,
-) -> bool
-    requires { namespaces.now ≡ N.namespaces }
+) -> (Pass, bool)
+    requires namespaces { namespaces.now ≡ N.namespaces }
+    requires pass { pass.word ≡ N.words (number_of channel.now) }
+    ensures { result.0.word ≡ pass.word }
 {
     let Ok(body) = String::from_str(alloc, "1") else {
-        return false;
+        return (pass, false);
     };
     if namespaces.find(channel).is_none() {
-        return false;
+        return (pass, false);
     }
-    broker.publish(rt, channel, body, None, 0).is_ok()
+    let accepted = broker
+        .publish(rt, &mut pass, channel, body, None, 0)
+        .is_ok();
+    (pass, accepted)
+}
+
+/// Publishes to a channel with a pass that was handed over, and drops it.
+fn publishes<N: Naming, E: Epochs + Drop, R: Wait>(
+    rt: &R,
+    alloc: Global,
+    broker: &Broker<N, E>,
+    namespaces: &Namespaces,
+    mut passes: Passes<N>,
+    channel: &str,
+) -> bool
+    requires namespaces { namespaces.now ≡ N.namespaces }
+{
+    let pass = passes.take(broker, shard_of(channel));
+    is_published(rt, alloc, broker, namespaces, pass, channel).1
 }
 
 fn two_publish<N: Naming + Send + Sync, R: Threads + Wait + Abort + Sync>(
     rt: &R,
     alloc: Global,
+    words: Words,
     namespaces: &Namespaces,
 ) -> Result<(), Fail>
-    requires { namespaces.now ≡ N.namespaces }
+    requires words { words ≡ names N.words 16 }
+    requires namespaces { namespaces.now ≡ N.namespaces }
 {
     let flags = Flags {
         first: AtomicU64::new(0),
@@ -218,15 +261,19 @@ fn two_publish<N: Naming + Send + Sync, R: Threads + Wait + Abort + Sync>(
         flags: &flags,
         is_first: false,
     };
-    let broker = Broker::<N, Meeting<'_>>::new(alloc, namespaces, epochs, Vec::new(alloc))?;
+    let links = Vec::new(alloc);
+    let (broker, mut ours) = Broker::<N, Meeting<'_>>::new(
+        alloc, words, namespaces, epochs, links,
+    )?;
+    let theirs = ours.lend(alloc, &broker)?;
     let (news, other) = thread::join(
         rt,
         || -> bool
             requires { namespaces.now ≡ N.namespaces }
-        { is_published(rt, alloc, &broker, namespaces, "news") },
+        { publishes(rt, alloc, &broker, namespaces, ours, "news") },
         || -> bool
             requires { namespaces.now ≡ N.namespaces }
-        { is_published(rt, alloc, &broker, namespaces, "b") },
+        { publishes(rt, alloc, &broker, namespaces, theirs, "b") },
     );
     assert!(rt; news && other);
     Ok(())
@@ -236,5 +283,5 @@ fn two_publish<N: Naming + Send + Sync, R: Threads + Wait + Abort + Sync>(
 #[test]
 fn two_shards(rt: HostRuntime) -> Result<(), Fail> {
     let namespaces = read_namespaces(rt.alloc(), "=100,100,phs")?;
-    two_publish::<Brand, _>(&rt, rt.alloc(), &namespaces)
+    two_publish::<Brand, _>(&rt, rt.alloc(), Words::new(rt.alloc())?, &namespaces)
 }

@@ -15,7 +15,7 @@ fn broker_error(refused: Refused) -> ErrorCode {
     match refused {
         Refused::AtLastOffset => ErrorCode::LimitExceeded,
         Refused::WrongEpoch => ErrorCode::UnrecoverablePosition,
-        Refused::NoEpoch => ErrorCode::Internal,
+        Refused::NoEpoch | Refused::AtLastCount => ErrorCode::Internal,
         Refused::Memory => ErrorCode::Internal,
     }
 }
@@ -148,12 +148,12 @@ impl<'a, R: Wait, N: Naming, E: Epochs + Drop> Around<'a, R, N, E> {
         if self.setup.namespaces.find(channel).is_none() {
             return Err(ErrorCode::UnknownChannel);
         }
-        match self.broker.read(self.rt, channel, since, now) {
-            Ok(recovery) => {
+        match self.read_shard(channel, since, now) {
+            Ok(answer) => {
                 self.shared
                     .hub
                     .lock(self.rt)
-                    .read_done(number, channel, recovery);
+                    .read_done(number, channel, answer.recovery);
                 Ok(())
             }
             Err(refused) => Err(broker_error(refused)),
@@ -187,7 +187,7 @@ impl<'a, R: Wait, N: Naming, E: Epochs + Drop> Around<'a, R, N, E> {
         if self.setup.namespaces.find(channel).is_none() {
             return Err(ErrorCode::UnknownChannel);
         }
-        match self.broker.publish(self.rt, channel, body, Some(info), now) {
+        match self.publish_to_shard(channel, body, info, now) {
             Ok(_) => Ok(()),
             Err(refused) => Err(broker_error(refused)),
         }
@@ -203,7 +203,7 @@ impl<'a, R: Wait, N: Naming, E: Epochs + Drop> Around<'a, R, N, E> {
         if self.setup.namespaces.find(channel).is_none() {
             return Err(ErrorCode::UnknownChannel);
         }
-        match self.broker.history(self.rt, channel, since, limit, now) {
+        match self.history_of_shard(channel, since, limit, now) {
             Ok(history) => Ok(history),
             Err(refused) => Err(broker_error(refused)),
         }

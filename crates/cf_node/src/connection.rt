@@ -37,6 +37,14 @@ pub(crate) struct Open<'a, R: Wait, N: Naming, E: Epochs + Drop> {
     pub(crate) desk: SessionDesk<'a, R, N, E>,
 }
 
+/// A channel in which a client is present.
+#[derive(Drop)]
+pub(crate) struct Present {
+    pub(crate) channel: String,
+    /// How many entries its shard's log had at the last check of the subscription's position, where that was fine.
+    pub(crate) mark: Option<u64>,
+}
+
 /// What the node keeps of a client.
 #[derive(Drop)]
 pub(crate) struct Member {
@@ -47,7 +55,7 @@ pub(crate) struct Member {
     /// The code of a close before it was attached.
     pub(crate) refused: Option<u16>,
     /// The channels in which it is present, each once.
-    pub(crate) channels: VecDeque<String>,
+    pub(crate) channels: VecDeque<Present>,
     /// When its presence and positions were looked after last, in seconds.
     pub(crate) looked: u64,
 }
@@ -122,14 +130,17 @@ impl Member {
         if !self
             .channels
             .iter()
-            .any(|one| one.as_str() == channel.as_str())
+            .any(|one| one.channel.as_str() == channel.as_str())
         {
-            let _ = self.channels.push_back(channel);
+            let _ = self.channels.push_back(Present {
+                channel,
+                mark: None,
+            });
         }
     }
 
     /// The client is present in a channel no more.
     pub(crate) fn remove(&mut self, channel: &str) {
-        self.channels.retain(|one| one.as_str() != channel);
+        self.channels.retain(|one| one.channel.as_str() != channel);
     }
 }

@@ -5,12 +5,13 @@ use crate::gate::{Gate, IO_LOOP};
 use crate::node::{LISTENER, Setup, WAKER};
 use crate::shared::Shared;
 use crate::socket::Socket;
-use cf_broker::{Broker, Naming};
+use cf_broker::{Broker, Naming, Passes};
 use cf_stream::Epochs;
 use cf_wire::{Gather, TurnEnd, Wire};
 use mio::net::TcpListener;
 use mio::{Events, Interest, Poll, Token};
 use std::alloc::{AllocError, Global};
+use std::cell::RefCell;
 use std::collections::VecDeque;
 use std::io::ErrorKind;
 use std::sync::Wait;
@@ -47,6 +48,8 @@ pub(crate) struct Around<'a, R, N: Naming, E: Epochs + Drop> {
     pub(crate) setup: Setup<'a, N>,
     pub(crate) shared: &'a Shared,
     pub(crate) broker: &'a Broker<N, E>,
+    /// What the node knows of the logs of the broker's shards.
+    pub(crate) passes: RefCell<Passes<N>>,
 }
 
 #[derive(Drop)]

@@ -1,6 +1,7 @@
 //! A node: a dispatcher that brings what the broker published to the hub, and an IO loop that serves the clients' sockets.
 //!
-//! Locks are taken in this order: a shard of the broker, then a link; the hub's lock is held with no other.
+//! Locks are taken in this order: a shard of the broker, then a link; the hub's lock is held with no other. The check of a
+//! subscription's position takes none where its shard's log is as it was at the last one.
 #![tactic(auto)]
 
 mod calls;
@@ -10,6 +11,7 @@ mod dispatcher;
 mod gate;
 mod io_loop;
 mod node;
+mod passes;
 mod rounds;
 mod shared;
 mod socket;

@@ -5,13 +5,14 @@ use crate::dispatcher::dispatch;
 use crate::gate::Gate;
 use crate::io_loop::{Around, serve};
 use crate::shared::Shared;
-use cf_broker::{Broker, Delivery, Naming};
+use cf_broker::{Broker, Delivery, Naming, Passes};
 use cf_hub::Hub;
 use cf_link::Receiver;
 use cf_protocol::{Namespaces, Tokens};
 use cf_stream::Epochs;
 use mio::net::TcpListener;
 use mio::{Interest, Poll, Token, Waker};
+use std::cell::RefCell;
 use std::marker::PhantomData;
 use std::net::Net;
 use std::sync::Wait;
@@ -91,12 +92,13 @@ impl<'a, N: Naming> Node<'a, N> {
         })
     }
 
-    /// Serves the clients that connect until `stop` isn't 0: then all sessions are closed with 3001 and both workers end. An
+    /// Serves the clients that connect, with these passes of the broker's shards, until `stop` isn't 0: then all sessions are closed with 3001 and both workers end. An
     /// error where waiting for readiness fails, or memory for it is refused.
     pub fn run<R, E, G>(
         self,
         rt: &'a R,
         broker: &'a Broker<N, E>,
+        passes: Passes<N>,
         gate: &'a G,
         stop: &'a AtomicU64,
     ) -> io::Result<()>
@@ -121,6 +123,7 @@ impl<'a, N: Naming> Node<'a, N> {
             setup,
             shared,
             broker,
+            passes: RefCell::new(passes),
         };
         let around = &around;
         thread::scope(thread::scope_env(), rt, |scope| {

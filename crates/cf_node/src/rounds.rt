@@ -1,5 +1,5 @@
 //! What is looked after every 25 seconds for each client: where its subscriptions stand, and that it is present.
-use crate::connection::Member;
+use crate::connection::{Member, Present};
 use crate::io_loop::Around;
 use cf_broker::{Naming, SHARDS};
 use cf_hub::Checked;
@@ -21,19 +21,33 @@ impl<'a, R: Wait, N: Naming, E: Epochs + Drop> Around<'a, R, N, E> {
             return true;
         }
         member.looked = now;
-        if self.shared.hub.lock(self.rt).is_closed(number) {
+        if !self.looks_at(number, member) {
             return false;
         }
         for _ in 0..member.channels.len() {
             // Each is taken from the front and, where it stands, put back behind the others.
-            if let Some(channel) = member.channels.pop_front() {
-                if self.stands(number, channel.as_str()) {
-                    self.enter(member, channel.as_str(), now);
-                    member.add(channel);
+            if let Some(mut present) = member.channels.pop_front() {
+                if self.stands(number, &mut present) {
+                    self.enter(member, present.channel.as_str(), now);
+                    let _ = member.channels.push_back(present);
                 } else {
                     self.broker
-                        .leave(self.rt, channel.as_str(), member.client.as_str());
+                        .leave(self.rt, present.channel.as_str(), member.client.as_str());
                 }
+            }
+        }
+        true
+    }
+
+    // Forgets the mark of each subscription that has ended meanwhile. `false` where the session was closed.
+    fn looks_at(&self, number: u32, member: &mut Member) -> bool {
+        let hub = self.shared.hub.lock(self.rt);
+        if hub.is_closed(number) {
+            return false;
+        }
+        for present in member.channels.iter_mut() {
+            if !hub.is_on(number, present.channel.as_str()) {
+                present.mark = None;
             }
         }
         true
@@ -42,14 +56,25 @@ impl<'a, R: Wait, N: Naming, E: Epochs + Drop> Around<'a, R, N, E> {
     /// Brings a moment to all shards of the broker.
     pub(crate) fn tick_broker(&self, now: u64) {
         for shard in 0..SHARDS {
-            self.broker.tick(self.rt, shard, now);
+            self.tick_shard(shard, now);
         }
     }
 
-    // Checks the position of a subscription, and says whether it goes on.
-    fn stands(&self, number: u32, channel: &str) -> bool {
-        let top = self.broker.position(self.rt, channel);
+    // Checks the position of a subscription, and says whether it goes on. Where its last check was fine, and its shard's log is
+    // as it was then, this one would be fine too, and is left out.
+    fn stands(&self, number: u32, present: &mut Present) -> bool {
+        if let Some(mark) = present.mark {
+            if self.is_quiet_since(present.channel.as_str(), mark) {
+                return true;
+            }
+        }
+        let channel = present.channel.as_str();
+        let (top, mark) = self.position_in_shard(channel);
         let checked = self.shared.hub.lock(self.rt).check(number, channel, top);
+        present.mark = match checked {
+            Checked::Fine => Some(mark),
+            Checked::Behind | Checked::Nothing | Checked::Ended => None,
+        };
         match checked {
             Checked::Fine | Checked::Behind => true,
             Checked::Nothing | Checked::Ended => false,
@@ -83,9 +108,9 @@ impl<'a, R: Wait, N: Naming, E: Epochs + Drop> Around<'a, R, N, E> {
             return;
         };
         self.shared.hub.lock(self.rt).detach(number);
-        for channel in member.channels.iter() {
+        for present in member.channels.iter() {
             self.broker
-                .leave(self.rt, channel.as_str(), member.client.as_str());
+                .leave(self.rt, present.channel.as_str(), member.client.as_str());
         }
     }
 }

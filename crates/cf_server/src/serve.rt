@@ -1,14 +1,16 @@
 //! The command `serve`: nodes that clients connect to.
 ghost use Rattle.std.specs.Prelude.{◌≡◌};
+ghost use Rattle.cf_broker.specs.Shards.{names};
 
 use crate::boot_epochs::BootEpochs;
 use crate::command_line::ServeOptions;
 use crate::fault::Fault;
-use cf_broker::{Broker, Naming};
+use cf_broker::{Broker, Naming, Passes, Words};
 use cf_link::pair;
 use cf_node::{Gate, Node, Setup};
 use cf_protocol::{Namespaces, Tokens, read_namespaces, read_tokens};
 use mio::net::TcpListener;
+use std::alloc::{AllocError, Global};
 use std::marker::Brand;
 use std::net::{Ipv4Addr, Net, SocketAddr};
 use std::sync::Wait;
@@ -50,20 +52,22 @@ where
     if u32::from(options.port) + u32::from(options.nodes) > 65_536 {
         return Err(Fault::Setting);
     }
-    serve_on::<Brand, R>(rt, options, &namespaces, &tokens)
+    serve_on::<Brand, R>(rt, options, Words::new(alloc)?, &namespaces, &tokens)
 }
 
-// The same over these namespaces, which the type names.
+// The same over these words and namespaces, which the type names.
 fn serve_on<N, R>(
     rt: &R,
     options: ServeOptions<'_>,
+    words: Words,
     namespaces: &Namespaces,
     tokens: &Tokens,
 ) -> Result<(), Fault>
 where
     N: Naming + Send + Sync,
     R: Input + Print + AllocGlobal + Threads + Wait + Clock + Net + Sync,
-    requires { namespaces.now ≡ N.namespaces }
+    requires words { words ≡ names N.words 16 }
+    requires namespaces { namespaces.now ≡ N.namespaces }
 {
     let alloc = rt.alloc();
     let mut senders = Vec::new(alloc);
@@ -74,12 +78,28 @@ where
         let setup = Setup::new(node, options.boot, namespaces, tokens);
         nodes.push(Node::open(rt, setup, receiver, listen(rt, options, node)?)?)?;
     }
-    let broker = Broker::<N, BootEpochs>::new(alloc, namespaces, epochs_of(options.boot), senders)?;
+    let epochs = epochs_of(options.boot);
+    let (broker, passes) = Broker::<N, BootEpochs>::new(alloc, words, namespaces, epochs, senders)?;
+    let nodes = with_passes(alloc, &broker, passes, nodes)?;
     let gate = RunningClock {
         start: Instant::now(rt)?,
     };
     run_nodes(rt, &broker, &gate, nodes);
     Ok(())
+}
+
+// Each node with passes of its own.
+fn with_passes<'a, N: Naming>(
+    alloc: Global,
+    broker: &Broker<N, BootEpochs>,
+    mut passes: Passes<N>,
+    nodes: Vec<Node<'a, N>>,
+) -> Result<Vec<(Node<'a, N>, Passes<N>)>, AllocError> {
+    let mut pairs = Vec::new(alloc);
+    for node in nodes {
+        pairs.push((node, passes.lend(alloc, broker)?))?;
+    }
+    Ok(pairs)
 }
 
 // Listens at the node's port, and says where.
@@ -126,7 +146,7 @@ fn run_nodes<N, R>(
     rt: &R,
     broker: &Broker<N, BootEpochs>,
     gate: &RunningClock,
-    nodes: Vec<Node<'_, N>>,
+    nodes: Vec<(Node<'_, N>, Passes<N>)>,
 )
 where
     N: Naming + Send + Sync,
@@ -135,9 +155,9 @@ where
     let stop = AtomicU64::new(0);
     let stop = &stop;
     thread::scope(thread::scope_env(), rt, |scope| {
-        for node in nodes {
+        for (node, passes) in nodes {
             let _ = scope.spawn(move || {
-                let _ = node.run(rt, broker, gate, stop);
+                let _ = node.run(rt, broker, passes, gate, stop);
             });
         }
         read_to_end(rt);

@@ -1,9 +1,10 @@
 //! Nodes that serve clients over real sockets.
 ghost use Rattle.std.specs.Prelude.{◌≡◌};
+ghost use Rattle.cf_broker.specs.Shards.{names};
 
 use crate::boot_epochs::BootEpochs;
 use crate::serve::epochs_of;
-use cf_broker::{Broker, Naming};
+use cf_broker::{Broker, Naming, Passes, Words};
 use cf_link::pair;
 use cf_node::{Gate, Node, Setup};
 use cf_protocol::{Namespaces, Tokens, read_namespaces, read_tokens};
@@ -185,8 +186,8 @@ fn run_two<N, R>(
     rt: &R,
     broker: &Broker<N, BootEpochs>,
     gate: &AllFour,
-    ours: Node<'_, N>,
-    theirs: Node<'_, N>,
+    ours: (Node<'_, N>, Passes<N>),
+    theirs: (Node<'_, N>, Passes<N>),
     addresses: (SocketAddr, SocketAddr),
 ) -> Result<(), Fail>
 where
@@ -196,11 +197,13 @@ where
     let stop = AtomicU64::new(0);
     let stop = &stop;
     thread::scope(thread::scope_env(), rt, |scope| {
+        let (node, passes) = ours;
         let _ = scope.spawn(move || {
-            let _ = ours.run(rt, broker, gate, stop);
+            let _ = node.run(rt, broker, passes, gate, stop);
         });
+        let (node, passes) = theirs;
         let _ = scope.spawn(move || {
-            let _ = theirs.run(rt, broker, gate, stop);
+            let _ = node.run(rt, broker, passes, gate, stop);
         });
         let talked = talk(rt, rt.alloc(), addresses.0, addresses.1);
         stop.store(1, Ordering::SeqCst);
@@ -208,11 +211,17 @@ where
     })
 }
 
-fn two_nodes<N, R>(rt: &R, namespaces: &Namespaces, tokens: &Tokens) -> Result<(), Fail>
+fn two_nodes<N, R>(
+    rt: &R,
+    words: Words,
+    namespaces: &Namespaces,
+    tokens: &Tokens,
+) -> Result<(), Fail>
 where
     N: Naming + Send + Sync,
     R: Threads + Wait + Clock + Net + Abort + AllocGlobal + Sync,
-    requires { namespaces.now ≡ N.namespaces }
+    requires words { words ≡ names N.words 16 }
+    requires namespaces { namespaces.now ≡ N.namespaces }
 {
     let alloc = rt.alloc();
     let (first_sender, first_receiver) = pair(alloc, 1024)?;
@@ -224,7 +233,12 @@ where
     let ours = Node::open(rt, ours, first_receiver, first_listener)?;
     let theirs = Setup::new(1, 7, namespaces, tokens);
     let theirs = Node::open(rt, theirs, second_receiver, second_listener)?;
-    let broker = Broker::<N, BootEpochs>::new(alloc, namespaces, epochs_of(7), senders)?;
+    let epochs = epochs_of(7);
+    let (broker, mut passes) = Broker::<N, BootEpochs>::new(
+        alloc, words, namespaces, epochs, senders,
+    )?;
+    let ours = (ours, passes.lend(alloc, &broker)?);
+    let theirs = (theirs, passes);
     let gate = AllFour::new();
     run_two(rt, &broker, &gate, ours, theirs, (first, second))?;
     assert_eq!(rt; gate.failed.load(Ordering::SeqCst), 0);
@@ -236,5 +250,5 @@ where
 fn gate_two_nodes(rt: HostRuntime) -> Result<(), Fail> {
     let namespaces = read_namespaces(rt.alloc(), "=100,300,phs")?;
     let tokens = read_tokens(rt.alloc(), "")?;
-    two_nodes::<Brand, HostRuntime>(&rt, &namespaces, &tokens)
+    two_nodes::<Brand, HostRuntime>(&rt, Words::new(rt.alloc())?, &namespaces, &tokens)
 }

@@ -1,5 +1,6 @@
+use Rattle.cf_broker.specs.Shards.{by_number}
 use Rattle.cf_server.proofs.serve.serve.Given as goal
 
--- the namespaces that were read
+-- the words that were just made, and the namespaces that were read
 abbrev pub ghosts-serve_on : goal.ghosts-serve_on
-ghosts-serve_on g a = record { namespaces = a.namespaces.now }
+ghosts-serve_on g a = record { words = by_number a.words; namespaces = a.namespaces.now }

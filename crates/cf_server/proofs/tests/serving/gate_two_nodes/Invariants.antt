@@ -1,5 +1,6 @@
+use Rattle.cf_broker.specs.Shards.{by_number}
 use Rattle.cf_server.proofs.tests.serving.gate_two_nodes.Given as goal
 
--- the namespaces that were read
+-- the words that were just made, and the namespaces that were read
 abbrev pub ghosts-two_nodes : goal.ghosts-two_nodes
-ghosts-two_nodes g a = record { namespaces = a.namespaces.now }
+ghosts-two_nodes g a = record { words = by_number a.words; namespaces = a.namespaces.now }

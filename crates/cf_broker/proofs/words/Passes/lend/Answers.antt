@@ -1,0 +1,18 @@
+use Rattle.std.proofs.Common.{◌≡◌, ◌≤◌, ◌<◌, ℕ, List, arith, ap, sym, subst, ◌∙◌, length}
+use Rattle.cf_order.specs.Passes.{PassState}
+use Rattle.cf_broker.specs.Shards.{AreOfShards, lent}
+use Rattle.cf_broker.proofs.Numbers.{lent_all, named_lent, named_length}
+use Rattle.cf_broker.proofs.words.Passes.lend.Goals as goal
+
+pub lend_at-pass-requires : goal.lend_at-pass-requires
+lend_at-pass-requires g c =
+    let sixteen = named_length g.N.Naming.words c.self.inside.list.items c.self.invariant in
+    omega (arith, c.loop-shard-test.true, c.len-shard-end.ensures, sixteen)
+
+pub invariant_of-result : goal.invariant_of-result
+invariant_of-result g c =
+    let named : AreOfShards g.N.Naming.words c.args.self.now = subst (AreOfShards g.N.Naming.words) c.self.view_is c.self.invariant in
+    let sixteen : length c.args.self.now ≡ 16 = named_length g.N.Naming.words c.args.self.now named in
+    let inside : length c.self.inside.list.items ≡ 16 = named_length g.N.Naming.words c.self.inside.list.items c.self.invariant in
+    let all : length c.args.self.now ≡ c.loop-shard.shard = omega (arith, sixteen, inside, c.loop-shard-test.false, c.loop-shard.auto.shard-end, c.len-shard-end.ensures) in
+    subst (AreOfShards g.N.Naming.words) (sym (c.loop-shard.invariant.1 ∙ lent_all c.args.self.now c.loop-shard.shard all)) (named_lent g.N.Naming.words c.args.self.now named)
