@@ -12,6 +12,9 @@ const ABOUT: &str = "Broadcast nodes that speak Centrifugo's client protocol, pr
 /// publications for 300 seconds and allows all.
 pub const DEFAULT_NAMESPACES: &str = "=100,300,phs";
 
+/// The epochs that a conversation's streams take unless others are given.
+pub const DEFAULT_EPOCHS: &str = "aaaa";
+
 const SIMULATE: &str =
     "Reads a schedule from standard input, runs it, and prints what each client gets";
 
@@ -31,6 +34,28 @@ streams are still those that they know.
 It ends at the end of standard input (Ctrl-D at a terminal): each client is closed with 3001. To keep it running without
 a terminal, give it an input that does not end:
   sleep infinity | cf_server serve --boot 7 --port 8000";
+
+const SPEAK: &str = "Speaks with one client: each line of standard input is one of its messages";
+
+const SPEAK_NOTES: &str =
+    "A line is what a client of Centrifugo sends in one message: one or more commands in JSON. What the client gets is printed,
+a line for each message, and `close CODE REASON` where the server would close the connection; then it ends.
+
+For example, with these lines as input (cf_server speak, and then paste them):
+  {\"id\":1,\"connect\":{}}
+  {\"id\":2,\"subscribe\":{\"channel\":\"news\"}}
+  {\"id\":3,\"publish\":{\"channel\":\"news\",\"data\":\"hello\"}}
+  {\"id\":4,\"history\":{\"channel\":\"news\",\"limit\":-1}}
+  {\"id\":5,\"connect\":{}}
+it prints:
+  {\"connect\":{\"client\":\"0-1-1\",\"ping\":25,\"pong\":true,\"version\":\"1.0.0\"},\"id\":1}
+  {\"id\":2,\"subscribe\":{\"epoch\":\"aaaa\",\"positioned\":true,\"recoverable\":true}}
+  {\"id\":3,\"publish\":{}}
+  {\"push\":{\"channel\":\"news\",\"pub\":{\"data\":\"hello\",\"info\":{\"client\":\"0-1-1\"},\"offset\":1}}}
+  {\"history\":{\"epoch\":\"aaaa\",\"offset\":1,\"publications\":[{\"data\":\"hello\",\"info\":{\"client\":\"0-1-1\"},\"offset\":1}]},\"id\":4}
+  close 3501 bad request
+
+Each new stream takes the next of the epochs; where none is left, a command that would open a stream fails with error 100.";
 
 const PROGRAM_NOTES: &str = "With no command it is `simulate`.
 
@@ -60,6 +85,7 @@ What is printed, each by the `take` that brings it:
 #[derive(Clone, Copy, Debug, PartialEq, Eq)]
 pub enum Job<'a> {
     Simulate(Options<'a>),
+    Speak(SpeakOptions<'a>),
     Serve(ServeOptions<'a>),
 }
 
@@ -68,6 +94,14 @@ pub enum Job<'a> {
 pub struct Options<'a> {
     pub nodes: u8,
     pub namespaces: &'a str,
+}
+
+/// What `speak` runs with: the texts of namespaces, tokens and epochs.
+#[derive(Clone, Copy, Debug, PartialEq, Eq)]
+pub struct SpeakOptions<'a> {
+    pub namespaces: &'a str,
+    pub tokens: &'a str,
+    pub epochs: &'a str,
 }
 
 /// What `serve` runs with: the number of this start, how many nodes, the port of the first (0: any that is free), and the
@@ -117,6 +151,23 @@ fn tokens_option<'a>(alloc: Global) -> Arg<'a> {
         .default_value("")
 }
 
+fn epochs_option<'a>(alloc: Global) -> Arg<'a> {
+    Arg::new(alloc, "epochs")
+        .long("epochs")
+        .value_name("E1,E2,..")
+        .help("The epochs of the streams that open, in order, parted by `,`")
+        .default_value(DEFAULT_EPOCHS)
+}
+
+fn speak_command<'a>(alloc: Global) -> Result<Command<'a>, AllocError> {
+    let command = Command::new(alloc, "speak")
+        .about(SPEAK)
+        .after_help(SPEAK_NOTES);
+    let command = command.arg(namespaces_option(alloc))?;
+    let command = command.arg(tokens_option(alloc))?;
+    command.arg(epochs_option(alloc))
+}
+
 fn boot_option<'a>(alloc: Global) -> Arg<'a> {
     Arg::new(alloc, "boot")
         .long("boot")
@@ -151,6 +202,7 @@ fn program<'a>(alloc: Global) -> Result<Command<'a>, AllocError> {
         .about(ABOUT)
         .after_help(PROGRAM_NOTES);
     let program = program.subcommand(simulate_command(alloc)?)?;
+    let program = program.subcommand(speak_command(alloc)?)?;
     program.subcommand(serve_command(alloc)?)
 }
 
@@ -160,6 +212,7 @@ pub fn read<'a>(alloc: Global, words: &'a [String]) -> Result<Job<'a>, Error> {
     let matches = program(alloc)?.try_get_matches_from(words)?;
     Ok(match matches.subcommand() {
         Some(("serve", found)) => Job::Serve(serve_options(found)),
+        Some(("speak", found)) => Job::Speak(speak_options(found)),
         Some((_, found)) => Job::Simulate(options_of(found)),
         None => Job::Simulate(options_of(&matches)),
     })
@@ -170,6 +223,14 @@ fn options_of<'a>(found: &ArgMatches<'a>) -> Options<'a> {
     Options {
         nodes: found.get_one::<u8>("nodes").unwrap_or(1),
         namespaces: found.get_str("ns").unwrap_or(DEFAULT_NAMESPACES),
+    }
+}
+
+fn speak_options<'a>(found: &ArgMatches<'a>) -> SpeakOptions<'a> {
+    SpeakOptions {
+        namespaces: found.get_str("ns").unwrap_or(DEFAULT_NAMESPACES),
+        tokens: found.get_str("tokens").unwrap_or(""),
+        epochs: found.get_str("epochs").unwrap_or(DEFAULT_EPOCHS),
     }
 }
 

@@ -7,17 +7,19 @@ mod fault;
 mod schedule;
 mod serve;
 mod simulate;
+mod speak;
 #[cfg(test)]
 mod tests;
 
 use cf_protocol::read_namespaces;
 use cf_schedule::Config;
-use command_line::{Job, Options};
+use command_line::{Job, Options, SpeakOptions};
 use fault::Fault;
 use serve::serve;
 use simulate::simulate;
+use speak::{setup_of, speak};
 use std::alloc::Global;
-use std::io::{BufWriter, Write};
+use std::io::{BufReader, BufWriter, Write};
 use std::net::Net;
 use std::process::ExitCode;
 use std::rt::Env;
@@ -50,6 +52,17 @@ fn simulate_standard<R: Input + Print + AllocGlobal>(
     simulate(alloc, &mut reader, &mut writer, &config)
 }
 
+fn speak_standard<R: Input + Print + AllocGlobal>(
+    rt: &R,
+    options: SpeakOptions<'_>,
+) -> Result<(), Fault> {
+    let alloc = rt.alloc();
+    let setup = setup_of(alloc, options)?;
+    let mut reader = BufReader::new(alloc, rt.reader())?;
+    let mut writer = BufWriter::new(alloc, io::writer(rt))?;
+    speak(alloc, &mut reader, &mut writer, setup)
+}
+
 // The program's words. One that isn't UTF-8 is unusable.
 fn words<R: Env + AllocGlobal>(rt: &R) -> Result<Vec<String>, Fault> {
     let given = match env::args(rt) {
@@ -72,6 +85,10 @@ where
     match command_line::read(rt.alloc(), words.as_slice()) {
         Ok(Job::Simulate(options)) => {
             simulate_standard(rt, options)?;
+            Ok(ExitCode::SUCCESS)
+        }
+        Ok(Job::Speak(options)) => {
+            speak_standard(rt, options)?;
             Ok(ExitCode::SUCCESS)
         }
         Ok(Job::Serve(options)) => {

@@ -3,6 +3,7 @@ ghost use Rattle.std.specs.Prelude.{◌≤◌, length, IfOk};
 
 mod runs;
 mod serving;
+mod speaking;
 
 use crate::command_line::{self, DEFAULT_NAMESPACES, Job, Options, ServeOptions};
 use crate::config_of;

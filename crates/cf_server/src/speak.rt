@@ -1,0 +1,42 @@
+//! The command `speak`: each line of the input is a text of one client.
+ghost use Rattle.std.specs.Prelude.{OnOk, IfSome, IsErrOf};
+ghost use Rattle.cf_speak.specs.Conversation.{BreaksOff, Speaks};
+
+use crate::command_line::SpeakOptions;
+use crate::fault::Fault;
+use cf_protocol::{read_namespaces, read_tokens};
+use cf_speak::{GivenEpochs, Setup, SpeakFault, converse};
+use std::alloc::Global;
+use std::io::{BufRead, Write};
+
+/// Serves the lines of one client, and writes what it gets: a line for each text, and one for a close, with which it ends.
+pub fn speak<R: BufRead, W: Write>(
+    alloc: Global,
+    reader: &mut R,
+    writer: &mut W,
+    setup: Setup,
+) -> Result<(), Fault>
+    ensures done { OnOk result (IfSome (R.remaining reader.old) (λ input.
+        Speaks (record { namespaces = setup.namespaces; tokens = setup.tokens }) setup.epochs input
+        (W.contents writer.old) (W.contents writer.new))) }
+    // What isn't UTF-8 is met at its line, after what the earlier lines gave.
+    ensures not_utf8 { IsErrOf result Fault.NotUtf8 → IfSome (R.remaining reader.old) (λ input.
+        BreaksOff (record { namespaces = setup.namespaces; tokens = setup.tokens }) setup.epochs input
+        (W.contents writer.old) (W.contents writer.new)) }
+{
+    match converse(alloc, reader, writer, setup) {
+        Ok(()) => Ok(()),
+        Err(SpeakFault::NotUtf8) => Err(Fault::NotUtf8),
+        Err(SpeakFault::Memory) => Err(Fault::Memory),
+        Err(SpeakFault::InputOutput) => Err(Fault::InputOutput),
+    }
+}
+
+/// The settings that the options name. A text of another form is an unusable setting.
+pub fn setup_of(alloc: Global, options: SpeakOptions<'_>) -> Result<Setup, Fault> {
+    Ok(Setup {
+        namespaces: read_namespaces(alloc, options.namespaces)?,
+        tokens: read_tokens(alloc, options.tokens)?,
+        epochs: GivenEpochs::read(alloc, options.epochs)?,
+    })
+}
