@@ -31,6 +31,13 @@ impl Hub {
     ghost use Rattle.cf_hub.specs.Rows.{Agrees};
     ghost use Rattle.cf_hub.specs.SessionState.{is_unfinished};
 
+    /// The node's boot number. It takes no memory.
+    pub fn boot(&self) -> u64
+        ensures { result ≡ self.now.boot }
+    {
+        self.boot
+    }
+
     /// The subscription of a session to a channel, while the stream was not read for it. It takes no memory.
     pub fn asked(&self, session: u32, channel: &str) -> Option<Asked>
         ensures { result ≡ asked_of (sub_at self.now session channel.now) }

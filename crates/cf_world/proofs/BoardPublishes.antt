@@ -1,0 +1,213 @@
+-- The broker beside the machine's, after a publish, and where none can be drawn.
+use Rattle.std.proofs.Common.{◌≡◌, ◌≢◌, ◌≤◌, ◌<◌, ℕ, ◌+◌, ◌&&◌, min, Bool, true, false, not, cond, nat_lt, Option, Some, None, option_map, is_some, List, [], ◌∷◌, ◌++◌, length, slice_get, drop, length-append, arith, refl, sym, ap, subst, ◌∙◌}
+use Rattle.std.specs.List.{All, AllZip}
+use Rattle.std.proofs.lemmas.List.Elements.{All-append}
+use Rattle.std.specs.Option.{IsSome, IsSomeAnd}
+use Rattle.std.specs.String.{string_bytes}
+use Rattle.std.specs.BTreeSet.{contains_text}
+use Rattle.std.proofs.lemmas.Bool.{lt-ltb}
+use Rattle.cf_protocol.specs.Names.{with, is_among}
+use Rattle.cf_protocol.specs.Epoch.{IsEpoch}
+use Rattle.cf_protocol.specs.Datum.{Datum}
+use Rattle.cf_protocol.specs.Note.{Lists}
+use Rattle.cf_protocol.specs.Regular.{IsPlaced, IsBody, IsInfo}
+use Rattle.cf_protocol.specs.declared.settings.Settings.{Settings}
+use Rattle.cf_protocol.specs.Settings.{NamespaceTable, settings_of}
+use Rattle.cf_stream.specs.Stream.{Shown}
+use Rattle.cf_stream.specs.StreamState.{StreamState, last_offset, with_one_more}
+use Rattle.cf_stream.specs.Streams.{stream_of, stood_or, size_at, size_of as stream_size}
+use Rattle.cf_stream.specs.PublicationList.{Life, Shows, published}
+use Rattle.cf_stream.specs.ChannelLists.{ChangesAt, life_or}
+use Rattle.cf_stream.specs.FreshEpochs.{Draws, DrawsNone, IsNoEpoch}
+use Rattle.cf_world.specs.BrokerTie.{IsAccepted, IsDatum, ShowsBroker, FindsNone, Publishes, life_at}
+use Rattle.cf_machine.specs.FreshEpochs.{AreFresh}
+use Rattle.cf_machine.specs.IntervalMachine.{size_by}
+use Rattle.cf_machine.specs.PublicationList.{Broker, opened, can_open, is_full, stands_or_opens, list_with, add_at}
+use Rattle.cf_world.specs.declared.broker.Accepted.{Accepted}
+use Rattle.cf_world.specs.declared.broker.Broker.{Broker as Code}
+use Rattle.cf_world.specs.declared.broker.Published.TheVariants as outcome
+use Rattle.cf_world.specs.declared.epochs.WaitingEpochs.{WaitingEpochs}
+use Rattle.cf_world.proofs.BoardLists.{grown-list_with, listed_here, all-accepted-later, all-zip-snoc, accepted-now}
+use Rattle.cf_world.proofs.Boards.{shown-changed, life_of, takes_front, Opened, draws_opened, shows_here}
+use Rattle.cf_world.proofs.BoardCalls.{shows-same}
+use Rattle.cf_world.proofs.Named.{all-one}
+use Rattle.cf_world.proofs.Names.{itself, with-both, with-same, with-other, with-two}
+
+-- what is said of a stream over its channel's lists
+abbrev Stood : (List ℕ → List Datum) → StreamState → Type 0
+Stood list s = (s.top ≡ length (list s.epoch)) × (s.top ≤ last_offset) × IsEpoch s.epoch
+
+-- ---- a publication more in a stream that stands
+
+module _ (table : NamespaceTable) (b new : Code) (m m1 : Broker) (h : ShowsBroker table b m) (k : Option Shown) (c e : List ℕ) (o : Opened b m m1 k c e new.epochs)
+    (ns : new.streams.namespaces ≡ b.streams.namespaces) (size : ℕ) (d : Datum)
+    (ch : ChangesAt b.streams new.streams c (λ l. Some (published size d (life_or l e)))) (room : o.state.top < last_offset) where
+  abbrev pub s : StreamState
+  s = o.state
+
+  abbrev pub more : List ℕ → List Datum
+  more = with (m1.lists c) s.epoch (m1.lists c s.epoch ++ d ∷ [])
+
+  abbrev pub after : Broker
+  after = record m1 {
+    streams = with m1.streams c (Some (with_one_more size s));
+    lists = list_with c s.epoch d m1.lists;
+    accepted = m1.accepted ++ record { channel = c; at = record { epoch = s.epoch; offset = s.top + 1 } } ∷ [];
+  }
+
+  here : Some (published size d (life_or (life_at m c) e)) ≡ life_at after c
+  here =
+      ap (λ (l : Life). Some (published size d l)) o.life
+      ∙ (ap (λ (l : List Datum). Some (record { epoch = s.epoch; list = l; held = min (s.held + 1) size })) (sym (listed_here m1.lists c s.epoch d))
+      ∙ sym (ap (option_map (life_of (after.lists c))) (with-same m1.streams c (Some (with_one_more size s)))))
+
+  there : (q : List ℕ) → q ≢ c → life_at m q ≡ life_at after q
+  there q ne =
+      o.others q ne
+      ∙ (ap (λ (list : List ℕ → List Datum). option_map (life_of list) (m1.streams q)) (sym (with-other m1.lists c more q ne))
+      ∙ ap (option_map (life_of (after.lists q))) (sym (with-other m1.streams c (Some (with_one_more size s)) q ne)))
+
+  standing : (q : List ℕ) (t : StreamState) → after.streams q ≡ Some t → Stood (after.lists q) t
+  standing =
+      with-both (λ q (list : List ℕ → List Datum) (y : Option StreamState). (t : StreamState) → y ≡ Some t → Stood list t) m1.lists m1.streams c more (Some (with_one_more size s))
+      (λ t i.
+      let is : with_one_more size s ≡ t = cc in
+      let stood = o.standing c s o.stands in
+      let top : s.top + 1 ≡ length (more s.epoch) =
+      rw (with-same (m1.lists c) s.epoch (m1.lists c s.epoch ++ d ∷ []), length-append, ← stood.top) refl in
+      subst (Stood more) is (top, omega (arith, room), stood.epoch))
+      (λ q ne t i. let stood = o.standing q t i in (stood.top, stood.within, stood.epoch))
+
+  module _ (a : Accepted) (pushed : new.accepted.items ≡ b.accepted.items ++ a ∷ []) (channel : string_bytes a.channel ≡ c) (at : a.epoch ≡ e)
+      (publication : a.publication ≡ record { offset = s.top + 1; datum = d }) (body : IsBody d.body) (info : IsInfo d.info) where
+    regular : IsPlaced IsBody a.publication
+    regular =
+        let fits : s.top + 1 ≤ 18446744073709551615 = omega (arith, room) in
+        subst (IsPlaced IsBody) (sym publication) (record { body = body; info = info; offset = fits })
+
+    old_regular : (x i : List ℕ) → All IsDatum (m1.lists x i)
+    old_regular = subst (λ (t : Lists). (x i : List ℕ) → All IsDatum (t x i)) (sym o.lists) h.regular
+
+    old_bounded : (x i : List ℕ) → length (m1.lists x i) ≤ last_offset
+    old_bounded = subst (λ (t : Lists). (x i : List ℕ) → length (t x i) ≤ last_offset) (sym o.lists) h.bounded
+
+    accepts : AllZip (IsAccepted after.lists) new.accepted.items after.accepted
+    accepts =
+        subst (λ (xs : List Accepted). AllZip (IsAccepted after.lists) xs after.accepted) (sym pushed)
+        (all-zip-snoc (IsAccepted after.lists) b.accepted.items m1.accepted a _
+        (all-accepted-later m1.lists after.lists b.accepted.items m1.accepted (grown-list_with m1.lists c s.epoch d) o.accepted)
+        (accepted-now m1.lists c s.epoch d s.top a (o.standing c s o.stands).top channel (at ∙ sym o.epoch) publication regular))
+
+    shows_after : ShowsBroker table new after
+    shows_after = record {
+      namespaces = ns ∙ h.namespaces;
+      waiting = o.waiting;
+      came = o.came;
+      epochs = o.epochs;
+      streams = shown-changed b.streams new.streams c (λ l. Some (published size d (life_or l e))) (life_at m) (life_at after) ch h.streams here there;
+      standing = λ q t i. let stood = standing q t i in record { top = stood.0; within = stood.1; epoch = stood.2 };
+      accepted = accepts;
+      regular =
+          with-two (λ x i (l : List Datum). All IsDatum l) m1.lists c s.epoch (m1.lists c s.epoch ++ d ∷ [])
+          (All-append IsDatum (m1.lists c s.epoch) (d ∷ []) (old_regular c s.epoch) (all-one IsDatum d (body, info))) old_regular;
+      bounded =
+          with-two (λ x i (l : List Datum). length l ≤ last_offset) m1.lists c s.epoch (m1.lists c s.epoch ++ d ∷ [])
+          (let top = (o.standing c s o.stands).top in rw length-append (omega (arith, room, top))) old_bounded;
+    }
+
+    pub added_shows : ShowsBroker table new (add_at size c d (m1.streams c) m1)
+    added_shows =
+        subst (λ (y : Option StreamState). ShowsBroker table new (add_at size c d y m1)) (sym o.stands)
+        (subst (λ (t : Bool). ShowsBroker table new (cond t after m1)) (sym (lt-ltb s.top last_offset room)) shows_after)
+
+-- a stream that did not refuse has room
+room_left : (k : Option Shown) (e : List ℕ) (n : ℕ) → ((size : ℕ) → (stood_or k e size).top ≡ n) → n ≤ last_offset
+    → (IsSomeAnd k (λ s. s.top ≡ last_offset) → ⊥) → n < last_offset
+room_left None e n top within last = let none : 0 ≡ n = top 0 in omega arith
+room_left (Some s) e n top within last = let same : s.top ≡ n = top 0 in let not_last : s.top ≢ last_offset = last in omega arith
+
+size_same : (o : Option Settings) → stream_size o ≡ size_by o
+size_same None = refl
+size_same (Some s) = refl
+
+pub published_shows : (table : NamespaceTable) (m : Broker) (b new : Code) (c e : List ℕ) (d : Datum) (n : ℕ) (a : Accepted)
+    → AreFresh m → ShowsBroker table b m → IsSome (settings_of b.streams.namespaces c)
+    → Draws takes_front (stream_of b.streams c) e b.epochs new.epochs
+    → new.streams.namespaces ≡ b.streams.namespaces
+    → ChangesAt b.streams new.streams c (λ l. Some (published (size_at b.streams.namespaces c) d (life_or l e)))
+    → (IsSomeAnd (stream_of b.streams c) (λ s. s.top ≡ last_offset) → ⊥)
+    → n ≡ (stood_or (stream_of b.streams c) e (size_at b.streams.namespaces c)).top + 1
+    → new.accepted.items ≡ b.accepted.items ++ a ∷ []
+    → string_bytes a.channel ≡ c → a.epoch ≡ e → a.publication ≡ record { offset = n; datum = d } → IsBody d.body → IsInfo d.info
+    → Publishes table m c d new outcome.Accepted
+published_shows table m b new c e d n a fresh h set drawn ns ch last offset pushed channel at publication regular info =
+    let m1 : Broker = opened c m in
+    let size : ℕ = size_at b.streams.namespaces c in
+    let opens = draws_opened table b m h c e new.epochs fresh drawn in
+    let o : Opened b m m1 (stream_of b.streams c) c e new.epochs = opens.0 in
+    let s : StreamState = o.state in
+    let room : s.top < last_offset = room_left (stream_of b.streams c) e s.top o.top (o.standing c s o.stands).within last in
+    let same : size ≡ size_by (settings_of table c) = ap (λ (t : NamespaceTable). size_at t c) h.namespaces ∙ size_same (settings_of table c) in
+    let place : a.publication ≡ record { offset = s.top + 1; datum = d } =
+    publication ∙ ap (λ (k : ℕ). record { offset = k; datum = d }) (offset ∙ ap (λ (k : ℕ). k + 1) (o.top size)) in
+    let added = added_shows table b new m m1 h (stream_of b.streams c) c e o ns size d ch room a pushed channel at place regular info in
+    let full : is_full (m.streams c) ≡ false = o.full ∙ ap not (lt-ltb s.top last_offset room) in
+    (subst (λ (t : NamespaceTable). is_some (settings_of t c) ≡ true) h.namespaces set, opens.1, full, subst (λ (k : ℕ). ShowsBroker table new (add_at k c d (m1.streams c) m1)) same added)
+
+-- ---- a publish that is refused
+
+module _ (table : NamespaceTable) (m : Broker) (b new : Code) (c : List ℕ) (h : ShowsBroker table b m) where
+  full_by : (k : Option Shown) (o : Option StreamState) → stream_of b.streams c ≡ k → m.streams c ≡ o → IsSomeAnd k (λ s. s.top ≡ last_offset)
+      → (is_full o ≡ true) × ((es : List (List ℕ)) → stands_or_opens o es ≡ true)
+  full_by None o i j last = absurd last
+  full_by (Some sh) None i j last = absurd (shows_here table b m h c c b.epochs (Some sh) None i j)
+  full_by (Some sh) (Some s) i j last =
+      let shows : Shows sh (life_of (m.lists c) s) = (shows_here table b m h c c b.epochs (Some sh) (Some s) i j).0 in
+      let top : last_offset ≡ s.top = sym last ∙ (shows.top ∙ sym (h.standing c s j).top) in
+      (subst (λ (n : ℕ). not (nat_lt n last_offset) ≡ true) top refl, λ es. refl)
+
+  pub full_shows : (d : Datum) → new.streams ≡ b.streams → new.epochs ≡ b.epochs → new.accepted ≡ b.accepted
+      → IsSomeAnd (stream_of b.streams c) (λ s. s.top ≡ last_offset) → Publishes table m c d new outcome.AtLastOffset
+  full_shows d streams epochs accepted last =
+      let full = full_by (stream_of b.streams c) (m.streams c) refl refl last in (
+        full.1 m.waiting,
+        full.0,
+        shows-same table b new m h streams (ap (λ (v : WaitingEpochs). v.waiting.items) epochs)
+            (λ x. ap (λ (v : WaitingEpochs). contains_text v.came x) epochs) accepted,
+      )
+
+-- none was drawn: none waits
+record NoneDrawn (b : Code) (m : Broker) (c : List ℕ) (new : WaitingEpochs) : Type 0 where
+  none : can_open c m ≡ false
+  waiting : new.waiting.items ≡ b.epochs.waiting.items
+  came : (x : List ℕ) → contains_text new.came x ≡ contains_text b.epochs.came x
+
+module _ (table : NamespaceTable) (b : Code) (m : Broker) (c : List ℕ) (new : WaitingEpochs) (h : ShowsBroker table b m) (fresh : AreFresh m)
+    (unopened : stream_of b.streams c ≡ None) (r : Option (List ℕ)) (drawn : takes_front b.epochs r new) (no : IsNoEpoch r) where
+  none_by : (o : Option StreamState) (es : List (List ℕ)) → m.streams c ≡ o → m.waiting ≡ es
+      → (stands_or_opens o es ≡ false) × (new.waiting.items ≡ b.epochs.waiting.items)
+  none_by (Some s) es j w = absurd (shows_here table b m h c c new None (Some s) unopened j)
+  none_by None [] j w =
+      let items : b.epochs.waiting.items ≡ [] = h.waiting ∙ w in
+      (refl, drawn.1 ∙ (ap (drop 1) items ∙ sym items))
+  none_by None (first ∷ es) j w =
+      let front : r ≡ Some first = drawn.0 ∙ ap (λ (xs : List (List ℕ)). slice_get xs 0) (h.waiting ∙ w) in
+      let waits : is_among first m.waiting ≡ true = rw (w, itself first) refl in
+      absurd ((fresh.0 first waits).0 (subst IsNoEpoch front no))
+
+none_drawn : (table : NamespaceTable) (b : Code) (m : Broker) (c : List ℕ) (new : WaitingEpochs) → ShowsBroker table b m → AreFresh m
+    → stream_of b.streams c ≡ None → DrawsNone takes_front b.epochs new → NoneDrawn b m c new
+none_drawn table b m c new h fresh unopened drawn =
+    let n = none_by table b m c new h fresh unopened drawn.0 drawn.1 drawn.2 (m.streams c) m.waiting refl refl in
+    record {
+      none = n.0;
+      waiting = n.1;
+      came = λ x. ap (λ s. contains_text s x) drawn.1.2;
+    }
+
+pub no_epoch_shows : (table : NamespaceTable) (b new : Code) (m : Broker) (c : List ℕ) → ShowsBroker table b m → AreFresh m
+    → stream_of b.streams c ≡ None → DrawsNone takes_front b.epochs new.epochs → new.streams ≡ b.streams → new.accepted ≡ b.accepted
+    → FindsNone table m c new
+no_epoch_shows table b new m c h fresh unopened drawn streams accepted =
+    let n : NoneDrawn b m c new.epochs = none_drawn table b m c new.epochs h fresh unopened drawn in
+    record { none = n.none; shows = shows-same table b new m h streams n.waiting n.came accepted }

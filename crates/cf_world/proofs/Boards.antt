@@ -1,0 +1,134 @@
+-- The streams and epochs beside the machine's, after a call.
+use Rattle.std.proofs.Common.{◌≡◌, ◌≢◌, ℕ, true, not, cond, nat_lt, Option, Some, None, option_map, List, [], ◌∷◌, length, slice_get, drop, arith, inl, inr, refl, sym, ap, subst, ◌∙◌}
+use Rattle.std.specs.List.{All, AllZip}
+use Rattle.std.specs.Str.{bytes_eq}
+use Rattle.std.specs.BTreeSet.{contains_text}
+use Rattle.std.proofs.lemmas.List.Elements.{All-tail, recursion_from_All}
+use Rattle.cf_protocol.specs.Names.{is_among}
+use Rattle.cf_protocol.specs.Epoch.{IsEpoch}
+use Rattle.cf_protocol.specs.Datum.{Datum}
+use Rattle.cf_protocol.specs.Settings.{NamespaceTable}
+use Rattle.cf_stream.specs.Stream.{Shown}
+use Rattle.cf_stream.specs.StreamState.{StreamState, last_offset, opens_in}
+use Rattle.cf_stream.specs.Streams.{Kept, stream_of, stood_or, size_at}
+use Rattle.cf_stream.specs.PublicationList.{Life, Shows, opened as opened_life}
+use Rattle.cf_stream.specs.ChannelLists.{ShowsAt, AreShown, ChangesAt, life_or}
+use Rattle.cf_stream.specs.FreshEpochs.{Draws}
+use Rattle.cf_world.specs.BrokerTie.{IsAccepted, IsStanding, ShowsBroker, life_at}
+use Rattle.cf_machine.specs.FreshEpochs.{AreFresh}
+use Rattle.cf_machine.specs.PublicationList.{Broker, open_at, opened, is_full, stands_or_opens, can_open}
+use Rattle.cf_world.specs.declared.broker.Broker.{Broker as Code}
+use Rattle.cf_world.specs.declared.epochs.WaitingEpochs.{WaitingEpochs}
+use Rattle.cf_world.proofs.Names.{text_tells, itself, with-all, with-same, with-other}
+
+-- the streams show lists that are the same at each channel
+pub shown-as : (k : Kept) (f g : List ℕ → Option Life) → AreShown k f → ((q : List ℕ) → f q ≡ g q) → AreShown k g
+shown-as k f g h same = record { at = λ q. subst (λ (l : Option Life). ShowsAt (size_at k.namespaces q) (stream_of k q) l) (same q) (h.at q) }
+
+-- a call changes one channel's list, and the machine does the same
+pub shown-changed : (old new : Kept) (c : List ℕ) (change : Option Life → Option Life) (f g : List ℕ → Option Life)
+    → ChangesAt old new c change → AreShown old f → change (f c) ≡ g c → ((q : List ℕ) → q ≢ c → f q ≡ g q) → AreShown new g
+shown-changed old new c change f g h k here there =
+    shown-as new (λ q. cond (bytes_eq c q) (change (f q)) (f q)) g (h.shows f k) (λ q.
+    elim (text_tells c q) [
+      | inl i ↦ rw i.0 (subst (λ (x : List ℕ). change (f x) ≡ g x) i.1 here)
+      | inr i ↦ rw i.0 (there q (λ e. i.1 (sym e)))
+    ])
+
+-- a stream's life over the lists of its channel
+abbrev pub life_of : (List ℕ → List Datum) → StreamState → Life
+life_of list s = record { epoch = s.epoch; list = list s.epoch; held = s.held }
+
+-- the front epoch was drawn
+abbrev pub takes_front : WaitingEpochs → Option (List ℕ) → WaitingEpochs → Type 0
+takes_front old epoch new = (epoch ≡ slice_get old.waiting.items 0) × (new.waiting.items ≡ drop 1 old.waiting.items) × (new.came ≡ old.came)
+
+-- the stream of c stands in m1, in epoch e, as the code has it after it was opened
+pub record Opened (b : Code) (m m1 : Broker) (k : Option Shown) (c e : List ℕ) (new : WaitingEpochs) : Type 0 where
+  pub state : StreamState
+  pub lists : m1.lists ≡ m.lists
+  pub stands : m1.streams c ≡ Some state
+  pub epoch : state.epoch ≡ e
+  pub life : life_or (life_at m c) e ≡ life_of (m1.lists c) state
+  pub top : (size : ℕ) → (stood_or k e size).top ≡ state.top
+  pub full : is_full (m.streams c) ≡ not (nat_lt state.top last_offset)
+  pub others : (q : List ℕ) → q ≢ c → life_at m q ≡ life_at m1 q
+  pub waiting : new.waiting.items ≡ m1.waiting
+  pub came : (x : List ℕ) → contains_text new.came x ≡ is_among x m1.came
+  pub epochs : All IsEpoch m1.waiting
+  pub standing : (q : List ℕ) (s : StreamState) → m1.streams q ≡ Some s → IsStanding m1.lists q s
+  pub accepted : AllZip (IsAccepted m1.lists) b.accepted.items m1.accepted
+
+module _ (table : NamespaceTable) (b : Code) (m : Broker) (h : ShowsBroker table b m) (c e : List ℕ) (new : WaitingEpochs) where
+  pub shows_here : (k : Option Shown) (o : Option StreamState) → stream_of b.streams c ≡ k → m.streams c ≡ o
+      → ShowsAt (size_at b.streams.namespaces c) k (option_map (life_of (m.lists c)) o)
+  shows_here k o i j =
+      subst (λ (x : Option Shown). ShowsAt (size_at b.streams.namespaces c) x (option_map (life_of (m.lists c)) o)) i
+      (subst (λ (y : Option StreamState). ShowsAt (size_at b.streams.namespaces c) (stream_of b.streams c) (option_map (life_of (m.lists c)) y)) j (h.streams.at c))
+
+  -- it stood
+  stood : (sh : Shown) (s : StreamState) (es : List (List ℕ)) → m.streams c ≡ Some s → Shows sh (life_of (m.lists c) s)
+      → e ≡ sh.epoch → new ≡ b.epochs → Opened b m m (Some sh) c e new
+  stood sh s es j shows i same = record {
+    state = s;
+    lists = refl;
+    stands = j;
+    epoch = sym (i ∙ shows.epoch);
+    life = ap (λ (y : Option StreamState). life_or (option_map (life_of (m.lists c)) y) e) j;
+    top = λ size. shows.top ∙ sym (h.standing c s j).top;
+    full = ap is_full j;
+    others = λ q ne. refl;
+    waiting = ap (λ (w : WaitingEpochs). w.waiting.items) same ∙ h.waiting;
+    came = λ x. ap (λ (w : WaitingEpochs). contains_text w.came x) same ∙ h.came x;
+    epochs = h.epochs;
+    standing = h.standing;
+    accepted = h.accepted;
+  }
+
+  -- it opens in the front epoch
+  opens : (first : List ℕ) (es : List (List ℕ)) → AreFresh m → m.streams c ≡ None → m.waiting ≡ first ∷ es
+      → takes_front b.epochs (Some e) new → Opened b m (open_at c None (first ∷ es) m) None c e new
+  opens first es fresh j w drawn =
+      let items : b.epochs.waiting.items ≡ first ∷ es = h.waiting ∙ w in
+      let front : Some e ≡ Some first = drawn.0 ∙ ap (λ (xs : List (List ℕ)). slice_get xs 0) items in
+      let same : e ≡ first = cc in
+      let waits : is_among first m.waiting ≡ true = rw (w, itself first) refl in
+      let empty : m.lists c first ≡ [] = (fresh.0 first waits).2 c in
+      let all : All IsEpoch (first ∷ es) = subst (All IsEpoch) w h.epochs in
+      record {
+        state = opens_in first;
+        lists = refl;
+        stands = with-same m.streams c (Some (opens_in first));
+        epoch = sym same;
+        life = ap (λ (y : Option StreamState). life_or (option_map (life_of (m.lists c)) y) e) j
+            ∙ (ap opened_life same ∙ ap (λ (l : List Datum). record { epoch = first; list = l; held = 0 }) (sym empty));
+        top = λ size. refl;
+        full = ap is_full j;
+        others = λ q ne. ap (option_map (life_of (m.lists q))) (sym (with-other m.streams c (Some (opens_in first)) q ne));
+        waiting = drawn.1 ∙ ap (drop 1) items;
+        came = λ x. ap (λ s. contains_text s x) drawn.2 ∙ h.came x;
+        epochs = All-tail IsEpoch first es all;
+        standing = with-all (λ q (y : Option StreamState). (s : StreamState) → y ≡ Some s → IsStanding m.lists q s) m.streams c (Some (opens_in first))
+            (λ s i. let is : opens_in first ≡ s = cc in
+            subst (IsStanding m.lists c) is (record {
+              top = ap length (sym empty);
+              within = omega arith;
+              epoch = (recursion_from_All IsEpoch (first ∷ es) all).0;
+            }))
+            (λ q ne. h.standing q);
+        accepted = h.accepted;
+      }
+
+  opens_by : (k : Option Shown) (o : Option StreamState) (es : List (List ℕ)) → AreFresh m → stream_of b.streams c ≡ k → m.streams c ≡ o → m.waiting ≡ es
+      → Draws takes_front k e b.epochs new → Opened b m (open_at c o es m) k c e new × (stands_or_opens o es ≡ true)
+  opens_by (Some sh) (Some s) es fresh i j w drawn = (stood sh s es j (shows_here (Some sh) (Some s) i j).0 drawn.0 drawn.1, refl)
+  opens_by (Some sh) None es fresh i j w drawn = absurd (shows_here (Some sh) None i j)
+  opens_by None (Some s) es fresh i j w drawn = absurd (shows_here None (Some s) i j)
+  opens_by None None (first ∷ es) fresh i j w drawn = (opens first es fresh j w drawn.0, refl)
+  opens_by None None [] fresh i j w drawn =
+      let front : Some e ≡ None = drawn.0.0 ∙ ap (λ (xs : List (List ℕ)). slice_get xs 0) (h.waiting ∙ w) in
+      absurd (cc)
+
+  pub draws_opened : AreFresh m → Draws takes_front (stream_of b.streams c) e b.epochs new
+      → Opened b m (opened c m) (stream_of b.streams c) c e new × (can_open c m ≡ true)
+  draws_opened fresh drawn = opens_by (stream_of b.streams c) (m.streams c) m.waiting fresh refl refl refl drawn

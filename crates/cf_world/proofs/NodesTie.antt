@@ -1,0 +1,612 @@
+-- What a node and its clients' sessions do goes on beside the machine.
+use Rattle.std.proofs.Common.{◌≡◌, ◌≢◌, ◌⊎◌, inl, inr, ℕ, ◌+◌, ◌==◌, ◌&&◌, ◌||◌, nat_lt, Bool, true, false, if◌then◌else◌, is_some, IsSome, Option, Some, None, option_map, List, [], ◌∷◌, ◌++◌, arith, refl, sym, ap, ◌∙◌, subst}
+use Rattle.std.specs.Str.{bytes_eq}
+use Rattle.std.proofs.lemmas.Bool.Decides.{nat_tests}
+use Rattle.cf_protocol.specs.Datum.{Placed}
+use Rattle.cf_protocol.specs.Names.{with, is_among, and_also}
+use Rattle.cf_protocol.specs.Note.{Lists, Note}
+use Rattle.cf_protocol.specs.Note as note
+use Rattle.cf_protocol.specs.Position.{Position}
+use Rattle.cf_protocol.specs.Settings.{NamespaceTable, settings_of}
+use Rattle.cf_followers.specs.Follows.{AreFollows}
+use Rattle.cf_hub.specs.Alike.{AlikeSub}
+use Rattle.cf_hub.specs.AlikeMoves.{CallsAreAlike, GoesOn, Texts}
+use Rattle.cf_hub.specs.Finish.{FinishesAt}
+use Rattle.cf_hub.specs.Hub.{Begins, Brings, Delivers, InState, IsBounded, Meets, Node, One, Opens, OthersStay, SameNode, SameRest, attached_at, client_id, empty, is_in, moves, sub_at}
+use Rattle.cf_hub.specs.InNotes.{Grown, IsKept, IsListed, SaysAt, SaysSession}
+use Rattle.cf_hub.specs.Rows.{Agrees, sub_in}
+use Rattle.cf_hub.specs.Session.{Attached}
+use Rattle.cf_hub.specs.SessionState.{Subscription, Off, Asked, Ready, On, begins, comes, is_off, leaves, opens}
+use Rattle.cf_hub.specs.Spoken.{spoken}
+use Rattle.cf_hub.specs.WantOfMemory.{Both, OrCloses}
+use Rattle.cf_hub.specs.Wordings.{Held, at_offset, plain}
+use Rattle.cf_machine.specs.ClientLink.{ClientLink, breaks, with_session}
+use Rattle.cf_machine.specs.Config.{Config}
+use Rattle.cf_machine.specs.FreshEpochs.{AreDistinct}
+use Rattle.cf_machine.specs.IntervalMachine.{client_id as machine_id, connects, restarts}
+use Rattle.cf_machine.specs.PublicationList.{Broker}
+use Rattle.cf_machine.specs.Session.{Session, Sub, Words}
+use Rattle.cf_machine.specs.World.{World, broker_with, link_with, on_node, with_at}
+use Rattle.cf_world.specs.NodesTie.{IsAway, IsNode, IsSeated, IsShutOff, ShowsLink, ShowsNodes, name_of, seated, session_in}
+use Rattle.cf_world.specs.declared.peers.Seat.{Seat}
+use Rattle.cf_world.proofs.Ends.{Keeps, comes_keeps}
+use Rattle.cf_world.proofs.Looking.{attached, off_at}
+use Rattle.cf_world.proofs.Names.{itself, text_tells, with-all, with-both, with-other, with-same}
+
+num_tells : (j n : ℕ) → (((j == n) ≡ true) × (j ≡ n)) ⊎ (((j == n) ≡ false) × (j ≢ n))
+num_tells j n = by_value (j == n) refl
+  where
+    by_value : (t : Bool) → (j == n) ≡ t → ((t ≡ true) × (j ≡ n)) ⊎ ((t ≡ false) × (j ≢ n))
+    by_value true e = inl (refl, grind (arith, nat_tests, e))
+    by_value false e = inr (refl, λ f. let yes : (j == n) ≡ true = grind (arith, nat_tests, f) in cc)
+
+some_is : {X : Type 0} (x y : X) → Some x ≡ Some y → x ≡ y
+some_is x y h = cc
+
+not_none : {X Y : Type 0} (x : X) → None ≡ Some x → Y
+not_none x h = absurd (cc)
+
+seats_are : (o s : Seat) → o.node ≡ s.node → o.session ≡ s.session → o ≡ s
+seats_are o s e f = λ i. record { node = e i; session = f i }
+
+-- ---- names and numbers
+
+same_number : (n : ℕ) → (n == n) ≡ true
+same_number n = grind (arith, nat_tests)
+
+not_equal : (j n : ℕ) → j ≢ n → (j == n) ≡ false
+not_equal j n ne = elim (num_tells j n) [
+  | inl e ↦ absurd (ne e.1)
+  | inr e ↦ e.0
+]
+
+with_at_here : (f : ℕ → ℕ) (n v : ℕ) → with_at f n v n ≡ v
+with_at_here f n v = ap (λ (b : Bool). if b then v else f n) (same_number n)
+
+with_at_other : (f : ℕ → ℕ) (n v j : ℕ) → j ≢ n → with_at f n v j ≡ f j
+with_at_other f n v j ne = ap (λ (b : Bool). if b then v else f j) (not_equal j n ne)
+
+also_there : (x : List ℕ) (xs : List (List ℕ)) → is_among x (and_also x xs) ≡ true
+also_there x xs = by_value (is_among x xs) refl
+  where
+    by_value : (b : Bool) → is_among x xs ≡ b → is_among x (if b then xs else x ∷ xs) ≡ true
+    by_value true e = e
+    by_value false e = ap (λ (c : Bool). c || is_among x xs) (itself x)
+
+also_more : (x : List ℕ) (xs : List (List ℕ)) (y : List ℕ) → is_among y xs ≡ true → is_among y (and_also x xs) ≡ true
+also_more x xs y h = by_value (is_among x xs)
+  where
+    or_true : (a : Bool) → (a || true) ≡ true
+    or_true true = refl
+    or_true false = refl
+
+    by_value : (b : Bool) → is_among y (if b then xs else x ∷ xs) ≡ true
+    by_value true = h
+    by_value false = ap (λ (c : Bool). bytes_eq x y || c) h ∙ or_true (bytes_eq x y)
+
+also_distinct : (x : List ℕ) (xs : List (List ℕ)) → AreDistinct xs → AreDistinct (and_also x xs)
+also_distinct x xs h = by_value (is_among x xs) refl
+  where
+    by_value : (b : Bool) → is_among x xs ≡ b → AreDistinct (if b then xs else x ∷ xs)
+    by_value true e = h
+    by_value false e = (e, h)
+
+nobody : (lists : Lists) (o : Option Attached) → o ≡ None → (b : Session) → SaysAt lists o b → ⊥
+nobody lists o e b h = subst (λ (v : Option Attached). SaysAt lists v b) e h
+
+-- where a client of node n sits, by number; and where it sits when the node is left
+abbrev pub number_at : ℕ → Option Seat → Option ℕ
+number_at n None = None
+number_at n (Some s) = if s.node == n then Some s.session else None
+
+abbrev pub leave_node : ℕ → Option Seat → Option Seat
+leave_node n None = None
+leave_node n (Some s) = if s.node == n then None else Some s
+
+number_is : (n : ℕ) (v : Option Seat) (k : ℕ) → number_at n v ≡ Some k → v ≡ Some (record { node = n; session = k })
+number_is n None k e = not_none k e
+number_is n (Some s) k e = elim (num_tells s.node n) [
+  | inl p ↦ ap Some (seats_are s (record { node = n; session = k }) p.1 (some_is s.session k (sym (ap (λ (b : Bool). if b then Some s.session else None) p.0) ∙ e)))
+  | inr p ↦ not_none k (sym (ap (λ (b : Bool). if b then Some s.session else None) p.0) ∙ e)
+]
+
+-- ---- calls of one hub leave names, and who is there
+
+module _ {k : ℕ} {old new : Node} where
+  pub one_name : {f : Texts → Texts} → One k f old new → name_of (attached_at new k) ≡ name_of (attached_at old k)
+  one_name {f = f} o = ap name_of o.here ∙ same (attached_at old k)
+    where
+      same : (x : Option Attached) → name_of (option_map (moves f) x) ≡ name_of x
+      same None = refl
+      same (Some a) = refl
+
+both_name : (R : Texts → Texts → Type 0) (x y : Option Attached) → Both (InState R) x y → name_of y ≡ name_of x
+both_name R None None h = refl
+both_name R None (Some b) h = absurd h
+both_name R (Some a) None h = absurd h
+both_name R (Some a) (Some b) h = ap (λ z. Some z.client) h.1
+
+name_there : (x y : Option Attached) → name_of y ≡ name_of x → is_some y ≡ is_some x
+name_there None None h = refl
+name_there None (Some b) h = absurd (cc)
+name_there (Some a) None h = absurd (cc)
+name_there (Some a) (Some b) h = refl
+
+pub met_name : {k : ℕ} {R : Bool → Texts → Texts → Type 0} {old new : Node} → Meets k R old new → name_of (attached_at new k) ≡ name_of (attached_at old k)
+met_name {k = k} {R = R} {old = old} {new = new} m = both_name (R m.hit) (attached_at old k) (attached_at new k) m.here
+
+-- the same names everywhere
+pub names_by : (k : ℕ) (old new : Node) → name_of (attached_at new k) ≡ name_of (attached_at old k) → OthersStay k old new → (j : ℕ) → name_of (attached_at new j) ≡ name_of (attached_at old j)
+names_by k old new h others j = elim (num_tells j k) [
+  | inl e ↦ subst (λ (i : ℕ). name_of (attached_at new i) ≡ name_of (attached_at old i)) (sym e.1) h
+  | inr e ↦ ap name_of (others j e.1)
+]
+
+-- ---- a link that goes on
+
+-- but for its session the link stays
+pub record LinkGoes (table : NamespaceTable) (old new : ClientLink) : Type 0 where
+  pub node : new.node ≡ old.node
+  pub name : new.name ≡ old.name
+  pub way : new.way ≡ []
+  pub up : new.up ≡ []
+  pub once : AreDistinct new.channels
+  pub listed : (c : List ℕ) → is_off (new.session.subs c) ≡ false → is_among c new.channels ≡ true
+  pub shut : IsShutOff new.session
+  pub served : (c : List ℕ) → is_off (new.session.subs c) ≡ false → IsSome (settings_of table c)
+
+-- a session of it that begins nothing
+pub session_moves : {table : NamespaceTable} {lists : Lists} {o : Option Attached} {n : ℕ} {l : ClientLink} → IsSeated table lists o n l → (g : Session → Session) → Keeps g → LinkGoes table l (with_session (g l.session) l)
+session_moves {l = l} s g keeps = record {
+  node = refl;
+  name = refl;
+  way = s.way;
+  up = s.up;
+  once = s.once;
+  listed = λ c h. s.listed c (keeps.ends l.session c h);
+  shut = keeps.shut l.session s.shut;
+  served = λ c h. s.served c (keeps.ends l.session c h);
+}
+
+-- a link whose session does the same, with whatever else of the client
+pub link_goes : {table : NamespaceTable} {lists : Lists} {o : Option Attached} {n : ℕ} {l : ClientLink} → IsSeated table lists o n l → (l' : ClientLink) → l'.node ≡ l.node → l'.name ≡ l.name → l'.way ≡ [] → l'.up ≡ []
+    → l'.channels ≡ l.channels → (g : Session → Session) → Keeps g → l'.session ≡ g l.session → LinkGoes table l l'
+link_goes {l = l} s l' node name way up channels g keeps session = record {
+  node = node;
+  name = name;
+  way = way;
+  up = up;
+  once = subst AreDistinct (sym channels) s.once;
+  listed = λ c h. ap (is_among c) channels ∙ s.listed c (keeps.ends l.session c (ap (λ (b : Session). is_off (b.subs c)) (sym session) ∙ h));
+  shut = subst IsShutOff (sym session) (keeps.shut l.session s.shut);
+  served = λ c h. s.served c (keeps.ends l.session c (ap (λ (b : Session). is_off (b.subs c)) (sym session) ∙ h));
+}
+
+-- a link whose session asks for a channel
+pub link_asks : {table : NamespaceTable} {lists : Lists} {o : Option Attached} {n : ℕ} {l : ClientLink} → IsSeated table lists o n l → (l' : ClientLink) → l'.node ≡ l.node → l'.name ≡ l.name → l'.way ≡ [] → l'.up ≡ []
+    → (w : Words) (c : List ℕ) (id : ℕ) (since : Option Position) → l'.channels ≡ and_also c l.channels → l'.session ≡ begins w c id since l.session → l.session.closed ≡ false → IsSome (settings_of table c) → LinkGoes table l l'
+link_asks {table = table} {l = l} s l' node name way up w c id since channels session is_open set_up = record {
+  node = node;
+  name = name;
+  way = way;
+  up = up;
+  once = subst AreDistinct (sym channels) (also_distinct c l.channels s.once);
+  listed = λ d h. ap (is_among d) channels ∙ listed d (ap (λ (b : Session). is_off (b.subs d)) (sym session) ∙ h);
+  shut = λ e d. absurd (let no : false ≡ true = sym is_open ∙ ap (λ (b : Session). b.closed) (sym session) ∙ e in cc);
+  served = λ d h. served d (ap (λ (b : Session). is_off (b.subs d)) (sym session) ∙ h);
+}
+  where
+    listed : (d : List ℕ) → is_off ((begins w c id since l.session).subs d) ≡ false → is_among d (and_also c l.channels) ≡ true
+    listed d h = elim (text_tells d c) [
+      | inl p ↦ subst (λ (z : List ℕ). is_among z (and_also c l.channels) ≡ true) (sym p.1) (also_there c l.channels)
+      | inr p ↦ also_more c l.channels d (s.listed d (sym (ap (λ (b : Bool). is_off (if b then Asked id since w.empty else l.session.subs d)) p.0) ∙ h))
+    ]
+
+    served : (d : List ℕ) → is_off ((begins w c id since l.session).subs d) ≡ false → IsSome (settings_of table d)
+    served d h = elim (text_tells d c) [
+      | inl p ↦ subst (λ (z : List ℕ). IsSome (settings_of table z)) (sym p.1) set_up
+      | inr p ↦ s.served d (sym (ap (λ (b : Bool). is_off (if b then Asked id since w.empty else l.session.subs d)) p.0) ∙ h)
+    ]
+
+pub seated_goes : {table : NamespaceTable} {lists : Lists} {o o' : Option Attached} {n : ℕ} {l l' : ClientLink} → IsSeated table lists o n l → LinkGoes table l l' → name_of o' ≡ name_of o → SaysAt lists o' l'.session → IsSeated table lists o' n l'
+seated_goes s g name says = record {
+  at = g.node ∙ s.at;
+  name = name ∙ s.name ∙ ap Some (sym g.name);
+  says = says;
+  way = g.way;
+  up = g.up;
+  once = g.once;
+  listed = g.listed;
+  shut = g.shut;
+  served = g.served;
+}
+
+-- a channel that is off is left
+pub leaves_off : (lists : Lists) (o : Option Attached) (b : Session) (c : List ℕ) → is_off (b.subs c) ≡ true → SaysAt lists o b → SaysAt lists o (leaves c b)
+leaves_off lists None b c e h = absurd h
+leaves_off lists (Some a) b c e h = record {
+  subs = λ d. with-all (λ i s. AlikeSub (IsKept lists i) (a.state.subs i) s) b.subs c Off (off (a.state.subs c) (b.subs c) e (h.subs c)) (λ i ne. h.subs i) d;
+  notes = h.notes;
+  closed = h.closed;
+}
+  where
+    off : (s : Subscription Held) (s' : Sub) → is_off s' ≡ true → AlikeSub (IsKept lists c) s s' → AlikeSub (IsKept lists c) s Off
+    off s Off f g = g
+    off s (Asked id since k) f g = absurd (cc)
+    off s (Ready id was r k) f g = absurd (cc)
+    off s (On p mark) f g = absurd (cc)
+
+seated_stays : {table : NamespaceTable} {lists : Lists} {o o' : Option Attached} {n : ℕ} {l : ClientLink} → o' ≡ o → IsSeated table lists o n l → IsSeated table lists o' n l
+seated_stays {table = table} {lists = lists} {n = n} {l = l} e s = subst (λ (z : Option Attached). IsSeated table lists z n l) (sym e) s
+
+module _ {cfg : Config} {hubs : ℕ → Option Node} {seats : List ℕ → Option Seat} {m : World} (t : ShowsNodes cfg hubs seats m) where
+  -- the seat of a client
+  pub seat_shows : (x : List ℕ) (s : Seat) → seats x ≡ Some s → IsSeated cfg.namespaces m.broker.lists (seated hubs s) s.node (m.links x)
+  seat_shows x s e = subst (λ (o : Option Seat). ShowsLink cfg.namespaces m.broker.lists hubs o (m.links x)) e (t.links x)
+
+  pub away_shows : (x : List ℕ) → seats x ≡ None → IsAway (m.links x)
+  away_shows x e = subst (λ (o : Option Seat). ShowsLink cfg.namespaces m.broker.lists hubs o (m.links x)) e (t.links x)
+
+  -- the same of a machine's world with the same parts
+  pub nodes_same : (m' : World) → ((n : ℕ) → m'.boots n ≡ m.boots n) → ((n : ℕ) → m'.counters n ≡ m.counters n) → m'.clients ≡ m.clients → m'.broker.lists ≡ m.broker.lists
+      → ((x : List ℕ) → m'.links x ≡ m.links x) → ShowsNodes cfg hubs seats m'
+  nodes_same m' boots counters clients lists links = record {
+    nodes = t.nodes;
+    hub = λ n h e. let was = t.hub n h e in record { node = was.node; boot = was.boot ∙ sym (boots n); used = was.used ∙ sym (counters n); refused = was.refused };
+    links = λ x. subst (λ (z : Lists). ShowsLink cfg.namespaces z hubs (seats x) (m'.links x)) (sym lists) (subst (λ (l : ClientLink). ShowsLink cfg.namespaces m.broker.lists hubs (seats x) l) (sym (links x)) (t.links x));
+    apart = t.apart;
+    onto = t.onto;
+    among = λ x s e. ap (is_among x) clients ∙ t.among x s e;
+    distinct = subst AreDistinct (sym clients) t.distinct;
+  }
+
+  -- the publication lists grow
+  pub lists_grow : ((old new : Lists) (a : Texts) (b : Session) → Grown old new → SaysSession old a b → SaysSession new a b) → (b : Broker) → Grown m.broker.lists b.lists → ShowsNodes cfg hubs seats (broker_with b m)
+  lists_grow grows b g = record {
+    nodes = t.nodes;
+    hub = λ n h e. let was = t.hub n h e in record { node = was.node; boot = was.boot; used = was.used; refused = was.refused };
+    links = λ x. by_seat (seats x) (m.links x) (t.links x);
+    apart = t.apart;
+    onto = t.onto;
+    among = t.among;
+    distinct = t.distinct;
+  }
+    where
+      at_grows : (o : Option Attached) (s : Session) → SaysAt m.broker.lists o s → SaysAt b.lists o s
+      at_grows None s h = absurd h
+      at_grows (Some a) s h = grows m.broker.lists b.lists a.state s g h
+
+      by_seat : (o : Option Seat) (l : ClientLink) → ShowsLink cfg.namespaces m.broker.lists hubs o l → ShowsLink cfg.namespaces b.lists hubs o l
+      by_seat None l h = h
+      by_seat (Some s) l h = record { at = h.at; name = h.name; says = at_grows (seated hubs s) l.session h.says; way = h.way; up = h.up; once = h.once; listed = h.listed; shut = h.shut; served = h.served }
+
+  -- ---- one hub changes
+
+  module _ (n : ℕ) (h h' : Node) (was : hubs n ≡ Some h) (hubs' : ℕ → Option Node) (now : hubs' n ≡ Some h') (others : (j : ℕ) → j ≢ n → hubs' j ≡ hubs j) where
+    hub_by : (P : ℕ → Option Node → Type 0) → P n (Some h') → ((j : ℕ) → j ≢ n → P j (hubs j)) → (j : ℕ) → P j (hubs' j)
+    hub_by P here there j = elim (num_tells j n) [
+      | inl e ↦ subst (λ (i : ℕ). P i (hubs' i)) (sym e.1) (subst (λ (o : Option Node). P n o) (sym now) here)
+      | inr e ↦ subst (λ (o : Option Node). P j o) (sym (others j e.1)) (there j e.1)
+    ]
+
+    same_nodes : (j : ℕ) → is_some (hubs' j) ≡ nat_lt j cfg.nodes
+    same_nodes j = hub_by (λ i o. is_some o ≡ nat_lt i cfg.nodes) (sym (ap is_some was) ∙ t.nodes n) (λ i ne. t.nodes i) j
+
+    same_hubs : (m' : World) → IsNode n h' m' → ((j : ℕ) → j ≢ n → m'.boots j ≡ m.boots j) → ((j : ℕ) → j ≢ n → m'.counters j ≡ m.counters j) → (j : ℕ) (g : Node) → hubs' j ≡ Some g → IsNode j g m'
+    same_hubs m' is boots counters j =
+        hub_by (λ i o. (g : Node) → o ≡ Some g → IsNode i g m')
+        (λ g e. subst (λ (z : Node). IsNode n z m') (some_is h' g e) is)
+        (λ i ne g e. let old = t.hub i g e in record { node = old.node; boot = old.boot ∙ sym (boots i ne); used = old.used ∙ sym (counters i ne); refused = old.refused }) j
+
+    -- where a session of hub n is there it was there
+    still_onto : ((k : ℕ) → is_some (attached_at h' k) ≡ is_some (attached_at h k)) → (j k : ℕ) → is_some (session_in (hubs' j) k) ≡ true → (x : List ℕ) × (seats x ≡ Some (record { node = j; session = k }))
+    still_onto there j =
+        hub_by (λ i o. (k : ℕ) → is_some (session_in o k) ≡ true → (x : List ℕ) × (seats x ≡ Some (record { node = i; session = k })))
+        (λ k e. t.onto n k (ap (λ (o : Option Node). is_some (session_in o k)) was ∙ sym (there k) ∙ e))
+        (λ i ne k e. t.onto i k e) j
+
+    -- a seat of another node
+    pub elsewhere : (s : Seat) → s.node ≢ n → seated hubs' s ≡ seated hubs s
+    elsewhere s ne = ap (λ (o : Option Node). session_in o s.session) (others s.node ne)
+
+    pub seat_was : (s : Seat) → s.node ≡ n → seated hubs s ≡ attached_at h s.session
+    seat_was s e = ap (λ (o : Option Node). session_in o s.session) (ap hubs e ∙ was)
+
+    pub seat_now : (s : Seat) → s.node ≡ n → seated hubs' s ≡ attached_at h' s.session
+    seat_now s e = ap (λ (o : Option Node). session_in o s.session) (ap hubs' e ∙ now)
+
+    module _ (same : SameNode h h') (none : h'.refused ≡ 0) (names : (k : ℕ) → name_of (attached_at h' k) ≡ name_of (attached_at h k)) where
+      node_is : (m' : World) → m'.boots n ≡ m.boots n → m'.counters n ≡ m.counters n → IsNode n h' m'
+      node_is m' boots counters =
+          let old = t.hub n h was in
+          record { node = same.node ∙ old.node; boot = same.boot ∙ old.boot ∙ sym boots; used = same.used ∙ old.used ∙ sym counters; refused = none }
+
+      -- the links are these
+      hub_goes : (links : List ℕ → ClientLink) → ((x : List ℕ) → ShowsLink cfg.namespaces m.broker.lists hubs' (seats x) (links x)) → ShowsNodes cfg hubs' seats (record m { links = links })
+      hub_goes links shows = record {
+        nodes = same_nodes;
+        hub = same_hubs (record m { links = links }) (node_is (record m { links = links }) refl refl) (λ j ne. refl) (λ j ne. refl);
+        links = shows;
+        apart = t.apart;
+        onto = still_onto (λ k. name_there (attached_at h k) (attached_at h' k) (names k));
+        among = t.among;
+        distinct = t.distinct;
+      }
+
+      -- ---- a publication is delivered
+
+      pub deliver_goes : CallsAreAlike m.broker.lists → (c e : List ℕ) (p : Placed) → IsListed m.broker.lists c e p → Delivers c e p h h'
+          → ShowsNodes cfg hubs' seats (record m { links = λ x. if on_node n (m.links x).node then with_session (comes (spoken m.broker.lists) c (at_offset e p) (m.links x).session) (m.links x) else m.links x })
+      deliver_goes calls c e p listed d = hub_goes _ (λ x. by_seat x (seats x) (m.links x) (t.links x))
+        where
+          came : (l : ClientLink) → ClientLink
+          came l = with_session (comes (spoken m.broker.lists) c (at_offset e p) l.session) l
+
+          here : (s : Seat) (l : ClientLink) → IsSeated cfg.namespaces m.broker.lists (seated hubs s) s.node l → s.node ≡ n → IsSeated cfg.namespaces m.broker.lists (seated hubs' s) s.node (with_session (comes (spoken m.broker.lists) c (at_offset e p) l.session) l)
+          here s l g is =
+              seated_goes g (session_moves g (comes (spoken m.broker.lists) c (at_offset e p)) (comes_keeps (spoken m.broker.lists) c (at_offset e p)))
+              (ap name_of (seat_now s is) ∙ names s.session ∙ sym (ap name_of (seat_was s is)))
+              (subst (λ (o : Option Attached). SaysAt m.broker.lists o (comes (spoken m.broker.lists) c (at_offset e p) l.session)) (sym (seat_now s is))
+              (calls.delivers c e p h h' listed d none s.session l.session (subst (λ (o : Option Attached). SaysAt m.broker.lists o l.session) (seat_was s is) g.says)))
+
+          by_seat : (x : List ℕ) (o : Option Seat) (l : ClientLink) → ShowsLink cfg.namespaces m.broker.lists hubs o l
+              → ShowsLink cfg.namespaces m.broker.lists hubs' o (if on_node n l.node then with_session (comes (spoken m.broker.lists) c (at_offset e p) l.session) l else l)
+          by_seat x None l g = subst (λ (b : Bool). IsAway (if b then with_session (comes (spoken m.broker.lists) c (at_offset e p) l.session) l else l)) (sym (ap (on_node n) g.node)) g
+          by_seat x (Some s) l g = elim (num_tells s.node n) [
+            | inl is ↦
+                subst (λ (b : Bool). IsSeated cfg.namespaces m.broker.lists (seated hubs' s) s.node (if b then with_session (comes (spoken m.broker.lists) c (at_offset e p) l.session) l else l)) (sym (ap (on_node n) g.at ∙ is.0)) (here s l g is.1)
+            | inr is ↦
+                subst (λ (b : Bool). IsSeated cfg.namespaces m.broker.lists (seated hubs' s) s.node (if b then with_session (comes (spoken m.broker.lists) c (at_offset e p) l.session) l else l)) (sym (ap (on_node n) g.at ∙ is.0))
+                (seated_stays (elsewhere s is.1) g)
+          ]
+
+    -- ---- one session goes on, with its link
+
+    pub session_goes : (x : List ℕ) (s : Seat) → seats x ≡ Some s → s.node ≡ n → SameNode h h' → h'.refused ≡ 0 → OthersStay s.session h h' → name_of (attached_at h' s.session) ≡ name_of (attached_at h s.session)
+        → (l : ClientLink) → LinkGoes cfg.namespaces (m.links x) l → (SaysAt m.broker.lists (attached_at h s.session) (m.links x).session → SaysAt m.broker.lists (attached_at h' s.session) l.session)
+        → ShowsNodes cfg hubs' seats (link_with x l m)
+    session_goes x s sits is same none stay name l goes says = hub_goes same none (names_by s.session h h' name stay) (with m.links x l) shows
+      where
+        mine : ShowsLink cfg.namespaces m.broker.lists hubs' (seats x) l
+        mine =
+            let g = seat_shows x s sits in
+            subst (λ (o : Option Seat). ShowsLink cfg.namespaces m.broker.lists hubs' o l) (sym sits)
+            (seated_goes g goes (ap name_of (seat_now s is) ∙ name ∙ sym (ap name_of (seat_was s is)))
+            (subst (λ (o : Option Attached). SaysAt m.broker.lists o l.session) (sym (seat_now s is))
+            (says (subst (λ (o : Option Attached). SaysAt m.broker.lists o (m.links x).session) (seat_was s is) g.says))))
+
+        -- another client's seat is another one
+        apart : (y : List ℕ) (o : Seat) → y ≢ x → seats y ≡ Some o → o.node ≡ n → o.session ≢ s.session
+        apart y o ne e f same_session = ne (t.apart y x s (e ∙ ap Some (seats_are o s (f ∙ sym is) same_session)) sits)
+
+        yours : (y : List ℕ) → y ≢ x → (o : Option Seat) → seats y ≡ o → ShowsLink cfg.namespaces m.broker.lists hubs o (m.links y) → ShowsLink cfg.namespaces m.broker.lists hubs' o (m.links y)
+        yours y ne None e g = g
+        yours y ne (Some o) e g = elim (num_tells o.node n) [
+          | inl f ↦ seated_stays (seat_now o f.1 ∙ stay o.session (apart y o ne e f.1) ∙ sym (seat_was o f.1)) g
+          | inr f ↦ seated_stays (elsewhere o f.1) g
+        ]
+
+        shows : (y : List ℕ) → ShowsLink cfg.namespaces m.broker.lists hubs' (seats y) (with m.links x l y)
+        shows y = with-all (λ z k. ShowsLink cfg.namespaces m.broker.lists hubs' (seats z) k) m.links x l mine (λ z ne. yours z ne (seats z) refl (t.links z)) y
+
+    -- ---- a session comes, or goes
+
+    module _ (x : List ℕ) (seats' : List ℕ → Option Seat) where
+      pub attach_goes : CallsAreAlike m.broker.lists → (k now_at : ℕ) (user : List ℕ) → seats x ≡ None → attached_at h k ≡ None → Opens k user now_at h h'
+          → ((y : List ℕ) → seats' y ≡ with seats x (Some (record { node = n; session = k })) y) → ShowsNodes cfg hubs' seats' (connects x n m)
+      attach_goes calls k now_at user none free o sits = record {
+        nodes = same_nodes;
+        hub = same_hubs (connects x n m) is (λ j ne. refl) (λ j ne. other_count j ne);
+        links = λ y. subst (λ (v : Option Seat). ShowsLink cfg.namespaces m.broker.lists hubs' v ((connects x n m).links y)) (sym (sits y)) (shows y);
+        apart = λ y z s e f. apart y z s (sym (sits y) ∙ e) (sym (sits z) ∙ f);
+        onto = onto;
+        among = λ y s e. among y s (sym (sits y) ∙ e);
+        distinct = also_distinct x m.clients t.distinct;
+      }
+        where
+          mine : Seat
+          mine = record { node = n; session = k }
+
+          old : IsNode n h m
+          old = t.hub n h was
+
+          other_count : (j : ℕ) → j ≢ n → with_at m.counters n (m.counters n + 1) j ≡ m.counters j
+          other_count j ne = elim (num_tells j n) [
+            | inl e ↦ absurd (ne e.1)
+            | inr e ↦ ap (λ (b : Bool). if b then m.counters n + 1 else m.counters j) e.0
+          ]
+
+          is : IsNode n h' (connects x n m)
+          is = record {
+            node = o.node ∙ old.node;
+            boot = o.boot ∙ old.boot;
+            used = o.used ∙ ap (λ (i : ℕ). i + 1) old.used ∙ sym (ap (λ (b : Bool). if b then m.counters n + 1 else m.counters n) (same_number n));
+            refused = o.refused ∙ old.refused;
+          }
+
+          there : (y : List ℕ) (s : Seat) → seats y ≡ Some s → s.node ≡ n → s.session ≢ k
+          there y s e f g =
+              let shown = seat_shows y s e in
+              nobody m.broker.lists (attached_at h s.session) (ap (attached_at h) g ∙ free) (m.links y).session (subst (λ (v : Option Attached). SaysAt m.broker.lists v (m.links y).session) (seat_was s f) shown.says)
+
+          yours : (y : List ℕ) (v : Option Seat) → seats y ≡ v → ShowsLink cfg.namespaces m.broker.lists hubs v (m.links y) → ShowsLink cfg.namespaces m.broker.lists hubs' v (m.links y)
+          yours y None e g = g
+          yours y (Some s) e g = elim (num_tells s.node n) [
+            | inl f ↦ seated_stays (seat_now s f.1 ∙ o.others s.session (there y s e f.1) ∙ sym (seat_was s f.1)) g
+            | inr f ↦ seated_stays (elsewhere s f.1) g
+          ]
+
+          away : IsAway (m.links x)
+          away = away_shows x none
+
+          name : name_of (attached_at h' k) ≡ Some (machine_id n (m.boots n) (m.counters n + 1))
+          name =
+              ap name_of o.here ∙ (λ i. Some (client_id (old.node i) (old.boot i) (old.used i + 1)))
+
+          came : IsSeated cfg.namespaces m.broker.lists (seated hubs' mine) n (record (m.links x) { node = Some n; name = machine_id n (m.boots n) (m.counters n + 1) })
+          came = record {
+            at = refl;
+            name = ap name_of (seat_now mine refl) ∙ name;
+            says = subst (λ (v : Option Attached). SaysAt m.broker.lists v (m.links x).session) (sym (seat_now mine refl)) (subst (λ (b : Session). SaysAt m.broker.lists (attached_at h' k) b) (sym away.session) (calls.attaches k now_at user h h' o));
+            way = away.way;
+            up = away.up;
+            once = subst AreDistinct (sym away.channels) tt;
+            listed = λ c g. absurd (let none : true ≡ false = ap (λ (b : Session). is_off (b.subs c)) (sym away.session) ∙ g in cc);
+            shut = subst IsShutOff (sym away.session) (λ e c. refl);
+            served = λ c g. absurd (let none : true ≡ false = ap (λ (b : Session). is_off (b.subs c)) (sym away.session) ∙ g in cc);
+          }
+
+          shows : (y : List ℕ) → ShowsLink cfg.namespaces m.broker.lists hubs' (with seats x (Some mine) y) ((connects x n m).links y)
+          shows y =
+              with-both (λ z v l. ShowsLink cfg.namespaces m.broker.lists hubs' v l) seats m.links x (Some mine) (record (m.links x) { node = Some n; name = machine_id n (m.boots n) (m.counters n + 1) })
+              came (λ z ne. yours z (seats z) refl (t.links z)) y
+
+          fresh_seat : (y : List ℕ) (s : Seat) → seats y ≡ Some s → s ≡ mine → ⊥
+          fresh_seat y s e f = there y s e (ap (λ (z : Seat). z.node) f) (ap (λ (z : Seat). z.session) f)
+
+          apart : (y z : List ℕ) (s : Seat) → with seats x (Some mine) y ≡ Some s → with seats x (Some mine) z ≡ Some s → y ≡ z
+          apart y z s e f = elim (text_tells y x) [
+            | inl p ↦ elim (text_tells z x) [
+              | inl q ↦ p.1 ∙ sym q.1
+              | inr q ↦
+                  absurd (fresh_seat z s (sym (with-other seats x (Some mine) z q.1) ∙ f)
+                  (sym (some_is mine s (sym (ap (λ (b : Bool). if b then Some mine else seats y) p.0) ∙ e))))
+            ]
+            | inr p ↦ elim (text_tells z x) [
+              | inl q ↦
+                  absurd (fresh_seat y s (sym (with-other seats x (Some mine) y p.1) ∙ e)
+                  (sym (some_is mine s (sym (ap (λ (b : Bool). if b then Some mine else seats z) q.0) ∙ f))))
+              | inr q ↦ t.apart y z s (sym (with-other seats x (Some mine) y p.1) ∙ e) (sym (with-other seats x (Some mine) z q.1) ∙ f)
+            ]
+          ]
+
+          still : (j i : ℕ) → (r : (y : List ℕ) × (seats y ≡ Some (record { node = j; session = i }))) → (y : List ℕ) × (seats' y ≡ Some (record { node = j; session = i }))
+          still j i r = (r.0, sits r.0 ∙ with-other seats x (Some mine) r.0 (λ e. not_none (record { node = j; session = i }) (sym none ∙ ap seats (sym e) ∙ r.1)) ∙ r.1)
+
+          at_new : (i : ℕ) → is_some (attached_at h' i) ≡ true → (y : List ℕ) × (seats' y ≡ Some (record { node = n; session = i }))
+          at_new i e = elim (num_tells i k) [
+            | inl p ↦ (x, sits x ∙ with-same seats x (Some mine) ∙ ap Some (seats_are mine (record { node = n; session = i }) refl (sym p.1)))
+            | inr p ↦ still n i (t.onto n i (ap (λ (v : Option Node). is_some (session_in v i)) was ∙ ap is_some (sym (o.others i p.1)) ∙ e))
+          ]
+
+          onto : (j i : ℕ) → is_some (session_in (hubs' j) i) ≡ true → (y : List ℕ) × (seats' y ≡ Some (record { node = j; session = i }))
+          onto j = hub_by (λ a v. (i : ℕ) → is_some (session_in v i) ≡ true → (y : List ℕ) × (seats' y ≡ Some (record { node = a; session = i }))) at_new (λ a ne i e. still a i (t.onto a i e)) j
+
+          among : (y : List ℕ) (s : Seat) → with seats x (Some mine) y ≡ Some s → is_among y (and_also x m.clients) ≡ true
+          among y s e = elim (text_tells y x) [
+            | inl p ↦ subst (λ (z : List ℕ). is_among z (and_also x m.clients) ≡ true) (sym p.1) (also_there x m.clients)
+            | inr p ↦ also_more x m.clients y (t.among y s (sym (with-other seats x (Some mine) y p.1) ∙ e))
+          ]
+
+      pub detach_goes : (s : Seat) → seats x ≡ Some s → s.node ≡ n → SameRest h h' → OthersStay s.session h h' → attached_at h' s.session ≡ None
+          → ((y : List ℕ) → seats' y ≡ with seats x None y) → (l : ClientLink) → IsAway l → ShowsNodes cfg hubs' seats' (link_with x l m)
+      detach_goes s sat at rest stay gone sits l away = record {
+        nodes = same_nodes;
+        hub = same_hubs (link_with x l m) is (λ j ne. refl) (λ j ne. refl);
+        links = λ y. subst (λ (v : Option Seat). ShowsLink cfg.namespaces m.broker.lists hubs' v (with m.links x l y)) (sym (sits y)) (shows y);
+        apart = λ y z o e f. t.apart y z o (before y o (sym (sits y) ∙ e)) (before z o (sym (sits z) ∙ f));
+        onto = onto;
+        among = λ y o e. t.among y o (before y o (sym (sits y) ∙ e));
+        distinct = t.distinct;
+      }
+        where
+          old : IsNode n h m
+          old = t.hub n h was
+
+          is : IsNode n h' (link_with x l m)
+          is = record { node = rest.node ∙ old.node; boot = rest.boot ∙ old.boot; used = rest.used ∙ old.used; refused = rest.refused ∙ old.refused }
+
+          before : (y : List ℕ) (o : Seat) → with seats x None y ≡ Some o → seats y ≡ Some o
+          before y o e = elim (text_tells y x) [
+            | inl p ↦ not_none o (sym (ap (λ (b : Bool). if b then None else seats y) p.0) ∙ e)
+            | inr p ↦ sym (with-other seats x None y p.1) ∙ e
+          ]
+
+          other : (y : List ℕ) (o : Seat) → y ≢ x → seats y ≡ Some o → o.node ≡ n → o.session ≢ s.session
+          other y o ne e f g = ne (t.apart y x s (e ∙ ap Some (seats_are o s (f ∙ sym at) g)) sat)
+
+          yours : (y : List ℕ) → y ≢ x → (v : Option Seat) → seats y ≡ v → ShowsLink cfg.namespaces m.broker.lists hubs v (m.links y) → ShowsLink cfg.namespaces m.broker.lists hubs' v (m.links y)
+          yours y ne None e g = g
+          yours y ne (Some o) e g = elim (num_tells o.node n) [
+            | inl f ↦ seated_stays (seat_now o f.1 ∙ stay o.session (other y o ne e f.1) ∙ sym (seat_was o f.1)) g
+            | inr f ↦ seated_stays (elsewhere o f.1) g
+          ]
+
+          shows : (y : List ℕ) → ShowsLink cfg.namespaces m.broker.lists hubs' (with seats x None y) (with m.links x l y)
+          shows y = with-both (λ z v k. ShowsLink cfg.namespaces m.broker.lists hubs' v k) seats m.links x None l away (λ z ne. yours z ne (seats z) refl (t.links z)) y
+
+          at_new : (i : ℕ) → is_some (attached_at h' i) ≡ true → (y : List ℕ) × (seats' y ≡ Some (record { node = n; session = i }))
+          at_new i e = elim (num_tells i s.session) [
+            | inl p ↦ absurd (let none : false ≡ true = sym (ap is_some (ap (attached_at h') p.1 ∙ gone)) ∙ e in cc)
+            | inr p ↦ still n i (λ a f. p.1 f) (t.onto n i (ap (λ (v : Option Node). is_some (session_in v i)) was ∙ ap is_some (sym (stay i p.1)) ∙ e))
+          ]
+            where
+              still : (j i : ℕ) → (j ≡ n → i ≡ s.session → ⊥) → (r : (y : List ℕ) × (seats y ≡ Some (record { node = j; session = i }))) → (y : List ℕ) × (seats' y ≡ Some (record { node = j; session = i }))
+              still j i apart r = (
+                r.0,
+                sits r.0 ∙ with-other seats x None r.0 (λ f.
+                    let same : s ≡ record { node = j; session = i } = some_is s (record { node = j; session = i }) (sym sat ∙ ap seats (sym f) ∙ r.1) in
+                    apart (sym (ap (λ (z : Seat). z.node) same) ∙ at) (sym (ap (λ (z : Seat). z.session) same))) ∙ r.1,
+              )
+
+          elsewhere_still : (j i : ℕ) → j ≢ n → (r : (y : List ℕ) × (seats y ≡ Some (record { node = j; session = i }))) → (y : List ℕ) × (seats' y ≡ Some (record { node = j; session = i }))
+          elsewhere_still j i ne r = (
+            r.0,
+            sits r.0 ∙ with-other seats x None r.0 (λ f.
+                let same : s ≡ record { node = j; session = i } = some_is s (record { node = j; session = i }) (sym sat ∙ ap seats (sym f) ∙ r.1) in
+                ne (sym (ap (λ (z : Seat). z.node) same) ∙ at)) ∙ r.1,
+          )
+
+          onto : (j i : ℕ) → is_some (session_in (hubs' j) i) ≡ true → (y : List ℕ) × (seats' y ≡ Some (record { node = j; session = i }))
+          onto j = hub_by (λ a v. (i : ℕ) → is_some (session_in v i) ≡ true → (y : List ℕ) × (seats' y ≡ Some (record { node = a; session = i }))) at_new (λ a ne i e. elsewhere_still a i ne (t.onto a i e)) j
+
+    -- ---- a node restarts
+
+    pub restart_goes : h' ≡ empty n (m.boots n + 1) → (seats' : List ℕ → Option Seat) → ((y : List ℕ) → seats' y ≡ leave_node n (seats y)) → ShowsNodes cfg hubs' seats' (restarts n m)
+    restart_goes new seats' sits = record {
+      nodes = same_nodes;
+      hub = same_hubs (restarts n m) is (λ j ne. with_at_other m.boots n (m.boots n + 1) j ne) (λ j ne. with_at_other m.counters n 0 j ne);
+      links = λ y. subst (λ (v : Option Seat). ShowsLink cfg.namespaces m.broker.lists hubs' v ((restarts n m).links y)) (sym (sits y)) (by_seat (seats y) (m.links y) (t.links y));
+      apart = λ y z s e f. t.apart y z s (before (seats y) s (sym (sits y) ∙ e)) (before (seats z) s (sym (sits z) ∙ f));
+      onto = onto;
+      among = λ y s e. t.among y s (before (seats y) s (sym (sits y) ∙ e));
+      distinct = t.distinct;
+    }
+      where
+        is : IsNode n h' (restarts n m)
+        is = record {
+          node = ap (λ (z : Node). z.node) new;
+          boot = ap (λ (z : Node). z.boot) new ∙ sym (with_at_here m.boots n (m.boots n + 1));
+          used = ap (λ (z : Node). z.used) new ∙ sym (with_at_here m.counters n 0);
+          refused = ap (λ (z : Node). z.refused) new;
+        }
+
+        before : (v : Option Seat) (s : Seat) → leave_node n v ≡ Some s → v ≡ Some s
+        before None s e = e
+        before (Some o) s e = by_value (o.node == n) e
+          where
+            by_value : (b : Bool) → (if b then None else Some o) ≡ Some s → Some o ≡ Some s
+            by_value true f = not_none s f
+            by_value false f = f
+
+        by_seat : (v : Option Seat) (l : ClientLink) → ShowsLink cfg.namespaces m.broker.lists hubs v l → ShowsLink cfg.namespaces m.broker.lists hubs' (leave_node n v) (if on_node n l.node then breaks l else l)
+        by_seat None l g = subst (λ (b : Bool). IsAway (if b then breaks l else l)) (sym (ap (on_node n) g.node)) g
+        by_seat (Some s) l g = elim (num_tells s.node n) [
+          | inl p ↦
+              subst (λ (b : Bool). ShowsLink cfg.namespaces m.broker.lists hubs' (if b then None else Some s) (if on_node n l.node then breaks l else l)) (sym p.0)
+              (subst (λ (b : Bool). IsAway (if b then breaks l else l)) (sym (ap (on_node n) g.at ∙ p.0)) (record { node = refl; session = refl; channels = refl; way = refl; up = refl }))
+          | inr p ↦
+              subst (λ (b : Bool). ShowsLink cfg.namespaces m.broker.lists hubs' (if b then None else Some s) (if on_node n l.node then breaks l else l)) (sym p.0)
+              (subst (λ (b : Bool). IsSeated cfg.namespaces m.broker.lists (seated hubs' s) s.node (if b then breaks l else l)) (sym (ap (on_node n) g.at ∙ p.0)) (seated_stays (elsewhere s p.1) g))
+        ]
+
+        at_new : (i : ℕ) → is_some (attached_at h' i) ≡ true → (y : List ℕ) × (seats' y ≡ Some (record { node = n; session = i }))
+        at_new i e = absurd (let none : false ≡ true = sym (ap (λ (z : Node). is_some (attached_at z i)) new) ∙ e in cc)
+
+        onto : (j i : ℕ) → is_some (session_in (hubs' j) i) ≡ true → (y : List ℕ) × (seats' y ≡ Some (record { node = j; session = i }))
+        onto j =
+            hub_by (λ a v. (i : ℕ) → is_some (session_in v i) ≡ true → (y : List ℕ) × (seats' y ≡ Some (record { node = a; session = i }))) at_new
+            (λ a ne i e.
+            let r = t.onto a i e in
+            (r.0, sits r.0 ∙ ap (leave_node n) r.1 ∙ ap (λ (b : Bool). if b then None else Some (record { node = a; session = i })) (not_equal a n ne)))
+            j

@@ -1,0 +1,68 @@
+-- A publish, a trim and a forget go on with the machine.
+use Rattle.std.proofs.Common.{◌≡◌, ℕ, ◌&&◌, not, Bool, true, false, Option, Some, None, List, is_some, refl, sym, ap, ◌∙◌, subst, if◌then◌else◌}
+use Rattle.cf_protocol.specs.Datum.{Datum}
+use Rattle.cf_protocol.specs.Settings.{NamespaceTable, settings_of}
+use Rattle.cf_protocol.specs.declared.settings.Settings.{Settings}
+use Rattle.cf_stream.specs.StreamState.{StreamState}
+use Rattle.cf_hub.specs.Hub.{Node}
+use Rattle.cf_machine.specs.Config.{Config}
+use Rattle.cf_machine.specs.Event.{Forget, Publish, Trim}
+use Rattle.cf_machine.specs.IntervalMachine.{allows, happens, size_of}
+use Rattle.cf_machine.specs.PublicationList.{Broker, at_last_offset, can_open, forget, publish, trim, trim_at}
+use Rattle.cf_machine.specs.World.{World, broker_with}
+use Rattle.cf_world.specs.BrokerTie.{Publishes, ShowsBroker}
+use Rattle.cf_world.specs.Tie.{AreTied}
+use Rattle.cf_world.specs.declared.broker.Broker.{Broker as Code}
+use Rattle.cf_world.specs.declared.broker.Published.{Published}
+use Rattle.cf_world.specs.declared.broker.Published.TheVariants as outcome
+use Rattle.cf_world.specs.declared.peers.Peer.{Peer}
+use Rattle.cf_world.proofs.BoardLists.{grown-refl}
+use Rattle.cf_world.proofs.Going.{Stays, broker-goes, broker-may-go, broker-stays, grown-publish, grown-trim}
+use Rattle.cf_world.proofs.NodesTie.{lists_grow}
+
+three : (a b c : Bool) → a ≡ false → (a && (b && not c)) ≡ false
+three a b c h = rw h refl
+
+second : (a b c : Bool) → b ≡ false → (a && (b && not c)) ≡ false
+second true b c h = rw h refl
+second false b c h = refl
+
+third : (a b c : Bool) → c ≡ true → (a && (b && not c)) ≡ false
+third true true c h = rw h refl
+third true false c h = refl
+third false b c h = refl
+
+module _ {cfg : Config} {table : NamespaceTable} {b : Code} {hubs : ℕ → Option Node} {peers : List ℕ → Option Peer} {m : World}
+    (t : AreTied cfg table b hubs peers m) (new : Code) (stays : Stays) (c : List ℕ) where
+  -- nothing happens
+  idle : (body : List ℕ) → allows cfg m (Publish c body) ≡ false → ShowsBroker cfg.namespaces new m.broker → AreTied cfg table new hubs peers (happens cfg m (Publish c body))
+  idle body none h = rw none (broker-stays t new h)
+
+  module _ (body : List ℕ) where
+    abbrev d : Datum
+    d = record { body = body; info = None }
+
+    abbrev after : Broker
+    after = publish (size_of cfg c) c d m.broker
+
+  pub publish-goes : (body : List ℕ) (r : Published) → Publishes cfg.namespaces m.broker c (record { body = body; info = None }) new r → AreTied cfg table new hubs peers (happens cfg m (Publish c body))
+  publish-goes body outcome.Accepted h =
+      let yes' : allows cfg m (Publish c body) ≡ true = rw (h.0, h.1, h.2) refl in
+      rw yes' (broker-goes t new stays (after body) (grown-publish (size_of cfg c) c (d body) m.broker) h.3)
+  publish-goes body outcome.AtLastOffset h = idle body (third (is_some (settings_of cfg.namespaces c)) (can_open c m.broker) (at_last_offset c m.broker) h.1) h.2
+  publish-goes body outcome.NoEpoch h = idle body (second (is_some (settings_of cfg.namespaces c)) (can_open c m.broker) (at_last_offset c m.broker) h.0) h.1
+  publish-goes body outcome.NotSetUp h = idle body (three (is_some (settings_of cfg.namespaces c)) (can_open c m.broker) (at_last_offset c m.broker) (ap is_some h.0)) h.1
+
+  trim-by : (k : ℕ) (o : Option StreamState) → m.broker.streams c ≡ o → ShowsBroker cfg.namespaces new (trim_at c k o m.broker) → AreTied cfg table new hubs peers (if is_some o then broker_with (trim_at c k o m.broker) m else m)
+  trim-by k None e h = broker-stays t new h
+  trim-by k (Some s) e h = broker-goes t new stays (trim_at c k (Some s) m.broker) (grown-refl m.broker.lists) h
+
+  pub trim-goes : (k : ℕ) → ShowsBroker cfg.namespaces new (trim c k m.broker) → AreTied cfg table new hubs peers (happens cfg m (Trim c k))
+  trim-goes k h = trim-by k (m.broker.streams c) refl h
+
+  forget-by : (o : Option StreamState) → ShowsBroker cfg.namespaces new (if is_some o then forget c m.broker else m.broker) → AreTied cfg table new hubs peers (if is_some o then broker_with (forget c m.broker) m else m)
+  forget-by None h = broker-stays t new h
+  forget-by (Some s) h = broker-goes t new stays (forget c m.broker) (grown-refl m.broker.lists) h
+
+  pub forget-goes : ShowsBroker cfg.namespaces new (if is_some (m.broker.streams c) then forget c m.broker else m.broker) → AreTied cfg table new hubs peers (happens cfg m (Forget c))
+  forget-goes h = forget-by (m.broker.streams c) h

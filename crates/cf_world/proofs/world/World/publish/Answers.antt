@@ -1,0 +1,12 @@
+use Rattle.std.proofs.Common.{None}
+use Rattle.cf_protocol.specs.Datum.{Datum}
+use Rattle.cf_machine.specs.IntervalMachine.{run}
+use Rattle.cf_machine.specs.World.{World, start}
+use Rattle.cf_world.proofs.Publishing.{publish-goes}
+use Rattle.cf_world.proofs.world.World.publish.Goals as goal
+
+pub returns : goal.returns
+returns c = λ cfg past t.
+    let w : World = run cfg start past in
+    publish-goes t c.publish.new.self c.what_is_said_stays.ensures.grows c.args.channel.now c.args.body.now c.in_ok-_published._published
+    (c.in_ok-_published.ensures cfg.namespaces w.broker (c.epochs_are_fresh.ensures cfg past) t.broker)

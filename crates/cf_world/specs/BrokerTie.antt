@@ -1,0 +1,106 @@
+-- The broker beside what the machine has for it.
+use Rattle.std.specs.Prelude.{◌≡◌, ◌≤◌, ◌-◌, ℕ, ℤ, true, false, is_some, Option, Some, None, option_map, List, ⊤, ◌++◌, length}
+use Rattle.std.specs.List.{All, AllZip}
+use Rattle.std.specs.String.{string_bytes}
+use Rattle.std.specs.BTreeSet.{contains_text}
+use Rattle.cf_protocol.specs.Names.{is_among}
+use Rattle.cf_protocol.specs.Epoch.{IsEpoch}
+use Rattle.cf_protocol.specs.Datum.{Datum}
+use Rattle.cf_protocol.specs.Note.{Lists, placed_at, placed_from}
+use Rattle.cf_protocol.specs.Position.{Position}
+use Rattle.cf_protocol.specs.Regular.{IsPlaced, IsBody, IsInfo}
+use Rattle.cf_protocol.specs.Settings.{NamespaceTable, settings_of}
+use Rattle.cf_stream.specs.StreamState.{StreamState, last_offset, position_of}
+use Rattle.cf_stream.specs.StreamAnswer.{listed_above, read_of}
+use Rattle.cf_stream.specs.PublicationList.{Life}
+use Rattle.cf_stream.specs.ChannelLists.{AreShown}
+use Rattle.cf_stream.specs.declared.answer.History.{History}
+use Rattle.cf_stream.specs.declared.answer.Recovery.{Recovery}
+use Rattle.cf_hub.specs.InNotes.{Grown}
+use Rattle.cf_machine.specs.PublicationList.{Place, Broker, at_last_offset, can_open, opened, publish}
+use Rattle.cf_machine.specs.IntervalMachine.{size_by}
+use Rattle.cf_world.specs.declared.broker.Accepted.{Accepted}
+use Rattle.cf_world.specs.declared.broker.Published.{Published}
+use Rattle.cf_world.specs.declared.broker.Published.TheVariants as outcome
+use Rattle.cf_world.specs.declared.broker.Broker.{Broker as Code}
+
+-- A publication stands at its place, now and when the lists have grown, and its text can be read back.
+pub record IsAccepted (lists : Lists) (a : Accepted) (p : Place) : Type 0 where
+  pub place : p ≡ record { channel = string_bytes a.channel; at = record { epoch = a.epoch; offset = a.publication.offset } }
+  pub stands : (later : Lists) → Grown lists later → placed_at (later p.channel p.at.epoch) p.at.offset ≡ Some a.publication
+  pub regular : IsPlaced IsBody a.publication
+
+-- a channel's stream with its list
+abbrev pub life_at : Broker → List ℕ → Option Life
+life_at m c = option_map (λ s. record { epoch = s.epoch; list = m.lists c s.epoch; held = s.held }) (m.streams c)
+
+-- a stream's top is the length of its list
+pub record IsStanding (lists : Lists) (c : List ℕ) (s : StreamState) : Type 0 where
+  pub top : s.top ≡ length (lists c s.epoch)
+  pub within : s.top ≤ last_offset
+  pub epoch : IsEpoch s.epoch
+
+-- a datum whose text can be read back
+abbrev pub IsDatum : Datum → Type 0
+IsDatum d = IsBody d.body × IsInfo d.info
+
+pub record ShowsBroker (table : NamespaceTable) (b : Code) (m : Broker) : Type 0 where
+  pub namespaces : b.streams.namespaces ≡ table
+  pub waiting : b.epochs.waiting.items ≡ m.waiting
+  pub came : (e : List ℕ) → contains_text b.epochs.came e ≡ is_among e m.came
+  pub epochs : All IsEpoch m.waiting
+  pub streams : AreShown b.streams (life_at m)
+  pub standing : (c : List ℕ) (s : StreamState) → m.streams c ≡ Some s → IsStanding m.lists c s
+  pub accepted : AllZip (IsAccepted m.lists) b.accepted.items m.accepted
+  -- all that was ever published has texts that are read back, at offsets that there are
+  pub regular : (c e : List ℕ) → All IsDatum (m.lists c e)
+  pub bounded : (c e : List ℕ) → length (m.lists c e) ≤ last_offset
+
+-- what a read brings of a channel's stream
+pub record Brings (lists : Lists) (c : List ℕ) (since : Option Position) (s : StreamState) (r : Recovery) : Type 0 where
+  pub at : r.position ≡ position_of s
+  pub recovered : r.recovered ≡ (read_of since s).recovered
+  pub publications : r.publications.items ≡ placed_from (lists c s.epoch) (read_of since s).low (s.top - (read_of since s).low)
+
+-- a read finds the stream, which it opens where none stands; or finds none, and none can be opened
+pub record Finds (table : NamespaceTable) (m : Broker) (c : List ℕ) (since : Option Position) (new : Code) (r : Recovery) : Type 0 where
+  pub state : StreamState
+  pub stands : (opened c m).streams c ≡ Some state
+  pub brings : Brings m.lists c since state r
+  pub shows : ShowsBroker table new (opened c m)
+
+pub record FindsNone (table : NamespaceTable) (m : Broker) (c : List ℕ) (new : Code) : Type 0 where
+  pub none : can_open c m ≡ false
+  pub shows : ShowsBroker table new m
+
+abbrev pub Reads : NamespaceTable → Broker → List ℕ → Option Position → Code → Option Recovery → Type 0
+Reads table m c since new (Some r) = Finds table m c since new r
+Reads table m c since new None = FindsNone table m c new
+
+-- a history finds the stream, which it opens where none stands; or finds none, and none can be opened
+pub record FindsPast (table : NamespaceTable) (m : Broker) (c : List ℕ) (limit : ℤ) (new : Code) (h : History) : Type 0 where
+  pub state : StreamState
+  pub stands : (opened c m).streams c ≡ Some state
+  pub at : h.position ≡ position_of state
+  pub publications : h.publications.items ≡ placed_from (m.lists c state.epoch) (listed_above 0 limit state).low (listed_above 0 limit state).count
+  pub shows : ShowsBroker table new (opened c m)
+
+abbrev pub Histories : NamespaceTable → Broker → List ℕ → ℤ → Code → Option History → Type 0
+Histories table m c limit new (Some h) = FindsPast table m c limit new h
+Histories table m c limit new None = FindsNone table m c new
+
+-- what a publish comes to: it is accepted; or the stream is at its last offset, or would open while no epoch waits, or the
+-- channel's namespace isn't set up, and then nothing changes
+abbrev pub Publishes : NamespaceTable → Broker → List ℕ → Datum → Code → Published → Type 0
+Publishes table m c d new outcome.Accepted =
+    (is_some (settings_of table c) ≡ true) × (can_open c m ≡ true) × (at_last_offset c m ≡ false) × ShowsBroker table new (publish (size_by (settings_of table c)) c d m)
+Publishes table m c d new outcome.AtLastOffset = (can_open c m ≡ true) × (at_last_offset c m ≡ true) × ShowsBroker table new m
+Publishes table m c d new outcome.NoEpoch = (can_open c m ≡ false) × ShowsBroker table new m
+Publishes table m c d new outcome.NotSetUp = (settings_of table c ≡ None) × ShowsBroker table new m
+
+-- the publication of a place
+abbrev pub Stands : Lists → Option Accepted → Option Place → Type 0
+Stands lists None None = ⊤
+Stands lists (Some a) (Some p) = IsAccepted lists a p
+Stands lists None (Some p) = ⊥
+Stands lists (Some a) None = ⊥

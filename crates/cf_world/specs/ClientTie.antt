@@ -1,0 +1,102 @@
+-- A client of the world beside the machine's, and what the calls of clients make of all of them.
+use Rattle.std.specs.Prelude.{◌≡◌, ◌≢◌, ◌<◌, ⊤, ℕ, Bool, Option, Some, None, is_some, List, map}
+use Rattle.std.specs.List.{All}
+use Rattle.std.specs.String.{string_bytes}
+use Rattle.std.specs.declared.alloc.Global.{Global}
+use Rattle.std.specs.declared.string.String.{String}
+use Rattle.cf_protocol.specs.Frame.{IsReplies}
+use Rattle.cf_protocol.specs.Names.{with}
+use Rattle.cf_protocol.specs.Note.{Note, Reply, Pub, End, Fails, Put as PutDone, Left, Listed, PingDue, Close}
+use Rattle.cf_protocol.specs.Outgoing.{Outgoing}
+use Rattle.cf_protocol.specs.Written.{command_text}
+use Rattle.cf_client.specs.AppItem.{AppItem}
+use Rattle.cf_client.specs.ClientCalls.{State, TakesAll, asked, ask_fault, call_fault, called, left, leave_fault, reconnected}
+use Rattle.cf_client.specs.ClientState.{Client, last_of, new_client}
+use Rattle.cf_client.specs.ClientView.{ClientView, state_of}
+use Rattle.cf_client.specs.OneMeaning.{CallsAt}
+use Rattle.cf_client.specs.declared.fault.ClientFault.{ClientFault}
+use Rattle.cf_machine.specs.ClientLink.{ClientLink}
+use Rattle.cf_machine.specs.ClientRequest.{ClientRequest, Subscribe, Unsubscribe, Publish, History, command_of}
+use Rattle.cf_world.specs.declared.errand.Errand.{Errand}
+use Rattle.cf_world.specs.declared.errand.Errand.TheVariants as errand
+use Rattle.cf_world.specs.declared.peers.Peer.{Peer}
+
+-- ---- a client
+
+-- an answer that waits is to a call of its channel
+abbrev pub IsOwn : State → Note → Type 0
+IsOwn s (Fails c id code) = (id < s.client.fresh) × CallsAt id c s
+IsOwn s (Listed c id at low count) = (id < s.client.fresh) × CallsAt id c s
+IsOwn s (Reply c id was r) = ⊤
+IsOwn s (Pub c q) = ⊤
+IsOwn s (End c) = ⊤
+IsOwn s (PutDone id) = ⊤
+IsOwn s (Left id) = ⊤
+IsOwn s PingDue = ⊤
+IsOwn s (Close code) = ⊤
+
+pub record ShowsPeer (p : Peer) (l : ClientLink) : Type 0 where
+  pub client : (state_of p.client).client ≡ l.client
+  pub connected : (state_of p.client).connected ≡ is_some p.seat
+  pub own : All (IsOwn (state_of p.client)) l.session.notes
+
+-- one that never connected knows nothing
+abbrev pub ShowsClient : Option Peer → ClientLink → Type 0
+ShowsClient None l = l.client ≡ new_client
+ShowsClient (Some p) l = ShowsPeer p l
+
+-- ---- what a client is to send
+
+abbrev pub request_by : Errand → Client → ClientRequest
+request_by (errand.Ask channel) x = Subscribe channel.now None
+request_by (errand.AskFrom channel) x = Subscribe channel.now (last_of (x.modes channel.now))
+request_by (errand.Leave channel) x = Unsubscribe channel.now
+request_by (errand.Put channel body) x = Publish channel.now body.now
+request_by (errand.List channel limit) x = History channel.now limit
+
+abbrev pub send_fault : Errand → State → Option ClientFault
+send_fault (errand.Ask channel) s = ask_fault channel.now s
+send_fault (errand.AskFrom channel) s = ask_fault channel.now s
+send_fault (errand.Leave channel) s = leave_fault channel.now s
+send_fault (errand.Put channel body) s = call_fault s
+send_fault (errand.List channel limit) s = call_fault s
+
+-- what a client makes of an errand that it sends
+abbrev pub sent_state : ClientRequest → State → State
+sent_state (Subscribe c from) s = asked c from s
+sent_state (Unsubscribe c) s = left c s
+sent_state (Publish c body) s = called c s
+sent_state (History c limit) s = called c s
+
+-- ---- one client changes, and the others stay
+
+pub record Becomes (x : List ℕ) (p : Peer) (state : State) (old new : List ℕ → Option Peer) : Type 0 where
+  pub client : ClientView
+  pub now : (y : List ℕ) → new y ≡ with old x (Some (record p { client = client })) y
+  pub state_is : state_of client ≡ state
+
+-- its connection is gone
+pub record Unseats (x : List ℕ) (p : Peer) (old new : List ℕ → Option Peer) : Type 0 where
+  pub client : ClientView
+  pub now : (y : List ℕ) → new y ≡ with old x (Some (record { client = client; seat = None })) y
+  pub state_is : state_of client ≡ reconnected (state_of p.client)
+
+pub record Sent (e : Errand) (x text : List ℕ) (p : Peer) (old new : List ℕ → Option Peer) : Type 0 where
+  pub allowed : send_fault e (state_of p.client) ≡ None
+  pub said : text ≡ command_text (command_of (record { id = (state_of p.client).client.fresh; request = request_by e (state_of p.client).client }))
+  pub becomes : Becomes x p (sent_state (request_by e (state_of p.client).client) (state_of p.client)) old new
+
+-- it can't, and stays as it was
+pub record NotSent (e : Errand) (x : List ℕ) (p : Peer) (old new : List ℕ → Option Peer) : Type 0 where
+  pub refused : send_fault e (state_of p.client) ≢ None
+  pub becomes : Becomes x p (state_of p.client) old new
+
+abbrev pub Sends : Errand → List ℕ → Peer → (List ℕ → Option Peer) → (List ℕ → Option Peer) → Option (String Global) → Type 0
+Sends e x p old new None = NotSent e x p old new
+Sends e x p old new (Some text) = Sent e x (string_bytes text) p old new
+
+-- a client takes a text, and its application is told this
+pub record Heard (x text : List ℕ) (p : Peer) (old new : List ℕ → Option Peer) (told : List AppItem) : Type 0 where
+  pub state : State
+  pub becomes : Becomes x p state old new
+  pub takes : (os : List Outgoing) → IsReplies text os → TakesAll os (state_of p.client) state told

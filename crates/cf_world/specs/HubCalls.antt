@@ -1,0 +1,74 @@
+-- What the calls of one node's hub make of all nodes.
+use Rattle.std.specs.Prelude.{◌≡◌, ◌≢◌, ◌+◌, ℕ, suc, Option, Some, List, [], ◌∷◌}
+use Rattle.cf_protocol.specs.Datum.{Placed}
+use Rattle.cf_protocol.specs.Position.{Position}
+use Rattle.cf_queue.specs.OutQueue.{Item, Close, Text}
+use Rattle.cf_hub.specs.Finish.{FinishesAt}
+use Rattle.cf_hub.specs.Hub.{Delivers, Meets, Node, One, OthersStay, SameNode, SameRest, attached_at, empty, sub_at}
+use Rattle.cf_hub.specs.SessionState.{checks, closes_now, leaves, push, reads, takes_front}
+use Rattle.cf_hub.specs.Subscriptions.{reading_of}
+use Rattle.cf_hub.specs.WantOfMemory.{OrCloses}
+use Rattle.cf_hub.specs.Wordings.{plain, reading}
+use Rattle.cf_stream.specs.declared.answer.Recovery.{Recovery}
+
+abbrev pub Hubs : Type 0
+Hubs = ℕ → Option Node
+
+-- hub n changes so, where it is there, and the others stay
+pub record OneHub (n : ℕ) (P : Node → Node → Type 0) (old new : Hubs) (h : Node) : Type 0 where
+  pub hub : Node
+  pub now : new n ≡ Some hub
+  pub changes : P h hub
+  pub others : (j : ℕ) → j ≢ n → new j ≡ old j
+
+abbrev pub AtHub : ℕ → (Node → Node → Type 0) → Hubs → Hubs → Type 0
+AtHub n P old new = (h : Node) → old n ≡ Some h → OneHub n P old new h
+
+-- no request for memory was refused
+pub record Unrefused (P : Node → Node → Type 0) (h g : Node) : Type 0 where
+  pub does : P h g
+  pub same : SameNode h g
+  pub none : g.refused ≡ 0
+
+abbrev pub Finished : ℕ → List ℕ → Node → Node → Type 0
+Finished k c = Unrefused (λ h g. Meets k (λ hit. FinishesAt hit c (sub_at h k c)) h g)
+
+abbrev pub Delivered : List ℕ → List ℕ → Placed → Node → Node → Type 0
+Delivered c e p = Unrefused (Delivers c e p)
+
+abbrev pub Checked : ℕ → List ℕ → Option Position → Node → Node → Type 0
+Checked k c top = Unrefused (Meets k (λ hit. OrCloses hit plain (checks plain c top)))
+
+abbrev pub Told : ℕ → List ℕ → Node → Node → Type 0
+Told k text = Unrefused (Meets k (λ hit. OrCloses hit plain (push plain (Text text))))
+
+-- a call that takes no memory
+pub record Quiet (P : Node → Node → Type 0) (h g : Node) : Type 0 where
+  pub does : P h g
+  pub same : SameRest h g
+
+abbrev pub WasRead : ℕ → List ℕ → Recovery → Node → Node → Type 0
+WasRead k c r = Quiet (One k (reads (reading r.publications.items) c (reading_of r)))
+
+abbrev pub Left : ℕ → List ℕ → Node → Node → Type 0
+Left k c = Quiet (One k (leaves c))
+
+abbrev pub Closed : ℕ → ℕ → Node → Node → Type 0
+Closed k code = Quiet (One k (closes_now (Close code)))
+
+abbrev pub Taken : ℕ → Node → Node → Type 0
+Taken k = Quiet (One k takes_front)
+
+pub record Gone (k : ℕ) (h g : Node) : Type 0 where
+  pub gone : attached_at g k ≡ Option.None
+  pub others : OthersStay k h g
+  pub same : SameRest h g
+
+-- node n begins anew, under the next boot number
+abbrev pub Renewed : ℕ → Node → Node → Type 0
+Renewed n h g = g ≡ empty n (h.boot + 1)
+
+-- nodes from this number on, in their first boot
+abbrev pub AreNew : ℕ → List Node → Type 0
+AreNew n [] = Unit {0}
+AreNew n (h ∷ hs) = (h ≡ empty n 1) × AreNew (suc n) hs

@@ -1,0 +1,5 @@
+pub mod BrokerTie
+pub mod ClientTie
+pub mod HubCalls
+pub mod NodesTie
+pub mod Tie

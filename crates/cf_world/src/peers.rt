@@ -1,0 +1,117 @@
+//! The clients by name, and where their sessions are.
+ghost use Rattle.std.specs.Prelude.{◌≡◌, ℕ, List, Bool, None, Some, true, false, is_some, map, IfOk, OnOk, IfErr, option_and_then, string_bytes, if◌then◌else◌};
+ghost use Rattle.std.specs.BTreeMap.{get_by_text};
+ghost use Rattle.cf_client.specs.ClientCalls.{new_state, connected, reconnected};
+ghost use Rattle.cf_client.specs.ClientView.{state_of};
+ghost use Rattle.cf_client.specs.Shown.{shown_item};
+ghost use Rattle.cf_world.specs.ClientTie.{Heard, Sends, Unseats};
+ghost use Rattle.cf_world.specs.declared.peers.Peer.{Peer as AnyPeer};
+
+use crate::errand::Errand;
+use crate::short::Short;
+use cf_client::{AppEvent, Client, ClientFault};
+use std::alloc::Global;
+use std::collections::BTreeMap;
+
+/// Where a session is: its node, and its number there.
+#[derive(Clone, Copy, PartialEq, Eq)]
+pub(crate) struct Seat {
+    pub(crate) node: u8,
+    pub(crate) session: u32,
+}
+
+/// A client, and its session while it is connected.
+#[derive(Drop)]
+pub(crate) struct Peer {
+    pub(crate) client: Client,
+    pub(crate) seat: Option<Seat>,
+}
+
+/// Where the session of a client is, if it is connected.
+pub(crate) fn seat_of(peers: &BTreeMap<String, Peer>, name: &str) -> Option<Seat>
+    ensures { result ≡ option_and_then (λ p. p.seat) (get_by_text peers.now name.now) }
+{
+    match peers.get(name) {
+        None => None,
+        Some(peer) => peer.seat,
+    }
+}
+
+/// The connection of a client is gone.
+pub(crate) fn unseat(peers: &mut BTreeMap<String, Peer>, name: &str)
+    ensures { (p : AnyPeer) → get_by_text peers.old name.now ≡ Some p → Unseats name.now p (get_by_text peers.old) (get_by_text peers.new) }
+{
+    if let Some(peer) = peers.get_mut(name) {
+        peer.break_off();
+    }
+}
+
+/// What a client sends. None where it can't: the channel isn't idle, or is, or its ids are used up.
+pub(crate) fn send(
+    peers: &mut BTreeMap<String, Peer>,
+    name: &str,
+    errand: &Errand<'_>,
+) -> Result<Option<String>, Short>
+    ensures { IfOk result (λ text. (p : AnyPeer) → get_by_text peers.old name.now ≡ Some p → Sends errand.now name.now p (get_by_text peers.old) (get_by_text peers.new) text) }
+{
+    let Some(peer) = peers.get_mut(name) else {
+        return Ok(None);
+    };
+    match peer.send(errand) {
+        Ok(text) => Ok(Some(text)),
+        Err(ClientFault::NotNow) => Ok(None),
+        Err(ClientFault::AtLastId) => Ok(None),
+        Err(_) => Err(Short),
+    }
+}
+
+/// A client takes a text.
+pub(crate) fn hear(
+    alloc: Global,
+    peers: &mut BTreeMap<String, Peer>,
+    name: &str,
+    text: &str,
+) -> Result<Vec<AppEvent>, Short>
+    ensures { IfOk result (λ told. (p : AnyPeer) → get_by_text peers.old name.now ≡ Some p → Heard name.now text.now p (get_by_text peers.old) (get_by_text peers.new) (map shown_item told.items)) }
+{
+    let Some(peer) = peers.get_mut(name) else {
+        return Ok(Vec::new(alloc));
+    };
+    match peer.client.on_text(text) {
+        Ok(events) => Ok(events),
+        Err(_) => Err(Short),
+    }
+}
+
+impl Peer {
+    ghost use Rattle.std.specs.Prelude.{◌≡◌, IfOk, OnOk, OnErr, None, string_bytes};
+    ghost use Rattle.cf_protocol.specs.Written.{command_text};
+    ghost use Rattle.cf_client.specs.ClientCalls.{RefusedBy, reconnected};
+    ghost use Rattle.cf_client.specs.ClientView.{state_of};
+    ghost use Rattle.cf_machine.specs.ClientRequest.{command_of};
+    ghost use Rattle.cf_world.specs.ClientTie.{request_by, send_fault, sent_state};
+
+    fn break_off(&mut self)
+        ensures state { state_of self.new.client ≡ reconnected (state_of self.old.client) }
+        ensures seat { self.new.seat ≡ None }
+    {
+        self.client.reconnect();
+        self.seat = None;
+    }
+
+    fn send(&mut self, errand: &Errand<'_>) -> Result<String, ClientFault>
+        ensures text { IfOk result (λ t. string_bytes t ≡ command_text (command_of (record { id = (state_of self.old.client).client.fresh; request = request_by errand.now (state_of self.old.client).client }))) }
+        ensures ok { OnOk result (state_of self.new.client ≡ sent_state (request_by errand.now (state_of self.old.client).client) (state_of self.old.client)) }
+        ensures refused { RefusedBy (send_fault errand.now (state_of self.old.client)) result }
+        ensures err { OnErr result (state_of self.new.client ≡ state_of self.old.client) }
+        ensures seat { self.new.seat ≡ self.old.seat }
+    {
+        match errand {
+            Errand::Ask { channel } => self.client.ask(channel),
+            Errand::AskFrom { channel } => self.client.ask_from(channel),
+            Errand::Leave { channel } => self.client.leave(channel),
+            Errand::Put { channel, body } => self.client.put(channel, body),
+            Errand::List { channel, limit } => self.client.list(channel, *limit),
+        }
+    }
+}
