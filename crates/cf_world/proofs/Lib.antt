@@ -18,3 +18,4 @@ pub mod Reading
 pub mod ReadGoes
 pub mod Starting
 pub mod Getting
+pub mod Leaving

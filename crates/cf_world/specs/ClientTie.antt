@@ -1,5 +1,5 @@
 -- A client of the world beside the machine's, and what the calls of clients make of all of them.
-use Rattle.std.specs.Prelude.{◌≡◌, ◌≢◌, ◌<◌, ⊤, ℕ, Bool, Option, Some, None, is_some, List, map}
+use Rattle.std.specs.Prelude.{◌≡◌, ◌≢◌, ◌<◌, ⊤, ℕ, ◌==◌, Bool, false, if◌then◌else◌, Option, Some, None, is_some, List, map}
 use Rattle.std.specs.List.{All}
 use Rattle.std.specs.String.{string_bytes}
 use Rattle.std.specs.declared.alloc.Global.{Global}
@@ -20,6 +20,7 @@ use Rattle.cf_machine.specs.ClientRequest.{ClientRequest, Subscribe, Unsubscribe
 use Rattle.cf_world.specs.declared.errand.Errand.{Errand}
 use Rattle.cf_world.specs.declared.errand.Errand.TheVariants as errand
 use Rattle.cf_world.specs.declared.peers.Peer.{Peer}
+use Rattle.cf_world.specs.declared.peers.Seat.{Seat}
 
 -- ---- a client
 
@@ -80,6 +81,26 @@ pub record Unseats (x : List ℕ) (p : Peer) (old new : List ℕ → Option Peer
   pub client : ClientView
   pub now : (y : List ℕ) → new y ≡ with old x (Some (record { client = client; seat = None })) y
   pub state_is : state_of client ≡ reconnected (state_of p.client)
+
+-- whether a seat is at node n, and where a client sits once node n is left
+abbrev pub is_at : ℕ → Option Seat → Bool
+is_at n None = false
+is_at n (Some s) = s.node == n
+
+abbrev pub leave_node : ℕ → Option Seat → Option Seat
+leave_node n None = None
+leave_node n (Some s) = if s.node == n then None else Some s
+
+-- its connection is gone where it was to node n
+pub record LeavesAs (n : ℕ) (p q : Peer) : Type 0 where
+  pub seat : q.seat ≡ leave_node n p.seat
+  pub state : state_of q.client ≡ (if is_at n p.seat then reconnected (state_of p.client) else state_of p.client)
+
+abbrev pub LeavesNode : ℕ → Option Peer → Option Peer → Type 0
+LeavesNode n None None = ⊤
+LeavesNode n None (Some q) = ⊥
+LeavesNode n (Some p) None = ⊥
+LeavesNode n (Some p) (Some q) = LeavesAs n p q
 
 pub record Sent (e : Errand) (x text : List ℕ) (p : Peer) (old new : List ℕ → Option Peer) : Type 0 where
   pub allowed : send_fault e (state_of p.client) ≡ None

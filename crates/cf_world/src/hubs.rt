@@ -3,7 +3,7 @@ ghost use Rattle.std.specs.Prelude.{◌≡◌, ℕ, List, Some, None, OnOk, IfOk
 ghost use Rattle.cf_protocol.specs.Codes.{close_code_of};
 ghost use Rattle.cf_hub.specs.Asking.{asked_of};
 ghost use Rattle.cf_hub.specs.Hub.{Node, sub_at};
-ghost use Rattle.cf_world.specs.HubCalls.{AtHub, Checked, Closed, Delivered, Finished, Gone, Left, Taken, Told, WasRead};
+ghost use Rattle.cf_world.specs.HubCalls.{AtHub, Checked, Closed, Delivered, Finished, Gone, Left, Renewed, Taken, Told, WasRead};
 
 use crate::broker::Accepted;
 use crate::peers::Seat;
@@ -12,6 +12,7 @@ use cf_hub::{Asked, Hub};
 use cf_protocol::{CloseCode, Position};
 use cf_queue::Out;
 use cf_stream::Recovery;
+use std::alloc::Global;
 
 /// A subscription is finished.
 pub(crate) fn finish_in(hubs: &mut Vec<Hub>, seat: Seat, channel: &str) -> Result<(), Short>
@@ -120,4 +121,18 @@ pub(crate) fn asked_in(hubs: &Vec<Hub>, seat: Seat, channel: &str) -> Option<Ask
         None => None,
         Some(hub) => hub.asked(seat.session, channel),
     }
+}
+
+/// A node restarts: its sessions are gone, and its boot number grows.
+pub(crate) fn renew_in(hubs: &mut Vec<Hub>, alloc: Global, node: u8) -> Result<(), Short>
+    ensures { OnOk result (AtHub node (Renewed node) (slice_get hubs.old.items) (slice_get hubs.new.items)) }
+{
+    let Some(hub) = hubs.get_mut(node as usize) else {
+        return Ok(());
+    };
+    let Some(boot) = hub.boot().checked_add(1) else {
+        return Err(Short);
+    };
+    *hub = Hub::new(alloc, node, boot);
+    Ok(())
 }

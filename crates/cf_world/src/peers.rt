@@ -4,7 +4,7 @@ ghost use Rattle.std.specs.BTreeMap.{get_by_text};
 ghost use Rattle.cf_client.specs.ClientCalls.{new_state, connected, reconnected};
 ghost use Rattle.cf_client.specs.ClientView.{state_of};
 ghost use Rattle.cf_client.specs.Shown.{shown_item};
-ghost use Rattle.cf_world.specs.ClientTie.{Heard, Sends, Unseats};
+ghost use Rattle.cf_world.specs.ClientTie.{Heard, LeavesNode, Sends, Unseats};
 ghost use Rattle.cf_world.specs.declared.peers.Peer.{Peer as AnyPeer};
 
 use crate::errand::Errand;
@@ -44,6 +44,16 @@ pub(crate) fn unseat(peers: &mut BTreeMap<String, Peer>, name: &str)
     if let Some(peer) = peers.get_mut(name) {
         peer.break_off();
     }
+}
+
+/// The connections to a node are gone.
+pub(crate) fn unseat_all(peers: &mut BTreeMap<String, Peer>, node: u8)
+    ensures { (y : List ℕ) → LeavesNode node (get_by_text peers.old y) (get_by_text peers.new y) }
+{
+    peers.retain(|_name, peer| {
+        peer.leave_node(node);
+        true
+    });
 }
 
 /// What a client sends. None where it can't: the channel isn't idle, or is, or its ids are used up.
@@ -89,7 +99,7 @@ impl Peer {
     ghost use Rattle.cf_client.specs.ClientCalls.{RefusedBy, reconnected};
     ghost use Rattle.cf_client.specs.ClientView.{state_of};
     ghost use Rattle.cf_machine.specs.ClientRequest.{command_of};
-    ghost use Rattle.cf_world.specs.ClientTie.{request_by, send_fault, sent_state};
+    ghost use Rattle.cf_world.specs.ClientTie.{LeavesAs, is_at, request_by, send_fault, sent_state};
 
     fn break_off(&mut self)
         ensures state { state_of self.new.client ≡ reconnected (state_of self.old.client) }
@@ -97,6 +107,23 @@ impl Peer {
     {
         self.client.reconnect();
         self.seat = None;
+    }
+
+    fn leave_node(&mut self, node: u8)
+        ensures { LeavesAs node self.old self.new }
+    {
+        if self.is_on(node) {
+            self.break_off();
+        }
+    }
+
+    fn is_on(&self, node: u8) -> bool
+        ensures { result ≡ is_at node self.now.seat }
+    {
+        match self.seat {
+            None => false,
+            Some(seat) => seat.node == node,
+        }
     }
 
     fn send(&mut self, errand: &Errand<'_>) -> Result<String, ClientFault>
