@@ -19,3 +19,10 @@ pub mod ReadGoes
 pub mod Starting
 pub mod Getting
 pub mod Leaving
+pub mod Entering
+pub mod Telling
+pub mod TakeKeeps
+pub mod TakenText
+pub mod Exchanged
+pub mod Exchanging
+pub mod Takes

@@ -13,6 +13,7 @@ use Rattle.cf_client.specs.AppItem.{AppItem}
 use Rattle.cf_client.specs.ClientCalls.{State, TakesAll, asked, ask_fault, call_fault, called, left, leave_fault, reconnected}
 use Rattle.cf_client.specs.ClientState.{Client, last_of, new_client}
 use Rattle.cf_client.specs.ClientView.{ClientView, state_of}
+use Rattle.cf_client.specs.OneAnswer.{AreApart}
 use Rattle.cf_client.specs.OneMeaning.{CallsAt}
 use Rattle.cf_client.specs.declared.fault.ClientFault.{ClientFault}
 use Rattle.cf_machine.specs.ClientLink.{ClientLink}
@@ -118,6 +119,7 @@ Sends e x p old new (Some text) = Sent e x (string_bytes text) p old new
 
 -- a client takes a text, and its application is told this
 pub record Heard (x text : List ℕ) (p : Peer) (old new : List ℕ → Option Peer) (told : List AppItem) : Type 0 where
+  pub apart : AreApart (state_of p.client).client
   pub state : State
   pub becomes : Becomes x p state old new
   pub takes : (os : List Outgoing) → IsReplies text os → TakesAll os (state_of p.client) state told

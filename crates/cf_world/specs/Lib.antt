@@ -3,3 +3,4 @@ pub mod ClientTie
 pub mod HubCalls
 pub mod NodesTie
 pub mod Tie
+pub mod Entries

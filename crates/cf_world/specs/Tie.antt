@@ -1,5 +1,5 @@
 -- A world shows a state of the machine: each part of it stands beside what the machine has for that part.
-use Rattle.std.specs.Prelude.{◌≡◌, ℕ, Option, Some, List, option_and_then, option_map, slice_get}
+use Rattle.std.specs.Prelude.{◌≡◌, ℕ, Option, Some, List, flat_map, option_and_then, option_map, slice_get}
 use Rattle.std.specs.BTreeMap.{get_by_text}
 use Rattle.cf_protocol.specs.Settings.{NamespaceTable}
 use Rattle.cf_client.specs.ClientView.{ClientView}
@@ -8,11 +8,14 @@ use Rattle.cf_stream.specs.Streams.{Kept}
 use Rattle.cf_machine.specs.Config.{Config}
 use Rattle.cf_machine.specs.Event.{Event}
 use Rattle.cf_machine.specs.IntervalMachine.{happens, run}
+use Rattle.cf_machine.specs.Told.{writes}
 use Rattle.cf_machine.specs.World.{World, start}
 use Rattle.cf_world.specs.BrokerTie.{ShowsBroker}
 use Rattle.cf_world.specs.ClientTie.{ShowsClient}
+use Rattle.cf_world.specs.Entries.{shown_entry}
 use Rattle.cf_world.specs.NodesTie.{ShowsNodes}
 use Rattle.cf_world.specs.declared.broker.Broker.{Broker}
+use Rattle.cf_world.specs.declared.entry.Entry.{Entry}
 use Rattle.cf_world.specs.declared.peers.Peer.{Peer}
 use Rattle.cf_world.specs.declared.peers.Seat.{Seat}
 use Rattle.cf_world.specs.declared.world.World.{World as Code}
@@ -33,6 +36,10 @@ Tied cfg w m = AreTied cfg w.namespaces w.broker (slice_get w.hubs.items) (get_b
 -- the world goes on with the machine, whatever events led to it
 abbrev pub GoesOn : Event → Code → Code → Type 0
 GoesOn e old new = (cfg : Config) (past : List Event) → Tied cfg old (run cfg start past) → Tied cfg new (happens cfg (run cfg start past) e)
+
+-- these entries are those of event number n
+abbrev pub Writes : ℕ → Event → Code → List Entry → Type 0
+Writes n e old es = (cfg : Config) (past : List Event) → Tied cfg old (run cfg start past) → flat_map shown_entry es ≡ writes cfg n (run cfg start past) e
 
 -- ---- its parts
 

@@ -1,8 +1,9 @@
 //! Calls of one node's hub, among all.
-ghost use Rattle.std.specs.Prelude.{◌≡◌, ℕ, List, Some, None, OnOk, IfOk, slice_get, string_bytes};
+ghost use Rattle.std.specs.Prelude.{◌≡◌, ℕ, List, Some, None, OnOk, IfOk, option_and_then, option_map, slice_get, string_bytes};
 ghost use Rattle.cf_protocol.specs.Codes.{close_code_of};
 ghost use Rattle.cf_hub.specs.Asking.{asked_of};
-ghost use Rattle.cf_hub.specs.Hub.{Node, sub_at};
+ghost use Rattle.cf_hub.specs.Hub.{Node, attached_at, sub_at};
+ghost use Rattle.cf_queue.specs.Meaning.{meaning};
 ghost use Rattle.cf_world.specs.HubCalls.{AtHub, Checked, Closed, Delivered, Finished, Gone, Left, Renewed, Taken, Told, WasRead};
 
 use crate::broker::Accepted;
@@ -135,4 +136,15 @@ pub(crate) fn renew_in(hubs: &mut Vec<Hub>, alloc: Global, node: u8) -> Result<(
     };
     *hub = Hub::new(alloc, node, boot);
     Ok(())
+}
+
+/// Takes what is next for a session's client.
+pub(crate) fn take_in(hubs: &mut Vec<Hub>, seat: Seat) -> Option<Out>
+    ensures front { (h : Node) → slice_get hubs.old.items seat.node ≡ Some h → option_map meaning result ≡ option_and_then (λ a. slice_get a.state.notes 0) (attached_at h seat.session) }
+    ensures taken { AtHub seat.node (Taken seat.session) (slice_get hubs.old.items) (slice_get hubs.new.items) }
+{
+    match hubs.get_mut(seat.node as usize) {
+        None => None,
+        Some(hub) => hub.take(seat.session),
+    }
 }

@@ -2,6 +2,7 @@
 #![tactic(auto)]
 
 mod broker;
+mod entry;
 mod epochs;
 mod errand;
 mod hubs;
@@ -9,7 +10,9 @@ mod joining;
 mod peers;
 mod serving;
 mod short;
+mod taking;
 mod world;
 
+pub use entry::{Entry, Item};
 pub use short::Short;
 pub use world::World;

@@ -19,6 +19,7 @@ returns-in-Ok c = λ p there.
     let some : IsSome (get_by_text old c.args.name.now) = search rules in
     subst (λ (z : Peer). Heard c.args.name.now c.args.text.now z (get_by_text old) (get_by_text new) (map shown_item c.in-Ok.events.items)) is
     (record {
+      apart = c.on_text.ensures.apart;
       state = state_of c.on_text.new.self;
       becomes = record {
         client = c.on_text.new.self;

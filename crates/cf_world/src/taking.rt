@@ -1,0 +1,83 @@
+//! What reaches a client, and what its application gets.
+ghost use Rattle.std.specs.Prelude.{◌≡◌, [], ◌∷◌, IfOk, OnOk, flat_map, map};
+ghost use Rattle.cf_client.specs.Shown.{shown_item};
+ghost use Rattle.cf_machine.specs.Event as said;
+ghost use Rattle.cf_machine.specs.Told.{entries as entries_of};
+ghost use Rattle.cf_machine.specs.Trace as item;
+ghost use Rattle.cf_world.specs.Entries.{shown_entry, told_of};
+ghost use Rattle.cf_world.specs.Tie.{GoesOn, Writes};
+
+use crate::entry::{Entry, Item};
+use crate::hubs::{detach_in, take_in};
+use crate::peers::{hear, seat_of, unseat};
+use crate::short::Short;
+use crate::world::World;
+use cf_client::AppEvent;
+use cf_client::laws::one_meaning;
+use cf_hub::laws::{calls_are_alike, moves_are_alike};
+use cf_machine::laws::{answers_by_id, schedules_are_loose_runs, what_waits_is_listed};
+use cf_protocol::laws::replies_read_back;
+use cf_queue::Out;
+use std::alloc::{AllocError, Global};
+
+impl World {
+    /// A client takes the front of what waits for it, in event number `at`.
+    pub fn take(&mut self, at: usize, name: &str) -> Result<Vec<Entry>, Short>
+        ensures ok { OnOk result (GoesOn (said.Take name.now) self.old self.new) }
+        ensures writes { IfOk result (λ es. Writes at (said.Take name.now) self.old es.items) }
+    {
+        calls_are_alike();
+        moves_are_alike();
+        one_meaning();
+        replies_read_back();
+        answers_by_id();
+        schedules_are_loose_runs();
+        what_waits_is_listed();
+        let Some(seat) = seat_of(&self.peers, name) else {
+            return Ok(Vec::new(self.alloc));
+        };
+        match take_in(&mut self.hubs, seat) {
+            None => Ok(Vec::new(self.alloc)),
+            Some(Out::Text(text)) => {
+                let told = hear(self.alloc, &mut self.peers, name, text.as_str())?;
+                let entries = entries(self.alloc, at, name, told)?;
+                Ok(entries)
+            }
+            Some(Out::Close(code)) => {
+                detach_in(&mut self.hubs, seat);
+                unseat(&mut self.peers, name);
+                let entries = closed(self.alloc, at, name, code)?;
+                Ok(entries)
+            }
+        }
+    }
+}
+
+// What the application of a client got, as entries of event number `at`.
+fn entries(
+    alloc: Global,
+    at: usize,
+    name: &str,
+    told: Vec<AppEvent>,
+) -> Result<Vec<Entry>, AllocError>
+    ensures { IfOk result (λ es. flat_map shown_entry es.items ≡ entries_of at name.now (flat_map told_of (map shown_item told.items))) }
+{
+    let mut entries = Vec::new(alloc);
+    for event in told {
+        let client = String::from_str(alloc, name)?;
+        let item = Item::Told(event);
+        entries.push(Entry { at, client, item })?;
+    }
+    Ok(entries)
+}
+
+// A close, as an entry of event number `at`.
+fn closed(alloc: Global, at: usize, name: &str, code: u16) -> Result<Vec<Entry>, AllocError>
+    ensures { IfOk result (λ es. flat_map shown_entry es.items ≡ entries_of at name.now (item.Closed code ∷ [])) }
+{
+    let mut entries = Vec::new(alloc);
+    let client = String::from_str(alloc, name)?;
+    let item = Item::Closed(code);
+    entries.push(Entry { at, client, item })?;
+    Ok(entries)
+}
