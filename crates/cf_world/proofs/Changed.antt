@@ -1,11 +1,11 @@
 -- One hub of all is changed.
-use Rattle.std.proofs.Common.{◌≡◌, ◌≢◌, ◌<◌, ℕ, zero, suc, ◌==◌, not, Bool, true, false, Option, Some, None, List, [], ◌∷◌, refl, sym, ap, ◌∙◌, subst, slice_get, slice_set, slice_index_or, length, inl, inr, Vec, Global, arith}
+use Rattle.std.proofs.Common.{◌≡◌, ◌≢◌, ◌<◌, ℕ, zero, suc, ◌==◌, not, true, false, Option, Some, None, List, [], ◌∷◌, refl, sym, ap, ◌∙◌, subst, slice_get, slice_set, slice_index_or, length, inl, inr, Vec, Global, arith}
 use Rattle.std.proofs.lemmas.Bool.Decides.{nat_tests}
 use Rattle.std.proofs.lemmas.Option.{slice_get-get_or, slice_get_past}
 use Rattle.std.proofs.lemmas.Bool.{cases_lt}
 use Rattle.std.specs.Vec.{vec_len}
 use Rattle.cf_hub.specs.Hub.{Node}
-use Rattle.cf_world.specs.HubCalls.{AtHub, OneHub}
+use Rattle.cf_world.specs.HubCalls.{AtHub}
 
 pub set-here : {X : Type 0} (xs : List X) (n : ℕ) (x y : X) → slice_get xs n ≡ Some y → slice_get (slice_set xs n x) n ≡ Some x
 set-here [] n x y h = cc
@@ -20,7 +20,7 @@ set-other (z ∷ xs) (suc n) zero x h = refl
 set-other (z ∷ xs) (suc n) (suc m) x h = set-other xs n m x (λ e. h (ap suc e))
 
 -- the hub that is lent is the one at its place
-found : (hubs : Vec Node Global) (n : ℕ) (h : Node) → n < vec_len hubs → h ≡ slice_index_or hubs.items n h → slice_get hubs.items n ≡ Some h
+pub found : (hubs : Vec Node Global) (n : ℕ) (h : Node) → n < vec_len hubs → h ≡ slice_index_or hubs.items n h → slice_get hubs.items n ≡ Some h
 found hubs n h within e = slice_get-get_or hubs.items n h (subst (λ l. n < l) hubs.ok.0 within) ∙ ap Some (sym e)
 
 some-same : (x y : Node) → Some x ≡ Some y → x ≡ y

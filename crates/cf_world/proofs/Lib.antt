@@ -7,7 +7,9 @@ pub mod Changed
 pub mod Named
 pub mod Ends
 pub mod Looking
+pub mod Counts
 pub mod NodesTie
+pub mod Rooms
 pub mod Going
 pub mod Publishing
 pub mod Sitting
@@ -26,3 +28,4 @@ pub mod TakenText
 pub mod Exchanged
 pub mod Exchanging
 pub mod Takes
+pub mod Connecting

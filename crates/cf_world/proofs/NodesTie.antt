@@ -1,25 +1,24 @@
 -- What a node and its clients' sessions do goes on beside the machine.
-use Rattle.std.proofs.Common.{◌≡◌, ◌≢◌, ◌⊎◌, inl, inr, ℕ, ◌+◌, ◌==◌, ◌&&◌, ◌||◌, nat_lt, Bool, true, false, if◌then◌else◌, is_some, IsSome, Option, Some, None, option_map, List, [], ◌∷◌, ◌++◌, arith, refl, sym, ap, ◌∙◌, subst}
+use Rattle.std.proofs.Common.{◌≡◌, ◌≢◌, ◌⊎◌, inl, inr, ℕ, ◌+◌, ◌≤◌, ◌==◌, ◌||◌, nat_lt, Bool, true, false, if◌then◌else◌, is_some, IsSome, Option, Some, None, option_map, List, [], ◌∷◌, arith, refl, sym, ap, ◌∙◌, subst}
 use Rattle.std.specs.Str.{bytes_eq}
+use Rattle.std.proofs.lemmas.Bool.{cases_lt}
 use Rattle.std.proofs.lemmas.Bool.Decides.{nat_tests}
 use Rattle.cf_protocol.specs.Datum.{Placed}
 use Rattle.cf_protocol.specs.Names.{with, is_among, and_also}
-use Rattle.cf_protocol.specs.Note.{Lists, Note}
-use Rattle.cf_protocol.specs.Note as note
+use Rattle.cf_protocol.specs.Note.{Lists}
 use Rattle.cf_protocol.specs.Position.{Position}
 use Rattle.cf_protocol.specs.Settings.{NamespaceTable, settings_of}
 use Rattle.cf_followers.specs.Follows.{AreFollows}
 use Rattle.cf_hub.specs.Alike.{AlikeSub}
-use Rattle.cf_hub.specs.AlikeMoves.{CallsAreAlike, GoesOn, Texts}
-use Rattle.cf_hub.specs.Finish.{FinishesAt}
-use Rattle.cf_hub.specs.Hub.{Begins, Brings, Delivers, InState, IsBounded, Meets, Node, One, Opens, OthersStay, SameNode, SameRest, attached_at, client_id, empty, is_in, moves, sub_at}
+use Rattle.cf_hub.specs.AlikeMoves.{CallsAreAlike, Texts}
+use Rattle.cf_hub.specs.Hub.{Delivers, InState, IsBounded, Meets, Node, One, Opens, OthersStay, SameNode, SameRest, attached_at, client_id, empty, is_in, largest, moves}
 use Rattle.cf_hub.specs.InNotes.{Grown, IsKept, IsListed, SaysAt, SaysSession}
 use Rattle.cf_hub.specs.Rows.{Agrees, sub_in}
 use Rattle.cf_hub.specs.Session.{Attached}
-use Rattle.cf_hub.specs.SessionState.{Subscription, Off, Asked, Ready, On, begins, comes, is_off, leaves, opens}
+use Rattle.cf_hub.specs.SessionState.{Subscription, Off, Asked, Ready, On, begins, comes, is_off, leaves}
 use Rattle.cf_hub.specs.Spoken.{spoken}
-use Rattle.cf_hub.specs.WantOfMemory.{Both, OrCloses}
-use Rattle.cf_hub.specs.Wordings.{Held, at_offset, plain}
+use Rattle.cf_hub.specs.WantOfMemory.{Both, Serves}
+use Rattle.cf_hub.specs.Wordings.{Held, at_offset, delivering}
 use Rattle.cf_machine.specs.ClientLink.{ClientLink, breaks, with_session}
 use Rattle.cf_machine.specs.Config.{Config}
 use Rattle.cf_machine.specs.FreshEpochs.{AreDistinct}
@@ -29,6 +28,7 @@ use Rattle.cf_machine.specs.Session.{Session, Sub, Words}
 use Rattle.cf_machine.specs.World.{World, broker_with, link_with, on_node, with_at}
 use Rattle.cf_world.specs.NodesTie.{IsAway, IsNode, IsSeated, IsShutOff, ShowsLink, ShowsNodes, name_of, seated, session_in}
 use Rattle.cf_world.specs.declared.peers.Seat.{Seat}
+use Rattle.cf_world.proofs.Counts.{Seats}
 use Rattle.cf_world.proofs.Ends.{Keeps, comes_keeps}
 use Rattle.cf_world.proofs.Looking.{attached, off_at}
 use Rattle.cf_world.proofs.Names.{itself, text_tells, with-all, with-both, with-other, with-same}
@@ -46,10 +46,19 @@ some_is x y h = cc
 not_none : {X Y : Type 0} (x : X) → None ≡ Some x → Y
 not_none x h = absurd (cc)
 
+abbrev seat_of : ℕ → ℕ → Seat
+seat_of n k = record { node = n; session = k }
+
 seats_are : (o s : Seat) → o.node ≡ s.node → o.session ≡ s.session → o ≡ s
 seats_are o s e f = λ i. record { node = e i; session = f i }
 
 -- ---- names and numbers
+
+last_but : (u v w : ℕ) → v ≡ u + 1 → u ≤ w → u ≢ w → v ≤ w
+last_but u v w e f ne = elim (cases_lt u w) [
+  | inl l ↦ omega (arith, e, l)
+  | inr g ↦ absurd (ne (omega (arith, f, g)))
+]
 
 same_number : (n : ℕ) → (n == n) ≡ true
 same_number n = grind (arith, nat_tests)
@@ -134,6 +143,9 @@ name_there (Some a) (Some b) h = refl
 
 pub met_name : {k : ℕ} {R : Bool → Texts → Texts → Type 0} {old new : Node} → Meets k R old new → name_of (attached_at new k) ≡ name_of (attached_at old k)
 met_name {k = k} {R = R} {old = old} {new = new} m = both_name (R m.hit) (attached_at old k) (attached_at new k) m.here
+
+pub delivered_name : {c e : List ℕ} {p : Placed} {old new : Node} → Delivers c e p old new → (k : ℕ) → name_of (attached_at new k) ≡ name_of (attached_at old k)
+delivered_name {c = c} {e = e} {p = p} {old = old} {new = new} d k = both_name (Serves (is_in k d.hit) (delivering p) c (comes (delivering p) c (at_offset e p))) (attached_at old k) (attached_at new k) (d.each k)
 
 -- the same names everywhere
 pub names_by : (k : ℕ) (old new : Node) → name_of (attached_at new k) ≡ name_of (attached_at old k) → OthersStay k old new → (j : ℕ) → name_of (attached_at new j) ≡ name_of (attached_at old j)
@@ -252,7 +264,7 @@ module _ {cfg : Config} {hubs : ℕ → Option Node} {seats : List ℕ → Optio
       → ((x : List ℕ) → m'.links x ≡ m.links x) → ShowsNodes cfg hubs seats m'
   nodes_same m' boots counters clients lists links = record {
     nodes = t.nodes;
-    hub = λ n h e. let was = t.hub n h e in record { node = was.node; boot = was.boot ∙ sym (boots n); used = was.used ∙ sym (counters n); refused = was.refused };
+    hub = λ n h e. let was = t.hub n h e in record { node = was.node; boot = was.boot ∙ sym (boots n); used = was.used ∙ sym (counters n); few = was.few; refused = was.refused };
     links = λ x. subst (λ (z : Lists). ShowsLink cfg.namespaces z hubs (seats x) (m'.links x)) (sym lists) (subst (λ (l : ClientLink). ShowsLink cfg.namespaces m.broker.lists hubs (seats x) l) (sym (links x)) (t.links x));
     apart = t.apart;
     onto = t.onto;
@@ -264,7 +276,7 @@ module _ {cfg : Config} {hubs : ℕ → Option Node} {seats : List ℕ → Optio
   pub lists_grow : ((old new : Lists) (a : Texts) (b : Session) → Grown old new → SaysSession old a b → SaysSession new a b) → (b : Broker) → Grown m.broker.lists b.lists → ShowsNodes cfg hubs seats (broker_with b m)
   lists_grow grows b g = record {
     nodes = t.nodes;
-    hub = λ n h e. let was = t.hub n h e in record { node = was.node; boot = was.boot; used = was.used; refused = was.refused };
+    hub = λ n h e. let was = t.hub n h e in record { node = was.node; boot = was.boot; used = was.used; few = was.few; refused = was.refused };
     links = λ x. by_seat (seats x) (m.links x) (t.links x);
     apart = t.apart;
     onto = t.onto;
@@ -296,7 +308,7 @@ module _ {cfg : Config} {hubs : ℕ → Option Node} {seats : List ℕ → Optio
     same_hubs m' is boots counters j =
         hub_by (λ i o. (g : Node) → o ≡ Some g → IsNode i g m')
         (λ g e. subst (λ (z : Node). IsNode n z m') (some_is h' g e) is)
-        (λ i ne g e. let old = t.hub i g e in record { node = old.node; boot = old.boot ∙ sym (boots i ne); used = old.used ∙ sym (counters i ne); refused = old.refused }) j
+        (λ i ne g e. let old = t.hub i g e in record { node = old.node; boot = old.boot ∙ sym (boots i ne); used = old.used ∙ sym (counters i ne); few = old.few; refused = old.refused }) j
 
     -- where a session of hub n is there it was there
     still_onto : ((k : ℕ) → is_some (attached_at h' k) ≡ is_some (attached_at h k)) → (j k : ℕ) → is_some (session_in (hubs' j) k) ≡ true → (x : List ℕ) × (seats x ≡ Some (record { node = j; session = k }))
@@ -319,7 +331,7 @@ module _ {cfg : Config} {hubs : ℕ → Option Node} {seats : List ℕ → Optio
       node_is : (m' : World) → m'.boots n ≡ m.boots n → m'.counters n ≡ m.counters n → IsNode n h' m'
       node_is m' boots counters =
           let old = t.hub n h was in
-          record { node = same.node ∙ old.node; boot = same.boot ∙ old.boot ∙ sym boots; used = same.used ∙ old.used ∙ sym counters; refused = none }
+          record { node = same.node ∙ old.node; boot = same.boot ∙ old.boot ∙ sym boots; used = same.used ∙ old.used ∙ sym counters; few = subst (λ (i : ℕ). i ≤ largest) (sym same.used) old.few; refused = none }
 
       -- the links are these
       hub_goes : (links : List ℕ → ClientLink) → ((x : List ℕ) → ShowsLink cfg.namespaces m.broker.lists hubs' (seats x) (links x)) → ShowsNodes cfg hubs' seats (record m { links = links })
@@ -333,15 +345,23 @@ module _ {cfg : Config} {hubs : ℕ → Option Node} {seats : List ℕ → Optio
         distinct = t.distinct;
       }
 
+      -- its sessions stay
+      pub still_goes : ((k : ℕ) → attached_at h' k ≡ attached_at h k) → ShowsNodes cfg hubs' seats m
+      still_goes stay = hub_goes m.links (λ x. by_seat (seats x) (m.links x) (t.links x))
+        where
+          by_seat : (o : Option Seat) (l : ClientLink) → ShowsLink cfg.namespaces m.broker.lists hubs o l → ShowsLink cfg.namespaces m.broker.lists hubs' o l
+          by_seat None l g = g
+          by_seat (Some s) l g = elim (num_tells s.node n) [
+            | inl is ↦ seated_stays (seat_now s is.1 ∙ stay s.session ∙ sym (seat_was s is.1)) g
+            | inr is ↦ seated_stays (elsewhere s is.1) g
+          ]
+
       -- ---- a publication is delivered
 
       pub deliver_goes : CallsAreAlike m.broker.lists → (c e : List ℕ) (p : Placed) → IsListed m.broker.lists c e p → Delivers c e p h h'
           → ShowsNodes cfg hubs' seats (record m { links = λ x. if on_node n (m.links x).node then with_session (comes (spoken m.broker.lists) c (at_offset e p) (m.links x).session) (m.links x) else m.links x })
-      deliver_goes calls c e p listed d = hub_goes _ (λ x. by_seat x (seats x) (m.links x) (t.links x))
+      deliver_goes calls c e p listed d = hub_goes (λ x. if on_node n (m.links x).node then with_session (comes (spoken m.broker.lists) c (at_offset e p) (m.links x).session) (m.links x) else m.links x) (λ x. by_seat x (seats x) (m.links x) (t.links x))
         where
-          came : (l : ClientLink) → ClientLink
-          came l = with_session (comes (spoken m.broker.lists) c (at_offset e p) l.session) l
-
           here : (s : Seat) (l : ClientLink) → IsSeated cfg.namespaces m.broker.lists (seated hubs s) s.node l → s.node ≡ n → IsSeated cfg.namespaces m.broker.lists (seated hubs' s) s.node (with_session (comes (spoken m.broker.lists) c (at_offset e p) l.session) l)
           here s l g is =
               seated_goes g (session_moves g (comes (spoken m.broker.lists) c (at_offset e p)) (comes_keeps (spoken m.broker.lists) c (at_offset e p)))
@@ -392,9 +412,9 @@ module _ {cfg : Config} {hubs : ℕ → Option Node} {seats : List ℕ → Optio
     -- ---- a session comes, or goes
 
     module _ (x : List ℕ) (seats' : List ℕ → Option Seat) where
-      pub attach_goes : CallsAreAlike m.broker.lists → (k now_at : ℕ) (user : List ℕ) → seats x ≡ None → attached_at h k ≡ None → Opens k user now_at h h'
+      pub attach_goes : CallsAreAlike m.broker.lists → (k now_at : ℕ) (user : List ℕ) → seats x ≡ None → attached_at h k ≡ None → h.used ≢ largest → Opens k user now_at h h'
           → ((y : List ℕ) → seats' y ≡ with seats x (Some (record { node = n; session = k })) y) → ShowsNodes cfg hubs' seats' (connects x n m)
-      attach_goes calls k now_at user none free o sits = record {
+      attach_goes calls k now_at user none free not_last o sits = record {
         nodes = same_nodes;
         hub = same_hubs (connects x n m) is (λ j ne. refl) (λ j ne. other_count j ne);
         links = λ y. subst (λ (v : Option Seat). ShowsLink cfg.namespaces m.broker.lists hubs' v ((connects x n m).links y)) (sym (sits y)) (shows y);
@@ -404,9 +424,6 @@ module _ {cfg : Config} {hubs : ℕ → Option Node} {seats : List ℕ → Optio
         distinct = also_distinct x m.clients t.distinct;
       }
         where
-          mine : Seat
-          mine = record { node = n; session = k }
-
           old : IsNode n h m
           old = t.hub n h was
 
@@ -421,6 +438,7 @@ module _ {cfg : Config} {hubs : ℕ → Option Node} {seats : List ℕ → Optio
             node = o.node ∙ old.node;
             boot = o.boot ∙ old.boot;
             used = o.used ∙ ap (λ (i : ℕ). i + 1) old.used ∙ sym (ap (λ (b : Bool). if b then m.counters n + 1 else m.counters n) (same_number n));
+            few = last_but h.used h'.used largest o.used old.few not_last;
             refused = o.refused ∙ old.refused;
           }
 
@@ -443,11 +461,11 @@ module _ {cfg : Config} {hubs : ℕ → Option Node} {seats : List ℕ → Optio
           name =
               ap name_of o.here ∙ (λ i. Some (client_id (old.node i) (old.boot i) (old.used i + 1)))
 
-          came : IsSeated cfg.namespaces m.broker.lists (seated hubs' mine) n (record (m.links x) { node = Some n; name = machine_id n (m.boots n) (m.counters n + 1) })
+          came : IsSeated cfg.namespaces m.broker.lists (seated hubs' (seat_of n k)) n (record (m.links x) { node = Some n; name = machine_id n (m.boots n) (m.counters n + 1) })
           came = record {
             at = refl;
-            name = ap name_of (seat_now mine refl) ∙ name;
-            says = subst (λ (v : Option Attached). SaysAt m.broker.lists v (m.links x).session) (sym (seat_now mine refl)) (subst (λ (b : Session). SaysAt m.broker.lists (attached_at h' k) b) (sym away.session) (calls.attaches k now_at user h h' o));
+            name = ap name_of (seat_now (seat_of n k) refl) ∙ name;
+            says = subst (λ (v : Option Attached). SaysAt m.broker.lists v (m.links x).session) (sym (seat_now (seat_of n k) refl)) (subst (λ (b : Session). SaysAt m.broker.lists (attached_at h' k) b) (sym away.session) (calls.attaches k now_at user h h' o));
             way = away.way;
             up = away.up;
             once = subst AreDistinct (sym away.channels) tt;
@@ -456,46 +474,46 @@ module _ {cfg : Config} {hubs : ℕ → Option Node} {seats : List ℕ → Optio
             served = λ c g. absurd (let none : true ≡ false = ap (λ (b : Session). is_off (b.subs c)) (sym away.session) ∙ g in cc);
           }
 
-          shows : (y : List ℕ) → ShowsLink cfg.namespaces m.broker.lists hubs' (with seats x (Some mine) y) ((connects x n m).links y)
+          shows : (y : List ℕ) → ShowsLink cfg.namespaces m.broker.lists hubs' (with seats x (Some (seat_of n k)) y) ((connects x n m).links y)
           shows y =
-              with-both (λ z v l. ShowsLink cfg.namespaces m.broker.lists hubs' v l) seats m.links x (Some mine) (record (m.links x) { node = Some n; name = machine_id n (m.boots n) (m.counters n + 1) })
+              with-both (λ z v l. ShowsLink cfg.namespaces m.broker.lists hubs' v l) seats m.links x (Some (seat_of n k)) (record (m.links x) { node = Some n; name = machine_id n (m.boots n) (m.counters n + 1) })
               came (λ z ne. yours z (seats z) refl (t.links z)) y
 
-          fresh_seat : (y : List ℕ) (s : Seat) → seats y ≡ Some s → s ≡ mine → ⊥
+          fresh_seat : (y : List ℕ) (s : Seat) → seats y ≡ Some s → s ≡ (seat_of n k) → ⊥
           fresh_seat y s e f = there y s e (ap (λ (z : Seat). z.node) f) (ap (λ (z : Seat). z.session) f)
 
-          apart : (y z : List ℕ) (s : Seat) → with seats x (Some mine) y ≡ Some s → with seats x (Some mine) z ≡ Some s → y ≡ z
+          apart : (y z : List ℕ) (s : Seat) → with seats x (Some (seat_of n k)) y ≡ Some s → with seats x (Some (seat_of n k)) z ≡ Some s → y ≡ z
           apart y z s e f = elim (text_tells y x) [
             | inl p ↦ elim (text_tells z x) [
               | inl q ↦ p.1 ∙ sym q.1
               | inr q ↦
-                  absurd (fresh_seat z s (sym (with-other seats x (Some mine) z q.1) ∙ f)
-                  (sym (some_is mine s (sym (ap (λ (b : Bool). if b then Some mine else seats y) p.0) ∙ e))))
+                  absurd (fresh_seat z s (sym (with-other seats x (Some (seat_of n k)) z q.1) ∙ f)
+                  (sym (some_is (seat_of n k) s (sym (ap (λ (b : Bool). if b then Some (seat_of n k) else seats y) p.0) ∙ e))))
             ]
             | inr p ↦ elim (text_tells z x) [
               | inl q ↦
-                  absurd (fresh_seat y s (sym (with-other seats x (Some mine) y p.1) ∙ e)
-                  (sym (some_is mine s (sym (ap (λ (b : Bool). if b then Some mine else seats z) q.0) ∙ f))))
-              | inr q ↦ t.apart y z s (sym (with-other seats x (Some mine) y p.1) ∙ e) (sym (with-other seats x (Some mine) z q.1) ∙ f)
+                  absurd (fresh_seat y s (sym (with-other seats x (Some (seat_of n k)) y p.1) ∙ e)
+                  (sym (some_is (seat_of n k) s (sym (ap (λ (b : Bool). if b then Some (seat_of n k) else seats z) q.0) ∙ f))))
+              | inr q ↦ t.apart y z s (sym (with-other seats x (Some (seat_of n k)) y p.1) ∙ e) (sym (with-other seats x (Some (seat_of n k)) z q.1) ∙ f)
             ]
           ]
 
           still : (j i : ℕ) → (r : (y : List ℕ) × (seats y ≡ Some (record { node = j; session = i }))) → (y : List ℕ) × (seats' y ≡ Some (record { node = j; session = i }))
-          still j i r = (r.0, sits r.0 ∙ with-other seats x (Some mine) r.0 (λ e. not_none (record { node = j; session = i }) (sym none ∙ ap seats (sym e) ∙ r.1)) ∙ r.1)
+          still j i r = (r.0, sits r.0 ∙ with-other seats x (Some (seat_of n k)) r.0 (λ e. not_none (record { node = j; session = i }) (sym none ∙ ap seats (sym e) ∙ r.1)) ∙ r.1)
 
           at_new : (i : ℕ) → is_some (attached_at h' i) ≡ true → (y : List ℕ) × (seats' y ≡ Some (record { node = n; session = i }))
           at_new i e = elim (num_tells i k) [
-            | inl p ↦ (x, sits x ∙ with-same seats x (Some mine) ∙ ap Some (seats_are mine (record { node = n; session = i }) refl (sym p.1)))
+            | inl p ↦ (x, sits x ∙ with-same seats x (Some (seat_of n k)) ∙ ap Some (seats_are (seat_of n k) (record { node = n; session = i }) refl (sym p.1)))
             | inr p ↦ still n i (t.onto n i (ap (λ (v : Option Node). is_some (session_in v i)) was ∙ ap is_some (sym (o.others i p.1)) ∙ e))
           ]
 
           onto : (j i : ℕ) → is_some (session_in (hubs' j) i) ≡ true → (y : List ℕ) × (seats' y ≡ Some (record { node = j; session = i }))
           onto j = hub_by (λ a v. (i : ℕ) → is_some (session_in v i) ≡ true → (y : List ℕ) × (seats' y ≡ Some (record { node = a; session = i }))) at_new (λ a ne i e. still a i (t.onto a i e)) j
 
-          among : (y : List ℕ) (s : Seat) → with seats x (Some mine) y ≡ Some s → is_among y (and_also x m.clients) ≡ true
+          among : (y : List ℕ) (s : Seat) → with seats x (Some (seat_of n k)) y ≡ Some s → is_among y (and_also x m.clients) ≡ true
           among y s e = elim (text_tells y x) [
             | inl p ↦ subst (λ (z : List ℕ). is_among z (and_also x m.clients) ≡ true) (sym p.1) (also_there x m.clients)
-            | inr p ↦ also_more x m.clients y (t.among y s (sym (with-other seats x (Some mine) y p.1) ∙ e))
+            | inr p ↦ also_more x m.clients y (t.among y s (sym (with-other seats x (Some (seat_of n k)) y p.1) ∙ e))
           ]
 
       pub detach_goes : (s : Seat) → seats x ≡ Some s → s.node ≡ n → SameRest h h' → OthersStay s.session h h' → attached_at h' s.session ≡ None
@@ -514,7 +532,7 @@ module _ {cfg : Config} {hubs : ℕ → Option Node} {seats : List ℕ → Optio
           old = t.hub n h was
 
           is : IsNode n h' (link_with x l m)
-          is = record { node = rest.node ∙ old.node; boot = rest.boot ∙ old.boot; used = rest.used ∙ old.used; refused = rest.refused ∙ old.refused }
+          is = record { node = rest.node ∙ old.node; boot = rest.boot ∙ old.boot; used = rest.used ∙ old.used; few = subst (λ (i : ℕ). i ≤ largest) (sym rest.used) old.few; refused = rest.refused ∙ old.refused }
 
           before : (y : List ℕ) (o : Seat) → with seats x None y ≡ Some o → seats y ≡ Some o
           before y o e = elim (text_tells y x) [
@@ -578,6 +596,7 @@ module _ {cfg : Config} {hubs : ℕ → Option Node} {seats : List ℕ → Optio
           node = ap (λ (z : Node). z.node) new;
           boot = ap (λ (z : Node). z.boot) new ∙ sym (with_at_here m.boots n (m.boots n + 1));
           used = ap (λ (z : Node). z.used) new ∙ sym (with_at_here m.counters n 0);
+          few = subst (λ (z : Node). z.used ≤ largest) (sym new) (omega arith);
           refused = ap (λ (z : Node). z.refused) new;
         }
 
@@ -610,3 +629,45 @@ module _ {cfg : Config} {hubs : ℕ → Option Node} {seats : List ℕ → Optio
             let r = t.onto a i e in
             (r.0, sits r.0 ∙ ap (leave_node n) r.1 ∙ ap (λ (b : Bool). if b then None else Some (record { node = a; session = i })) (not_equal a n ne)))
             j
+
+  -- ---- the clients of one node, for counting
+
+  pub seats_at : (n : ℕ) (h : Node) → hubs n ≡ Some h → AreFollows h.rows → Agrees (attached_at h) h.rows → IsBounded (attached_at h) → Seats n h m.links m.clients (λ x. number_at n (seats x))
+  seats_at n h was follows agrees bounded = record {
+    on = λ x. on_by (seats x) (m.links x) (t.links x);
+    there = λ x k e. there x k (number_is n (seats x) k e);
+    apart = λ x y k e f. t.apart x y (record { node = n; session = k }) (number_is n (seats x) k e) (number_is n (seats y) k f);
+    onto = λ k e.
+        let r = t.onto n k (ap (λ (v : Option Node). is_some (session_in v k)) was ∙ e) in
+        (r.0, ap (number_at n) r.1 ∙ ap (λ (b : Bool). if b then Some k else None) (same_number n));
+    among = λ x k e. t.among x (record { node = n; session = k }) (number_is n (seats x) k e);
+    distinct = t.distinct;
+    channels = λ x. once_by (seats x) (m.links x) (t.links x);
+    listed = λ x. listed_by (seats x) (m.links x) (t.links x);
+    agrees = agrees;
+    follows = follows;
+    bounded = bounded;
+  }
+    where
+      on_by : (v : Option Seat) (l : ClientLink) → ShowsLink cfg.namespaces m.broker.lists hubs v l → is_some (number_at n v) ≡ on_node n l.node
+      on_by None l g = sym (ap (on_node n) g.node)
+      on_by (Some s) l g = by_value (s.node == n) ∙ sym (ap (on_node n) g.at)
+        where
+          by_value : (b : Bool) → is_some (if b then Some s.session else None) ≡ b
+          by_value true = refl
+          by_value false = refl
+
+      there : (x : List ℕ) (k : ℕ) → seats x ≡ Some (record { node = n; session = k }) → (a : Attached) × (attached_at h k ≡ Some a) × ((c : List ℕ) → is_off (a.state.subs c) ≡ is_off ((m.links x).session.subs c))
+      there x k e =
+          let g = seat_shows x (record { node = n; session = k }) e in
+          let says = subst (λ (v : Option Attached). SaysAt m.broker.lists v (m.links x).session) (ap (λ (v : Option Node). session_in v k) was) g.says in
+          let a = attached m.broker.lists (attached_at h k) (m.links x).session says in
+          (a.0, a.1, λ c. sym (ap (λ (v : Option Attached). is_off (sub_in v c)) a.1) ∙ off_at m.broker.lists (attached_at h k) (m.links x).session says c)
+
+      once_by : (v : Option Seat) (l : ClientLink) → ShowsLink cfg.namespaces m.broker.lists hubs v l → AreDistinct l.channels
+      once_by None l g = subst AreDistinct (sym g.channels) tt
+      once_by (Some s) l g = g.once
+
+      listed_by : (v : Option Seat) (l : ClientLink) → ShowsLink cfg.namespaces m.broker.lists hubs v l → (c : List ℕ) → is_off (l.session.subs c) ≡ false → is_among c l.channels ≡ true
+      listed_by None l g c e = absurd (let none : true ≡ false = ap (λ (b : Session). is_off (b.subs c)) (sym g.session) ∙ e in cc)
+      listed_by (Some s) l g c e = g.listed c e

@@ -1,19 +1,18 @@
 -- A new world shows the machine's start.
-use Rattle.std.proofs.Common.{◌≡◌, ◌≢◌, ◌<◌, ◌≤◌, ℕ, zero, suc, ◌+◌, nat_lt, Bool, true, false, Option, Some, None, List, [], ◌∷◌, ◌++◌, length, is_some, arith, refl, sym, ap, ◌∙◌, subst, slice_get, option_and_then, BTreeMap, String, Global, string_bytes}
+use Rattle.std.proofs.Common.{◌≡◌, ◌≤◌, ℕ, zero, suc, ◌+◌, nat_lt, true, false, Option, Some, None, List, [], ◌∷◌, ◌++◌, length, is_some, arith, refl, sym, ap, ◌∙◌, subst, slice_get, option_and_then, BTreeMap, String, Global, string_bytes}
 use Rattle.std.specs.BTreeMap.{get_by_text, is_at}
 use Rattle.std.specs.Cmp.Lexicographic.{slice_cmp}
 use Rattle.std.specs.Map.{lookup}
 use Rattle.std.specs.Ordering.{nat_cmp}
 use Rattle.std.proofs.lemmas.Bool.Decides.{nat_tests}
 use Rattle.cf_protocol.specs.Settings.{NamespaceTable}
-use Rattle.cf_hub.specs.Hub.{Node, attached_at, empty}
-use Rattle.cf_machine.specs.Config.{Config}
+use Rattle.cf_hub.specs.Hub.{Node, attached_at, empty, largest}
 use Rattle.cf_machine.specs.PublicationList.{new_broker}
-use Rattle.cf_machine.specs.World.{World, start}
+use Rattle.cf_machine.specs.World.{start}
 use Rattle.cf_world.specs.BrokerTie.{ShowsBroker}
 use Rattle.cf_world.specs.ClientTie.{ShowsClient}
 use Rattle.cf_world.specs.HubCalls.{AreNew}
-use Rattle.cf_world.specs.NodesTie.{IsNode, ShowsLink, ShowsNodes, session_in}
+use Rattle.cf_world.specs.NodesTie.{ShowsLink, session_in}
 use Rattle.cf_world.specs.Tie.{AreTied, seats_of}
 use Rattle.cf_world.specs.declared.broker.Broker.{Broker as Code}
 use Rattle.cf_world.specs.declared.peers.Peer.{Peer}
@@ -55,7 +54,7 @@ starts nodes table kept same b hubs peers shows new count none = record {
   broker = shows;
   nodes = record {
     nodes = λ n. new-there n hubs ∙ ap (nat_lt n) count;
-    hub = λ n h e. let is : h ≡ empty n 1 = new-at n hubs h new e in record { node = ap (λ (z : Node). z.node) is; boot = ap (λ (z : Node). z.boot) is; used = ap (λ (z : Node). z.used) is; refused = ap (λ (z : Node). z.refused) is };
+    hub = λ n h e. let is : h ≡ empty n 1 = new-at n hubs h new e in record { node = ap (λ (z : Node). z.node) is; boot = ap (λ (z : Node). z.boot) is; used = ap (λ (z : Node). z.used) is; few = subst (λ (z : Node). z.used ≤ largest) (sym is) (omega arith); refused = ap (λ (z : Node). z.refused) is };
     links = λ x. subst (λ (o : Option Seat). ShowsLink table start.broker.lists (slice_get hubs) o (start.links x)) (sym (no-seat x)) (record { node = refl; session = refl; channels = refl; way = refl; up = refl });
     apart = λ x y s e f. absurd (let no' : None ≡ Some s = sym (no-seat x) ∙ e in cc);
     onto = λ n k e. absurd (let no' : false ≡ true = sym (no-session (slice_get hubs n) k (λ h f. (n, new-at n hubs h new f))) ∙ e in cc);

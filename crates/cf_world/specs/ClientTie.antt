@@ -10,7 +10,7 @@ use Rattle.cf_protocol.specs.Note.{Note, Reply, Pub, End, Fails, Put as PutDone,
 use Rattle.cf_protocol.specs.Outgoing.{Outgoing}
 use Rattle.cf_protocol.specs.Written.{command_text}
 use Rattle.cf_client.specs.AppItem.{AppItem}
-use Rattle.cf_client.specs.ClientCalls.{State, TakesAll, asked, ask_fault, call_fault, called, left, leave_fault, reconnected}
+use Rattle.cf_client.specs.ClientCalls.{State, connected, new_state, TakesAll, asked, ask_fault, call_fault, called, left, leave_fault, reconnected}
 use Rattle.cf_client.specs.ClientState.{Client, last_of, new_client}
 use Rattle.cf_client.specs.ClientView.{ClientView, state_of}
 use Rattle.cf_client.specs.OneAnswer.{AreApart}
@@ -102,6 +102,17 @@ LeavesNode n None None = ⊤
 LeavesNode n None (Some q) = ⊥
 LeavesNode n (Some p) None = ⊥
 LeavesNode n (Some p) (Some q) = LeavesAs n p q
+
+-- what a client knew that now comes, which may be new
+abbrev pub state_before : Option Peer → State
+state_before None = new_state
+state_before (Some p) = state_of p.client
+
+-- it is connected, and sits here
+pub record Joins (x : List ℕ) (s : Seat) (was : State) (old new : List ℕ → Option Peer) : Type 0 where
+  pub client : ClientView
+  pub now : (y : List ℕ) → new y ≡ with old x (Some (record { client = client; seat = Some s })) y
+  pub state_is : state_of client ≡ connected was
 
 pub record Sent (e : Errand) (x text : List ℕ) (p : Peer) (old new : List ℕ → Option Peer) : Type 0 where
   pub allowed : send_fault e (state_of p.client) ≡ None

@@ -1,10 +1,12 @@
 -- What the calls of one node's hub make of all nodes.
-use Rattle.std.specs.Prelude.{◌≡◌, ◌≢◌, ◌+◌, ℕ, suc, Option, Some, List, [], ◌∷◌}
+use Rattle.std.specs.Prelude.{◌≡◌, ◌≢◌, ◌⊎◌, ◌+◌, ℕ, suc, Option, Some, List, [], ◌∷◌}
 use Rattle.cf_protocol.specs.Datum.{Placed}
 use Rattle.cf_protocol.specs.Position.{Position}
-use Rattle.cf_queue.specs.OutQueue.{Item, Close, Text}
+use Rattle.cf_queue.specs.OutQueue.{Close, Text}
 use Rattle.cf_hub.specs.Finish.{FinishesAt}
-use Rattle.cf_hub.specs.Hub.{Delivers, Meets, Node, One, OthersStay, SameNode, SameRest, attached_at, empty, sub_at}
+use Rattle.cf_hub.specs.Hub.{Delivers, Meets, Node, One, OthersStay, SameNode, SameRest, attached_at, empty, sub_at, IsBounded, NoRoom, Opens}
+use Rattle.cf_followers.specs.Follows.{AreFollows}
+use Rattle.cf_hub.specs.Rows.{Agrees}
 use Rattle.cf_hub.specs.SessionState.{checks, closes_now, leaves, push, reads, takes_front}
 use Rattle.cf_hub.specs.Subscriptions.{reading_of}
 use Rattle.cf_hub.specs.WantOfMemory.{OrCloses}
@@ -72,3 +74,32 @@ Renewed n h g = g ≡ empty n (h.boot + 1)
 abbrev pub AreNew : ℕ → List Node → Type 0
 AreNew n [] = Unit {0}
 AreNew n (h ∷ hs) = (h ≡ empty n 1) × AreNew (suc n) hs
+
+-- what always holds of a hub
+pub record IsSound (h : Node) : Type 0 where
+  pub rows : AreFollows h.rows
+  pub agrees : Agrees (attached_at h) h.rows
+  pub bounded : IsBounded (attached_at h)
+
+-- session k is new
+pub record Sits (k : ℕ) (h g : Node) : Type 0 where
+  pub sound : IsSound h
+  pub room : NoRoom h → ⊥
+  pub free : attached_at h k ≡ Option.None
+  pub user : List ℕ
+  pub moment : ℕ
+  pub opens : Opens k user moment h g
+
+-- there is no room for one more
+pub record NoSeat (h g : Node) : Type 0 where
+  pub sound : IsSound h
+  pub full : NoRoom h
+  pub stays : (k : ℕ) → attached_at g k ≡ attached_at h k
+  pub same : SameNode h g
+  pub refused : g.refused ≡ h.refused
+
+-- node n has a new session, or none: it isn't there, or has no room
+abbrev pub Attaches : ℕ → Option ℕ → Hubs → Hubs → Type 0
+Attaches n Option.None old new =
+    ((old n ≡ Option.None) × ((j : ℕ) → new j ≡ old j)) ⊎ ((h : Node) × (old n ≡ Some h) × OneHub n NoSeat old new h)
+Attaches n (Some k) old new = (h : Node) × (old n ≡ Some h) × OneHub n (Sits k) old new h

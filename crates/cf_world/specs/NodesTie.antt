@@ -1,9 +1,9 @@
 -- The nodes, and where clients sit at them, beside what the machine has for them.
-use Rattle.std.specs.Prelude.{◌≡◌, ℕ, nat_lt, true, false, is_some, IsSome, Option, Some, None, option_map, List, []}
+use Rattle.std.specs.Prelude.{◌≡◌, ◌≤◌, ℕ, nat_lt, true, false, is_some, IsSome, Option, Some, None, option_map, List, []}
 use Rattle.cf_protocol.specs.Names.{is_among}
 use Rattle.cf_protocol.specs.Note.{Lists}
 use Rattle.cf_protocol.specs.Settings.{NamespaceTable, settings_of}
-use Rattle.cf_hub.specs.Hub.{Node, attached_at}
+use Rattle.cf_hub.specs.Hub.{Node, attached_at, largest}
 use Rattle.cf_hub.specs.InNotes.{SaysAt}
 use Rattle.cf_hub.specs.Session.{Attached}
 use Rattle.cf_hub.specs.SessionState.{is_off, opens}
@@ -58,6 +58,7 @@ pub record IsNode (n : ℕ) (h : Node) (m : World) : Type 0 where
   pub node : h.node ≡ n
   pub boot : h.boot ≡ m.boots n
   pub used : h.used ≡ m.counters n
+  pub few : h.used ≤ largest
   pub refused : h.refused ≡ 0
 
 pub record ShowsNodes (cfg : Config) (hubs : ℕ → Option Node) (seats : List ℕ → Option Seat) (m : World) : Type 0 where

@@ -4,12 +4,12 @@ ghost use Rattle.cf_protocol.specs.Codes.{close_code_of};
 ghost use Rattle.cf_hub.specs.Asking.{asked_of};
 ghost use Rattle.cf_hub.specs.Hub.{Node, attached_at, sub_at};
 ghost use Rattle.cf_queue.specs.Meaning.{meaning};
-ghost use Rattle.cf_world.specs.HubCalls.{AtHub, Checked, Closed, Delivered, Finished, Gone, Left, Renewed, Taken, Told, WasRead};
+ghost use Rattle.cf_world.specs.HubCalls.{AtHub, Attaches, Checked, Closed, Delivered, Finished, Gone, Left, Renewed, Taken, Told, WasRead};
 
-use crate::broker::Accepted;
+use crate::broker::{Accepted, NOW};
 use crate::peers::Seat;
 use crate::short::Short;
-use cf_hub::{Asked, Hub};
+use cf_hub::{Asked, Hub, HubRefusal};
 use cf_protocol::{CloseCode, Position};
 use cf_queue::Out;
 use cf_stream::Recovery;
@@ -146,5 +146,20 @@ pub(crate) fn take_in(hubs: &mut Vec<Hub>, seat: Seat) -> Option<Out>
     match hubs.get_mut(seat.node as usize) {
         None => None,
         Some(hub) => hub.take(seat.session),
+    }
+}
+
+/// A new session. None where the node isn't there, or has no room.
+pub(crate) fn attach_in(hubs: &mut Vec<Hub>, alloc: Global, node: u8) -> Result<Option<u32>, Short>
+    ensures { IfOk result (λ k. Attaches node k (slice_get hubs.old.items) (slice_get hubs.new.items)) }
+{
+    let Some(hub) = hubs.get_mut(node as usize) else {
+        return Ok(None);
+    };
+    hub.is_sound();
+    match hub.attach(String::new(alloc), NOW) {
+        Ok(session) => Ok(Some(session)),
+        Err(HubRefusal::TooMany) => Ok(None),
+        Err(_) => Err(Short),
     }
 }

@@ -4,7 +4,7 @@ ghost use Rattle.std.specs.BTreeMap.{get_by_text};
 ghost use Rattle.cf_client.specs.ClientCalls.{new_state, connected, reconnected};
 ghost use Rattle.cf_client.specs.ClientView.{state_of};
 ghost use Rattle.cf_client.specs.Shown.{shown_item};
-ghost use Rattle.cf_world.specs.ClientTie.{Heard, LeavesNode, Sends, Unseats};
+ghost use Rattle.cf_world.specs.ClientTie.{Heard, Joins, LeavesNode, Sends, Unseats, state_before};
 ghost use Rattle.cf_world.specs.declared.peers.Peer.{Peer as AnyPeer};
 
 use crate::errand::Errand;
@@ -35,6 +35,58 @@ pub(crate) fn seat_of(peers: &BTreeMap<String, Peer>, name: &str) -> Option<Seat
         None => None,
         Some(peer) => peer.seat,
     }
+}
+
+/// Whether a client was ever seen.
+fn is_known(peers: &BTreeMap<String, Peer>, name: &str) -> bool
+    ensures { result ≡ is_some (get_by_text peers.now name.now) }
+{
+    peers.contains_key(name)
+}
+
+/// A client connects, and sits here; one that was never seen comes new.
+pub(crate) fn join(
+    alloc: Global,
+    peers: &mut BTreeMap<String, Peer>,
+    name: &str,
+    seat: Seat,
+) -> Result<(), Short>
+    ensures { OnOk result (Joins name.now seat (state_before (get_by_text peers.old name.now)) (get_by_text peers.old) (get_by_text peers.new)) }
+{
+    if is_known(peers, name) {
+        rejoin(peers, name, seat)?;
+    } else {
+        add(alloc, peers, name, seat)?;
+    }
+    Ok(())
+}
+
+/// A client that was seen before connects, and sits here.
+fn rejoin(peers: &mut BTreeMap<String, Peer>, name: &str, seat: Seat) -> Result<(), Short>
+    ensures { OnOk result ((p : AnyPeer) → get_by_text peers.old name.now ≡ Some p → Joins name.now seat (state_of p.client) (get_by_text peers.old) (get_by_text peers.new)) }
+{
+    let Some(peer) = peers.get_mut(name) else {
+        return Ok(());
+    };
+    peer.join(seat)?;
+    Ok(())
+}
+
+/// A new client connects, and sits here.
+fn add(
+    alloc: Global,
+    peers: &mut BTreeMap<String, Peer>,
+    name: &str,
+    seat: Seat,
+) -> Result<(), Short>
+    ensures { OnOk result (Joins name.now seat new_state (get_by_text peers.old) (get_by_text peers.new)) }
+{
+    let client = Client::new(alloc);
+    let mut peer = Peer { client, seat: None };
+    peer.join(seat)?;
+    let key = String::from_str(alloc, name)?;
+    peers.insert(key, peer)?;
+    Ok(())
 }
 
 /// The connection of a client is gone.
@@ -94,9 +146,9 @@ pub(crate) fn hear(
 }
 
 impl Peer {
-    ghost use Rattle.std.specs.Prelude.{◌≡◌, IfOk, OnOk, OnErr, None, string_bytes};
+    ghost use Rattle.std.specs.Prelude.{◌≡◌, IfOk, OnOk, OnErr, None, Some, string_bytes};
     ghost use Rattle.cf_protocol.specs.Written.{command_text};
-    ghost use Rattle.cf_client.specs.ClientCalls.{RefusedBy, reconnected};
+    ghost use Rattle.cf_client.specs.ClientCalls.{RefusedBy, connected, reconnected};
     ghost use Rattle.cf_client.specs.ClientView.{state_of};
     ghost use Rattle.cf_machine.specs.ClientRequest.{command_of};
     ghost use Rattle.cf_world.specs.ClientTie.{LeavesAs, is_at, request_by, send_fault, sent_state};
@@ -123,6 +175,19 @@ impl Peer {
         match self.seat {
             None => false,
             Some(seat) => seat.node == node,
+        }
+    }
+
+    fn join(&mut self, seat: Seat) -> Result<(), Short>
+        ensures state { OnOk result (state_of self.new.client ≡ connected (state_of self.old.client)) }
+        ensures seat { OnOk result (self.new.seat ≡ Some seat) }
+    {
+        match self.client.connect("") {
+            Ok(_text) => {
+                self.seat = Some(seat);
+                Ok(())
+            }
+            Err(_) => Err(Short),
         }
     }
 

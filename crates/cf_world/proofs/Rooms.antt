@@ -1,0 +1,71 @@
+-- Whether a node has room for one more session: as its hub says, and as the machine counts.
+use Rattle.std.proofs.Common.{◌≡◌, inl, inr, ℕ, ◌≤◌, ◌&&◌, not, nat_lt, Bool, true, false, is_some, Option, Some, None, List, arith, refl, sym, ap, ◌∙◌, subst}
+use Rattle.std.proofs.lemmas.Bool.Decides.{nat_tests}
+use Rattle.cf_followers.specs.Follows.{AreFollows}
+use Rattle.cf_hub.specs.Counts.{CountsSessions}
+use Rattle.cf_hub.specs.Hub.{IsBounded, Node, NoRoom, attached_at, largest, most_sessions}
+use Rattle.cf_hub.specs.Rows.{Agrees}
+use Rattle.cf_machine.specs.Config.{Config}
+use Rattle.cf_machine.specs.World.{World, is_connected, sessions_of}
+use Rattle.cf_world.specs.NodesTie.{IsSeated, ShowsNodes, seated}
+use Rattle.cf_world.specs.declared.peers.Seat.{Seat}
+use Rattle.cf_world.proofs.Counts.{full, room}
+use Rattle.cf_world.proofs.NodesTie.{away_shows, seat_shows, seats_at}
+
+module _ {cfg : Config} {hubs : ℕ → Option Node} {seats : List ℕ → Option Seat} {m : World} (t : ShowsNodes cfg hubs seats m) where
+  module _ (x : List ℕ) (s : Seat) (sits : seats x ≡ Some s) where
+    g : IsSeated cfg.namespaces m.broker.lists (seated hubs s) s.node (m.links x)
+    g = seat_shows t x s sits
+
+    pub is_seated : is_connected x m ≡ true
+    is_seated = ap is_some g.at
+
+  -- ---- a connect
+
+  abbrev pub may : (x : List ℕ) (n : ℕ) → Bool
+  may x n = not (is_connected x m) && (nat_lt n cfg.nodes && (nat_lt (sessions_of n m.links m.clients) most_sessions && nat_lt (m.counters n) largest))
+
+  under : (n v : ℕ) → v ≤ largest → nat_lt v largest ≡ false → v ≡ largest
+  under n v few e = grind (arith, nat_tests, few, e)
+
+  module _ (total : CountsSessions) (x : List ℕ) (n : ℕ) (h : Node) (was : hubs n ≡ Some h) (none : seats x ≡ None) (follows : AreFollows h.rows) (agrees : Agrees (attached_at h) h.rows) (bounded : IsBounded (attached_at h)) where
+    away : is_connected x m ≡ false
+    away = ap is_some (away_shows t x none).node
+
+    here : nat_lt n cfg.nodes ≡ true
+    here = sym (t.nodes n) ∙ ap is_some was
+
+    may_is : may x n ≡ (nat_lt (sessions_of n m.links m.clients) most_sessions && nat_lt (m.counters n) largest)
+    may_is = λ i. not (away i) && (here i && (nat_lt (sessions_of n m.links m.clients) most_sessions && nat_lt (m.counters n) largest))
+
+    pub has_room : (NoRoom h → ⊥) → may x n ≡ true
+    has_room free = may_is ∙ by_values (nat_lt (sessions_of n m.links m.clients) most_sessions) (nat_lt (m.counters n) largest) refl refl
+      where
+        by_values : (a b : Bool) → nat_lt (sessions_of n m.links m.clients) most_sessions ≡ a → nat_lt (m.counters n) largest ≡ b → (a && b) ≡ true
+        by_values true true e f = refl
+        by_values false b e f = absurd (free (inl (full (seats_at t n h was follows agrees bounded) total e)))
+        by_values true false e f =
+            absurd (free (inr (let used = (t.hub n h was).used in let few = (t.hub n h was).few in used ∙ under n (m.counters n) (subst (λ (i : ℕ). i ≤ largest) used few) f)))
+
+    pub no_room : NoRoom h → may x n ≡ false
+    no_room (inl all) = may_is ∙ by_value (nat_lt (sessions_of n m.links m.clients) most_sessions) refl
+      where
+        by_value : (a : Bool) → nat_lt (sessions_of n m.links m.clients) most_sessions ≡ a → (a && nat_lt (m.counters n) largest) ≡ false
+        by_value true e = absurd (room (seats_at t n h was follows agrees bounded) total e all)
+        by_value false e = refl
+    no_room (inr last) = may_is ∙ by_value (nat_lt (sessions_of n m.links m.clients) most_sessions)
+      where
+        not_under : nat_lt (m.counters n) largest ≡ false
+        not_under = let is : m.counters n ≡ largest = sym (t.hub n h was).used ∙ last in ap (λ (v : ℕ). nat_lt v largest) is
+
+        by_value : (a : Bool) → (a && nat_lt (m.counters n) largest) ≡ false
+        by_value true = not_under
+        by_value false = refl
+
+  pub nowhere : (x : List ℕ) (n : ℕ) → hubs n ≡ None → may x n ≡ false
+  nowhere x n none = by_value (is_connected x m) (nat_lt n cfg.nodes) (sym (ap is_some none) ∙ t.nodes n)
+    where
+      by_value : (a b : Bool) → false ≡ b → (not a && (b && (nat_lt (sessions_of n m.links m.clients) most_sessions && nat_lt (m.counters n) largest))) ≡ false
+      by_value true b e = refl
+      by_value false true e = absurd (cc)
+      by_value false false e = refl
