@@ -40,21 +40,35 @@ fn deliver(hub: &mut Hub, alloc: Global, offset: u64) -> Result<Delivered, Alloc
     Ok(hub.deliver("news", &epoch, &publication(alloc, offset)?))
 }
 
-fn attach(hub: &mut Hub, alloc: Global) -> Result<u32, Fail> {
-    match hub.attach(String::from_str(alloc, "ann")?, 0) {
-        Ok(session) => Ok(session),
-        Err(_) => Err(Fail::from(AllocError)),
+fn newcomer(hub: &mut Hub, alloc: Global) -> Option<u32> {
+    let Ok(name) = String::from_str(alloc, "ann") else {
+        return None;
+    };
+    match hub.attach(name, 0) {
+        Ok(session) => Some(session),
+        Err(_) => None,
     }
 }
 
-/// A session that follows `news`, its reply taken.
-fn subscribed(hub: &mut Hub, alloc: Global) -> Result<u32, Fail> {
-    let session = attach(hub, alloc)?;
+fn attach(hub: &mut Hub, alloc: Global) -> Result<u32, Fail> {
+    match newcomer(hub, alloc) {
+        Some(session) => Ok(session),
+        None => Err(Fail::from(AllocError)),
+    }
+}
+
+/// The session follows `news`, and its reply is taken.
+fn follow(hub: &mut Hub, alloc: Global, session: u32) {
     if hub.begin(session, "news", 2, None).is_ok() {
         let _read = hub.read_done(session, "news", read(alloc, 0));
         let _finished = hub.finish(session, "news");
         let _reply = hub.take(session);
     }
+}
+
+fn subscribed(hub: &mut Hub, alloc: Global) -> Result<u32, Fail> {
+    let session = attach(hub, alloc)?;
+    follow(hub, alloc, session);
     Ok(session)
 }
 
@@ -199,6 +213,96 @@ fn numbers_and_output(rt: HostRuntime) -> Result<(), Fail> {
     assert_eq!(rt; met.passed, 3);
     for number in [Some(0), Some(2), Some(1), None] {
         assert_eq!(rt; hub.next_with_output(), number);
+    }
+    Ok(())
+}
+
+/// A hub whose sessions 0 to 2 follow `news`. None where memory was refused.
+fn three(alloc: Global) -> Option<Hub> {
+    let mut hub = Hub::new(alloc, 0, 1);
+    for _ in 0..3 {
+        let session = newcomer(&mut hub, alloc)?;
+        follow(&mut hub, alloc, session);
+    }
+    if hub.short() {
+        return None;
+    }
+    Some(hub)
+}
+
+/// Whether this is that text.
+fn is_text(out: &Option<Out>, text: &str) -> bool {
+    match out {
+        Some(Out::Text(found)) => found.as_str() == text,
+        _ => false,
+    }
+}
+
+// By `.ci/hub-refused` also with each request for memory refused in turn.
+#[test]
+fn deliver_refused(rt: HostRuntime) -> Result<(), Fail> {
+    let alloc = rt.alloc();
+    let Some(mut hub) = three(alloc) else {
+        return Ok(());
+    };
+    let Ok(met) = deliver(&mut hub, alloc, 1) else {
+        return Ok(());
+    };
+    assert!(rt; (met.passed == 3 && met.closed == 0) || (met.passed == 2 && met.closed == 1));
+    assert_eq!(rt; (met.kept, met.dropped, met.ended), (0, 0, 0));
+    assert!(rt; met.closed == 0 || hub.short());
+    for session in 0..3 {
+        let is_closed = hub.is_closed(session);
+        let out = hub.take(session);
+        assert!(rt; is_closed == (out == Some(Out::Close(3004))));
+        assert!(rt; is_closed || is_text(&out, FIRST));
+    }
+    Ok(())
+}
+
+// By `.ci/hub-refused` also with each request for memory refused in turn.
+#[test]
+fn overflow_refused(rt: HostRuntime) -> Result<(), Fail> {
+    let alloc = rt.alloc();
+    let mut hub = Hub::new(alloc, 0, 1);
+    let Some(session) = newcomer(&mut hub, alloc) else {
+        return Ok(());
+    };
+    if hub.begin(session, "news", 2, None).is_err() {
+        return Ok(());
+    }
+    let Ok(met) = deliver(&mut hub, alloc, 1) else {
+        return Ok(());
+    };
+    assert_eq!(rt; met.kept, 1);
+    let was_short = hub.short();
+    assert!(rt; hub.read_done(session, "news", read(alloc, 0)));
+    assert!(rt; hub.finish(session, "news"));
+    if hub.is_closed(session) {
+        assert!(rt; hub.short());
+        return Ok(());
+    }
+    assert!(rt; is_text(&hub.take(session), REPLY));
+    let out = hub.take(session);
+    assert!(rt; is_text(&out, FIRST) || (was_short && is_text(&out, END)));
+    Ok(())
+}
+
+#[test]
+fn refusals_in_words(rt: HostRuntime) -> Result<(), Fail> {
+    for (refusal, words) in [
+        (HubRefusal::NoSession, "there is no such session"),
+        (
+            HubRefusal::Already,
+            "the session follows the channel already",
+        ),
+        (
+            HubRefusal::TooMany,
+            "the node or the session has as many as it may have",
+        ),
+        (HubRefusal::Memory, "out of memory"),
+    ] {
+        assert_eq!(rt; format!(in rt.alloc(); "{refusal}")?.as_str(), words);
     }
     Ok(())
 }
