@@ -29,3 +29,6 @@ pub mod Exchanged
 pub mod Exchanging
 pub mod Takes
 pub mod Connecting
+pub mod SentOwn
+pub mod Answering
+pub mod Allowing

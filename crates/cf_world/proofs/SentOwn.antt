@@ -1,0 +1,97 @@
+-- A client sends a command: the answers that wait stay its own, and so is the answer to this one.
+use Rattle.std.proofs.Common.{◌≡◌, ◌⊎◌, inl, inr, ℕ, suc, ◌<◌, Some, List, [], ◌∷◌, ◌++◌, refl, sym, subst, arith}
+use Rattle.std.proofs.lemmas.Bool.Decides.{eqb_tells}
+use Rattle.std.specs.List.{All}
+use Rattle.cf_protocol.specs.Note.{Note, Reply, Pub, End, Fails, Put as PutDone, Left, Listed, PingDue, Close}
+use Rattle.cf_client.specs.ClientCalls.{Call, State, channel_under}
+use Rattle.cf_client.specs.OneMeaning.{CallsAt}
+use Rattle.cf_machine.specs.ClientRequest.{ClientRequest, Subscribe, Unsubscribe, Publish, History, channel_of}
+use Rattle.cf_world.specs.ClientTie.{IsOwn, sent_state}
+
+-- the ids of calls that are out are older than the next one
+abbrev pub AreOld : State → Type 0
+AreOld s = (i : ℕ) (c : List ℕ) → channel_under i s.out ≡ Some c → i < s.client.fresh
+
+some_is : (a b : List ℕ) → Some a ≡ Some b → a ≡ b
+some_is a b e = cc
+
+calls-more : (i : ℕ) (c : List ℕ) (ks : List Call) (x : Call) → channel_under i (ks ++ x ∷ []) ≡ Some c → (channel_under i ks ≡ Some c) ⊎ ((x.id ≡ i) × (x.channel ≡ c))
+calls-more i c [] x h = elim (eqb_tells x.id i) [
+  | inl e ↦ inr (e.1, some_is x.channel c (rw e.0 at h))
+  | inr e ↦ inl (rw e.0 at h)
+]
+calls-more i c (k ∷ ks) x h = elim (eqb_tells k.id i) [
+  | inl e ↦ inl (rw e.0 (rw e.0 at h))
+  | inr e ↦ elim (calls-more i c ks x (rw e.0 at h)) [ inl j ↦ inl (rw e.0 j) | inr j ↦ inr j ]
+]
+
+not-less : (n : ℕ) → n < n → ⊥
+not-less n h = absurd (omega arith)
+
+module _ (s : State) where
+  new-call : List ℕ → Call
+  new-call c = record { id = s.client.fresh; channel = c }
+
+  calls-kept : (c : List ℕ) (id : ℕ) (d : List ℕ) → id < s.client.fresh → CallsAt id d s → (e : List ℕ) → channel_under id (s.out ++ record { id = s.client.fresh; channel = c } ∷ []) ≡ Some e → e ≡ d
+  calls-kept c id d less h e is = elim (calls-more id e s.out (record { id = s.client.fresh; channel = c }) is) [
+    | inl j ↦ h e j
+    | inr j ↦ absurd (not-less id (subst (λ n. id < n) j.0 less))
+  ]
+
+  calls-sent : (e : ClientRequest) (id : ℕ) (d : List ℕ) → id < s.client.fresh → CallsAt id d s → CallsAt id d (sent_state e s)
+  calls-sent (Subscribe c from) id d less h = h
+  calls-sent (Unsubscribe c) id d less h = h
+  calls-sent (Publish c body) id d less h = calls-kept c id d less h
+  calls-sent (History c limit) id d less h = calls-kept c id d less h
+
+  call-own : (c : List ℕ) → AreOld s → (e : List ℕ) → channel_under s.client.fresh (s.out ++ record { id = s.client.fresh; channel = c } ∷ []) ≡ Some e → e ≡ c
+  call-own c old e is = elim (calls-more s.client.fresh e s.out (record { id = s.client.fresh; channel = c }) is) [
+    | inl j ↦ absurd (not-less s.client.fresh (old s.client.fresh e j))
+    | inr j ↦ sym j.1
+  ]
+
+  -- the answer to what was sent is for its channel
+  pub calls-new : (e : ClientRequest) → AreOld s → CallsAt s.client.fresh (channel_of e) (sent_state e s)
+  calls-new (Subscribe c from) old d is = absurd (not-less s.client.fresh (old s.client.fresh d is))
+  calls-new (Unsubscribe c) old d is = absurd (not-less s.client.fresh (old s.client.fresh d is))
+  calls-new (Publish c body) old d is = call-own c old d is
+  calls-new (History c limit) old d is = call-own c old d is
+
+  fresh-sent : (e : ClientRequest) → (sent_state e s).client.fresh ≡ suc s.client.fresh
+  fresh-sent (Subscribe c from) = refl
+  fresh-sent (Unsubscribe c) = refl
+  fresh-sent (Publish c body) = refl
+  fresh-sent (History c limit) = refl
+
+  less-sent : (e : ClientRequest) (i : ℕ) → i < s.client.fresh → i < (sent_state e s).client.fresh
+  less-sent e i h = let f : (sent_state e s).client.fresh ≡ suc s.client.fresh = fresh-sent e in omega arith
+
+  pub new-less : (e : ClientRequest) → s.client.fresh < (sent_state e s).client.fresh
+  new-less e = let f : (sent_state e s).client.fresh ≡ suc s.client.fresh = fresh-sent e in omega arith
+
+  old-more : (e : ClientRequest) (c : List ℕ) → AreOld s → (i : ℕ) (d : List ℕ) → channel_under i (s.out ++ record { id = s.client.fresh; channel = c } ∷ []) ≡ Some d → i < (sent_state e s).client.fresh
+  old-more e c old i d is = elim (calls-more i d s.out (record { id = s.client.fresh; channel = c }) is) [
+    | inl j ↦ less-sent e i (old i d j)
+    | inr j ↦ subst (λ n. n < (sent_state e s).client.fresh) j.0 (new-less e)
+  ]
+
+  pub old-sent : (e : ClientRequest) → AreOld s → AreOld (sent_state e s)
+  old-sent (Subscribe c from) old i d is = less-sent (Subscribe c from) i (old i d is)
+  old-sent (Unsubscribe c) old i d is = less-sent (Unsubscribe c) i (old i d is)
+  old-sent (Publish c body) old i d is = old-more (Publish c body) c old i d is
+  old-sent (History c limit) old i d is = old-more (History c limit) c old i d is
+
+  own-note : (e : ClientRequest) (n : Note) → IsOwn s n → IsOwn (sent_state e s) n
+  own-note e (Reply c id was r) h = h
+  own-note e (Pub c q) h = h
+  own-note e (End c) h = h
+  own-note e (Fails c id code) h = (less-sent e id h.0, calls-sent e id c h.0 h.1)
+  own-note e (PutDone id) h = h
+  own-note e (Left id) h = h
+  own-note e (Listed c id at low count) h = (less-sent e id h.0, calls-sent e id c h.0 h.1)
+  own-note e PingDue h = h
+  own-note e (Close code) h = h
+
+  -- what waits stays its own
+  pub own_sent : (e : ClientRequest) (ns : List Note) → All (IsOwn s) ns → All (IsOwn (sent_state e s)) ns
+  own_sent e ns h = λ k d i. own-note e _ (h k d i)
