@@ -1,5 +1,5 @@
 -- The broker beside the machine's, after a publish, and where none can be drawn.
-use Rattle.std.proofs.Common.{◌≡◌, ◌≢◌, ◌≤◌, ◌<◌, ℕ, ◌+◌, ◌&&◌, min, Bool, true, false, not, cond, nat_lt, Option, Some, None, option_map, is_some, List, [], ◌∷◌, ◌++◌, length, slice_get, drop, length-append, arith, refl, sym, ap, subst, ◌∙◌}
+use Rattle.std.proofs.Common.{◌≡◌, ◌≢◌, ◌≤◌, ◌<◌, ℕ, ◌+◌, min, Bool, true, false, not, cond, nat_lt, Option, Some, None, option_map, is_some, List, [], ◌∷◌, ◌++◌, length, slice_get, drop, length-append, arith, refl, sym, ap, subst, ◌∙◌}
 use Rattle.std.specs.List.{All, AllZip}
 use Rattle.std.proofs.lemmas.List.Elements.{All-append}
 use Rattle.std.specs.Option.{IsSome, IsSomeAnd}

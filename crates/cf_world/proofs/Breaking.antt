@@ -1,13 +1,12 @@
 -- A connection breaks, and the world goes on with the machine.
-use Rattle.std.proofs.Common.{◌≡◌, ◌≢◌, ℕ, Bool, true, false, Option, Some, None, List, [], ◌∷◌, is_some, refl, sym, ap, ◌∙◌, subst, if◌then◌else◌, option_and_then}
+use Rattle.std.proofs.Common.{◌≡◌, ℕ, Bool, true, false, Option, Some, None, List, [], is_some, refl, sym, ap, ◌∙◌, subst, if◌then◌else◌, option_and_then}
 use Rattle.std.specs.List.{All}
 use Rattle.std.specs.Str.{bytes_eq}
 use Rattle.std.proofs.lemmas.List.Elements.{All-from_recursion}
 use Rattle.cf_protocol.specs.Names.{with}
-use Rattle.cf_protocol.specs.Note.{Note}
 use Rattle.cf_protocol.specs.Settings.{NamespaceTable}
-use Rattle.cf_client.specs.ClientCalls.{State, reconnected}
-use Rattle.cf_client.specs.ClientState.{Client, reconnects}
+use Rattle.cf_client.specs.ClientCalls.{State}
+use Rattle.cf_client.specs.ClientState.{reconnects}
 use Rattle.cf_client.specs.ClientView.{state_of}
 use Rattle.cf_hub.specs.Hub.{Node}
 use Rattle.cf_machine.specs.ClientLink.{ClientLink, breaks}
@@ -17,7 +16,6 @@ use Rattle.cf_machine.specs.IntervalMachine.{allows, happens}
 use Rattle.cf_machine.specs.World.{World, link_with}
 use Rattle.cf_world.specs.ClientTie.{IsOwn, ShowsClient, ShowsPeer, Unseats}
 use Rattle.cf_world.specs.HubCalls.{AtHub, Gone}
-use Rattle.cf_world.specs.NodesTie.{ShowsNodes}
 use Rattle.cf_world.specs.Tie.{AreTied, seats_of}
 use Rattle.cf_world.specs.declared.broker.Broker.{Broker as Code}
 use Rattle.cf_world.specs.declared.peers.Peer.{Peer}

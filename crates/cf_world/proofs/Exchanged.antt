@@ -1,23 +1,23 @@
 -- What an exchange comes to: the broker by the judgement, and one link, whose client sent the command and was answered.
-use Rattle.std.proofs.Common.{◌≡◌, ℕ, ℤ, suc, ◌+◌, ◌<◌, ◌&&◌, ◌||◌, not, Bool, true, false, if◌then◌else◌, Option, Some, None, List, [], ◌∷◌, ◌++◌, refl, sym, ap, ◌∙◌, subst, arith, nat_lt, is_some}
+use Rattle.std.proofs.Common.{◌≡◌, ℕ, ℤ, suc, ◌&&◌, ◌||◌, not, Bool, true, false, if◌then◌else◌, Option, Some, None, List, [], ◌∷◌, refl, ap, ◌∙◌, arith, nat_lt, is_some}
 use Rattle.std.proofs.lemmas.Bool.Decides.{nat_tests}
 use Rattle.std.specs.Str.{bytes_eq}
 use Rattle.cf_protocol.specs.Names.{with, and_also}
 use Rattle.cf_protocol.specs.Position.{Position}
-use Rattle.cf_protocol.specs.Note.{Lists, Note, Fails, Put as PutDone, Left, Listed, Close}
+use Rattle.cf_protocol.specs.Note.{Lists, Fails, Put as PutDone, Left, Listed, Close}
 use Rattle.cf_stream.specs.StreamState.{StreamState}
 use Rattle.cf_stream.specs.StreamAnswer.{listed_above}
 use Rattle.cf_hub.specs.SessionState.{Off, Asked, Ready, On, begins, closes_now, is_unfinished, leaves, push}
 use Rattle.cf_machine.specs.ClientLink.{ClientLink, asked, client_sends, hears, hears_subscribe, is_heard, is_waiting, sends}
 use Rattle.cf_machine.specs.ClientRequest.{ClientRequest, SentCommand, Subscribe, Unsubscribe, Publish, History, channel_of}
 use Rattle.cf_machine.specs.Config.{Config}
-use Rattle.cf_machine.specs.IntervalMachine.{answer_by, answered, broker_by, can_command, closes_by, command_by, exchange, heard_as, id_left, is_refused, judgement, lacks_epoch, listing, nothing_sent, sent}
+use Rattle.cf_machine.specs.IntervalMachine.{answer_by, answered, broker_by, can_command, closes_by, command_by, exchange, id_left, is_refused, judgement, lacks_epoch, listing, nothing_sent}
 use Rattle.cf_machine.specs.PublicationList.{Broker}
 use Rattle.cf_machine.specs.Refusals.{Judgement, Unheard, TooLong, Refused, Accepted, bad_message}
 use Rattle.cf_machine.specs.Session.{Session, Sub}
 use Rattle.cf_machine.specs.Weights.{wording}
 use Rattle.cf_machine.specs.World.{World, any_unfinished, is_ready}
-use Rattle.cf_world.proofs.Names.{itself, with-same}
+use Rattle.cf_world.proofs.Names.{with-same}
 
 -- the link of a client that sent command k, once its node heard it and judged it so
 abbrev pub met : Lists → Broker → SentCommand → Judgement → ClientLink → ClientLink

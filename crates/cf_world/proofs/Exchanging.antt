@@ -1,10 +1,8 @@
 -- A client sends a command and is answered, and the world goes on with the machine.
-use Rattle.std.proofs.Common.{◌≡◌, ◌≢◌, ℕ, suc, ◌<◌, Option, Some, None, List, inl, inr, is_some, refl, sym, ap, ◌∙◌, subst, option_and_then}
+use Rattle.std.proofs.Common.{◌≡◌, ◌≢◌, ℕ, Option, Some, List, inl, inr, refl, sym, ap, ◌∙◌, subst}
 use Rattle.std.specs.List.{All}
 use Rattle.cf_protocol.specs.Names.{with}
-use Rattle.cf_protocol.specs.Note.{Lists}
 use Rattle.cf_client.specs.ClientCalls.{State}
-use Rattle.cf_client.specs.ClientState.{Client}
 use Rattle.cf_client.specs.ClientView.{state_of}
 use Rattle.cf_hub.specs.Hub.{Node, OthersStay, SameNode, attached_at}
 use Rattle.cf_hub.specs.InNotes.{Grown, SaysAt}
@@ -23,7 +21,7 @@ use Rattle.cf_world.specs.declared.broker.Broker.{Broker as Code}
 use Rattle.cf_world.specs.declared.peers.Peer.{Peer}
 use Rattle.cf_world.specs.declared.peers.Seat.{Seat}
 use Rattle.cf_world.proofs.Breaking.{seats-with}
-use Rattle.cf_world.proofs.Exchanged.{after, with_id}
+use Rattle.cf_world.proofs.Exchanged.{after}
 use Rattle.cf_world.proofs.Going.{Stays}
 use Rattle.cf_world.proofs.Names.{with-both, text_tells}
 use Rattle.cf_world.proofs.NodesTie.{LinkGoes, lists_grow, session_goes}

@@ -1,10 +1,9 @@
 -- The world goes on with the machine: what an event at the broker leaves.
-use Rattle.std.proofs.Common.{◌≡◌, ◌≤◌, ℕ, ◌==◌, ◌||◌, Bool, true, false, Option, Some, None, List, [], ◌∷◌, ◌++◌, length, is_some, nat_lt, refl, sym, ap, ◌∙◌, subst, if◌then◌else◌}
-use Rattle.std.proofs.lemmas.List.{append-nil}
+use Rattle.std.proofs.Common.{◌≡◌, ℕ, ◌==◌, ◌||◌, Bool, true, false, Option, Some, None, List, [], ◌∷◌, length, nat_lt, refl, if◌then◌else◌}
 use Rattle.cf_protocol.specs.Datum.{Datum}
 use Rattle.cf_protocol.specs.Names.{is_among}
 use Rattle.cf_protocol.specs.Note.{Lists}
-use Rattle.cf_protocol.specs.Settings.{NamespaceTable, settings_of}
+use Rattle.cf_protocol.specs.Settings.{NamespaceTable}
 use Rattle.cf_stream.specs.StreamState.{StreamState, last_offset}
 use Rattle.cf_hub.specs.AlikeMoves.{Notes, Texts}
 use Rattle.cf_hub.specs.Hub.{Node}
@@ -13,7 +12,7 @@ use Rattle.cf_machine.specs.Config.{Config}
 use Rattle.cf_machine.specs.PublicationList.{Broker, add_at, epoch_comes, open_at, opened, publish, trim, trim_at}
 use Rattle.cf_machine.specs.World.{World, broker_with}
 use Rattle.cf_world.specs.BrokerTie.{ShowsBroker}
-use Rattle.cf_world.specs.Tie.{AreTied, seats_of}
+use Rattle.cf_world.specs.Tie.{AreTied}
 use Rattle.cf_world.specs.declared.broker.Broker.{Broker as Code}
 use Rattle.cf_world.specs.declared.peers.Peer.{Peer}
 use Rattle.cf_world.proofs.BoardLists.{grown-list_with, grown-refl, grown-trans}

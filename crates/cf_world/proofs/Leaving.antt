@@ -1,5 +1,5 @@
 -- All clients of a node leave it.
-use Rattle.std.proofs.Common.{◌≡◌, ℕ, ◌+◌, ◌==◌, Bool, true, false, cond, Option, Some, None, List, [], ◌∷◌, is_some, refl, sym, ap, ◌∙◌, subst, if◌then◌else◌, option_and_then, BTreeMap, String, Global, string_bytes}
+use Rattle.std.proofs.Common.{◌≡◌, ℕ, ◌+◌, ◌==◌, Bool, true, false, cond, Option, Some, None, List, [], ◌∷◌, is_some, refl, sym, ap, ◌∙◌, subst, if◌then◌else◌, option_and_then}
 use Rattle.std.specs.Map.Calls.{RetainsPairs}
 use Rattle.std.specs.List.{All}
 use Rattle.std.specs.Map.{lookup}
@@ -15,7 +15,6 @@ use Rattle.cf_machine.specs.IntervalMachine.{allows, happens, restarts}
 use Rattle.cf_machine.specs.World.{World, on_node}
 use Rattle.cf_world.specs.ClientTie.{IsOwn, LeavesAs, LeavesNode, ShowsClient, is_at, leave_node}
 use Rattle.cf_world.specs.HubCalls.{AtHub, Renewed}
-use Rattle.cf_world.specs.NodesTie.{ShowsLink}
 use Rattle.cf_world.specs.Tie.{AreTied, seats_of}
 use Rattle.cf_world.specs.declared.broker.Broker.{Broker as Code}
 use Rattle.cf_world.specs.declared.peers.Peer.{Peer}

@@ -1,5 +1,5 @@
 -- What is asked of a session that says another one is answered as of that one.
-use Rattle.std.proofs.Common.{◌≡◌, ℕ, not, Bool, true, false, is_some, Option, Some, None, List, [], ◌∷◌, refl, sym, ap, ◌∙◌, subst, slice_get, option_and_then, option_map}
+use Rattle.std.proofs.Common.{◌≡◌, ℕ, not, Option, Some, None, List, [], ◌∷◌, refl, sym, ap, ◌∙◌, subst, slice_get, option_and_then}
 use Rattle.std.specs.List.{AllZip}
 use Rattle.cf_protocol.specs.Note.{Lists, Note}
 use Rattle.cf_protocol.specs.Note as note

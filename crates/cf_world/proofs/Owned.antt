@@ -1,9 +1,9 @@
 -- What a session says leaves the notes of its client its own: only answers to calls have to be.
-use Rattle.std.proofs.Common.{◌≡◌, ℕ, zero, suc, ◌+◌, Bool, true, false, Option, Some, None, List, [], ◌∷◌, ◌++◌, refl, sym, ap, ◌∙◌, subst, if◌then◌else◌, is_some, drop}
+use Rattle.std.proofs.Common.{◌≡◌, ℕ, zero, suc, ◌+◌, Bool, true, false, Option, List, [], ◌∷◌, ◌++◌, refl, if◌then◌else◌}
 use Rattle.std.specs.Prelude.{nat_le, sum_by}
 use Rattle.std.specs.List.{All}
-use Rattle.std.proofs.lemmas.List.Elements.{All-append, All-tail}
-use Rattle.cf_protocol.specs.Note.{Lists, Note, Reading, Reply, Pub, End, Close}
+use Rattle.std.proofs.lemmas.List.Elements.{All-append}
+use Rattle.cf_protocol.specs.Note.{Lists, Note, Reading, Pub, End, Close}
 use Rattle.cf_protocol.specs.Position.{Position}
 use Rattle.cf_recovery.specs.Verdict.{Verdict, Drop, Pass, Insufficient, verdict}
 use Rattle.cf_client.specs.ClientCalls.{State}

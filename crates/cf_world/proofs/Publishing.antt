@@ -1,8 +1,7 @@
 -- A publish, a trim and a forget go on with the machine.
-use Rattle.std.proofs.Common.{◌≡◌, ℕ, ◌&&◌, not, Bool, true, false, Option, Some, None, List, is_some, refl, sym, ap, ◌∙◌, subst, if◌then◌else◌}
+use Rattle.std.proofs.Common.{◌≡◌, ℕ, ◌&&◌, not, Bool, true, false, Option, Some, None, List, is_some, refl, ap, if◌then◌else◌}
 use Rattle.cf_protocol.specs.Datum.{Datum}
 use Rattle.cf_protocol.specs.Settings.{NamespaceTable, settings_of}
-use Rattle.cf_protocol.specs.declared.settings.Settings.{Settings}
 use Rattle.cf_stream.specs.StreamState.{StreamState}
 use Rattle.cf_hub.specs.Hub.{Node}
 use Rattle.cf_machine.specs.Config.{Config}
@@ -17,8 +16,7 @@ use Rattle.cf_world.specs.declared.broker.Published.{Published}
 use Rattle.cf_world.specs.declared.broker.Published.TheVariants as outcome
 use Rattle.cf_world.specs.declared.peers.Peer.{Peer}
 use Rattle.cf_world.proofs.BoardLists.{grown-refl}
-use Rattle.cf_world.proofs.Going.{Stays, broker-goes, broker-may-go, broker-stays, grown-publish, grown-trim}
-use Rattle.cf_world.proofs.NodesTie.{lists_grow}
+use Rattle.cf_world.proofs.Going.{Stays, broker-goes, broker-stays, grown-publish}
 
 three : (a b c : Bool) → a ≡ false → (a && (b && not c)) ≡ false
 three a b c h = rw h refl

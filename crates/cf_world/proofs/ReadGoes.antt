@@ -1,5 +1,5 @@
 -- A read at the stream and at the session goes on with the machine.
-use Rattle.std.proofs.Common.{◌≡◌, ◌≢◌, ℕ, ◌&&◌, Bool, true, false, Option, Some, None, List, [], ◌∷◌, is_some, IsSome, length, refl, sym, ap, ◌∙◌, subst, if◌then◌else◌}
+use Rattle.std.proofs.Common.{◌≡◌, ℕ, ◌&&◌, Bool, true, false, Option, Some, None, List, [], ◌∷◌, IsSome, length, refl, sym, ap, ◌∙◌, subst}
 use Rattle.cf_protocol.specs.Note.{Lists, Reading}
 use Rattle.cf_protocol.specs.Position.{Position}
 use Rattle.cf_protocol.specs.Settings.{NamespaceTable, settings_of}
@@ -22,7 +22,7 @@ use Rattle.cf_machine.specs.IntervalMachine.{allows, at_session, happens, read_a
 use Rattle.cf_machine.specs.PublicationList.{Broker, can_open, open_at, opened, stands_or_opens}
 use Rattle.cf_machine.specs.Session.{Session, Sub}
 use Rattle.cf_machine.specs.World.{World, broker_with}
-use Rattle.cf_world.specs.BrokerTie.{Finds, FindsNone, Reads, ShowsBroker}
+use Rattle.cf_world.specs.BrokerTie.{Finds, FindsNone}
 use Rattle.cf_world.specs.HubCalls.{AtHub, WasRead}
 use Rattle.cf_world.specs.NodesTie.{seated, session_in}
 use Rattle.cf_world.specs.Tie.{AreTied, seats_of}

@@ -1,6 +1,6 @@
 -- A stream is read for a subscription, and the world goes on with the machine.
-use Rattle.std.proofs.Common.{◌≡◌, ◌≢◌, ◌≤◌, ◌<◌, ℕ, zero, suc, ◌+◌, ◌-◌, ◌&&◌, nat_le, Bool, true, false, Option, Some, None, List, [], ◌∷◌, ◌++◌, length, is_some, IsSome, take, drop, min, arith, refl, sym, ap, ◌∙◌, subst, if◌then◌else◌}
-use Rattle.std.specs.List.{All, AllByRecursion}
+use Rattle.std.proofs.Common.{◌≡◌, ◌≤◌, ℕ, zero, suc, ◌+◌, ◌-◌, ◌&&◌, nat_le, Bool, true, false, Option, Some, None, List, [], ◌∷◌, length, take, drop, min, arith, refl, sym, ap, ◌∙◌, subst}
+use Rattle.std.specs.List.{All}
 use Rattle.std.specs.Str.{bytes_eq}
 use Rattle.std.proofs.lemmas.Bool.Decides.{nat_tests}
 use Rattle.std.proofs.lemmas.List.Elements.{All-tail, recursion_from_All}
@@ -8,15 +8,15 @@ use Rattle.cf_protocol.specs.Epoch.{IsEpoch}
 use Rattle.cf_protocol.specs.Datum.{Datum, Placed, numbered}
 use Rattle.cf_protocol.specs.Note.{Lists, Reading, placed_from}
 use Rattle.cf_protocol.specs.Position.{Position}
-use Rattle.cf_protocol.specs.Regular.{ArePlaced, IsBody, IsPlaced, IsPosition}
-use Rattle.cf_protocol.specs.Settings.{NamespaceTable, settings_of}
-use Rattle.cf_stream.specs.StreamState.{StreamState, last_offset, position_of}
+use Rattle.cf_protocol.specs.Regular.{ArePlaced, IsBody, IsPosition}
+use Rattle.cf_protocol.specs.Settings.{NamespaceTable}
+use Rattle.cf_stream.specs.StreamState.{StreamState, last_offset}
 use Rattle.cf_stream.specs.StreamAnswer.{most_in_reply, read_of, still_held}
 use Rattle.cf_stream.specs.declared.answer.Recovery.{Recovery}
 use Rattle.cf_hub.specs.InNotes.{AreMissed}
 use Rattle.cf_hub.specs.Subscriptions.{reading_of}
 use Rattle.cf_machine.specs.PublicationList.{Broker, opened}
-use Rattle.cf_world.specs.BrokerTie.{Brings, Finds, IsDatum, IsStanding, ShowsBroker}
+use Rattle.cf_world.specs.BrokerTie.{Brings, Finds, IsDatum, IsStanding}
 use Rattle.cf_world.specs.declared.broker.Broker.{Broker as Code}
 use Rattle.cf_world.proofs.Names.{by_test}
 

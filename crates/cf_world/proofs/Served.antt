@@ -1,14 +1,14 @@
 -- What a node serves goes on with the machine.
-use Rattle.std.proofs.Common.{◌≡◌, ◌≢◌, ◌⊎◌, inl, inr, ℕ, ◌==◌, Bool, true, false, Option, Some, None, List, is_some, refl, sym, ap, ◌∙◌, subst, if◌then◌else◌, option_copied, arith}
+use Rattle.std.proofs.Common.{◌≡◌, ◌≢◌, ◌⊎◌, inl, inr, ℕ, ◌==◌, Bool, true, false, Option, Some, None, List, is_some, refl, sym, ap, ◌∙◌, subst, if◌then◌else◌, arith}
 use Rattle.std.proofs.lemmas.Bool.Decides.{nat_tests}
 use Rattle.std.specs.String.{string_bytes}
 use Rattle.cf_protocol.specs.Datum.{Placed}
-use Rattle.cf_protocol.specs.Note.{Lists, placed_at}
+use Rattle.cf_protocol.specs.Note.{placed_at}
 use Rattle.cf_protocol.specs.Position.{Position}
 use Rattle.cf_protocol.specs.Settings.{NamespaceTable}
 use Rattle.cf_hub.specs.AlikeMoves.{CallsAreAlike, MovesAreAlike, Texts}
-use Rattle.cf_hub.specs.Hub.{Brings, Delivers, InState, Node, attached_at}
-use Rattle.cf_hub.specs.InNotes.{IsListed, SaysAt}
+use Rattle.cf_hub.specs.Hub.{InState, Node, attached_at}
+use Rattle.cf_hub.specs.InNotes.{IsListed}
 use Rattle.cf_hub.specs.Session.{Attached}
 use Rattle.cf_hub.specs.SessionState.{checks, comes, finishes, is_ready}
 use Rattle.cf_hub.specs.Spoken.{spoken}
@@ -21,10 +21,10 @@ use Rattle.cf_machine.specs.IntervalMachine.{allows, at_session, delivered, happ
 use Rattle.cf_machine.specs.PublicationList.{Place, publication, stands_at}
 use Rattle.cf_machine.specs.Session.{Session}
 use Rattle.cf_machine.specs.World.{World, on_node}
-use Rattle.cf_world.specs.BrokerTie.{IsAccepted, Stands}
-use Rattle.cf_world.specs.ClientTie.{IsOwn, ShowsClient}
+use Rattle.cf_world.specs.BrokerTie.{Stands}
+use Rattle.cf_world.specs.ClientTie.{ShowsClient}
 use Rattle.cf_world.specs.HubCalls.{AtHub, Checked, Delivered, Finished}
-use Rattle.cf_world.specs.NodesTie.{IsAway, ShowsLink, ShowsNodes, name_of, seated}
+use Rattle.cf_world.specs.NodesTie.{IsAway, ShowsNodes, name_of}
 use Rattle.cf_world.specs.Tie.{AreTied, seats_of}
 use Rattle.cf_world.specs.declared.broker.Accepted.{Accepted}
 use Rattle.cf_world.specs.declared.broker.Broker.{Broker as Code}

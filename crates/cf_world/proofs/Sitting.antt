@@ -1,10 +1,7 @@
 -- One client's session goes on with the machine.
-use Rattle.std.proofs.Common.{◌≡◌, ◌≢◌, ℕ, ◌+◌, Bool, true, false, Option, Some, None, List, [], ◌∷◌, ◌++◌, is_some, refl, sym, ap, ◌∙◌, subst, if◌then◌else◌, option_and_then}
-use Rattle.std.specs.Prelude.{nat_le, sum_by}
+use Rattle.std.proofs.Common.{◌≡◌, ◌≢◌, ℕ, Bool, true, false, Option, Some, None, List, refl, sym, ap, subst, if◌then◌else◌, option_and_then}
 use Rattle.std.specs.List.{All}
-use Rattle.std.proofs.lemmas.List.Elements.{All-append}
-use Rattle.cf_protocol.specs.Names.{with}
-use Rattle.cf_protocol.specs.Note.{Lists, Note}
+use Rattle.cf_protocol.specs.Note.{Lists}
 use Rattle.cf_protocol.specs.Settings.{NamespaceTable}
 use Rattle.cf_client.specs.ClientCalls.{State}
 use Rattle.cf_client.specs.ClientView.{state_of}
@@ -14,17 +11,16 @@ use Rattle.cf_machine.specs.ClientLink.{ClientLink, with_session}
 use Rattle.cf_machine.specs.Config.{Config}
 use Rattle.cf_machine.specs.IntervalMachine.{at_session}
 use Rattle.cf_machine.specs.Session.{Session}
-use Rattle.cf_machine.specs.World.{World, link_with}
-use Rattle.cf_hub.specs.Session.{Attached}
+use Rattle.cf_machine.specs.World.{World}
 use Rattle.cf_world.specs.ClientTie.{IsOwn, ShowsClient, ShowsPeer}
-use Rattle.cf_world.specs.NodesTie.{IsSeated, ShowsNodes, name_of, seated, session_in}
+use Rattle.cf_world.specs.NodesTie.{ShowsNodes, name_of, session_in}
 use Rattle.cf_world.specs.Tie.{AreTied, seats_of}
 use Rattle.cf_world.specs.declared.broker.Broker.{Broker as Code}
 use Rattle.cf_world.specs.declared.peers.Peer.{Peer}
 use Rattle.cf_world.specs.declared.peers.Seat.{Seat}
 use Rattle.cf_world.proofs.Ends.{Keeps}
-use Rattle.cf_world.proofs.Names.{text_tells, with-all, with-same, with-other}
-use Rattle.cf_world.proofs.NodesTie.{LinkGoes, nodes_same, seat_shows, session_goes, session_moves}
+use Rattle.cf_world.proofs.Names.{with-all}
+use Rattle.cf_world.proofs.NodesTie.{nodes_same, seat_shows, session_goes, session_moves}
 
 -- ---- the client of a name
 

@@ -1,10 +1,10 @@
 -- What a client takes leaves the answers to its calls its own: calls are answered, and none comes.
-use Rattle.std.proofs.Common.{◌≡◌, ◌⊎◌, inl, inr, ℕ, ◌<◌, ◌==◌, not, Bool, true, false, if◌then◌else◌, Option, Some, None, List, [], ◌∷◌, filter, refl, sym, ap, ◌∙◌, subst}
+use Rattle.std.proofs.Common.{◌≡◌, inl, inr, ℕ, ◌<◌, ◌==◌, not, Some, List, [], ◌∷◌, filter, refl, sym, ◌∙◌, subst}
 use Rattle.std.proofs.lemmas.Bool.Decides.{eqb_tells}
 use Rattle.std.specs.List.{All}
 use Rattle.cf_protocol.specs.Datum.{Placed}
 use Rattle.cf_protocol.specs.Note.{Note, Reply, Pub, End, Fails, Put as PutDone, Left, Listed, PingDue, Close}
-use Rattle.cf_protocol.specs.Outgoing.{Outcome, Connected, Subscribed, Unsubscribed, Published, Present, Counted, Past, Pinged, Failed, Pushed, Publication, Unsubscribe, Outgoing, Ping, Answer, Push}
+use Rattle.cf_protocol.specs.Outgoing.{Outcome, Connected, Subscribed, Unsubscribed, Published, Present, Counted, Past, Pinged, Failed, Publication, Unsubscribe, Outgoing, Ping, Answer, Push}
 use Rattle.cf_client.specs.AppItem.{AppItem}
 use Rattle.cf_client.specs.ClientCalls.{Call, State, Takes, TakesAnswer, TakesEnd, TakesPublication, answered, channel_under, moves}
 use Rattle.cf_client.specs.ClientState.{Mode, Idle, Asking, Live}

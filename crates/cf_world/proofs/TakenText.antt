@@ -1,5 +1,5 @@
 -- A client takes the text that waits first, and the world goes on with the machine.
-use Rattle.std.proofs.Common.{◌≡◌, ◌≢◌, ◌&&◌, ℕ, zero, suc, ◌==◌, Bool, true, false, if◌then◌else◌, Option, Some, None, List, [], ◌∷◌, ◌++◌, is_some, length, slice_index_or, drop, flat_map, refl, sym, ap, ◌∙◌, subst, arith, option_and_then, inl, inr}
+use Rattle.std.proofs.Common.{◌≡◌, ◌&&◌, ℕ, suc, Bool, true, if◌then◌else◌, Option, Some, List, [], ◌∷◌, ◌++◌, is_some, drop, flat_map, refl, sym, ap, ◌∙◌, subst, arith, inl, inr}
 use Rattle.std.specs.List.{All}
 use Rattle.std.proofs.lemmas.List.{append-nil}
 use Rattle.std.proofs.lemmas.Bool.Decides.{eqb_tells}
@@ -12,14 +12,14 @@ use Rattle.cf_protocol.specs.Regular.{IsRegular}
 use Rattle.cf_protocol.specs.Settings.{NamespaceTable}
 use Rattle.cf_protocol.specs.Written.{outgoing_text}
 use Rattle.cf_client.specs.AppItem.{AppItem}
-use Rattle.cf_client.specs.ClientCalls.{State, Takes, TakesAll, asks_under}
+use Rattle.cf_client.specs.ClientCalls.{State, TakesAll, asks_under}
 use Rattle.cf_client.specs.ClientState.{Client, Mode, Idle, Asking, Live, hears}
 use Rattle.cf_client.specs.ClientView.{state_of}
 use Rattle.cf_client.specs.OneAnswer.{AreApart}
 use Rattle.cf_client.specs.OneMeaning.{AnswersOwn, AsksAt, OneMeaning, items_of}
 use Rattle.cf_hub.specs.AlikeMoves.{CallsAreAlike, MovesAreAlike}
-use Rattle.cf_hub.specs.Hub.{Node, attached_at}
-use Rattle.cf_hub.specs.InNotes.{IsSaid, SaysAt}
+use Rattle.cf_hub.specs.Hub.{Node}
+use Rattle.cf_hub.specs.InNotes.{IsSaid}
 use Rattle.cf_hub.specs.SessionState.{takes_front}
 use Rattle.cf_machine.specs.AnswersById.{AreForChannel, IsForChannel}
 use Rattle.cf_machine.specs.ClientLink.{ClientLink, gets, hold_first, holds, receive_first, receives}
@@ -27,12 +27,10 @@ use Rattle.cf_machine.specs.Config.{Config}
 use Rattle.cf_machine.specs.Event.{Take}
 use Rattle.cf_machine.specs.IntervalMachine.{allows, happens, has_any}
 use Rattle.cf_machine.specs.Leading.{coming}
-use Rattle.cf_machine.specs.Session.{Session}
 use Rattle.cf_machine.specs.Tellable.{IsTellable}
 use Rattle.cf_machine.specs.Told.{entries, first_items, items, tells, writes}
-use Rattle.cf_machine.specs.Trace.{Entry, Item}
 use Rattle.cf_machine.specs.World.{World, link_with}
-use Rattle.cf_world.specs.ClientTie.{Becomes, Heard, IsOwn, ShowsClient, ShowsPeer}
+use Rattle.cf_world.specs.ClientTie.{Heard, IsOwn, ShowsClient, ShowsPeer}
 use Rattle.cf_world.specs.HubCalls.{AtHub, Taken}
 use Rattle.cf_world.specs.NodesTie.{IsSeated, ShowsNodes, seated}
 use Rattle.cf_world.specs.Tie.{AreTied, seats_of}

@@ -1,26 +1,24 @@
 -- A take that finds nothing, or the close.
-use Rattle.std.proofs.Common.{◌≡◌, ◌≢◌, ◌&&◌, ℕ, Bool, true, false, if◌then◌else◌, Option, Some, None, List, [], ◌∷◌, ◌++◌, is_some, drop, refl, sym, ap, ◌∙◌, subst, slice_get, option_and_then, option_map}
+use Rattle.std.proofs.Common.{◌≡◌, ◌&&◌, ℕ, Bool, true, false, if◌then◌else◌, Option, Some, None, List, [], ◌∷◌, ◌++◌, is_some, drop, refl, sym, ap, ◌∙◌, subst}
 use Rattle.std.specs.List.{All}
 use Rattle.std.proofs.lemmas.List.Elements.{All-tail}
 use Rattle.cf_protocol.specs.Note.{Note, Close}
 use Rattle.cf_protocol.specs.Settings.{NamespaceTable}
-use Rattle.cf_client.specs.ClientCalls.{State}
 use Rattle.cf_hub.specs.AlikeMoves.{CallsAreAlike, MovesAreAlike}
-use Rattle.cf_hub.specs.Hub.{Node, OthersStay, attached_at}
+use Rattle.cf_hub.specs.Hub.{Node, attached_at}
 use Rattle.cf_hub.specs.InNotes.{SaysAt}
 use Rattle.cf_hub.specs.Session.{Attached}
 use Rattle.cf_hub.specs.SessionState.{takes_front}
 use Rattle.cf_machine.specs.ClientLink.{ClientLink, breaks, hold_first, holds, receive_first, receives}
 use Rattle.cf_machine.specs.Config.{Config}
 use Rattle.cf_machine.specs.Event.{Take}
-use Rattle.cf_machine.specs.IntervalMachine.{allows, at_session, happens, has_any}
-use Rattle.cf_machine.specs.Session.{Session}
+use Rattle.cf_machine.specs.IntervalMachine.{allows, happens, has_any}
 use Rattle.cf_machine.specs.Told.{entries, first_items, tells, writes}
 use Rattle.cf_machine.specs.Trace.{Closed}
 use Rattle.cf_machine.specs.World.{World, link_with}
 use Rattle.cf_world.specs.ClientTie.{IsOwn, Unseats}
 use Rattle.cf_world.specs.HubCalls.{AtHub, Gone, Taken}
-use Rattle.cf_world.specs.NodesTie.{seated, session_in}
+use Rattle.cf_world.specs.NodesTie.{session_in}
 use Rattle.cf_world.specs.Tie.{AreTied, seats_of}
 use Rattle.cf_world.specs.declared.broker.Broker.{Broker as Code}
 use Rattle.cf_world.specs.declared.peers.Peer.{Peer}

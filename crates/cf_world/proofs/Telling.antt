@@ -1,20 +1,20 @@
 -- What an application is told by its client is what the machine says that it is told.
-use Rattle.std.proofs.Common.{◌≡◌, ◌≢◌, ℕ, zero, suc, ◌+◌, ◌-◌, ◌<◌, ◌≤◌, ◌==◌, ◌||◌, Bool, true, false, if◌then◌else◌, Option, Some, None, List, [], ◌∷◌, ◌++◌, length, map, take, drop, flat_map, slice_get, option_map, refl, sym, ap, ◌∙◌, subst, arith}
+use Rattle.std.proofs.Common.{◌≡◌, ℕ, zero, suc, ◌+◌, ◌-◌, ◌<◌, ◌≤◌, ◌==◌, ◌||◌, Bool, true, false, if◌then◌else◌, Option, Some, None, List, [], ◌∷◌, length, map, take, drop, flat_map, slice_get, option_map, refl, sym, ap, ◌∙◌, subst, arith}
 use Rattle.std.specs.Prelude.{option_to_list}
-use Rattle.cf_protocol.specs.Datum.{Datum, Placed, numbered}
+use Rattle.cf_protocol.specs.Datum.{Datum, numbered}
 use Rattle.cf_protocol.specs.Note.{Lists, Reading, Note, Reply, Pub, End, Fails, Put as PutDone, Left, Listed as Listing, PingDue, Close, outgoing_of, placed_at, placed_from}
 use Rattle.cf_protocol.specs.Outgoing.{Outgoing, Push, Publication}
 use Rattle.cf_protocol.specs.Position.{Position}
 use Rattle.cf_client.specs.AppItem as item
 use Rattle.cf_client.specs.AppItem.{AppItem, published}
-use Rattle.cf_client.specs.ClientState.{Client, Mode, Idle, Asking, Live, is_out, moved_on, read_to}
+use Rattle.cf_client.specs.ClientState.{Client, Mode, Idle, Asking, Live, is_out, read_to}
 use Rattle.cf_client.specs.ClientCalls as client
 use Rattle.cf_client.specs.OneMeaning as told
 use Rattle.cf_machine.specs.PublicationList.{body_at, body_of}
 use Rattle.cf_machine.specs.Tellable.{IsTellable}
 use Rattle.cf_machine.specs.Told.{asks_under, end_items, items, pub_items, reply_items, run_items}
 use Rattle.cf_world.specs.Entries.{told_of}
-use Rattle.cf_machine.specs.Trace.{Item, Subscribed, Published, Resubscribing, Refused, Listed}
+use Rattle.cf_machine.specs.Trace.{Item, Subscribed, Published, Refused, Listed}
 
 record Next (ds : List Datum) (o : ℕ) : Type 0 where
   datum : Datum

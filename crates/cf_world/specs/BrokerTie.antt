@@ -1,5 +1,5 @@
 -- The broker beside what the machine has for it.
-use Rattle.std.specs.Prelude.{◌≡◌, ◌≤◌, ◌-◌, ℕ, ℤ, true, false, is_some, Option, Some, None, option_map, List, ⊤, ◌++◌, length}
+use Rattle.std.specs.Prelude.{◌≡◌, ◌≤◌, ◌-◌, ℕ, ℤ, true, false, is_some, Option, Some, None, option_map, List, ⊤, length}
 use Rattle.std.specs.List.{All, AllZip}
 use Rattle.std.specs.String.{string_bytes}
 use Rattle.std.specs.BTreeSet.{contains_text}

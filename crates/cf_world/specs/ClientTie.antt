@@ -1,5 +1,5 @@
 -- A client of the world beside the machine's, and what the calls of clients make of all of them.
-use Rattle.std.specs.Prelude.{◌≡◌, ◌≢◌, ◌<◌, ⊤, ℕ, ◌==◌, Bool, false, if◌then◌else◌, Option, Some, None, is_some, List, map}
+use Rattle.std.specs.Prelude.{◌≡◌, ◌≢◌, ◌<◌, ⊤, ℕ, ◌==◌, Bool, false, if◌then◌else◌, Option, Some, None, is_some, List}
 use Rattle.std.specs.List.{All}
 use Rattle.std.specs.String.{string_bytes}
 use Rattle.std.specs.declared.alloc.Global.{Global}

@@ -1,5 +1,5 @@
 -- A world shows a state of the machine: each part of it stands beside what the machine has for that part.
-use Rattle.std.specs.Prelude.{◌≡◌, ℕ, Option, Some, List, flat_map, option_and_then, option_map, slice_get}
+use Rattle.std.specs.Prelude.{◌≡◌, ℕ, Option, List, flat_map, option_and_then, option_map, slice_get}
 use Rattle.std.specs.BTreeMap.{get_by_text}
 use Rattle.cf_protocol.specs.Settings.{NamespaceTable}
 use Rattle.cf_client.specs.ClientView.{ClientView}

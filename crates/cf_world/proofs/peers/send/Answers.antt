@@ -1,11 +1,11 @@
-use Rattle.std.proofs.Common.{rules, ◌≡◌, ◌≢◌, ◌∙◌, ℕ, List, Option, Result, Some, None, Ok, Err, IsSome, String, Global, string_bytes, refl, sym, subst}
+use Rattle.std.proofs.Common.{rules, ◌≡◌, ◌∙◌, ℕ, List, Result, Some, Ok, Err, IsSome, String, Global, string_bytes, sym, subst}
 use Rattle.std.proofs.lemmas.Map.Text.{btree_map_updates_text}
 use Rattle.std.specs.BTreeMap.{get_by_text}
 use Rattle.cf_protocol.specs.Names.{with}
 use Rattle.cf_client.specs.ClientCalls.{RefusedBy}
 use Rattle.cf_client.specs.ClientView.{state_of}
 use Rattle.cf_client.specs.declared.fault.ClientFault.{ClientFault}
-use Rattle.cf_client.specs.declared.fault.ClientFault.TheVariants.{NotNow, AtLastId, Memory}
+use Rattle.cf_client.specs.declared.fault.ClientFault.TheVariants.{NotNow, AtLastId}
 use Rattle.cf_world.specs.ClientTie.{NotSent, Sent, send_fault}
 use Rattle.cf_world.specs.declared.peers.Peer.{Peer}
 use Rattle.cf_world.proofs.Named.{refused-some, same-seat, sent-none, sets-peer, some-peer}

@@ -1,4 +1,4 @@
-use Rattle.std.proofs.Common.{rules, ℕ, List, string_bytes}
+use Rattle.std.proofs.Common.{rules, string_bytes}
 use Rattle.std.specs.BTreeMap.{is_at}
 use Rattle.std.specs.Cmp.Lexicographic.{slice_cmp}
 use Rattle.std.specs.Ordering.{nat_cmp}

@@ -1,6 +1,5 @@
 use Rattle.std.proofs.Common.{◌≡◌, ◌∙◌, List, [], ◌∷◌, ◌++◌, map, flat_map, string_bytes, sym, ap}
 use Rattle.std.proofs.lemmas.List.{map-append}
-use Rattle.cf_client.specs.AppItem.{AppItem}
 use Rattle.cf_client.specs.Shown.{shown_item}
 use Rattle.cf_machine.specs.Told.{entries}
 use Rattle.cf_world.specs.Entries.{shown_entry, told_of}

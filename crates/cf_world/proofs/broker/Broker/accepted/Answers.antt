@@ -1,4 +1,4 @@
-use Rattle.std.proofs.Common.{◌≡◌, ℕ, suc, Option, Some, None, List, length, get_or, slice_get, arith, refl, sym, subst}
+use Rattle.std.proofs.Common.{◌≡◌, ℕ, suc, Option, List, slice_get, arith, subst}
 use Rattle.std.specs.Option.{option_copied}
 use Rattle.cf_world.specs.BrokerTie.{Stands}
 use Rattle.cf_machine.specs.PublicationList.{publication}

@@ -1,4 +1,4 @@
-use Rattle.std.proofs.Common.{◌≡◌, ℕ, Some, None, refl, subst, slice_get, string_bytes}
+use Rattle.std.proofs.Common.{◌≡◌, Some, None, refl, subst, slice_get, string_bytes}
 use Rattle.cf_machine.specs.IntervalMachine.{run}
 use Rattle.cf_machine.specs.World.{World, start}
 use Rattle.cf_world.specs.HubCalls.{AtHub, Delivered}

@@ -1,4 +1,4 @@
-use Rattle.std.proofs.Common.{◌≡◌, List, refl, sym, subst, ap, ◌∙◌, slice_get}
+use Rattle.std.proofs.Common.{◌≡◌, List, sym, subst, slice_get}
 use Rattle.std.specs.Option.{option_copied}
 use Rattle.cf_hub.specs.Hub.{Node}
 use Rattle.cf_world.proofs.Getting.{copied_get}

@@ -1,4 +1,4 @@
-use Rattle.std.proofs.Common.{rules, ◌≡◌}
+use Rattle.std.proofs.Common.{rules}
 use Rattle.std.specs.BTreeMap.{get_by_text}
 use Rattle.cf_world.proofs.Starting.{empty-map, starts}
 use Rattle.cf_world.proofs.world.World.new.Goals as goal

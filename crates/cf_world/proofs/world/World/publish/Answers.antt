@@ -1,5 +1,3 @@
-use Rattle.std.proofs.Common.{None}
-use Rattle.cf_protocol.specs.Datum.{Datum}
 use Rattle.cf_machine.specs.IntervalMachine.{run}
 use Rattle.cf_machine.specs.World.{World, start}
 use Rattle.cf_world.proofs.Publishing.{publish-goes}

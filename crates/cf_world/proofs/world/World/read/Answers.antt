@@ -6,7 +6,7 @@ use Rattle.std.specs.BTreeMap.{get_by_text}
 use Rattle.cf_machine.specs.IntervalMachine.{run}
 use Rattle.cf_machine.specs.World.{World, start}
 use Rattle.cf_world.specs.Tie.{seats_of}
-use Rattle.cf_world.proofs.ReadGoes.{read-away, read-goes, read-set-up, read-unasked, read-unopened}
+use Rattle.cf_world.proofs.ReadGoes.{read-away, read-goes, read-set-up, read-unopened}
 use Rattle.cf_world.proofs.world.World.read.Goals as goal
 
 pub returns-in_default : goal.returns-in_default

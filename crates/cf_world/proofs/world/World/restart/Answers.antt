@@ -1,9 +1,6 @@
-use Rattle.std.proofs.Common.{rules, ◌≡◌, Option, Some, None, true, is_some, slice_get}
+use Rattle.std.proofs.Common.{rules, ◌≡◌, true, is_some, slice_get}
 use Rattle.std.specs.BTreeMap.{get_by_text}
-use Rattle.cf_hub.specs.Hub.{Node}
-use Rattle.cf_machine.specs.IntervalMachine.{run}
-use Rattle.cf_machine.specs.World.{World, start}
-use Rattle.cf_world.proofs.Leaving.{restart-goes, restart-nowhere, there}
+use Rattle.cf_world.proofs.Leaving.{restart-goes, there}
 use Rattle.cf_world.proofs.world.World.restart.Goals as goal
 
 pub returns : goal.returns
