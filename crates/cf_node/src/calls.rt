@@ -2,9 +2,8 @@
 use crate::connection::Member;
 use crate::io_loop::Around;
 use cf_broker::{Naming, Refused};
-use cf_hub::HubRefusal;
 use cf_protocol::{ErrorCode, Info, Position};
-use cf_session::{Action, Answer};
+use cf_session::{Action, Answer, hub_error};
 use cf_stream::{Epochs, History};
 use std::alloc::AllocError;
 use std::collections::BTreeMap;
@@ -17,16 +16,6 @@ fn broker_error(refused: Refused) -> ErrorCode {
         Refused::WrongEpoch => ErrorCode::UnrecoverablePosition,
         Refused::NoEpoch | Refused::AtLastCount => ErrorCode::Internal,
         Refused::Memory => ErrorCode::Internal,
-    }
-}
-
-/// The error that a client gets where the hub refuses.
-fn hub_error(refusal: HubRefusal) -> ErrorCode {
-    match refusal {
-        HubRefusal::NoSession => ErrorCode::Internal,
-        HubRefusal::Already => ErrorCode::AlreadySubscribed,
-        HubRefusal::TooMany => ErrorCode::LimitExceeded,
-        HubRefusal::Memory => ErrorCode::Internal,
     }
 }
 
@@ -90,7 +79,7 @@ impl<'a, R: Wait, N: Naming, E: Epochs + Drop> Around<'a, R, N, E> {
         let mut hub = self.shared.hub.lock(self.rt);
         let number = match hub.attach(user, now) {
             Ok(number) => number,
-            Err(refusal) => return Err(hub_error(refusal)),
+            Err(refusal) => return Err(hub_error(&refusal)),
         };
         member.number = Some(number);
         member.user = kept;
@@ -131,7 +120,7 @@ impl<'a, R: Wait, N: Naming, E: Epochs + Drop> Around<'a, R, N, E> {
             .begin(number, channel, id, since)
         {
             Ok(()) => Ok(()),
-            Err(refusal) => Err(hub_error(refusal)),
+            Err(refusal) => Err(hub_error(&refusal)),
         }
     }
 
