@@ -347,6 +347,20 @@ fn data_depth(rt: HostRuntime) -> Result<(), Fail> {
     Ok(())
 }
 
+/// A publish to a channel whose stream is at its last offset, for which the node answers so.
+#[test]
+fn last_offset(rt: HostRuntime) -> Result<(), Fail> {
+    does(
+        &rt,
+        rt.alloc(),
+        "=100,300,phs",
+        &[(
+            r#"{"id":2,"publish":{"channel":"full","data":1}}"#,
+            r#"publish 1 0-1-1 / {"error":{"code":106,"message":"limit exceeded"},"id":2}"#,
+        )],
+    )
+}
+
 /// A frame of 65,536 bytes has all its commands carried out, and one byte more closes; names of 255 and 256 bytes.
 #[test]
 fn limits(rt: HostRuntime) -> Result<(), Fail> {
