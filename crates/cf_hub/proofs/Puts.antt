@@ -1,6 +1,5 @@
 -- A session's subscriptions, where one of them changes.
 use Rattle.std.proofs.Common.{◌≡◌, ◌⊎◌, inl, inr, ℕ, ◌&&◌, not, Bool, true, false, cond, if◌then◌else◌, Option, Some, None, List, [], refl, sym, ap, ◌∙◌, option_map, is_some}
-use Rattle.std.specs.BTreeMap.{get_by_text}
 use Rattle.std.specs.Cmp.Lexicographic.{bytes_decides}
 use Rattle.std.specs.Prelude.{OnOk, Result, Ok, Err, ⊤}
 use Rattle.std.specs.declared.alloc.AllocError.{AllocError}
@@ -13,19 +12,19 @@ use Rattle.cf_queue.specs.OutQueue.{OutQueue, Item, Close}
 use Rattle.cf_recovery.specs.Verdict.{Verdict, Drop, Pass, Insufficient, verdict}
 use Rattle.cf_hub.specs.declared.delivered.Fate.{Fate}
 use Rattle.cf_hub.specs.declared.delivered.Fate.TheVariants as fate
-use Rattle.cf_hub.specs.declared.session.Meets.TheVariants as meets
+use Rattle.cf_hub.specs.declared.subscription.Meets.TheVariants as meets
 use Rattle.cf_hub.specs.declared.subscription.Progress.{Progress}
 use Rattle.cf_hub.specs.declared.subscription.Progress.TheVariants as code
 use Rattle.cf_hub.specs.SessionState.{Subscription, Asked, SessionState, begins, put_sub, push, closes, comes, come_at, by_verdict, is_unfinished, no_memory}
 use Rattle.cf_hub.specs.WantOfMemory.{Serves, ClosesWith, without_buffer}
 use Rattle.cf_hub.specs.Delivery.{fate_of, sub_fate}
-use Rattle.cf_hub.specs.Subscriptions.{Subscriptions, SetsAt, sub_of, keeps, loses, meeting, verdict_code}
+use Rattle.cf_hub.specs.Subscriptions.{SetsAt, Subscriptions, keeps, loses, meeting, progress_at, sub_of, verdict_code}
 use Rattle.cf_hub.specs.Wordings.{Held, held, plain, delivering, at_offset}
 use Rattle.cf_hub.proofs.States.{state_is}
 use Rattle.cf_hub.proofs.Notes.{with_queue}
 
 abbrev pub subs_of : Subscriptions → List ℕ → Subscription Held
-subs_of m d = sub_of (get_by_text m d)
+subs_of m d = sub_of (progress_at m d)
 
 turned : (a b : List ℕ) → bytes_eq a b ≡ bytes_eq b a
 turned a b = by_value (bytes_eq a b) (bytes_eq b a) (bytes_decides a b) (bytes_decides b a)
@@ -40,18 +39,18 @@ picked true w o = refl
 picked false w o = refl
 
 sets_sub : (m n : Subscriptions) (c : List ℕ) (w : Option Progress) → SetsAt m n c w → (q : List ℕ) → subs_of n q ≡ with (subs_of m) c (sub_of w) q
-sets_sub m n c w h q = ap sub_of (h q) ∙ picked (bytes_eq c q) w (get_by_text m q) ∙ ap (λ b. if b then sub_of w else subs_of m q) (turned c q)
+sets_sub m n c w h q = ap sub_of (h q) ∙ picked (bytes_eq c q) w (progress_at m q) ∙ ap (λ b. if b then sub_of w else subs_of m q) (turned c q)
 
 -- one channel is set
 pub put_state : (m n : Subscriptions) (c : List ℕ) (w : Option Progress) (q : OutQueue) → SetsAt m n c w → with_queue (subs_of n) q ≡ put_sub c (sub_of w) (with_queue (subs_of m) q)
 put_state m n c w q h = state_is (with_queue (subs_of n) q) (put_sub c (sub_of w) (with_queue (subs_of m) q)) (sets_sub m n c w h) refl refl
 
 -- what is there is replaced
-pub replaced : (m n : Subscriptions) (c : List ℕ) (x : Progress) (q : OutQueue) → is_some (get_by_text m c) ≡ true → SetsAt m n c (option_map (λ _. x) (get_by_text m c))
+pub replaced : (m n : Subscriptions) (c : List ℕ) (x : Progress) (q : OutQueue) → is_some (progress_at m c) ≡ true → SetsAt m n c (option_map (λ _. x) (progress_at m c))
     → with_queue (subs_of n) q ≡ put_sub c (sub_of (Some x)) (with_queue (subs_of m) q)
-replaced m n c x q e h = put_state m n c (Some x) q (λ d. h d ∙ by_value (get_by_text m c) e d)
+replaced m n c x q e h = put_state m n c (Some x) q (λ d. h d ∙ by_value (progress_at m c) e d)
   where
-    by_value : (o : Option Progress) → is_some o ≡ true → (d : List ℕ) → cond (bytes_eq c d) (option_map (λ _. x) o) (get_by_text m d) ≡ cond (bytes_eq c d) (Some x) (get_by_text m d)
+    by_value : (o : Option Progress) → is_some o ≡ true → (d : List ℕ) → cond (bytes_eq c d) (option_map (λ _. x) o) (progress_at m d) ≡ cond (bytes_eq c d) (Some x) (progress_at m d)
     by_value None e d = absurd (cc)
     by_value (Some y) e d = refl
 
@@ -77,11 +76,11 @@ module _ (m n : Subscriptions) (c : List ℕ) (q : OutQueue) (e : List ℕ) (p :
   waits_at (Some (code.On at mark)) b = absurd (cc)
 
   -- a publication is kept, or the buffer is given up
-  pub kept : (refused : Bool) → meeting (at_offset e p) (get_by_text m c) ≡ meets.Buffer
-      → SetsAt m n c (option_map (keeps e p) (get_by_text m c)) ⊎ ((refused ≡ true) × SetsAt m n c (option_map loses (get_by_text m c)))
+  pub kept : (refused : Bool) → meeting (at_offset e p) (progress_at m c) ≡ meets.Buffer
+      → SetsAt m n c (option_map (keeps e p) (progress_at m c)) ⊎ ((refused ≡ true) × SetsAt m n c (option_map loses (progress_at m c)))
       → Serves refused (delivering p) c (comes (delivering p) c (at_offset e p)) (with_queue (subs_of m) q) (with_queue (subs_of n) q)
-  kept refused b (inl h) = inl (kept_at (get_by_text m c) b h)
-  kept refused b (inr h) = inr (h.0, inr (record { waits = waits_at (get_by_text m c) b; given_up = lost_at (get_by_text m c) b h.1 }))
+  kept refused b (inl h) = inl (kept_at (progress_at m c) b h)
+  kept refused b (inr h) = inr (h.0, inr (record { waits = waits_at (progress_at m c) b; given_up = lost_at (progress_at m c) b h.1 }))
 
 -- ---- what a delivery meets
 

@@ -1,6 +1,5 @@
 -- A subscription's read and its reply, in a session's state.
 use Rattle.std.proofs.Common.{◌≡◌, ◌||◌, ◌+◌, ℕ, Bool, true, false, cond, if◌then◌else◌, Option, Some, None, List, length, refl, sym, ap, ◌∙◌, option_map, is_some}
-use Rattle.std.specs.BTreeMap.{get_by_text}
 use Rattle.std.specs.Cmp.Lexicographic.{bytes_decides}
 use Rattle.std.specs.Str.{bytes_eq}
 use Rattle.cf_queue.specs.OutQueue.{OutQueue, Item}
@@ -12,36 +11,36 @@ use Rattle.cf_hub.specs.declared.subscription.Progress.{Progress}
 use Rattle.cf_hub.specs.declared.subscription.Progress.TheVariants as code
 use Rattle.cf_hub.specs.Reply.{AnswersIn, IsAnswered, stands, was_read}
 use Rattle.cf_hub.specs.SessionState.{Subscription, Off, On, SessionState, finished, put_sub, reads, read_at}
-use Rattle.cf_hub.specs.Subscriptions.{Subscriptions, SetsAt, reading_of, sub_of}
+use Rattle.cf_hub.specs.Subscriptions.{SetsAt, Subscriptions, progress_at, reading_of, sub_of}
 use Rattle.cf_hub.specs.Wordings.{Held, held, reading, releasing}
 use Rattle.cf_hub.proofs.States.{state_is}
 use Rattle.cf_hub.proofs.Notes.{with_queue}
 use Rattle.cf_hub.proofs.Puts.{subs_of, put_state}
 
 -- nothing changes where a channel is set to what it has
-pub same_state : (m n : Subscriptions) (c : List ℕ) (q : OutQueue) → SetsAt m n c (get_by_text m c) → with_queue (subs_of n) q ≡ with_queue (subs_of m) q
+pub same_state : (m n : Subscriptions) (c : List ℕ) (q : OutQueue) → SetsAt m n c (progress_at m c) → with_queue (subs_of n) q ≡ with_queue (subs_of m) q
 same_state m n c q h = state_is (with_queue (subs_of n) q) (with_queue (subs_of m) q) (λ d. ap sub_of (h d) ∙ by_value d (bytes_eq c d) (bytes_decides c d)) refl refl
   where
-    by_value : (d : List ℕ) (t : Bool) → (t ≡ true → c ≡ d) × (c ≡ d → t ≡ true) → sub_of (cond t (get_by_text m c) (get_by_text m d)) ≡ sub_of (get_by_text m d)
+    by_value : (d : List ℕ) (t : Bool) → (t ≡ true → c ≡ d) × (c ≡ d → t ≡ true) → sub_of (cond t (progress_at m c) (progress_at m d)) ≡ sub_of (progress_at m d)
     by_value d true e = ap (subs_of m) (e.0 refl)
     by_value d false e = refl
 
-pub read_state : (m n : Subscriptions) (c : List ℕ) (r : Recovery) (q : OutQueue) → SetsAt m n c (option_map (was_read r) (get_by_text m c))
+pub read_state : (m n : Subscriptions) (c : List ℕ) (r : Recovery) (q : OutQueue) → SetsAt m n c (option_map (was_read r) (progress_at m c))
     → with_queue (subs_of n) q ≡ reads (reading r.publications.items) c (reading_of r) (with_queue (subs_of m) q)
-read_state m n c r q h = by_sub (get_by_text m c) refl
+read_state m n c r q h = by_sub (progress_at m c) refl
   where
-    by_sub : (o : Option Progress) → get_by_text m c ≡ o → with_queue (subs_of n) q ≡ read_at (reading r.publications.items) c (reading_of r) (subs_of m c) (with_queue (subs_of m) q)
+    by_sub : (o : Option Progress) → progress_at m c ≡ o → with_queue (subs_of n) q ≡ read_at (reading r.publications.items) c (reading_of r) (subs_of m c) (with_queue (subs_of m) q)
     by_sub None e =
-        same_state m n c q (λ d. h d ∙ ap (λ o. cond (bytes_eq c d) (option_map (was_read r) o) (get_by_text m d)) e ∙ ap (λ o. cond (bytes_eq c d) o (get_by_text m d)) (sym e))
+        same_state m n c q (λ d. h d ∙ ap (λ o. cond (bytes_eq c d) (option_map (was_read r) o) (progress_at m d)) e ∙ ap (λ o. cond (bytes_eq c d) o (progress_at m d)) (sym e))
         ∙ ap (λ o. read_at (reading r.publications.items) c (reading_of r) (sub_of o) (with_queue (subs_of m) q)) (sym e)
     by_sub (Some (code.Asked id since w)) e =
-        put_state m n c (Some (code.Ready id (is_some since) r w)) q (λ d. h d ∙ ap (λ o. cond (bytes_eq c d) (option_map (was_read r) o) (get_by_text m d)) e)
+        put_state m n c (Some (code.Ready id (is_some since) r w)) q (λ d. h d ∙ ap (λ o. cond (bytes_eq c d) (option_map (was_read r) o) (progress_at m d)) e)
         ∙ ap (λ o. read_at (reading r.publications.items) c (reading_of r) (sub_of o) (with_queue (subs_of m) q)) (sym e)
     by_sub (Some (code.Ready id was x w)) e =
-        same_state m n c q (λ d. h d ∙ ap (λ o. cond (bytes_eq c d) (option_map (was_read r) o) (get_by_text m d)) e ∙ ap (λ o. cond (bytes_eq c d) o (get_by_text m d)) (sym e))
+        same_state m n c q (λ d. h d ∙ ap (λ o. cond (bytes_eq c d) (option_map (was_read r) o) (progress_at m d)) e ∙ ap (λ o. cond (bytes_eq c d) o (progress_at m d)) (sym e))
         ∙ ap (λ o. read_at (reading r.publications.items) c (reading_of r) (sub_of o) (with_queue (subs_of m) q)) (sym e)
     by_sub (Some (code.On at mark)) e =
-        same_state m n c q (λ d. h d ∙ ap (λ o. cond (bytes_eq c d) (option_map (was_read r) o) (get_by_text m d)) e ∙ ap (λ o. cond (bytes_eq c d) o (get_by_text m d)) (sym e))
+        same_state m n c q (λ d. h d ∙ ap (λ o. cond (bytes_eq c d) (option_map (was_read r) o) (progress_at m d)) e ∙ ap (λ o. cond (bytes_eq c d) o (progress_at m d)) (sym e))
         ∙ ap (λ o. read_at (reading r.publications.items) c (reading_of r) (sub_of o) (with_queue (subs_of m) q)) (sym e)
 
 with_twice : {B N : Type 0} (c : List ℕ) (x y : Subscription B) (s : SessionState B N) → put_sub c x (put_sub c y s) ≡ put_sub c x s
@@ -53,7 +52,7 @@ with_twice c x y s = state_is (put_sub c x (put_sub c y s)) (put_sub c x s) (λ 
 
 module _ (a : Answered) (c : List ℕ) (m n : Subscriptions) (q : OutQueue) (sets : SetsAt m n c (Some (stands a))) where
   -- the reply of a subscription that stands or is over
-  pub answered : (o : Option Progress) → get_by_text m c ≡ o → AnswersIn a o → (new : SessionState Held Item) → (short : Bool) → a.released.insufficient ≡ short
+  pub answered : (o : Option Progress) → progress_at m c ≡ o → AnswersIn a o → (new : SessionState Held Item) → (short : Bool) → a.released.insufficient ≡ short
       → new ≡ (if short then put_sub c Off (with_queue (subs_of n) q) else with_queue (subs_of n) q) → IsAnswered a c (with_queue (subs_of m) q) new
   answered None e h new short s is = absurd h
   answered (Some p) e h new short s is =

@@ -1,6 +1,5 @@
 -- A subscription from its read to its reply, as the code has it.
 use Rattle.std.specs.Prelude.{◌≡◌, ◌+◌, ◌||◌, ◌∷◌, ◌++◌, [], if◌then◌else◌, ℕ, is_some, length, map, List, Option, Some, None, Bool, false}
-use Rattle.std.specs.BTreeMap.{get_by_text}
 use Rattle.cf_protocol.specs.Position.{Position}
 use Rattle.cf_queue.specs.OutQueue.{Item, Text}
 use Rattle.cf_recovery.specs.Kept.{Kept, IsRun, ended_at, places}

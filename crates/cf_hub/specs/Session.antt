@@ -1,5 +1,5 @@
 -- A session as contracts see it: its state, and beside it whose it is and when it was pinged.
-use Rattle.std.specs.Prelude.{◌≡◌, ◌-◌, ◌&&◌, nat_le, ℕ, Bool, true, false, if◌then◌else◌, Option, Some, None, List, map, string_bytes}
+use Rattle.std.specs.Prelude.{◌≡◌, ◌-◌, ◌&&◌, nat_le, ℕ, Bool, true, false, if◌then◌else◌, Option, Some, None, List, map, string_bytes, Box}
 use Rattle.std.specs.BTreeMap.{is_at}
 use Rattle.std.specs.Cmp.Lexicographic.{slice_cmp}
 use Rattle.std.specs.Map.{lookup}
@@ -8,7 +8,7 @@ use Rattle.std.specs.declared.alloc.Global.{Global}
 use Rattle.std.specs.declared.string.String.{String}
 use Rattle.cf_queue.specs.OutQueue.{Item, OutQueue, waiting}
 use Rattle.cf_hub.specs.SessionState.{SessionState, Wording, closes_now, push, no_pong}
-use Rattle.cf_hub.specs.Subscriptions.{sub_of}
+use Rattle.cf_hub.specs.Subscriptions.{in_box, sub_of}
 use Rattle.cf_hub.specs.Wordings.{Held}
 use Rattle.cf_hub.specs.declared.session.Session.{Session}
 use Rattle.cf_hub.specs.declared.subscription.Progress.{Progress}
@@ -21,7 +21,7 @@ pub record Badge : Type 0 where
   pub awaits_pong : Bool
 
 pub record Shown : Type 0 where
-  pub subs : List (String Global × Progress)
+  pub subs : List (String Global × Box Progress Global)
   pub queue : OutQueue
   pub badge : Badge
 
@@ -34,7 +34,7 @@ shown s = record { subs = s.subscriptions.entries; queue = s.queue; badge = badg
 abbrev pub state_shown : Shown → SessionState Held Item
 state_shown s =
     record {
-      subs = λ c. sub_of (lookup (is_at (λ k. slice_cmp nat_cmp c (string_bytes k))) s.subs);
+      subs = λ c. sub_of (in_box (lookup (is_at (λ k. slice_cmp nat_cmp c (string_bytes k))) s.subs));
       notes = waiting s.queue;
       closed = s.queue.closed;
     }

@@ -1,5 +1,5 @@
 -- A session's subscriptions as the code has them, and as the definitions have them.
-use Rattle.std.specs.Prelude.{◌≡◌, ◌-◌, ℕ, List, [], length, Bool, true, Option, Some, None}
+use Rattle.std.specs.Prelude.{◌≡◌, ◌-◌, ℕ, List, [], length, Bool, true, Option, Some, None, option_map, Box}
 use Rattle.std.specs.BTreeMap.{BTreeMap, get_by_text}
 use Rattle.std.specs.Map.{update}
 use Rattle.std.specs.Str.{bytes_eq}
@@ -12,8 +12,8 @@ use Rattle.cf_recovery.specs.Kept.{Kept, arrival, given_up, with_arrival}
 use Rattle.cf_recovery.specs.Verdict.{Verdict, Drop, Pass, Insufficient, verdict}
 use Rattle.cf_recovery.specs.declared.verdict.Verdict.{Verdict as Answer}
 use Rattle.cf_recovery.specs.declared.verdict.Verdict.TheVariants as answer
-use Rattle.cf_hub.specs.declared.session.Meets.{Meets}
-use Rattle.cf_hub.specs.declared.session.Meets.TheVariants as meets
+use Rattle.cf_hub.specs.declared.subscription.Meets.{Meets}
+use Rattle.cf_hub.specs.declared.subscription.Meets.TheVariants as meets
 use Rattle.cf_stream.specs.declared.answer.Recovery.{Recovery}
 use Rattle.cf_hub.specs.SessionState.{Subscription, Off, Asked, Ready, On}
 use Rattle.cf_hub.specs.Wordings.{Held, held}
@@ -21,7 +21,15 @@ use Rattle.cf_hub.specs.declared.subscription.Progress.{Progress}
 use Rattle.cf_hub.specs.declared.subscription.Progress.TheVariants as code
 
 abbrev pub Subscriptions : Type 0
-Subscriptions = BTreeMap (String Global) Progress
+Subscriptions = BTreeMap (String Global) (Box Progress Global)
+
+-- what stands in a box, where there is one
+abbrev pub in_box : Option (Box Progress Global) → Option Progress
+in_box o = option_map (λ b. b.value) o
+
+-- the subscription of a channel
+abbrev pub progress_at : Subscriptions → List ℕ → Option Progress
+progress_at m c = in_box (get_by_text m c)
 
 -- what a read of the stream found
 abbrev pub reading_of : Recovery → Reading
@@ -36,7 +44,7 @@ sub_of (Some (code.On at mark)) = On at mark
 
 -- new has w at the channel, and elsewhere what old has
 abbrev pub SetsAt : Subscriptions → Subscriptions → List ℕ → Option Progress → Type 0
-SetsAt old new c w = (q : List ℕ) → get_by_text new q ≡ update bytes_eq (get_by_text old) c w q
+SetsAt old new c w = (q : List ℕ) → progress_at new q ≡ update bytes_eq (progress_at old) c w q
 
 -- one more came, or what came is given up
 abbrev pub keeps : List ℕ → Placed → Progress → Progress

@@ -91,10 +91,7 @@ impl Session {
     fn asked(&self, channel: &str) -> Option<Asked>
         ensures { result ≡ asked_of ((state_of self.now).subs channel.now) }
     {
-        match self.subscriptions.get(channel)? {
-            Progress::Asked { since, .. } => Some(Asked { since: *since }),
-            _ => None,
-        }
+        self.subscriptions.get(channel)?.asked()
     }
 
     fn is_settled(&self) -> bool
@@ -105,6 +102,16 @@ impl Session {
 }
 
 impl Progress {
+    /// The position from which it asked, while the stream was not read for it.
+    fn asked(&self) -> Option<Asked>
+        ensures { result ≡ asked_of (sub_of (Some self.now)) }
+    {
+        match self {
+            Progress::Asked { since, .. } => Some(Asked { since: *since }),
+            _ => None,
+        }
+    }
+
     /// Whether its reply was queued.
     fn is_finished(&self) -> bool
         ensures { result ≡ not (is_unfinished (sub_of (Some self.now))) }
@@ -114,8 +121,8 @@ impl Progress {
 }
 
 // Whether the reply of each was queued.
-fn all_finished(subscriptions: &BTreeMap<String, Progress>) -> bool
-    ensures all { result ≡ list_all (λ s. not (is_unfinished (sub_of (Some s)))) (values_of subscriptions.now.entries) }
+fn all_finished(subscriptions: &BTreeMap<String, Box<Progress>>) -> bool
+    ensures all { result ≡ list_all (λ s. not (is_unfinished (sub_of (Some s.value)))) (values_of subscriptions.now.entries) }
     ensures ordered { IsOrdered string_cmp subscriptions.now }
 {
     subscriptions

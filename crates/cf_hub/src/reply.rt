@@ -1,10 +1,9 @@
 //! A subscription from its asking to its reply.
 ghost use Rattle.std.specs.Prelude.{◌≡◌, ◌+◌, ◌⊎◌, ℕ, List, Bool, length, map, MatchOption, Some, option_map, is_some, false};
-ghost use Rattle.std.specs.BTreeMap.{get_by_text};
 ghost use Rattle.cf_protocol.specs.Datum.{numbered};
 ghost use Rattle.cf_hub.specs.Reply.{Answers, AnswersIn, stands, was_read};
 ghost use Rattle.cf_hub.specs.SessionState.{is_asked, is_ready};
-ghost use Rattle.cf_hub.specs.Subscriptions.{SetsAt, sub_of};
+ghost use Rattle.cf_hub.specs.Subscriptions.{SetsAt, progress_at, sub_of};
 
 use crate::delivered::Fate;
 use crate::session::{Session, Step, either};
@@ -106,12 +105,12 @@ impl Progress {
 /// Takes what the read of a channel's stream gave.
 #[tactic(auto, using(std::proofs::lemmas::Map::Text::text_keys))]
 fn read_at(
-    subscriptions: &mut BTreeMap<String, Progress>,
+    subscriptions: &mut BTreeMap<String, Box<Progress>>,
     channel: &str,
     recovery: Recovery,
 ) -> bool
-    ensures asked { result ≡ is_asked (sub_of (get_by_text subscriptions.old channel.now)) }
-    ensures after { SetsAt subscriptions.old subscriptions.new channel.now (option_map (was_read recovery) (get_by_text subscriptions.old channel.now)) }
+    ensures asked { result ≡ is_asked (sub_of (progress_at subscriptions.old channel.now)) }
+    ensures after { SetsAt subscriptions.old subscriptions.new channel.now (option_map (was_read recovery) (progress_at subscriptions.old channel.now)) }
 {
     match subscriptions.get_mut(channel) {
         None => false,
@@ -121,8 +120,8 @@ fn read_at(
 
 /// Gives a channel's reply and what follows it.
 #[tactic(auto, using(std::proofs::lemmas::Map::Text::text_keys))]
-fn answer_at(subscriptions: &mut BTreeMap<String, Progress>, channel: &str) -> Option<Answered>
-    ensures { MatchOption result (SetsAt subscriptions.old subscriptions.new channel.now (get_by_text subscriptions.old channel.now) × (is_ready (sub_of (get_by_text subscriptions.old channel.now)) ≡ false)) (λ a. AnswersIn a (get_by_text subscriptions.old channel.now) × SetsAt subscriptions.old subscriptions.new channel.now (Some (stands a))) }
+fn answer_at(subscriptions: &mut BTreeMap<String, Box<Progress>>, channel: &str) -> Option<Answered>
+    ensures { MatchOption result (SetsAt subscriptions.old subscriptions.new channel.now (progress_at subscriptions.old channel.now) × (is_ready (sub_of (progress_at subscriptions.old channel.now)) ≡ false)) (λ a. AnswersIn a (progress_at subscriptions.old channel.now) × SetsAt subscriptions.old subscriptions.new channel.now (Some (stands a))) }
 {
     match subscriptions.get_mut(channel) {
         None => None,

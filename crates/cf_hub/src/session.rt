@@ -1,15 +1,13 @@
 //! One session: its subscriptions, and what waits for its client.
 ghost use Rattle.std.specs.Prelude.{◌≡◌, ◌||◌, false};
 
-use crate::checked::{Checked, position_check};
 use crate::delivered::Fate;
-use crate::subscription::{Progress, add, keep_at, replace, take_out};
-use crate::wording::{end_text, ping_text, push_text, reply_text};
+use crate::subscription::{Meets, Progress, keep_at, replace, take_out};
+use crate::wording::{end_text, push_text};
 use cf_protocol::{Epoch, Position, Publication};
 use cf_queue::{Out, OutQueue, QueueRefusal};
-use cf_recovery::{Released, Verdict, check};
-use cf_stream::Recovery;
-use std::alloc::{AllocError, Global};
+use cf_recovery::Verdict;
+use std::alloc::Global;
 use std::collections::BTreeMap;
 
 /// How many bytes of text may wait for one client.
@@ -50,23 +48,12 @@ impl Step {
     }
 }
 
-/// What a delivery meets.
-#[derive(Clone, Copy, PartialEq, Eq, Debug)]
-pub(crate) enum Meets {
-    /// No subscription.
-    Nothing,
-    /// One that waits for its reply.
-    Buffer,
-    /// One that is finished, with this mark.
-    On(Option<u64>, Verdict),
-}
-
 /// One client's session.
 #[derive(Drop)]
 pub(crate) struct Session {
     pub(crate) client: String,
     pub(crate) user: String,
-    pub(crate) subscriptions: BTreeMap<String, Progress>,
+    pub(crate) subscriptions: BTreeMap<String, Box<Progress>>,
     pub(crate) queue: OutQueue,
     pub(crate) pinged: u64,
     pub(crate) awaits_pong: bool,
@@ -74,19 +61,16 @@ pub(crate) struct Session {
 }
 
 impl Session {
-    ghost use Rattle.std.specs.Prelude.{◌≡◌, ◌⊎◌, ◌||◌, ◌∷◌, [], ℕ, List, Some, None, true, false, IfSome, OnOk, OnErr, MatchOption, option_map, is_some, string_bytes, not, slice_get, ◌&&◌, if◌then◌else◌, map};
-    ghost use Rattle.std.specs.BTreeMap.{get_by_text};
-    ghost use Rattle.cf_protocol.specs.Datum.{Placed};
+    ghost use Rattle.std.specs.Prelude.{◌≡◌, ◌⊎◌, ◌||◌, ◌∷◌, [], ℕ, List, Some, None, true, false, IfSome, option_map, is_some, string_bytes, not, slice_get, ◌&&◌, if◌then◌else◌, map};
     ghost use Rattle.cf_queue.specs.Meaning.{meaning};
     ghost use Rattle.cf_queue.specs.OutQueue.{Text, Close};
-    ghost use Rattle.cf_hub.specs.Checked.{check_answer};
-    ghost use Rattle.cf_hub.specs.Delivery.{fate_of, fate_or};
+    ghost use Rattle.cf_hub.specs.Delivery.{fate_of};
     ghost use Rattle.cf_hub.specs.Rows.{off_after};
-    ghost use Rattle.cf_hub.specs.Session.{badge_of, ponged, state_of, ticked, ticks};
-    ghost use Rattle.cf_hub.specs.SessionState.{Off, On, begins, checks, closes_now, comes, is_asked, is_off, is_ready, no_memory, opens, push, put_sub, reads, takes_front};
-    ghost use Rattle.cf_hub.specs.Subscriptions.{meeting, reading_of, sub_of};
+    ghost use Rattle.cf_hub.specs.Session.{badge_of, state_of};
+    ghost use Rattle.cf_hub.specs.SessionState.{Off, On, closes_now, comes, is_off, no_memory, opens, push, put_sub, takes_front};
+    ghost use Rattle.cf_hub.specs.Subscriptions.{meeting, progress_at, sub_of};
     ghost use Rattle.cf_hub.specs.WantOfMemory.{ClosesWith, OrCloses, SaysAll, Serves};
-    ghost use Rattle.cf_hub.specs.Wordings.{at_offset, delivering, plain, push_text, reading};
+    ghost use Rattle.cf_hub.specs.Wordings.{at_offset, delivering, plain, push_text};
 
     /// A client's session, with no subscription and nothing that waits.
     pub(crate) fn new(alloc: Global, client: String, user: String, now: u64) -> Session
@@ -247,12 +231,11 @@ impl Session {
 
     /// What a delivery meets here.
     fn meets(&self, channel: &str, epoch: &Epoch, offset: u64) -> Meets
-        ensures { result ≡ meeting (record { epoch = epoch.now; offset = offset }) (get_by_text self.now.subscriptions channel.now) }
+        ensures { result ≡ meeting (record { epoch = epoch.now; offset = offset }) (progress_at self.now.subscriptions channel.now) }
     {
         match self.subscriptions.get(channel) {
             None => Meets::Nothing,
-            Some(Progress::On { at, mark }) => Meets::On(*mark, check(at, epoch, offset)),
-            Some(_) => Meets::Buffer,
+            Some(progress) => progress.meets(epoch, offset),
         }
     }
 
@@ -273,12 +256,12 @@ impl Session {
 
     /// Puts a subscription in place of the one that is there.
     pub(crate) fn put(&mut self, channel: &str, progress: Progress)
-        requires { is_some (get_by_text self.old.subscriptions channel.now) ≡ true }
+        requires { is_some (progress_at self.old.subscriptions channel.now) ≡ true }
         ensures state { state_of self.new ≡ put_sub channel.now (sub_of (Some progress)) (state_of self.old) }
         ensures badge { badge_of self.new ≡ badge_of self.old }
         ensures queue { self.new.queue ≡ self.old.queue }
     {
-        let _before = replace(&mut self.subscriptions, channel, progress);
+        replace(&mut self.subscriptions, channel, progress);
     }
 
     /// The channel's subscription ends.
@@ -287,12 +270,12 @@ impl Session {
         ensures badge { badge_of self.new ≡ badge_of self.old }
         ensures queue { self.new.queue ≡ self.old.queue }
     {
-        let _gone = take_out(&mut self.subscriptions, channel);
+        take_out(&mut self.subscriptions, channel);
     }
 
     /// Keeps a publication for a channel whose reply waits. Says whether memory was refused for it.
     fn keep(&mut self, channel: &str, epoch: &Epoch, publication: &Publication) -> bool
-        requires { meeting (at_offset epoch.now publication.now) (get_by_text self.old.subscriptions channel.now) ≡ Meets.Buffer }
+        requires { meeting (at_offset epoch.now publication.now) (progress_at self.old.subscriptions channel.now) ≡ Meets.Buffer }
         ensures state { Serves result (delivering publication.now) channel.now (comes (delivering publication.now) channel.now (at_offset epoch.now publication.now)) (state_of self.old) (state_of self.new) }
         ensures queue { self.new.queue ≡ self.old.queue }
         ensures badge { badge_of self.new ≡ badge_of self.old }

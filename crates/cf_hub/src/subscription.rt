@@ -1,15 +1,13 @@
 //! How far a session is with a channel.
-ghost use Rattle.std.specs.Prelude.{◌≡◌, ◌⊎◌, ◌≢◌, true, OnOk, OnErr, None, Some, option_map, is_some};
-ghost use Rattle.std.specs.BTreeMap.{get_by_text};
+ghost use Rattle.std.specs.Prelude.{◌≡◌, ◌⊎◌, ◌≢◌, true, OnOk, OnErr, None, Some, option_map};
 ghost use Rattle.cf_recovery.specs.Kept.{arrival, given_up, with_arrival};
-ghost use Rattle.cf_hub.specs.Subscriptions.{SetsAt, keeps, loses};
+ghost use Rattle.cf_hub.specs.Subscriptions.{SetsAt, coming, keeps, loses, progress_at};
 
 use cf_protocol::{Epoch, Position, Publication};
-use cf_recovery::Waiting;
+use cf_recovery::{Verdict, Waiting, check};
 use cf_stream::Recovery;
 use std::alloc::{AllocError, Global};
 use std::collections::BTreeMap;
-use std::mem;
 
 /// How far a subscription has come.
 #[derive(Drop)]
@@ -34,7 +32,28 @@ pub(crate) enum Progress {
     },
 }
 
+/// What a delivery meets.
+#[derive(Clone, Copy, PartialEq, Eq, Debug)]
+pub(crate) enum Meets {
+    /// No subscription.
+    Nothing,
+    /// One that waits for its reply.
+    Buffer,
+    /// One that is finished, with this mark.
+    On(Option<u64>, Verdict),
+}
+
 impl Progress {
+    /// What a delivery of this epoch and offset meets.
+    pub(crate) fn meets(&self, epoch: &Epoch, offset: u64) -> Meets
+        ensures { result ≡ coming (record { epoch = epoch.now; offset = offset }) self.now }
+    {
+        match self {
+            Progress::On { at, mark } => Meets::On(*mark, check(at, epoch, offset)),
+            _ => Meets::Buffer,
+        }
+    }
+
     /// Keeps a publication while it waits for its reply. Says whether memory was refused for it.
     pub(crate) fn keep(&mut self, epoch: &Epoch, publication: &Publication) -> bool
         ensures { (self.new ≡ keeps epoch.now publication.now self.old) ⊎ ((result ≡ true) × (self.new ≡ loses self.old)) }
@@ -59,12 +78,12 @@ fn keep_in(waiting: &mut Waiting, epoch: &Epoch, publication: &Publication) -> b
 /// Keeps a publication at a channel.
 #[tactic(auto, using(std::proofs::lemmas::Map::Text::text_keys))]
 pub(crate) fn keep_at(
-    subscriptions: &mut BTreeMap<String, Progress>,
+    subscriptions: &mut BTreeMap<String, Box<Progress>>,
     channel: &str,
     epoch: &Epoch,
     publication: &Publication,
 ) -> bool
-    ensures { SetsAt subscriptions.old subscriptions.new channel.now (option_map (keeps epoch.now publication.now) (get_by_text subscriptions.old channel.now)) ⊎ ((result ≡ true) × SetsAt subscriptions.old subscriptions.new channel.now (option_map loses (get_by_text subscriptions.old channel.now))) }
+    ensures { SetsAt subscriptions.old subscriptions.new channel.now (option_map (keeps epoch.now publication.now) (progress_at subscriptions.old channel.now)) ⊎ ((result ≡ true) × SetsAt subscriptions.old subscriptions.new channel.now (option_map loses (progress_at subscriptions.old channel.now))) }
 {
     match subscriptions.get_mut(channel) {
         None => false,
@@ -72,47 +91,41 @@ pub(crate) fn keep_at(
     }
 }
 
-/// Puts something in place of what is there, and gives that back. Where there is nothing, nothing changes.
+/// Puts something in place of what is there. Where there is nothing, nothing changes.
 #[tactic(auto, using(std::proofs::lemmas::Map::Text::text_keys))]
 pub(crate) fn replace(
-    subscriptions: &mut BTreeMap<String, Progress>,
+    subscriptions: &mut BTreeMap<String, Box<Progress>>,
     channel: &str,
     progress: Progress,
-) -> Option<Progress>
-    ensures before { result ≡ get_by_text subscriptions.old channel.now }
-    ensures after { SetsAt subscriptions.old subscriptions.new channel.now (option_map (λ _. progress) (get_by_text subscriptions.old channel.now)) }
+)
+    ensures { SetsAt subscriptions.old subscriptions.new channel.now (option_map (λ _. progress) (progress_at subscriptions.old channel.now)) }
 {
-    match subscriptions.get_mut(channel) {
-        None => None,
-        Some(place) => Some(mem::replace(place, progress)),
+    if let Some(place) = subscriptions.get_mut(channel) {
+        **place = progress;
     }
 }
 
 /// Adds a subscription to a channel that has none.
 #[tactic(auto, using(std::proofs::lemmas::Map::Text::text_keys))]
 pub(crate) fn add(
-    subscriptions: &mut BTreeMap<String, Progress>,
+    subscriptions: &mut BTreeMap<String, Box<Progress>>,
     alloc: Global,
     channel: &str,
     progress: Progress,
 ) -> Result<(), AllocError>
-    requires { get_by_text subscriptions.old channel.now ≡ None }
+    requires { progress_at subscriptions.old channel.now ≡ None }
     ensures ok { OnOk result (SetsAt subscriptions.old subscriptions.new channel.now (Some progress)) }
     ensures err { OnErr result (subscriptions.new.entries ≡ subscriptions.old.entries) }
 {
     let key = String::from_str(alloc, channel)?;
-    subscriptions.insert(key, progress)?;
+    subscriptions.insert(key, Box::new(alloc, progress)?)?;
     Ok(())
 }
 
 /// Takes a channel's subscription out.
 #[tactic(auto, using(std::proofs::lemmas::Map::Text::text_keys))]
-pub(crate) fn take_out(
-    subscriptions: &mut BTreeMap<String, Progress>,
-    channel: &str,
-) -> Option<Progress>
-    ensures before { result ≡ get_by_text subscriptions.old channel.now }
-    ensures after { SetsAt subscriptions.old subscriptions.new channel.now None }
+pub(crate) fn take_out(subscriptions: &mut BTreeMap<String, Box<Progress>>, channel: &str)
+    ensures { SetsAt subscriptions.old subscriptions.new channel.now None }
 {
-    subscriptions.remove(channel)
+    let _gone = subscriptions.remove(channel);
 }

@@ -1,4 +1,8 @@
 //! A session's position checks, and its pings.
+ghost use Rattle.std.specs.Prelude.{◌≡◌, Some};
+ghost use Rattle.cf_hub.specs.Checked.{stand_of};
+ghost use Rattle.cf_hub.specs.Subscriptions.{sub_of};
+
 use crate::checked::{Checked, position_check};
 use crate::delivered::Fate;
 use crate::session::{Session, Step};
@@ -23,6 +27,21 @@ pub(crate) struct Stand {
     pub mark: Option<u64>,
 }
 
+impl Progress {
+    /// Where it stands, once it is finished.
+    fn stand(&self) -> Option<Stand>
+        ensures { result ≡ stand_of (sub_of (Some self.now)) }
+    {
+        match self {
+            Progress::On { at, mark } => Some(Stand {
+                at: *at,
+                mark: *mark,
+            }),
+            _ => None,
+        }
+    }
+}
+
 impl Session {
     ghost use Rattle.std.specs.Prelude.{◌≡◌, ◌&&◌, ◌-◌, nat_le, List, ℕ, Some, None, [], is_some, option_map};
     ghost use Rattle.cf_hub.specs.Checked.{check_answer, stand_of};
@@ -36,13 +55,7 @@ impl Session {
     fn stand(&self, channel: &str) -> Option<Stand>
         ensures { result ≡ stand_of ((state_of self.now).subs channel.now) }
     {
-        match self.subscriptions.get(channel)? {
-            Progress::On { at, mark } => Some(Stand {
-                at: *at,
-                mark: *mark,
-            }),
-            _ => None,
-        }
+        self.subscriptions.get(channel)?.stand()
     }
 
     /// Whether a channel's subscription is finished.
