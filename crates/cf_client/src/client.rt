@@ -79,6 +79,14 @@ impl Client {
         Ok(text)
     }
 
+    /// What always holds of a client: the ids that are out are older than the next one, no two channels ask under one, and no
+    /// ask has that of a call.
+    pub fn is_sound(&self)
+        ensures { AreApart (state_of self.now).client }
+    {
+        let _known = &self.known;
+    }
+
     /// Whether a channel is idle: the client has not asked for it, or its subscription ended.
     pub fn is_idle(&self, channel: &str) -> bool
         ensures { result ≡ is_idle ((state_of self.now).client.modes channel.now) }
@@ -141,8 +149,12 @@ impl Client {
         Ok(text)
     }
 
-    /// The id of the next command.
-    fn next_id(&self) -> Result<u32, ClientFault>
+    /// The id of the next command. It takes no memory.
+    ///
+    /// # Errors
+    ///
+    /// `NotNow` while not connected; `AtLastId` where no id is left.
+    pub fn next_id(&self) -> Result<u32, ClientFault>
         ensures ok { IfOk result (λ id. id ≡ (state_of self.now).client.fresh) }
         ensures may { OnOk result (call_fault (state_of self.now) ≡ None) }
         ensures err { IfErr result (λ fault. call_fault (state_of self.now) ≡ Some fault) }
