@@ -16,5 +16,6 @@ mod tests;
 
 pub use action::{Action, Answer};
 pub use kind::Kind;
+pub use refusal::refusal_of;
 pub use refused::{hub_error, presence_error, stream_error};
 pub use session::Session;

@@ -97,8 +97,8 @@ fn history_refusal(namespaces: &Namespaces, channel: &str, reverse: bool) -> Opt
     None
 }
 
-/// The error of the first check that a command fails.
-pub(crate) fn refusal_of(namespaces: &Namespaces, request: &Request) -> Option<ErrorCode>
+/// The error of the first check that a command fails, if it fails one. It takes no memory.
+pub fn refusal_of(namespaces: &Namespaces, request: &Request) -> Option<ErrorCode>
     ensures { result ≡ first_failed (checks namespaces.now (shown_request request.now)) }
 {
     match request {
