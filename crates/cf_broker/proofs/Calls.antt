@@ -42,13 +42,13 @@ pub opening_more : {X : Type 0} (o : Option X) (c e : List ℕ) (es : List Entry
 opening_more None c e es = refl
 opening_more (Some x) c e es = refl
 
-opening_alike : (size : ℕ) (s : Option Shown) (l : Option Life) (c e : List ℕ) (es : List Entry) → ShowsAt size s l → opening s c e es ≡ opening l c e es
+pub opening_alike : (size : ℕ) (s : Option Shown) (l : Option Life) (c e : List ℕ) (es : List Entry) → ShowsAt size s l → opening s c e es ≡ opening l c e es
 opening_alike size None None c e es h = refl
 opening_alike size (Some s) (Some l) c e es h = refl
 opening_alike size None (Some l) c e es h = absurd h
 opening_alike size (Some s) None c e es h = absurd h
 
-if_stands_alike : (size : ℕ) (s : Option Shown) (l : Option Life) (x : Entry) → ShowsAt size s l → if_stands s x ≡ if_stands l x
+pub if_stands_alike : (size : ℕ) (s : Option Shown) (l : Option Life) (x : Entry) → ShowsAt size s l → if_stands s x ≡ if_stands l x
 if_stands_alike size None None x h = refl
 if_stands_alike size (Some s) (Some l) x h = refl
 if_stands_alike size None (Some l) x h = absurd h

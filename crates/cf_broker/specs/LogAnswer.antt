@@ -1,6 +1,6 @@
 -- What calls of the broker make of a shard's log, and what they answer: what one thread's broker does at some point of the log,
 -- which begins with all that the caller's pass had seen. (This project's own profile.)
-use Rattle.std.specs.Prelude.{◌≡◌, ℕ, ◌+◌, ℤ, Bool, List, [], ◌∷◌, ◌++◌, Option, Some}
+use Rattle.std.specs.Prelude.{◌≡◌, ◌≢◌, ◌↔◌, ℕ, ◌+◌, ℤ, Bool, List, [], ◌∷◌, ◌++◌, length, Option, Some, None, IsSomeAnd}
 use Rattle.std.specs.Option.{option_map}
 use mathlib.Core.List.{IsPrefix}
 use Rattle.cf_protocol.specs.declared.position.Position.{Position}
@@ -13,7 +13,11 @@ use Rattle.cf_stream.specs.declared.due.Due.{Due}
 use Rattle.cf_stream.specs.ChannelLists.{life_or, stands_at}
 use Rattle.cf_stream.specs.LogState.{life_in, opening, if_stands, due_entries}
 use Rattle.cf_stream.specs.PublicationList.{Life, IsRead, IsListed}
+use Rattle.cf_stream.specs.StreamState.{last_offset}
 use Rattle.cf_stream.specs.Streams.{size_at}
+use Rattle.cf_broker.specs.Shard.{IsFull}
+use Rattle.cf_broker.specs.declared.refusal.Refused.{Refused}
+use Rattle.cf_broker.specs.declared.refusal.Refused.TheVariants.{AtLastOffset, WrongEpoch, NoEpoch, AtLastCount}
 
 -- a channel's stream after a log
 abbrev pub life_after : NamespaceTable → List Entry → (channel : List ℕ) → Option Life
@@ -64,3 +68,44 @@ IsForgotten t seen after c = IsCall seen after (λ log. if_stands (life_after t 
 -- a tick: entries of what was due, which are trims to none and forgets
 abbrev pub IsTicked : (seen after : List Entry) → Type 0
 IsTicked seen after = (due : List (List ℕ × Due)) × IsCall seen after (λ log. due_entries due) (λ log. Unit {0})
+
+-- ---- why a call is refused after a log; want of memory has no reason there
+
+-- the channel's stream is at the last offset
+abbrev pub IsAtLast : NamespaceTable → (log : List Entry) → (channel : List ℕ) → Type 0
+IsAtLast t log c = IsSomeAnd (life_after t log c) (λ l. length l.list ≡ last_offset)
+
+-- the channel has no stream
+abbrev pub HasNone : NamespaceTable → (log : List Entry) → (channel : List ℕ) → Type 0
+HasNone t log c = life_after t log c ≡ None
+
+-- the position is of another epoch than the channel's stream, or there is none
+abbrev pub IsOutside : Option Life → Option Position → Type 0
+IsOutside l None = ⊥
+IsOutside None (Some p) = Unit {0}
+IsOutside (Some l) (Some p) = p.epoch ≢ l.epoch
+
+-- the log has no room for the entries of a call, after the opening of the channel's stream where there is none
+abbrev pub HasNoRoom : NamespaceTable → (log : List Entry) → (channel : List ℕ) → (entries : List Entry) → Type 0
+HasNoRoom t log c entries = IsFull log (opening (life_after t log c) c [] entries)
+
+pub record RefusesPublish (t : NamespaceTable) (log : List Entry) (c : List ℕ) (d : Datum) (e : Refused) : Type 0 where
+  pub last : (e ≡ AtLastOffset) ↔ IsAtLast t log c
+  pub epoch : e ≡ NoEpoch → HasNone t log c
+  pub count : e ≡ AtLastCount → HasNoRoom t log c (Publish c d ∷ [])
+  pub other : e ≢ WrongEpoch
+
+pub record RefusesRead (t : NamespaceTable) (log : List Entry) (c : List ℕ) (e : Refused) : Type 0 where
+  pub epoch : e ≡ NoEpoch → HasNone t log c
+  pub count : e ≡ AtLastCount → HasNoRoom t log c []
+  pub others : (e ≢ AtLastOffset) × (e ≢ WrongEpoch)
+
+pub record RefusesHistory (t : NamespaceTable) (log : List Entry) (c : List ℕ) (since : Option Position) (e : Refused) : Type 0 where
+  pub outside : (e ≡ WrongEpoch) ↔ IsOutside (life_after t log c) since
+  pub epoch : e ≡ NoEpoch → HasNone t log c
+  pub count : e ≡ AtLastCount → HasNoRoom t log c []
+  pub other : e ≢ AtLastOffset
+
+-- a trim or a forget has no room for its entry
+abbrev pub RefusesEntry : NamespaceTable → (log : List Entry) → (channel : List ℕ) → Entry → Refused → Type 0
+RefusesEntry t log c x e = (e ≡ AtLastCount) × IsFull log (if_stands (life_after t log c) x)

@@ -1,5 +1,5 @@
 -- Which calls add which entries to the log of a shard. (This project's own profile.)
-use Rattle.std.specs.Prelude.{◌≡◌, ℕ, ◌+◌, ◌<◌, ◌^◌, List, [], ◌∷◌, Option, Some, None}
+use Rattle.std.specs.Prelude.{◌≡◌, ℕ, ◌+◌, ◌<◌, ◌≤◌, ◌^◌, List, [], ◌∷◌, Option, Some, None}
 use Rattle.std.specs.FinMap as fin
 use Rattle.cf_protocol.specs.Datum.{Datum}
 use Rattle.cf_protocol.specs.LogEntry.{Entry}
@@ -36,6 +36,10 @@ to_open (Some x) = 0
 abbrev pub HasRoom : {X : Type 0} → Option X → ℕ → Type 0
 HasRoom None n = n < 2 ^ 62
 HasRoom (Some x) n = Unit {0}
+
+-- and for that of a publication behind it
+abbrev pub HasRoomForTwo : {X : Type 0} → Option X → ℕ → Type 0
+HasRoomForTwo stood n = HasRoom stood n × (n + to_open stood + 1 ≤ 2 ^ 62)
 
 -- a log of this length has room for the entry of a call on a stream, where one stands
 abbrev pub HasRoomOn : {X : Type 0} → Option X → ℕ → Type 0

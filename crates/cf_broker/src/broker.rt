@@ -1,11 +1,11 @@
 //! The sixteen shards, each under a lock of its own, beside its word.
 ghost use Rattle.std.specs.Prelude.{◌≡◌, ◌≢◌, ◌+◌, ◌<◌, ◌≤◌, ◌↔◌, length, IfOk, IfErr, OnOk, OnErr, IsSome, IsTrue, vec_len};
 ghost use mathlib.Core.List.{IsPrefix};
-ghost use Rattle.std.specs.String.{string_bytes};
 ghost use Rattle.cf_protocol.specs.Settings.{settings_of};
 ghost use Rattle.cf_order.specs.Passes.{first_pass};
-ghost use Rattle.cf_broker.specs.LogAnswer.{Follows, IsPosition, IsPublished, IsReadAnswer, IsHistoryAnswer, IsTrimmed, IsForgotten, IsTicked};
-ghost use Rattle.cf_broker.specs.Shard.{no_streams};
+ghost use Rattle.cf_protocol.specs.LogEntry.Entry.{Trim, Forget};
+ghost use Rattle.cf_broker.specs.LogAnswer.{Follows, IsPosition, IsPublished, IsReadAnswer, IsHistoryAnswer, IsTrimmed, IsForgotten, IsTicked, RefusesPublish, RefusesRead, RefusesHistory, RefusesEntry};
+ghost use Rattle.cf_broker.specs.Shard.{no_streams, datum_of};
 ghost use Rattle.cf_broker.specs.Shards.{number_of, names, first_passes};
 
 use crate::delivery::Delivery;
@@ -224,9 +224,11 @@ impl<N: Naming, E: Epochs + Drop> Broker<N, E> {
     ) -> Result<Position, Refused>
         requires pass { pass.old.word ≡ N.words (number_of channel.now) }
         requires set_up { IsSome (settings_of N.namespaces channel.now) }
-        ensures answer { IfOk result (λ p. IsPublished N.namespaces pass.old.log pass.new.log channel.now (record { body = string_bytes body; info = info }) p) }
+        ensures answer { IfOk result (λ p. IsPublished N.namespaces
+            pass.old.log pass.new.log channel.now (datum_of body info) p) }
         ensures own { IfOk result (λ _. Follows pass.old pass.new 1) }
-        ensures refusals { IfErr result (λ e. e ≢ Refused.WrongEpoch) }
+        ensures refusals { IfErr result
+            (RefusesPublish N.namespaces pass.new.log channel.now (datum_of body info)) }
         ensures seen { OnErr result (Follows pass.old pass.new 0) }
     {
         let senders = self.senders.as_slice();
@@ -245,9 +247,11 @@ impl<N: Naming, E: Epochs + Drop> Broker<N, E> {
     ) -> Result<ReadAnswer, Refused>
         requires pass { pass.old.word ≡ N.words (number_of channel.now) }
         requires set_up { IsSome (settings_of N.namespaces channel.now) }
-        ensures answer { IfOk result (λ r. IsReadAnswer N.namespaces pass.old.log pass.new.log channel.now since r.recovery.position r.recovery.recovered r.recovery.publications.items) }
+        ensures answer { IfOk result (λ r. IsReadAnswer N.namespaces
+            pass.old.log pass.new.log channel.now since
+            r.recovery.position r.recovery.recovered r.recovery.publications.items) }
         ensures mark { IfOk result (λ r. r.mark ≡ length pass.new.log) }
-        ensures refusals { IfErr result (λ e. e ≢ Refused.AtLastOffset × e ≢ Refused.WrongEpoch) }
+        ensures refusals { IfErr result (RefusesRead N.namespaces pass.new.log channel.now) }
         ensures seen { Follows pass.old pass.new 0 }
     {
         at_place!(self, shard_of(channel), place => place.read(rt, pass, channel, since, now))
@@ -267,8 +271,10 @@ impl<N: Naming, E: Epochs + Drop> Broker<N, E> {
     ) -> Result<History, Refused>
         requires pass { pass.old.word ≡ N.words (number_of channel.now) }
         requires set_up { IsSome (settings_of N.namespaces channel.now) }
-        ensures answer { IfOk result (λ h. IsHistoryAnswer N.namespaces pass.old.log pass.new.log channel.now since limit h.position h.publications.items) }
-        ensures refusals { IfErr result (λ e. e ≢ Refused.AtLastOffset) }
+        ensures answer { IfOk result (λ h. IsHistoryAnswer N.namespaces
+            pass.old.log pass.new.log channel.now since limit h.position h.publications.items) }
+        ensures refusals { IfErr result
+            (RefusesHistory N.namespaces pass.new.log channel.now since) }
         ensures seen { Follows pass.old pass.new 0 }
     {
         at_place!(self, shard_of(channel), place => place.history(rt, pass, channel, since, limit, now))
@@ -298,8 +304,10 @@ impl<N: Naming, E: Epochs + Drop> Broker<N, E> {
         count: usize,
     ) -> Result<(), Refused>
         requires pass { pass.old.word ≡ N.words (number_of channel.now) }
-        ensures done { OnOk result (IsTrimmed N.namespaces pass.old.log pass.new.log channel.now count) }
-        ensures refusals { IfErr result (λ e. e ≡ Refused.AtLastCount) }
+        ensures done { OnOk result
+            (IsTrimmed N.namespaces pass.old.log pass.new.log channel.now count) }
+        ensures refusals { IfErr result
+            (RefusesEntry N.namespaces pass.new.log channel.now (Trim channel.now count)) }
         ensures seen { Follows pass.old pass.new 0 }
     {
         at_place!(self, shard_of(channel), place => place.trim(rt, pass, channel, count))
@@ -308,8 +316,10 @@ impl<N: Naming, E: Epochs + Drop> Broker<N, E> {
     /// Ends a channel's stream. It takes no memory. `AtLastCount` where the log has no room.
     pub fn forget<R: Wait>(&self, rt: &R, pass: &mut Pass, channel: &str) -> Result<(), Refused>
         requires pass { pass.old.word ≡ N.words (number_of channel.now) }
-        ensures done { OnOk result (IsForgotten N.namespaces pass.old.log pass.new.log channel.now) }
-        ensures refusals { IfErr result (λ e. e ≡ Refused.AtLastCount) }
+        ensures done { OnOk result
+            (IsForgotten N.namespaces pass.old.log pass.new.log channel.now) }
+        ensures refusals { IfErr result
+            (RefusesEntry N.namespaces pass.new.log channel.now (Forget channel.now)) }
         ensures seen { Follows pass.old pass.new 0 }
     {
         at_place!(self, shard_of(channel), place => place.forget(rt, pass, channel))
@@ -339,7 +349,8 @@ impl<N: Naming, E: Epochs + Drop> Broker<N, E> {
     #[tactic(auto, using(crate::proofs::Calls::still_that))]
     pub fn quiet_since(&self, pass: &mut Pass, channel: &str, mark: u64) -> bool
         requires { pass.old.word ≡ N.words (number_of channel.now) }
-        ensures looked { pass.new ≡ record pass.old { found = pass.new.found; looks = pass.old.looks + 1 } }
+        ensures looked { pass.new ≡
+            record pass.old { found = pass.new.found; looks = pass.old.looks + 1 } }
         ensures answer { IsTrue result ↔ length pass.new.found ≤ mark }
         ensures seen { IsPrefix pass.old.log pass.new.found }
         ensures rises { IsPrefix pass.old.found pass.new.found }

@@ -100,7 +100,8 @@ pub(crate) fn copies_of(
 /// Offers each node one of the copies of a publication, at its place.
 pub(crate) fn offer_all<L: Links>(links: &mut L, mut copies: Vec<Delivery>, position: &Position)
     requires { vec_len copies ≡ L.nodes links.old }
-    ensures { (c : List ℕ) (d : Datum) → AreCopies c d copies.items → OfferedToAll L.offers (L.nodes links.old) (carried c position.now d) links.old links.new }
+    ensures { (c : List ℕ) (d : Datum) → AreCopies c d copies.items →
+        OfferedToAll L.offers (L.nodes links.old) (carried c position.now d) links.old links.new }
 {
     for node in 0..links.count() {
         let Some(copy) = copies.pop() else {

@@ -7,7 +7,7 @@ ghost use Rattle.cf_order.specs.Passes.{entry_of, publishes};
 ghost use Rattle.cf_stream.specs.LogState.{opening, if_stands, due_entries};
 ghost use Rattle.cf_stream.specs.Stream.{newest_of};
 ghost use Rattle.cf_stream.specs.Streams.{stream_of};
-ghost use Rattle.cf_broker.specs.ShardLog.{HasWhole, KeepsShare, to_open, HasRoom, HasRoomOn};
+ghost use Rattle.cf_broker.specs.ShardLog.{HasWhole, KeepsShare, to_open, HasRoom, HasRoomForTwo, HasRoomOn};
 
 use crate::refusal::Refused;
 use cf_order::{Entry, MOST_ENTRIES, Owner, Pass, ShardWord};
@@ -26,7 +26,7 @@ pub(crate) fn top_of(position: Option<Position>) -> Option<u64>
 
 /// Whether a publish to a stream with this top may be accepted: it isn't at its last offset, and the log has room.
 pub(crate) fn room_to_publish(stood: Option<u64>, count: u64) -> Result<(), Refused>
-    ensures ok { OnOk result (HasRoom stood count × (count + to_open stood + 1 ≤ 2 ^ 62) × (stood ≢ Some LAST_OFFSET)) }
+    ensures ok { OnOk result (HasRoomForTwo stood count × (stood ≢ Some LAST_OFFSET)) }
     ensures last { IsErrOf result Refused.AtLastOffset ↔ (stood ≡ Some LAST_OFFSET) }
     ensures count { IsErrOf result Refused.AtLastCount → 2 ^ 62 < count + to_open stood + 1 }
     ensures refusals { IfErr result (λ e. (e ≡ Refused.AtLastOffset) ⊎ (e ≡ Refused.AtLastCount)) }
@@ -84,7 +84,8 @@ pub(crate) fn note_on(
     requires room { HasRoomOn stood (length owner.old.log) }
     requires whole { HasWhole pass.old owner.old.log }
     requires other { publishes (entry_of entry.now) ≡ 0 }
-    ensures owner { owner.new ≡ record owner.old { log = owner.old.log ++ if_stands stood (entry_of entry.now) } }
+    ensures owner { owner.new ≡
+        record owner.old { log = owner.old.log ++ if_stands stood (entry_of entry.now) } }
     ensures whole { HasWhole pass.new owner.new.log }
     ensures share { KeepsShare pass.old pass.new 0 }
 {
@@ -106,7 +107,8 @@ pub(crate) fn note_opening(
     requires word { (owner.old.word ≡ word.now) × (pass.old.word ≡ word.now) }
     requires room { HasRoom stood (length owner.old.log) }
     requires whole { HasWhole pass.old owner.old.log }
-    ensures owner { owner.new ≡ record owner.old { log = owner.old.log ++ opening stood channel.now position.now.epoch [] } }
+    ensures owner { owner.new ≡
+        record owner.old { log = owner.old.log ++ opening stood channel.now position.now.epoch [] } }
     ensures whole { HasWhole pass.new owner.new.log }
     ensures share { KeepsShare pass.old pass.new 0 }
 {
@@ -126,7 +128,8 @@ fn note_publication(
 )
     requires word { (owner.old.word ≡ word.now) × (pass.old.word ≡ word.now) }
     requires room { length owner.old.log < 2 ^ 62 }
-    ensures owner { owner.new ≡ record owner.old { log = owner.old.log ++ Publish channel.now publication.now.datum ∷ [] } }
+    ensures owner { owner.new ≡
+        record owner.old { log = owner.old.log ++ Publish channel.now publication.now.datum ∷ [] } }
     ensures whole { HasWhole pass.new owner.new.log }
     ensures share { KeepsShare pass.old pass.new 1 }
 {
@@ -152,10 +155,14 @@ pub(crate) fn note_publish(
     position: &Position,
 )
     requires word { (owner.old.word ≡ word.now) × (pass.old.word ≡ word.now) }
-    requires room { HasRoom stood (length owner.old.log) × (length owner.old.log + to_open stood + 1 ≤ 2 ^ 62) }
+    requires room { HasRoomForTwo stood (length owner.old.log) }
     requires whole { HasWhole pass.old owner.old.log }
     requires newest { IsSome (option_and_then newest_of (stream_of streams.now channel.now)) }
-    ensures owner { (d : Placed) → option_and_then newest_of (stream_of streams.now channel.now) ≡ Some d → owner.new ≡ record owner.old { log = owner.old.log ++ opening stood channel.now position.now.epoch (Publish channel.now d.datum ∷ []) } }
+    ensures owner { (d : Placed) → option_and_then newest_of (stream_of streams.now channel.now) ≡ Some d →
+        owner.new ≡ record owner.old {
+          log = owner.old.log ++
+              opening stood channel.now position.now.epoch (Publish channel.now d.datum ∷ []);
+        } }
     ensures whole { HasWhole pass.new owner.new.log }
     ensures share { KeepsShare pass.old pass.new 1 }
 {

@@ -1,9 +1,9 @@
 //! One shard under its lock, beside its word.
 ghost use Rattle.std.specs.Prelude.{◌≡◌, ◌≢◌, [], length, IfOk, IfErr, OnOk, OnErr, IsSome};
-ghost use Rattle.std.specs.String.{string_bytes};
 ghost use Rattle.cf_protocol.specs.Settings.{settings_of};
-ghost use Rattle.cf_broker.specs.LogAnswer.{Follows, IsPosition, IsPublished, IsReadAnswer, IsHistoryAnswer, IsTrimmed, IsForgotten, IsTicked};
-ghost use Rattle.cf_broker.specs.Shard.{no_streams};
+ghost use Rattle.cf_protocol.specs.LogEntry.Entry.{Trim, Forget};
+ghost use Rattle.cf_broker.specs.LogAnswer.{Follows, IsPosition, IsPublished, IsReadAnswer, IsHistoryAnswer, IsTrimmed, IsForgotten, IsTicked, RefusesPublish, RefusesRead, RefusesHistory, RefusesEntry};
+ghost use Rattle.cf_broker.specs.Shard.{no_streams, datum_of};
 
 use crate::delivery::{Delivery, NodeLinks};
 use crate::naming::Naming;
@@ -61,9 +61,11 @@ impl<N: Naming, E: Epochs, const I: usize> Place<N, E, I> {
     ) -> Result<Position, Refused>
         requires pass { pass.old.word ≡ N.words I }
         requires set_up { IsSome (settings_of N.namespaces channel.now) }
-        ensures answer { IfOk result (λ p. IsPublished N.namespaces pass.old.log pass.new.log channel.now (record { body = string_bytes body; info = info }) p) }
+        ensures answer { IfOk result (λ p. IsPublished N.namespaces
+            pass.old.log pass.new.log channel.now (datum_of body info) p) }
         ensures own { IfOk result (λ _. Follows pass.old pass.new 1) }
-        ensures refusals { IfErr result (λ e. e ≢ Refused.WrongEpoch) }
+        ensures refusals { IfErr result
+            (RefusesPublish N.namespaces pass.new.log channel.now (datum_of body info)) }
         ensures seen { OnErr result (Follows pass.old pass.new 0) }
     {
         let mut shard = self.lock.lock(rt);
@@ -81,9 +83,11 @@ impl<N: Naming, E: Epochs, const I: usize> Place<N, E, I> {
     ) -> Result<ReadAnswer, Refused>
         requires pass { pass.old.word ≡ N.words I }
         requires set_up { IsSome (settings_of N.namespaces channel.now) }
-        ensures answer { IfOk result (λ r. IsReadAnswer N.namespaces pass.old.log pass.new.log channel.now since r.recovery.position r.recovery.recovered r.recovery.publications.items) }
+        ensures answer { IfOk result (λ r. IsReadAnswer N.namespaces
+            pass.old.log pass.new.log channel.now since
+            r.recovery.position r.recovery.recovered r.recovery.publications.items) }
         ensures mark { IfOk result (λ r. r.mark ≡ length pass.new.log) }
-        ensures refusals { IfErr result (λ e. e ≢ Refused.AtLastOffset × e ≢ Refused.WrongEpoch) }
+        ensures refusals { IfErr result (RefusesRead N.namespaces pass.new.log channel.now) }
         ensures seen { Follows pass.old pass.new 0 }
     {
         self.lock
@@ -102,8 +106,10 @@ impl<N: Naming, E: Epochs, const I: usize> Place<N, E, I> {
     ) -> Result<History, Refused>
         requires pass { pass.old.word ≡ N.words I }
         requires set_up { IsSome (settings_of N.namespaces channel.now) }
-        ensures answer { IfOk result (λ h. IsHistoryAnswer N.namespaces pass.old.log pass.new.log channel.now since limit h.position h.publications.items) }
-        ensures refusals { IfErr result (λ e. e ≢ Refused.AtLastOffset) }
+        ensures answer { IfOk result (λ h. IsHistoryAnswer N.namespaces
+            pass.old.log pass.new.log channel.now since limit h.position h.publications.items) }
+        ensures refusals { IfErr result
+            (RefusesHistory N.namespaces pass.new.log channel.now since) }
         ensures seen { Follows pass.old pass.new 0 }
     {
         self.lock
@@ -133,8 +139,10 @@ impl<N: Naming, E: Epochs, const I: usize> Place<N, E, I> {
         count: usize,
     ) -> Result<(), Refused>
         requires pass { pass.old.word ≡ N.words I }
-        ensures done { OnOk result (IsTrimmed N.namespaces pass.old.log pass.new.log channel.now count) }
-        ensures refusals { IfErr result (λ e. e ≡ Refused.AtLastCount) }
+        ensures done { OnOk result
+            (IsTrimmed N.namespaces pass.old.log pass.new.log channel.now count) }
+        ensures refusals { IfErr result
+            (RefusesEntry N.namespaces pass.new.log channel.now (Trim channel.now count)) }
         ensures seen { Follows pass.old pass.new 0 }
     {
         self.lock.lock(rt).trim(&self.word, pass, channel, count)
@@ -147,8 +155,10 @@ impl<N: Naming, E: Epochs, const I: usize> Place<N, E, I> {
         channel: &str,
     ) -> Result<(), Refused>
         requires pass { pass.old.word ≡ N.words I }
-        ensures done { OnOk result (IsForgotten N.namespaces pass.old.log pass.new.log channel.now) }
-        ensures refusals { IfErr result (λ e. e ≡ Refused.AtLastCount) }
+        ensures done { OnOk result
+            (IsForgotten N.namespaces pass.old.log pass.new.log channel.now) }
+        ensures refusals { IfErr result
+            (RefusesEntry N.namespaces pass.new.log channel.now (Forget channel.now)) }
         ensures seen { Follows pass.old pass.new 0 }
     {
         self.lock.lock(rt).forget(&self.word, pass, channel)

@@ -7,13 +7,12 @@ ghost use Rattle.cf_protocol.specs.Settings.{settings_of};
 ghost use Rattle.cf_protocol.specs.Shown.{shown_users};
 ghost use Rattle.cf_presence.specs.Presence.{clients_of, entered, left, still, users_of, user_count};
 ghost use Rattle.cf_stream.specs.ChannelLists.{ReadsAt, ListsAt, StandsAt};
-ghost use Rattle.cf_stream.specs.FreshEpochs.{Draws, DrawsNone};
 ghost use Rattle.cf_stream.specs.Stream.{trimmed};
 ghost use Rattle.cf_stream.specs.Streams.{stream_of, put_at, after_tick, seconds_at, IsOfAnother};
 ghost use Rattle.std.specs.Option.{option_map};
 ghost use Rattle.cf_broker.specs.Delivery.{OfferedToAll, carried};
 ghost use Rattle.cf_broker.specs.LogAnswer.{Follows, IsPosition, IsPublished, IsReadAnswer, IsHistoryAnswer, IsTrimmed, IsForgotten, IsTicked};
-ghost use Rattle.cf_broker.specs.Shard.{no_streams, after_publish, after_use, IsFull};
+ghost use Rattle.cf_broker.specs.Shard.{no_streams, after_publish, after_use, datum_of, DrawsFor, FindsNoEpoch, IsFull, IsStateOf, LacksRoom, StreamsStay};
 ghost use Rattle.cf_broker.specs.ShardLog.{entries_of_publish, entries_of_use, entries_of_trim, entries_of_forget, entries_of_tick};
 
 use crate::delivery::{Links, copies_of, offer_all};
@@ -69,7 +68,8 @@ impl<N: Naming, E: Epochs, const I: usize> Shard<N, E, I> {
     pub fn new(alloc: Global, streams: Streams, epochs: Box<E>, owner: Owner) -> Shard<N, E, I>
         requires streams { streams ≡ no_streams N.namespaces }
         requires owner { (owner.word ≡ N.words I) × (owner.log ≡ []) }
-        ensures { result ≡ record { streams = streams; presence = fin.empty; epochs = epochs.value; log = [] } }
+        ensures { result ≡
+            record { streams = streams; presence = fin.empty; epochs = epochs.value; log = [] } }
     {
         Shard {
             streams,
@@ -97,21 +97,31 @@ impl<N: Naming, E: Epochs, const I: usize> Shard<N, E, I> {
     ) -> Result<Position, Refused>
         requires word { (word.now ≡ N.words I) × (pass.old.word ≡ N.words I) }
         requires set_up { IsSome (settings_of N.namespaces channel.now) }
-        ensures streams { IfOk result (λ p. self.new.streams ≡ after_publish self.old.streams channel.now p.epoch (record { body = string_bytes body; info = info }) now) }
-        ensures log { IfOk result (λ p. self.new.log ≡ self.old.log ++ entries_of_publish self.old.streams channel.now p.epoch (record { body = string_bytes body; info = info })) }
+        ensures streams { IfOk result (λ p. self.new.streams ≡
+            after_publish self.old.streams channel.now p.epoch (datum_of body info) now) }
+        ensures log { IfOk result (λ p. self.new.log ≡ self.old.log ++
+            entries_of_publish self.old.streams channel.now p.epoch (datum_of body info)) }
         ensures answer { IfOk result (λ p. StandsAt self.new.streams channel.now (Some p)) }
-        ensures by_log { IfOk result (λ p. IsPublished N.namespaces pass.old.log pass.new.log channel.now (record { body = string_bytes body; info = info }) p) }
+        ensures by_log { IfOk result (λ p. IsPublished N.namespaces
+            pass.old.log pass.new.log channel.now (datum_of body info) p) }
         ensures own { IfOk result (λ _. Follows pass.old pass.new 1) }
-        ensures drawn { IfOk result (λ p. Draws E.draws (stream_of self.old.streams channel.now) p.epoch self.old.epochs self.new.epochs) }
-        ensures offered { IfOk result (λ p. OfferedToAll L.offers (L.nodes links.old) (carried channel.now p (record { body = string_bytes body; info = info })) links.old links.new) }
+        ensures drawn { IfOk result (λ p. DrawsFor E.draws channel.now p.epoch self.old self.new) }
+        ensures offered { IfOk result (λ p. OfferedToAll L.offers (L.nodes links.old)
+            (carried channel.now p (datum_of body info)) links.old links.new) }
         ensures presence { self.new.presence ≡ self.old.presence }
-        ensures last { IsErrOf result Refused.AtLastOffset ↔ IsSomeAnd (stream_of self.old.streams channel.now) (λ s. s.top ≡ LAST_OFFSET) }
-        ensures no_epoch { IsErrOf result Refused.NoEpoch → (stream_of self.old.streams channel.now ≡ None) × DrawsNone E.draws self.old.epochs self.new.epochs }
-        ensures count { IsErrOf result Refused.AtLastCount → IsFull self.old.log (entries_of_publish self.old.streams channel.now [] (record { body = string_bytes body; info = info })) }
-        ensures refusals { IfErr result (λ e. e ≢ Refused.WrongEpoch × (e ≢ Refused.NoEpoch → self.new.epochs ≡ self.old.epochs)) }
-        ensures err { OnErr result ((self.new.streams ≡ self.old.streams) × (links.new ≡ links.old) × (self.new.log ≡ self.old.log)) }
+        ensures last { IsErrOf result Refused.AtLastOffset ↔
+            IsSomeAnd (stream_of self.old.streams channel.now) (λ s. s.top ≡ LAST_OFFSET) }
+        ensures no_epoch { IsErrOf result Refused.NoEpoch →
+            FindsNoEpoch E.draws channel.now self.old self.new }
+        ensures count { IsErrOf result Refused.AtLastCount → IsFull self.old.log
+            (entries_of_publish self.old.streams channel.now [] (datum_of body info)) }
+        ensures refusals { IfErr result (λ e. e ≢ Refused.WrongEpoch) }
+        ensures undrawn { IfErr result (λ e. e ≢ Refused.NoEpoch →
+            self.new.epochs ≡ self.old.epochs) }
+        ensures err { OnErr result (StreamsStay self.old self.new × (links.new ≡ links.old)) }
         ensures seen { OnErr result (Follows pass.old pass.new 0) }
         ensures whole { pass.new.log ≡ self.new.log }
+        ensures state { IsStateOf N.namespaces self.old }
     {
         word.follow(&mut self.owner, pass);
         let stood = top_of(self.streams.position(channel));
@@ -156,19 +166,30 @@ impl<N: Naming, E: Epochs, const I: usize> Shard<N, E, I> {
     ) -> Result<ReadAnswer, Refused>
         requires word { (word.now ≡ N.words I) × (pass.old.word ≡ N.words I) }
         requires set_up { IsSome (settings_of N.namespaces channel.now) }
-        ensures streams { IfOk result (λ r. self.new.streams ≡ after_use self.old.streams channel.now r.recovery.position.epoch now) }
-        ensures log { IfOk result (λ r. self.new.log ≡ self.old.log ++ entries_of_use self.old.streams channel.now r.recovery.position.epoch) }
+        ensures streams { IfOk result (λ r. self.new.streams ≡
+            after_use self.old.streams channel.now r.recovery.position.epoch now) }
+        ensures log { IfOk result (λ r. self.new.log ≡ self.old.log ++
+            entries_of_use self.old.streams channel.now r.recovery.position.epoch) }
         ensures mark { IfOk result (λ r. r.mark ≡ length self.new.log) }
-        ensures answer { IfOk result (λ r. ReadsAt self.old.streams channel.now since r.recovery.position r.recovery.recovered r.recovery.publications.items) }
-        ensures by_log { IfOk result (λ r. IsReadAnswer N.namespaces pass.old.log pass.new.log channel.now since r.recovery.position r.recovery.recovered r.recovery.publications.items) }
-        ensures drawn { IfOk result (λ r. Draws E.draws (stream_of self.old.streams channel.now) r.recovery.position.epoch self.old.epochs self.new.epochs) }
+        ensures answer { IfOk result (λ r. ReadsAt self.old.streams channel.now since
+            r.recovery.position r.recovery.recovered r.recovery.publications.items) }
+        ensures by_log { IfOk result (λ r. IsReadAnswer N.namespaces
+            pass.old.log pass.new.log channel.now since
+            r.recovery.position r.recovery.recovered r.recovery.publications.items) }
+        ensures drawn { IfOk result (λ r.
+            DrawsFor E.draws channel.now r.recovery.position.epoch self.old self.new) }
         ensures presence { self.new.presence ≡ self.old.presence }
-        ensures no_epoch { IsErrOf result Refused.NoEpoch → (stream_of self.old.streams channel.now ≡ None) × DrawsNone E.draws self.old.epochs self.new.epochs }
-        ensures count { IsErrOf result Refused.AtLastCount → IsFull self.old.log (entries_of_use self.old.streams channel.now []) }
-        ensures refusals { IfErr result (λ e. e ≢ Refused.AtLastOffset × e ≢ Refused.WrongEpoch × (e ≢ Refused.NoEpoch → self.new.epochs ≡ self.old.epochs)) }
-        ensures err { OnErr result ((self.new.streams ≡ self.old.streams) × (self.new.log ≡ self.old.log)) }
+        ensures no_epoch { IsErrOf result Refused.NoEpoch →
+            FindsNoEpoch E.draws channel.now self.old self.new }
+        ensures count { IsErrOf result Refused.AtLastCount →
+            IsFull self.old.log (entries_of_use self.old.streams channel.now []) }
+        ensures refusals { IfErr result (λ e. e ≢ Refused.AtLastOffset × e ≢ Refused.WrongEpoch) }
+        ensures undrawn { IfErr result (λ e. e ≢ Refused.NoEpoch →
+            self.new.epochs ≡ self.old.epochs) }
+        ensures err { OnErr result (StreamsStay self.old self.new) }
         ensures seen { Follows pass.old pass.new 0 }
         ensures whole { pass.new.log ≡ self.new.log }
+        ensures state { IsStateOf N.namespaces self.old }
     {
         word.follow(&mut self.owner, pass);
         let stood = top_of(self.streams.position(channel));
@@ -202,19 +223,30 @@ impl<N: Naming, E: Epochs, const I: usize> Shard<N, E, I> {
     ) -> Result<History, Refused>
         requires word { (word.now ≡ N.words I) × (pass.old.word ≡ N.words I) }
         requires set_up { IsSome (settings_of N.namespaces channel.now) }
-        ensures streams { IfOk result (λ h. self.new.streams ≡ after_use self.old.streams channel.now h.position.epoch now) }
-        ensures log { IfOk result (λ h. self.new.log ≡ self.old.log ++ entries_of_use self.old.streams channel.now h.position.epoch) }
-        ensures answer { IfOk result (λ h. ListsAt self.old.streams channel.now since limit h.position h.publications.items) }
-        ensures by_log { IfOk result (λ h. IsHistoryAnswer N.namespaces pass.old.log pass.new.log channel.now since limit h.position h.publications.items) }
-        ensures drawn { IfOk result (λ h. Draws E.draws (stream_of self.old.streams channel.now) h.position.epoch self.old.epochs self.new.epochs) }
+        ensures streams { IfOk result (λ h. self.new.streams ≡
+            after_use self.old.streams channel.now h.position.epoch now) }
+        ensures log { IfOk result (λ h. self.new.log ≡ self.old.log ++
+            entries_of_use self.old.streams channel.now h.position.epoch) }
+        ensures answer { IfOk result (λ h.
+            ListsAt self.old.streams channel.now since limit h.position h.publications.items) }
+        ensures by_log { IfOk result (λ h. IsHistoryAnswer N.namespaces
+            pass.old.log pass.new.log channel.now since limit h.position h.publications.items) }
+        ensures drawn { IfOk result (λ h.
+            DrawsFor E.draws channel.now h.position.epoch self.old self.new) }
         ensures presence { self.new.presence ≡ self.old.presence }
-        ensures wrong_epoch { IsErrOf result Refused.WrongEpoch ↔ IsOfAnother (stream_of self.old.streams channel.now) since }
-        ensures no_epoch { IsErrOf result Refused.NoEpoch → (stream_of self.old.streams channel.now ≡ None) × DrawsNone E.draws self.old.epochs self.new.epochs }
-        ensures count { IsErrOf result Refused.AtLastCount → IsFull self.old.log (entries_of_use self.old.streams channel.now []) }
-        ensures refusals { IfErr result (λ e. e ≢ Refused.AtLastOffset × (e ≢ Refused.NoEpoch → self.new.epochs ≡ self.old.epochs)) }
-        ensures err { OnErr result ((self.new.streams ≡ self.old.streams) × (self.new.log ≡ self.old.log)) }
+        ensures wrong_epoch { IsErrOf result Refused.WrongEpoch ↔
+            IsOfAnother (stream_of self.old.streams channel.now) since }
+        ensures no_epoch { IsErrOf result Refused.NoEpoch →
+            FindsNoEpoch E.draws channel.now self.old self.new }
+        ensures count { IsErrOf result Refused.AtLastCount →
+            IsFull self.old.log (entries_of_use self.old.streams channel.now []) }
+        ensures refusals { IfErr result (λ e. e ≢ Refused.AtLastOffset) }
+        ensures undrawn { IfErr result (λ e. e ≢ Refused.NoEpoch →
+            self.new.epochs ≡ self.old.epochs) }
+        ensures err { OnErr result (StreamsStay self.old self.new) }
         ensures seen { Follows pass.old pass.new 0 }
         ensures whole { pass.new.log ≡ self.new.log }
+        ensures state { IsStateOf N.namespaces self.old }
     {
         word.follow(&mut self.owner, pass);
         let stood = top_of(self.streams.position(channel));
@@ -263,13 +295,19 @@ impl<N: Naming, E: Epochs, const I: usize> Shard<N, E, I> {
         count: usize,
     ) -> Result<(), Refused>
         requires word { (word.now ≡ N.words I) × (pass.old.word ≡ N.words I) }
-        ensures streams { OnOk result (self.new.streams ≡ put_at self.old.streams channel.now (option_map (trimmed count) (stream_of self.old.streams channel.now))) }
-        ensures log { OnOk result (self.new.log ≡ self.old.log ++ entries_of_trim self.old.streams channel.now count) }
-        ensures by_log { OnOk result (IsTrimmed N.namespaces pass.old.log pass.new.log channel.now count) }
-        ensures others { (self.new.presence ≡ self.old.presence) × (self.new.epochs ≡ self.old.epochs) }
-        ensures err { IfErr result (λ e. (e ≡ Refused.AtLastCount) × (self.new ≡ self.old) × IsFull self.old.log (entries_of_trim self.old.streams channel.now count)) }
+        ensures streams { OnOk result (self.new.streams ≡ put_at self.old.streams channel.now
+            (option_map (trimmed count) (stream_of self.old.streams channel.now))) }
+        ensures log { OnOk result (self.new.log ≡ self.old.log ++
+            entries_of_trim self.old.streams channel.now count) }
+        ensures by_log { OnOk result (IsTrimmed N.namespaces
+            pass.old.log pass.new.log channel.now count) }
+        ensures presence { self.new.presence ≡ self.old.presence }
+        ensures epochs { self.new.epochs ≡ self.old.epochs }
+        ensures err { IfErr result (λ e. LacksRoom
+            (entries_of_trim self.old.streams channel.now count) e self.old self.new) }
         ensures seen { Follows pass.old pass.new 0 }
         ensures whole { pass.new.log ≡ self.new.log }
+        ensures state { IsStateOf N.namespaces self.old }
     {
         word.follow(&mut self.owner, pass);
         let stood = top_of(self.streams.position(channel));
@@ -290,13 +328,19 @@ impl<N: Naming, E: Epochs, const I: usize> Shard<N, E, I> {
         channel: &str,
     ) -> Result<(), Refused>
         requires word { (word.now ≡ N.words I) × (pass.old.word ≡ N.words I) }
-        ensures streams { OnOk result (self.new.streams ≡ put_at self.old.streams channel.now None) }
-        ensures log { OnOk result (self.new.log ≡ self.old.log ++ entries_of_forget self.old.streams channel.now) }
-        ensures by_log { OnOk result (IsForgotten N.namespaces pass.old.log pass.new.log channel.now) }
-        ensures others { (self.new.presence ≡ self.old.presence) × (self.new.epochs ≡ self.old.epochs) }
-        ensures err { IfErr result (λ e. (e ≡ Refused.AtLastCount) × (self.new ≡ self.old) × IsFull self.old.log (entries_of_forget self.old.streams channel.now)) }
+        ensures streams { OnOk result (self.new.streams ≡
+            put_at self.old.streams channel.now None) }
+        ensures log { OnOk result (self.new.log ≡ self.old.log ++
+            entries_of_forget self.old.streams channel.now) }
+        ensures by_log { OnOk result (IsForgotten N.namespaces
+            pass.old.log pass.new.log channel.now) }
+        ensures presence { self.new.presence ≡ self.old.presence }
+        ensures epochs { self.new.epochs ≡ self.old.epochs }
+        ensures err { IfErr result (λ e. LacksRoom
+            (entries_of_forget self.old.streams channel.now) e self.old self.new) }
         ensures seen { Follows pass.old pass.new 0 }
         ensures whole { pass.new.log ≡ self.new.log }
+        ensures state { IsStateOf N.namespaces self.old }
     {
         word.follow(&mut self.owner, pass);
         let stood = top_of(self.streams.position(channel));
@@ -313,13 +357,18 @@ impl<N: Naming, E: Epochs, const I: usize> Shard<N, E, I> {
     /// go of the clients that entered 60 seconds ago or more. It takes no memory. `AtLastCount` where the log has no room.
     pub fn tick(&mut self, word: &ShardWord, pass: &mut Pass, now: u64) -> Result<(), Refused>
         requires word { (word.now ≡ N.words I) × (pass.old.word ≡ N.words I) }
-        ensures streams { OnOk result ((q : List ℕ) → stream_of self.new.streams q ≡ after_tick now (seconds_at N.namespaces q) (stream_of self.old.streams q)) }
-        ensures log { OnOk result (self.new.log ≡ self.old.log ++ entries_of_tick self.old.streams now) }
+        ensures streams { OnOk result ((q : List ℕ) → stream_of self.new.streams q ≡
+            after_tick now (seconds_at N.namespaces q) (stream_of self.old.streams q)) }
+        ensures log { OnOk result (self.new.log ≡
+            self.old.log ++ entries_of_tick self.old.streams now) }
         ensures by_log { OnOk result (IsTicked pass.old.log pass.new.log) }
-        ensures presence { OnOk result ((q : List ℕ) → clients_of self.new.presence q ≡ still now (clients_of self.old.presence q)) }
-        ensures nowhere_none { OnOk result ((q : List ℕ) → fin.get self.new.presence q ≢ Some fin.empty) }
+        ensures presence { OnOk result ((q : List ℕ) →
+            clients_of self.new.presence q ≡ still now (clients_of self.old.presence q)) }
+        ensures nowhere_none { OnOk result ((q : List ℕ) →
+            fin.get self.new.presence q ≢ Some fin.empty) }
         ensures epochs { self.new.epochs ≡ self.old.epochs }
-        ensures err { IfErr result (λ e. (e ≡ Refused.AtLastCount) × (self.new ≡ self.old) × IsFull self.old.log (entries_of_tick self.old.streams now)) }
+        ensures err { IfErr result (λ e.
+            LacksRoom (entries_of_tick self.old.streams now) e self.old self.new) }
         ensures seen { Follows pass.old pass.new 0 }
         ensures whole { pass.new.log ≡ self.new.log }
     {
@@ -343,7 +392,9 @@ impl<N: Naming, E: Epochs, const I: usize> Shard<N, E, I> {
         user: &str,
         now: u64,
     ) -> Result<(), Refused>
-        ensures ok { OnOk result (self.new ≡ record self.old { presence = entered self.old.presence channel.now client.now user.now now }) }
+        ensures ok { OnOk result (self.new ≡ record self.old {
+          presence = entered self.old.presence channel.now client.now user.now now;
+        }) }
         ensures err { IfErr result (λ e. (e ≡ Refused.Memory) × (self.new ≡ self.old)) }
     {
         Ok(self.presence.enter(channel, client, user, now)?)
@@ -351,14 +402,16 @@ impl<N: Naming, E: Epochs, const I: usize> Shard<N, E, I> {
 
     /// A client leaves a channel. Where it isn't there nothing changes. It takes no memory.
     pub fn leave(&mut self, channel: &str, client: &str)
-        ensures { self.new ≡ record self.old { presence = left self.old.presence channel.now client.now } }
+        ensures { self.new ≡
+            record self.old { presence = left self.old.presence channel.now client.now } }
     {
         self.presence.leave(channel, client);
     }
 
     /// The user of each client that is there in a channel, by the client's id. `Memory` where a growth was refused.
     pub fn list(&self, channel: &str) -> Result<BTreeMap<String, String>, Refused>
-        ensures ok { IfOk result (λ users. shown_users users ≡ users_of (clients_of self.now.presence channel.now)) }
+        ensures ok { IfOk result (λ users.
+            shown_users users ≡ users_of (clients_of self.now.presence channel.now)) }
         ensures err { IfErr result (λ e. e ≡ Refused.Memory) }
     {
         Ok(self.presence.list(channel)?)

@@ -1,0 +1,100 @@
+-- Why a call is refused, read off the shard's log.
+use Rattle.std.proofs.Common.{◌≡◌, ℕ, ◌+◌, List, [], ◌∷◌, length, Option, Some, None, refl, sym, ap, ◌∙◌, subst}
+use Rattle.std.specs.Prelude.{◌≢◌, ◌↔◌, Result, Ok, Err, IfErr, IsErrOf, IsSomeAnd, OnErr}
+use Rattle.cf_protocol.specs.declared.position.Position.{Position}
+use Rattle.cf_protocol.specs.Datum.{Datum}
+use Rattle.cf_protocol.specs.LogEntry.{Entry}
+use Rattle.cf_protocol.specs.LogEntry.Entry.{Publish, Trim, Forget}
+use Rattle.cf_protocol.specs.Settings.{NamespaceTable}
+use Rattle.cf_stream.specs.ChannelLists.{ShowsAt}
+use Rattle.cf_stream.specs.LogState.{IsState, life_in, opening, if_stands}
+use Rattle.cf_stream.specs.PublicationList.{Life}
+use Rattle.cf_stream.specs.Stream.{Shown}
+use Rattle.cf_stream.specs.StreamState.{last_offset}
+use Rattle.cf_stream.specs.Streams.{IsOfAnother, Kept, size_at, stream_of}
+use Rattle.cf_broker.specs.LogAnswer.{HasNoRoom, HasNone, IsAtLast, IsOutside, RefusesEntry, RefusesHistory, RefusesPublish, RefusesRead, life_after}
+use Rattle.cf_broker.specs.Shard.{IsFull}
+use Rattle.cf_broker.specs.declared.refusal.Refused.{Refused}
+use Rattle.cf_broker.specs.declared.refusal.Refused.TheVariants.{AtLastOffset, WrongEpoch, NoEpoch, AtLastCount}
+use Rattle.cf_broker.proofs.Calls.{opening_alike, if_stands_alike}
+
+none_shown : (size : ℕ) (s : Option Shown) (l : Option Life) → ShowsAt size s l → s ≡ None → l ≡ None
+none_shown size None None h e = refl
+none_shown size (Some s) l h e = absurd (cc)
+none_shown size None (Some l) h e = absurd h
+
+top_shown : (size n : ℕ) (s : Option Shown) (l : Option Life) → ShowsAt size s l → IsSomeAnd s (λ s. s.top ≡ n) ↔ IsSomeAnd l (λ l. length l.list ≡ n)
+top_shown size n None None h = (λ e. e, λ e. e)
+top_shown size n (Some s) (Some l) h = (λ e. sym h.0.top ∙ e, λ e. h.0.top ∙ e)
+top_shown size n (Some s) None h = absurd h
+top_shown size n None (Some l) h = absurd h
+
+outside_shown : (size : ℕ) (s : Option Shown) (l : Option Life) (since : Option Position) → ShowsAt size s l → IsOfAnother s since ↔ IsOutside l since
+outside_shown size s l None h = (λ e. e, λ e. e)
+outside_shown size None None (Some p) h = (λ e. e, λ e. e)
+outside_shown size (Some s) (Some l) (Some p) h = (λ e f. e (f ∙ sym h.0.epoch), λ e f. e (f ∙ h.0.epoch))
+outside_shown size (Some s) None (Some p) h = absurd h
+outside_shown size None (Some l) (Some p) h = absurd h
+
+-- one error of two
+err_same : {X : Type 0} {a b : Refused} → IsErrOf {T = X} (Err a) b → a ≡ b
+err_same e = cc (e)
+
+-- streams of these namespaces, and the log that left them, which the caller's pass has then seen where the call is refused
+module _ (t : NamespaceTable) (k : Kept) (was log : List Entry) (c : List ℕ) (state : (k.namespaces ≡ t) × IsState k was) where
+  shows : ShowsAt (size_at t c) (stream_of k c) (life_after t was c)
+  shows = subst (λ (t : NamespaceTable). ShowsAt (size_at t c) (stream_of k c) (life_after t was c)) state.0 (state.1.at c)
+
+  none_by_log : log ≡ was → stream_of k c ≡ None → HasNone t log c
+  none_by_log is e = subst (λ (l : List Entry). HasNone t l c) (sym is) (none_shown _ _ _ shows e)
+
+  full_by_log : (es : List Entry) → log ≡ was → IsFull was (opening (stream_of k c) c [] es) → HasNoRoom t log c es
+  full_by_log es is e =
+      subst (λ (l : List Entry). HasNoRoom t l c es) (sym is)
+      (subst (IsFull was) (opening_alike (size_at t c) (stream_of k c) (life_after t was c) c [] es shows) e)
+
+  at_last_by_log : log ≡ was → IsSomeAnd (stream_of k c) (λ s. s.top ≡ last_offset) ↔ IsAtLast t log c
+  at_last_by_log is = subst (λ (l : List Entry). IsSomeAnd (stream_of k c) (λ s. s.top ≡ last_offset) ↔ IsAtLast t l c) (sym is) (top_shown _ last_offset _ _ shows)
+
+  outside_by_log : (since : Option Position) → log ≡ was → IsOfAnother (stream_of k c) since ↔ IsOutside (life_after t log c) since
+  outside_by_log since is = subst (λ (l : List Entry). IsOfAnother (stream_of k c) since ↔ IsOutside (life_after t l c) since) (sym is) (outside_shown _ _ _ since shows)
+
+  -- the refusals of a call, as the lent shard has them
+  pub publish_by_log : {X P : Type 0} (r : Result X Refused) (d : Datum) → (IsErrOf r AtLastOffset ↔ IsSomeAnd (stream_of k c) (λ s. s.top ≡ last_offset)) → (IsErrOf r NoEpoch → stream_of k c ≡ None)
+      → (IsErrOf r AtLastCount → IsFull was (opening (stream_of k c) c [] (Publish c d ∷ []))) → IfErr r (λ e. e ≢ WrongEpoch) → OnErr r P → (P → log ≡ was) → IfErr r (RefusesPublish t log c d)
+  publish_by_log (Ok x) d last epoch count other stays is = tt
+  publish_by_log (Err e) d last epoch count other stays is =
+      let at = at_last_by_log (is stays) in record {
+        last = (λ same. at.0 (last.0 (ap Err same)), λ l. err_same (last.1 (at.1 l)));
+        epoch = λ same. none_by_log (is stays) (epoch (ap Err same));
+        count = λ same. full_by_log (Publish c d ∷ []) (is stays) (count (ap Err same));
+        other = other;
+      }
+
+  pub read_by_log : {X P : Type 0} (r : Result X Refused) → (IsErrOf r NoEpoch → stream_of k c ≡ None) → (IsErrOf r AtLastCount → IsFull was (opening (stream_of k c) c [] []))
+      → IfErr r (λ e. (e ≢ AtLastOffset) × (e ≢ WrongEpoch)) → OnErr r P → (P → log ≡ was) → IfErr r (RefusesRead t log c)
+  read_by_log (Ok x) epoch count others stays is = tt
+  read_by_log (Err e) epoch count others stays is = record {
+    epoch = λ same. none_by_log (is stays) (epoch (ap Err same));
+    count = λ same. full_by_log [] (is stays) (count (ap Err same));
+    others = others;
+  }
+
+  pub history_by_log : {X P : Type 0} (r : Result X Refused) (since : Option Position) → (IsErrOf r WrongEpoch ↔ IsOfAnother (stream_of k c) since) → (IsErrOf r NoEpoch → stream_of k c ≡ None)
+      → (IsErrOf r AtLastCount → IsFull was (opening (stream_of k c) c [] [])) → IfErr r (λ e. e ≢ AtLastOffset) → OnErr r P → (P → log ≡ was) → IfErr r (RefusesHistory t log c since)
+  history_by_log (Ok x) since outside epoch count other stays is = tt
+  history_by_log (Err e) since outside epoch count other stays is =
+      let by = outside_by_log since (is stays) in record {
+        outside = (λ same. by.0 (outside.0 (ap Err same)), λ o. err_same (outside.1 (by.1 o)));
+        epoch = λ same. none_by_log (is stays) (epoch (ap Err same));
+        count = λ same. full_by_log [] (is stays) (count (ap Err same));
+        other = other;
+      }
+
+  pub entry_by_log : {X P : Type 0} (r : Result X Refused) (x : Entry) → IfErr r (λ e. (e ≡ AtLastCount) × P × IsFull was (if_stands (stream_of k c) x)) → (P → log ≡ was) → IfErr r (RefusesEntry t log c x)
+  entry_by_log (Ok y) x refused is = tt
+  entry_by_log (Err e) x refused is = (
+    refused.0,
+    subst (λ (l : List Entry). IsFull l (if_stands (life_after t l c) x)) (sym (is refused.1))
+        (subst (IsFull was) (if_stands_alike (size_at t c) (stream_of k c) (life_after t was c) x shows) refused.2),
+  )
