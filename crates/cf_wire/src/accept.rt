@@ -166,7 +166,6 @@ impl<S: Read + Write + Drop> Wire<S> {
                     Some(config()),
                 );
                 Ok(Wire {
-                    alloc,
                     socket,
                     stage: Stage::Open,
                 })

@@ -12,7 +12,6 @@ use crate::desk::Desk;
 use crate::end::{Stage, TurnEnd, WireEnd};
 use cf_protocol::CloseCode;
 use cf_queue::Out;
-use std::alloc::Global;
 use std::io::{ErrorKind, Read, Write};
 use std::marker::Model;
 use tungstenite::{
@@ -30,7 +29,6 @@ const NO_CODE: u16 = 1_005;
 /// taken from the desk.
 #[derive(Drop)]
 pub struct Wire<S> {
-    pub(crate) alloc: Global,
     pub(crate) socket: WebSocket<S, NoMask>,
     pub(crate) stage: Stage,
 }
@@ -250,9 +248,9 @@ impl<S: Read + Write + Drop> Wire<S> {
         ensures open { OnOk result (self.new.stage ≡ Stage.Open) }
         ensures ends { IfErr result (λ end. Stops end self.new.stage) }
     {
-        match Message::text(self.alloc, text.as_str()) {
-            Ok(message) => {
-                let answer = self.socket.send(message);
+        match Utf8Bytes::from_string(text) {
+            Ok(words) => {
+                let answer = self.socket.send(Message::Text(words));
                 self.settle(answer, None)
             }
             Err(_) => Err(self.stop(WireEnd::Memory)),

@@ -1,6 +1,7 @@
-use Rattle.std.proofs.Common.{◌∙◌, ap, subst}
+use Rattle.std.proofs.Common.{ap, subst}
 use Rattle.tungstenite.specs.Content.{text}
 use Rattle.tungstenite.specs.Socket.{Socket}
+use Rattle.tungstenite.specs.declared.message.Message.TheVariants as message
 use Rattle.cf_queue.specs.declared.queue.Out.TheVariants.{Text}
 use Rattle.cf_wire.specs.Stages.{WireState}
 use Rattle.cf_wire.specs.Turn.{Settles}
@@ -11,5 +12,5 @@ pub returns-in-Ok-clause-put : goal.returns-in-Ok-clause-put
 returns-in-Ok-clause-put g c =
     let P : WireState g.row.S.Denot → Type 0 = λ v. Settles g.S.Write.contents v.socket (Text c.args.text) c.settle.new.self.socket c.settle.new.self.stage in
     subst P c.self.view_is
-    (settles_text g.S.Write.contents _ _ _ c.args.text c.in-Ok.message _ c.send-answer.result (c.in-Ok.ensures ∙ ap text c.as_str.ensures.value)
+    (settles_text g.S.Write.contents _ _ _ c.args.text (message.Text c.in-Ok.words) _ c.send-answer.result (ap text c.in-Ok.ensures)
     c.send-answer.ensures.wrote c.send-answer.ensures.empty c.send-answer.ensures.stream_failed c.settle.ensures.same c.settle.ensures.ok c.settle.ensures.err)
