@@ -1,12 +1,13 @@
 -- Bytes of a string that stand for themselves are read one after another, or many at once.
-use Rattle.std.proofs.Common.{◌≡◌, ℕ, List, [], ◌∷◌, ◌++◌, true, false, Ok, refl, sym, ap, ◌∙◌, append_assoc, leb-true}
+use Rattle.std.proofs.Common.{◌≡◌, ℕ, List, [], ◌∷◌, ◌++◌, true, false, Ok, refl, sym, ap, ◌∙◌, append_assoc, leb-true, arith}
 use Rattle.std.specs.Prelude.{◌==◌, ◌&&◌, not, nat_le}
 use Rattle.std.specs.List.{list_all}
-use Rattle.std.proofs.lemmas.Bool.{and_parts, not-true, le-ltb}
-use Rattle.cf_json.specs.Bytes.{is_plain, is_space}
+use Rattle.std.proofs.lemmas.Bool.{and_parts, ne_eqb, not-true, le-ltb}
+use Rattle.cf_json.specs.Bytes.{is_plain, is_space, is_visible}
 use Rattle.cf_json.specs.Reading.{text_end}
-use Rattle.cf_json.specs.Squeeze.{kept}
-use Rattle.cf_json.specs.declared.squeeze.Mode.TheVariants.{Between}
+use Rattle.cf_json.specs.Squeeze.{keeps, kept, next}
+use Rattle.cf_json.specs.declared.squeeze.Mode.{Mode}
+use Rattle.cf_json.specs.declared.squeeze.Mode.TheVariants.{Between, Within, Escaped}
 use Rattle.cf_json.specs.declared.token.Within.TheVariants as within
 use Rattle.cf_json.proofs.Tokens.{text_takes}
 use Rattle.cf_json.proofs.Squeezed.{kept-append, quoted_walks}
@@ -37,3 +38,21 @@ string_kept s r reads e =
 pub nothing_kept : kept Between [] ≡ []
 unfolding kept
 nothing_kept = refl
+
+visible_no_space : (x : ℕ) → is_visible x ≡ true → is_space x ≡ false
+unfolding is_space
+visible_no_space x h =
+    let above = leb-true 33 x h in
+    rw (ne_eqb x 32 (λ e. omega (arith, above, e)), ne_eqb x 9 (λ e. omega (arith, above, e)), ne_eqb x 10 (λ e. omega (arith, above, e)), ne_eqb x 13 (λ e. omega (arith, above, e))) refl
+
+visible_keeps : (m : Mode) (x : ℕ) → is_visible x ≡ true → keeps m x ≡ true
+visible_keeps Between x h = ap not (visible_no_space x h)
+visible_keeps Within x h = refl
+visible_keeps Escaped x h = refl
+
+pub visible_kept : (m : Mode) (xs : List ℕ) → list_all is_visible xs ≡ true → kept m xs ≡ xs
+unfolding kept
+visible_kept m [] h = refl
+visible_kept m (x ∷ xs) h =
+    let p = and_parts (is_visible x) (list_all is_visible xs) h in
+    rw (visible_keeps m x p.0) (ap (λ t. x ∷ t) (visible_kept (next m x) xs p.1))

@@ -5,8 +5,11 @@ use Rattle.cf_json.specs.Reading.{text_end}
 use Rattle.cf_json.specs.Squeeze.{kept}
 use Rattle.cf_json.specs.declared.squeeze.Mode.TheVariants.{Between}
 use Rattle.cf_json.specs.declared.token.Within.TheVariants.{Plain}
-use Rattle.cf_json.proofs.PlainRuns.{byte_kept, string_kept, nothing_kept}
+use Rattle.cf_json.proofs.PlainRuns.{byte_kept, string_kept, nothing_kept, visible_kept}
 use Rattle.cf_json.proofs.squeeze.is_compact.Goals as goal
+
+pub returns-then-are_visible : goal.returns-then-are_visible
+returns-then-are_visible c = visible_kept Between c.args.text.now (sym c.are_visible.ensures ∙ c.if-are_visible.true)
 
 pub loop-byte-preserved-then-byte-ne34 : goal.loop-byte-preserved-then-byte-ne34
 loop-byte-preserved-then-byte-ne34 c =
