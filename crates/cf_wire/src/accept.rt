@@ -14,8 +14,9 @@ use tungstenite::{Error, HandshakeError, NoCallback, NoMask, Role, WebSocket, We
 
 /// The longest head of a request, in bytes.
 const LONGEST_HEAD: usize = 16_384;
-/// How many bytes one read of the stream asks for; the socket keeps at most two such buffers.
-const READ_BYTES: usize = 1_024;
+/// How many bytes one read of the stream asks for: more than a client mostly says at once. The socket keeps at most two such
+/// buffers, also while its client says nothing.
+const READ_BYTES: usize = 512;
 /// The longest message that is read, in bytes: above the longest text of a session, which closes for it by itself.
 const LONGEST_MESSAGE: usize = 131_072;
 /// How many bytes of output wait at most: one text of a session's queue, and what is owed to pings.
