@@ -2,6 +2,7 @@
 ghost use Rattle.std.specs.Prelude.{◌≡◌, ◌++◌, List, ℕ, None, false, true, map, option_map, IfOk, IfErr, OnOk, OnErr, string_bytes, length};
 ghost use Rattle.cf_protocol.specs.Frame.{IsReplies};
 ghost use Rattle.cf_protocol.specs.Outgoing as sent;
+ghost use Rattle.cf_protocol.specs.Regular.{IsFrom};
 ghost use Rattle.cf_protocol.specs.Request as request;
 ghost use Rattle.cf_protocol.specs.Shown.{shown_outgoing};
 ghost use Rattle.cf_protocol.specs.Written.{command_text};
@@ -94,11 +95,15 @@ impl Client {
         mode_at(&self.known.channels, channel).is_idle()
     }
 
-    /// The last position that the client had on a channel: that of its last subscribe reply or publication there.
+    /// The last position that the client had on a channel: that of its last subscribe reply or publication there. In a command
+    /// it is read back.
     pub fn position(&self, channel: &str) -> Option<Position>
-        ensures { result ≡ last_of ((state_of self.now).client.modes channel.now) }
+        ensures last { result ≡ last_of ((state_of self.now).client.modes channel.now) }
+        ensures regular { IsFrom result }
     {
-        mode_at(&self.known.channels, channel).last()
+        let position = mode_at(&self.known.channels, channel).last()?;
+        let _letters = position.epoch.as_str();
+        Some(position)
     }
 
     /// The text of a subscribe command that asks for no recovery.
@@ -122,6 +127,7 @@ impl Client {
     /// `NotNow` while not connected, and where the channel isn't idle; `AtLastId` where no id is left; `Memory`.
     pub fn ask_from(&mut self, channel: &str) -> Result<String, ClientFault>
         ensures text { IfOk result (λ t. string_bytes t ≡ command_text (record { id = (state_of self.old).client.fresh; request = request.Subscribe channel.now (last_of ((state_of self.old).client.modes channel.now)) })) }
+        ensures regular { IsFrom (last_of ((state_of self.old).client.modes channel.now)) }
         ensures ok { OnOk result (state_of self.new ≡ asked channel.now (last_of ((state_of self.old).client.modes channel.now)) (state_of self.old)) }
         ensures refused { RefusedBy (ask_fault channel.now (state_of self.old)) result }
         ensures err { OnErr result (state_of self.new ≡ state_of self.old) }
