@@ -1,13 +1,12 @@
 -- An exchange by what the node did: it answered, it was left, it began, or it closed the session; or it heard nothing.
 use Rattle.std.proofs.Common.{◌≡◌, ◌≢◌, ℕ, true, false, Option, Some, List, refl, ◌∙◌, nat_lt}
-use Rattle.std.specs.Prelude.{IsSome}
 use Rattle.std.specs.List.{All}
 use Rattle.cf_protocol.specs.Checks.{checks, first_failed, longest_text}
 use Rattle.cf_protocol.specs.Codes.{code_of}
 use Rattle.cf_protocol.specs.Names.{with, and_also}
 use Rattle.cf_protocol.specs.Note.{Lists, Note, Close}
 use Rattle.cf_protocol.specs.Position.{Position}
-use Rattle.cf_protocol.specs.Settings.{NamespaceTable, settings_of}
+use Rattle.cf_protocol.specs.Settings.{NamespaceTable}
 use Rattle.cf_protocol.specs.declared.codes.ErrorCode.{ErrorCode}
 use Rattle.cf_client.specs.ClientView.{state_of}
 use Rattle.cf_queue.specs.OutQueue.{Text}
@@ -28,7 +27,7 @@ use Rattle.cf_machine.specs.World.{World}
 use Rattle.cf_world.specs.BrokerTie.{ShowsBroker}
 use Rattle.cf_world.specs.ClientTie.{Becomes, IsOwn, sent_state}
 use Rattle.cf_world.specs.HubCalls.{AtHub, Closed, Told}
-use Rattle.cf_world.specs.NodesTie.{IsSeated, seated}
+use Rattle.cf_world.specs.NodesTie.{IsSeated, MayAsk, seated}
 use Rattle.cf_world.specs.Tie.{AreTied}
 use Rattle.cf_world.specs.declared.broker.Broker.{Broker as Code}
 use Rattle.cf_world.specs.declared.peers.Peer.{Peer}
@@ -97,7 +96,7 @@ module _ {cfg : Config} {table : NamespaceTable} {b : Code} {hubs : ℕ → Opti
   -- IT BEGAN
   pub begin_goes : (c : List ℕ) (id : ℕ) (since : Option Position) → (h' : Node) (h : Node) → hubs s.node ≡ Some h → (hubs' : ℕ → Option Node) → hubs' s.node ≡ Some h' → ((j : ℕ) → j ≢ s.node → hubs' j ≡ hubs j)
       → Begins s.session c id since h h' → ((l : Lists) → SaysAt l (attached_at h s.session) (m.links x).session → SaysAt l (attached_at h' s.session) (begins (spoken broker.lists) c id since (m.links x).session))
-      → (m.links x).session.closed ≡ false → IsSome (settings_of cfg.namespaces c)
+      → (m.links x).session.closed ≡ false → MayAsk cfg.namespaces c
       → AreTied cfg table new hubs' peers' (record m { broker = broker; links = with m.links x (after k (begins (spoken broker.lists) c id since (m.links x).session) (and_also c (m.links x).channels) (m.links x)) })
   begin_goes c id since h' h was hubs' now others begun says is_open set_up =
       let rest = begun.rest in

@@ -4,8 +4,14 @@ use Rattle.std.proofs.lemmas.Bool.Decides.{nat_tests}
 use Rattle.std.proofs.lemmas.Option.{slice_get-get_or, slice_get_past}
 use Rattle.std.proofs.lemmas.Bool.{cases_lt}
 use Rattle.std.specs.Vec.{vec_len}
-use Rattle.cf_hub.specs.Hub.{Node}
-use Rattle.cf_world.specs.HubCalls.{AtHub}
+use Rattle.cf_queue.specs.OutQueue.{Text}
+use Rattle.cf_hub.specs.Hub.{InState, IsRefused, Node, after_refusal, attached_at, counted, one_if}
+use Rattle.cf_hub.specs.Session.{Attached}
+use Rattle.cf_hub.specs.SessionState.{push}
+use Rattle.cf_hub.specs.WantOfMemory.{Both, OrCloses}
+use Rattle.cf_hub.specs.Wordings.{plain}
+use Rattle.cf_hub.specs.declared.refusal.HubRefusal.{HubRefusal}
+use Rattle.cf_world.specs.HubCalls.{AtHub, Told}
 
 pub set-here : {X : Type 0} (xs : List X) (n : ℕ) (x y : X) → slice_get xs n ≡ Some y → slice_get (slice_set xs n x) n ≡ Some x
 set-here [] n x y h = cc
@@ -47,3 +53,20 @@ missing hubs n P new h = λ hub is. let none = gone hubs n h in absurd (cc)
 
 pub unrefused : (n : ℕ) → not (n == 0) ≡ false → n ≡ 0
 unrefused n h = grind (arith, nat_tests, h)
+
+-- ---- a text is queued after a call that was refused
+
+pub told_after : (e : HubRefusal) (k : ℕ) (text : List ℕ) (h mid g : Node) → IsRefused e h mid → after_refusal e h.refused ≡ h.refused → Told k text mid g → Told k text h g
+told_after e k text h mid g refused counts told =
+    let does = told.does in
+    record {
+      does = record {
+        hit = does.hit;
+        here = subst (λ (o : Option Attached). Both (InState (OrCloses does.hit plain (push plain (Text text)))) o (attached_at g k)) (refused.sessions k) does.here;
+        others = λ j ne. does.others j ne ∙ refused.sessions j;
+        count = does.count ∙ ap (counted (one_if does.hit)) (refused.refused ∙ counts);
+        agrees = does.agrees;
+      };
+      same = record { node = told.same.node ∙ refused.rest.node; boot = told.same.boot ∙ refused.rest.boot; used = told.same.used ∙ refused.rest.used };
+      none = told.none;
+    }

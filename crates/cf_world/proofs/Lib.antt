@@ -32,3 +32,6 @@ pub mod Connecting
 pub mod SentOwn
 pub mod Answering
 pub mod Allowing
+pub mod Passing
+pub mod Saying
+pub mod Granting

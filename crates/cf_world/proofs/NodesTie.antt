@@ -1,5 +1,5 @@
 -- What a node and its clients' sessions do goes on beside the machine.
-use Rattle.std.proofs.Common.{◌≡◌, ◌≢◌, ◌⊎◌, inl, inr, ℕ, ◌+◌, ◌≤◌, ◌==◌, ◌||◌, nat_lt, Bool, true, false, if◌then◌else◌, is_some, IsSome, Option, Some, None, option_map, List, [], ◌∷◌, arith, refl, sym, ap, ◌∙◌, subst}
+use Rattle.std.proofs.Common.{◌≡◌, ◌≢◌, ◌⊎◌, inl, inr, ℕ, ◌+◌, ◌≤◌, ◌==◌, ◌||◌, nat_lt, Bool, true, false, if◌then◌else◌, is_some, Option, Some, None, option_map, List, [], ◌∷◌, ◌++◌, length, length-append, decimal, arith, refl, sym, ap, ◌∙◌, subst}
 use Rattle.std.specs.Str.{bytes_eq}
 use Rattle.std.proofs.lemmas.Bool.{cases_lt}
 use Rattle.std.proofs.lemmas.Bool.Decides.{nat_tests}
@@ -7,7 +7,7 @@ use Rattle.cf_protocol.specs.Datum.{Placed}
 use Rattle.cf_protocol.specs.Names.{with, is_among, and_also}
 use Rattle.cf_protocol.specs.Note.{Lists}
 use Rattle.cf_protocol.specs.Position.{Position}
-use Rattle.cf_protocol.specs.Settings.{NamespaceTable, settings_of}
+use Rattle.cf_protocol.specs.Settings.{NamespaceTable}
 use Rattle.cf_followers.specs.Follows.{AreFollows}
 use Rattle.cf_hub.specs.Alike.{AlikeSub}
 use Rattle.cf_hub.specs.AlikeMoves.{CallsAreAlike, Texts}
@@ -26,7 +26,7 @@ use Rattle.cf_machine.specs.IntervalMachine.{client_id as machine_id, connects, 
 use Rattle.cf_machine.specs.PublicationList.{Broker}
 use Rattle.cf_machine.specs.Session.{Session, Sub, Words}
 use Rattle.cf_machine.specs.World.{World, broker_with, link_with, on_node, with_at}
-use Rattle.cf_world.specs.NodesTie.{IsAway, IsNode, IsSeated, IsShutOff, ShowsLink, ShowsNodes, name_of, seated, session_in}
+use Rattle.cf_world.specs.NodesTie.{IsAway, IsNode, IsSeated, IsShutOff, MayAsk, ShowsLink, ShowsNodes, name_of, seated, session_in}
 use Rattle.cf_world.specs.declared.peers.Seat.{Seat}
 use Rattle.cf_world.proofs.Counts.{Seats}
 use Rattle.cf_world.proofs.Ends.{Keeps, comes_keeps}
@@ -45,6 +45,10 @@ some_is x y h = cc
 
 not_none : {X Y : Type 0} (x : X) → None ≡ Some x → Y
 not_none x h = absurd (cc)
+
+-- a client id is no empty text
+id_there : (n boot counter : ℕ) → 1 ≤ length (machine_id n boot counter)
+id_there n boot counter = rw (length-append (decimal n) (45 ∷ (decimal boot ++ (45 ∷ decimal counter)))) (omega arith)
 
 abbrev seat_of : ℕ → ℕ → Seat
 seat_of n k = record { node = n; session = k }
@@ -165,7 +169,7 @@ pub record LinkGoes (table : NamespaceTable) (old new : ClientLink) : Type 0 whe
   pub once : AreDistinct new.channels
   pub listed : (c : List ℕ) → is_off (new.session.subs c) ≡ false → is_among c new.channels ≡ true
   pub shut : IsShutOff new.session
-  pub served : (c : List ℕ) → is_off (new.session.subs c) ≡ false → IsSome (settings_of table c)
+  pub served : (c : List ℕ) → is_off (new.session.subs c) ≡ false → MayAsk table c
 
 -- a session of it that begins nothing
 pub session_moves : {table : NamespaceTable} {lists : Lists} {o : Option Attached} {n : ℕ} {l : ClientLink} → IsSeated table lists o n l → (g : Session → Session) → Keeps g → LinkGoes table l (with_session (g l.session) l)
@@ -196,7 +200,7 @@ link_goes {l = l} s l' node name way up channels g keeps session = record {
 
 -- a link whose session asks for a channel
 pub link_asks : {table : NamespaceTable} {lists : Lists} {o : Option Attached} {n : ℕ} {l : ClientLink} → IsSeated table lists o n l → (l' : ClientLink) → l'.node ≡ l.node → l'.name ≡ l.name → l'.way ≡ [] → l'.up ≡ []
-    → (w : Words) (c : List ℕ) (id : ℕ) (since : Option Position) → l'.channels ≡ and_also c l.channels → l'.session ≡ begins w c id since l.session → l.session.closed ≡ false → IsSome (settings_of table c) → LinkGoes table l l'
+    → (w : Words) (c : List ℕ) (id : ℕ) (since : Option Position) → l'.channels ≡ and_also c l.channels → l'.session ≡ begins w c id since l.session → l.session.closed ≡ false → MayAsk table c → LinkGoes table l l'
 link_asks {table = table} {l = l} s l' node name way up w c id since channels session is_open set_up = record {
   node = node;
   name = name;
@@ -214,9 +218,9 @@ link_asks {table = table} {l = l} s l' node name way up w c id since channels se
       | inr p ↦ also_more c l.channels d (s.listed d (sym (ap (λ (b : Bool). is_off (if b then Asked id since w.empty else l.session.subs d)) p.0) ∙ h))
     ]
 
-    served : (d : List ℕ) → is_off ((begins w c id since l.session).subs d) ≡ false → IsSome (settings_of table d)
+    served : (d : List ℕ) → is_off ((begins w c id since l.session).subs d) ≡ false → MayAsk table d
     served d h = elim (text_tells d c) [
-      | inl p ↦ subst (λ (z : List ℕ). IsSome (settings_of table z)) (sym p.1) set_up
+      | inl p ↦ subst (λ (z : List ℕ). MayAsk table z) (sym p.1) set_up
       | inr p ↦ s.served d (sym (ap (λ (b : Bool). is_off (if b then Asked id since w.empty else l.session.subs d)) p.0) ∙ h)
     ]
 
@@ -224,6 +228,7 @@ pub seated_goes : {table : NamespaceTable} {lists : Lists} {o o' : Option Attach
 seated_goes s g name says = record {
   at = g.node ∙ s.at;
   name = name ∙ s.name ∙ ap Some (sym g.name);
+  named = subst (λ (z : List ℕ). 1 ≤ length z) (sym g.name) s.named;
   says = says;
   way = g.way;
   up = g.up;
@@ -290,7 +295,7 @@ module _ {cfg : Config} {hubs : ℕ → Option Node} {seats : List ℕ → Optio
 
       by_seat : (o : Option Seat) (l : ClientLink) → ShowsLink cfg.namespaces m.broker.lists hubs o l → ShowsLink cfg.namespaces b.lists hubs o l
       by_seat None l h = h
-      by_seat (Some s) l h = record { at = h.at; name = h.name; says = at_grows (seated hubs s) l.session h.says; way = h.way; up = h.up; once = h.once; listed = h.listed; shut = h.shut; served = h.served }
+      by_seat (Some s) l h = record { at = h.at; name = h.name; named = h.named; says = at_grows (seated hubs s) l.session h.says; way = h.way; up = h.up; once = h.once; listed = h.listed; shut = h.shut; served = h.served }
 
   -- ---- one hub changes
 
@@ -465,6 +470,7 @@ module _ {cfg : Config} {hubs : ℕ → Option Node} {seats : List ℕ → Optio
           came = record {
             at = refl;
             name = ap name_of (seat_now (seat_of n k) refl) ∙ name;
+            named = id_there n (m.boots n) (m.counters n + 1);
             says = subst (λ (v : Option Attached). SaysAt m.broker.lists v (m.links x).session) (sym (seat_now (seat_of n k) refl)) (subst (λ (b : Session). SaysAt m.broker.lists (attached_at h' k) b) (sym away.session) (calls.attaches k now_at user h h' o));
             way = away.way;
             up = away.up;

@@ -35,6 +35,7 @@ use Rattle.cf_world.proofs.Looking.{asks_at}
 use Rattle.cf_world.proofs.NodesTie.{one_name, seat_shows}
 use Rattle.cf_world.proofs.Owned.{reads-own}
 use Rattle.cf_world.proofs.Reading.{Missing, are-missed, reading-is}
+use Rattle.cf_world.proofs.Passing.{set-up}
 use Rattle.cf_world.proofs.Served.{opens-away, rests}
 use Rattle.cf_world.proofs.Sitting.{hub_there, session-goes}
 
@@ -99,7 +100,7 @@ module _ {cfg : Config} {table : NamespaceTable} {b : Code} {hubs : ℕ → Opti
 
       -- its channel is set up
       pub read-set-up : IsSome (settings_of cfg.namespaces c)
-      read-set-up = (seat_shows t.nodes x s sat).served c (ap is_off asked.is)
+      read-set-up = set-up cfg.namespaces c ((seat_shows t.nodes x s sat).served c (ap is_off asked.is))
 
       both-false : (p q : Bool) → q ≡ false → (p && q) ≡ false
       both-false true q e = e

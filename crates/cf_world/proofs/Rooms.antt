@@ -1,16 +1,18 @@
 -- Whether a node has room for one more session: as its hub says, and as the machine counts.
-use Rattle.std.proofs.Common.{◌≡◌, inl, inr, ℕ, ◌≤◌, ◌&&◌, not, nat_lt, Bool, true, false, is_some, Option, Some, None, List, arith, refl, sym, ap, ◌∙◌, subst}
+use Rattle.std.proofs.Common.{◌≡◌, inl, inr, ℕ, ◌≤◌, ◌==◌, ◌&&◌, ◌||◌, not, nat_le, nat_lt, Bool, true, false, if◌then◌else◌, is_some, length, Option, Some, None, List, arith, refl, sym, ap, ◌∙◌, subst}
 use Rattle.std.proofs.lemmas.Bool.Decides.{nat_tests}
-use Rattle.cf_followers.specs.Follows.{AreFollows}
-use Rattle.cf_hub.specs.Counts.{CountsSessions}
-use Rattle.cf_hub.specs.Hub.{IsBounded, Node, NoRoom, attached_at, largest, most_sessions}
+use Rattle.cf_followers.specs.Follows.{AreFollows, channels_of, most_rows}
+use Rattle.cf_hub.specs.Counts.{CountsAll, CountsSession, CountsSessions}
+use Rattle.cf_hub.specs.Hub.{IsBounded, IsFull, Node, NoRoom, attached_at, largest, most_channels, most_sessions}
 use Rattle.cf_hub.specs.Rows.{Agrees}
 use Rattle.cf_machine.specs.Config.{Config}
-use Rattle.cf_machine.specs.World.{World, is_connected, sessions_of}
+use Rattle.cf_machine.specs.Refusals.{has_no_room, node_is_full}
+use Rattle.cf_machine.specs.World.{World, is_connected, rows, rows_of, sessions_of}
+use Rattle.cf_world.specs.HubCalls.{IsSound}
 use Rattle.cf_world.specs.NodesTie.{IsSeated, ShowsNodes, seated}
 use Rattle.cf_world.specs.declared.peers.Seat.{Seat}
-use Rattle.cf_world.proofs.Counts.{full, room}
-use Rattle.cf_world.proofs.NodesTie.{away_shows, seat_shows, seats_at}
+use Rattle.cf_world.proofs.Counts.{Seats, all_rows, full, mine, room}
+use Rattle.cf_world.proofs.NodesTie.{away_shows, number_at, seat_shows, seats_at}
 
 module _ {cfg : Config} {hubs : ℕ → Option Node} {seats : List ℕ → Option Seat} {m : World} (t : ShowsNodes cfg hubs seats m) where
   module _ (x : List ℕ) (s : Seat) (sits : seats x ≡ Some s) where
@@ -69,3 +71,41 @@ module _ {cfg : Config} {hubs : ℕ → Option Node} {seats : List ℕ → Optio
       by_value true b e = refl
       by_value false true e = absurd (cc)
       by_value false false e = refl
+
+  -- ---- a subscription
+
+  module _ (session : CountsSession) (all : CountsAll) (x : List ℕ) (s : Seat) (sits : seats x ≡ Some s) (h : Node) (was : hubs s.node ≡ Some h) (sound : IsSound h) where
+    seats_here : Seats s.node h m.links m.clients (λ y. number_at s.node (seats y))
+    seats_here = seats_at t s.node h was sound.rows sound.agrees sound.bounded
+
+    own_number : (n : ℕ) → (n == n) ≡ true
+    own_number n = grind (arith, nat_tests)
+
+    mine_is : length (channels_of h.rows s.session) ≡ rows (m.links x)
+    mine_is = mine seats_here session x s.session (ap (number_at s.node) sits ∙ ap (λ (b : Bool). if b then Some s.session else None) (own_number s.node))
+
+    all_are : length h.rows ≡ rows_of s.node m.links m.clients
+    all_are = all_rows seats_here session all
+
+    has_is : has_no_room (m.links x) m ≡ (nat_le most_channels (rows (m.links x)) || nat_le most_rows (rows_of s.node m.links m.clients))
+    has_is = ap (λ (o : Option ℕ). nat_le most_channels (rows (m.links x)) || node_is_full o m) (seat_shows t x s sits).at
+
+    pub row_room : (IsFull s.session h → ⊥) → has_no_room (m.links x) m ≡ false
+    row_room free = has_is ∙ by_values (nat_le most_channels (rows (m.links x))) (nat_le most_rows (rows_of s.node m.links m.clients)) refl refl
+      where
+        by_values : (a b : Bool) → nat_le most_channels (rows (m.links x)) ≡ a → nat_le most_rows (rows_of s.node m.links m.clients) ≡ b → (a || b) ≡ false
+        by_values true b e f = absurd (free (inl (let is = mine_is in grind (arith, nat_tests, e, is))))
+        by_values false true e f = absurd (free (inr (let is = all_are in let few = sound.rows.few in grind (arith, nat_tests, f, is, few))))
+        by_values false false e f = refl
+
+    pub row_full : IsFull s.session h → has_no_room (m.links x) m ≡ true
+    row_full (inl many) =
+        let e : nat_le most_channels (rows (m.links x)) ≡ true = (let is = mine_is in grind (arith, nat_tests, many, is)) in
+        has_is ∙ ap (λ (b : Bool). b || nat_le most_rows (rows_of s.node m.links m.clients)) e
+    row_full (inr all_rows_are) =
+        let e : nat_le most_rows (rows_of s.node m.links m.clients) ≡ true = (let is = all_are in grind (arith, nat_tests, all_rows_are, is)) in
+        has_is ∙ ap (λ (b : Bool). nat_le most_channels (rows (m.links x)) || b) e ∙ or-true (nat_le most_channels (rows (m.links x)))
+      where
+        or-true : (a : Bool) → (a || true) ≡ true
+        or-true true = refl
+        or-true false = refl

@@ -1,9 +1,14 @@
 -- A client sends a command: the answers that wait stay its own, and so is the answer to this one.
-use Rattle.std.proofs.Common.{◌≡◌, ◌⊎◌, inl, inr, ℕ, suc, ◌<◌, Some, List, [], ◌∷◌, ◌++◌, refl, sym, subst, arith}
+use Rattle.std.proofs.Common.{◌≡◌, ◌⊎◌, inl, inr, ℕ, suc, ◌<◌, ◌==◌, ◌||◌, Bool, true, false, if◌then◌else◌, Some, List, [], ◌∷◌, ◌++◌, map, refl, sym, subst, arith}
+use mathlib.Core.List.{reverse_aux}
 use Rattle.std.proofs.lemmas.Bool.Decides.{eqb_tells}
 use Rattle.std.specs.List.{All}
 use Rattle.cf_protocol.specs.Note.{Note, Reply, Pub, End, Fails, Put as PutDone, Left, Listed, PingDue, Close}
+use Rattle.cf_protocol.specs.Position.{Position}
 use Rattle.cf_client.specs.ClientCalls.{Call, State, channel_under}
+use Rattle.cf_client.specs.ClientState.{is_out}
+use Rattle.cf_client.specs.ClientView.{ClientView, state_of}
+use Rattle.cf_client.specs.OneAnswer.{AreApart}
 use Rattle.cf_client.specs.OneMeaning.{CallsAt}
 use Rattle.cf_machine.specs.ClientRequest.{ClientRequest, Subscribe, Unsubscribe, Publish, History, channel_of}
 use Rattle.cf_world.specs.ClientTie.{IsOwn, sent_state}
@@ -11,6 +16,32 @@ use Rattle.cf_world.specs.ClientTie.{IsOwn, sent_state}
 -- the ids of calls that are out are older than the next one
 abbrev pub AreOld : State → Type 0
 AreOld s = (i : ℕ) (c : List ℕ) → channel_under i s.out ≡ Some c → i < s.client.fresh
+
+-- a call that is out has its id out
+call_out : (i : ℕ) (c : List ℕ) (ks : List Call) → channel_under i ks ≡ Some c → is_out i (map (λ (k : Call). k.id) ks) ≡ true
+call_out i c [] e = absurd (cc)
+call_out i c (k ∷ ks) e = by_value (k.id == i) e (call_out i c ks)
+  where
+    by_value : (t : Bool) → (if t then Some k.channel else channel_under i ks) ≡ Some c → (channel_under i ks ≡ Some c → is_out i (map (λ (k : Call). k.id) ks) ≡ true) → (t || is_out i (map (λ (k : Call). k.id) ks)) ≡ true
+    by_value true e more = refl
+    by_value false e more = more e
+
+over : (i : ℕ) (xs ys : List ℕ) → (is_out i xs || is_out i ys) ≡ true → is_out i (reverse_aux xs ys) ≡ true
+over i [] ys h = h
+over i (x ∷ xs) ys h = over i xs (x ∷ ys) (turned (x == i) (is_out i xs) (is_out i ys) h)
+  where
+    turned : (a b d : Bool) → ((a || b) || d) ≡ true → (b || (a || d)) ≡ true
+    turned true true d h = refl
+    turned true false d h = refl
+    turned false true d h = refl
+    turned false false d h = h
+
+or-false : (a : Bool) → a ≡ true → (a || false) ≡ true
+or-false true h = refl
+or-false false h = absurd (cc)
+
+pub old_of : (k : ClientView) → AreApart (state_of k).client → AreOld (state_of k)
+old_of k apart i c e = apart.calls_older i (over i (map (λ (k : Call). k.id) k.calls) [] (or-false (is_out i (map (λ (k : Call). k.id) k.calls)) (call_out i c k.calls e)))
 
 some_is : (a b : List ℕ) → Some a ≡ Some b → a ≡ b
 some_is a b e = cc
@@ -95,3 +126,10 @@ module _ (s : State) where
   -- what waits stays its own
   pub own_sent : (e : ClientRequest) (ns : List Note) → All (IsOwn s) ns → All (IsOwn (sent_state e s)) ns
   own_sent e ns h = λ k d i. own-note e _ (h k d i)
+
+-- the error that answers it, and the history
+pub own_fails : (s : State) (e : ClientRequest) (code : ℕ) → AreOld s → IsOwn (sent_state e s) (Fails (channel_of e) s.client.fresh code)
+own_fails s e code old = (new-less s e, calls-new s e old)
+
+pub own_listed : (s : State) (e : ClientRequest) (at : Position) (low count : ℕ) → AreOld s → IsOwn (sent_state e s) (Listed (channel_of e) s.client.fresh at low count)
+own_listed s e at low count old = (new-less s e, calls-new s e old)

@@ -1,17 +1,25 @@
 -- What the calls of one node's hub make of all nodes.
-use Rattle.std.specs.Prelude.{◌≡◌, ◌≢◌, ◌⊎◌, ◌+◌, ℕ, suc, Option, Some, List, [], ◌∷◌}
+use Rattle.std.specs.Prelude.{◌≡◌, ◌≢◌, ◌⊎◌, ◌+◌, ℕ, suc, Bool, true, false, Option, Some, List, [], ◌∷◌}
+use Rattle.cf_protocol.specs.Codes.{code_of}
 use Rattle.cf_protocol.specs.Datum.{Placed}
+use Rattle.cf_protocol.specs.Outgoing.{Answer, Failed, Outcome, Unsubscribed}
 use Rattle.cf_protocol.specs.Position.{Position}
+use Rattle.cf_protocol.specs.Written.{outgoing_text}
+use Rattle.cf_protocol.specs.declared.codes.ErrorCode.{ErrorCode}
+use Rattle.cf_protocol.specs.declared.codes.ErrorCode.TheVariants as error
 use Rattle.cf_queue.specs.OutQueue.{Close, Text}
 use Rattle.cf_hub.specs.Finish.{FinishesAt}
-use Rattle.cf_hub.specs.Hub.{Delivers, Meets, Node, One, OthersStay, SameNode, SameRest, attached_at, empty, sub_at, IsBounded, NoRoom, Opens}
+use Rattle.cf_hub.specs.Hub.{Begins, Delivers, Meets, Node, One, OthersStay, SameNode, SameRest, attached_at, empty, is_open, sub_at, IsBounded, IsFull, NoRoom, Opens}
 use Rattle.cf_followers.specs.Follows.{AreFollows}
 use Rattle.cf_hub.specs.Rows.{Agrees}
-use Rattle.cf_hub.specs.SessionState.{checks, closes_now, leaves, push, reads, takes_front}
+use Rattle.cf_hub.specs.Session.{Attached}
+use Rattle.cf_hub.specs.SessionState.{checks, closes_now, is_off, leaves, push, reads, takes_front}
 use Rattle.cf_hub.specs.Subscriptions.{reading_of}
 use Rattle.cf_hub.specs.WantOfMemory.{OrCloses}
 use Rattle.cf_hub.specs.Wordings.{plain, reading}
 use Rattle.cf_stream.specs.declared.answer.Recovery.{Recovery}
+use Rattle.cf_protocol.specs.Datum.{Who}
+use Rattle.cf_world.specs.declared.peers.Seat.{Seat}
 
 abbrev pub Hubs : Type 0
 Hubs = ℕ → Option Node
@@ -103,3 +111,45 @@ abbrev pub Attaches : ℕ → Option ℕ → Hubs → Hubs → Type 0
 Attaches n Option.None old new =
     ((old n ≡ Option.None) × ((j : ℕ) → new j ≡ old j)) ⊎ ((h : Node) × (old n ≡ Some h) × OneHub n NoSeat old new h)
 Attaches n (Some k) old new = (h : Node) × (old n ≡ Some h) × OneHub n (Sits k) old new h
+
+-- ---- a command is answered
+
+-- the text of the reply to command id
+abbrev pub reply_text : ℕ → Outcome → List ℕ
+reply_text id o = outgoing_text (Answer id o)
+
+abbrev pub error_text : ℕ → ErrorCode → List ℕ
+error_text id code = reply_text id (Failed (code_of code))
+
+abbrev pub Answered : Seat → ℕ → Outcome → Hubs → Hubs → Type 0
+Answered s id o = AtHub s.node (Told s.session (reply_text id o))
+
+-- the session leaves the channel, and is told so
+pub record LeftTold (k : ℕ) (c : List ℕ) (id : ℕ) (h g : Node) : Type 0 where
+  pub mid : Node
+  pub left : Left k c h mid
+  pub told : Told k (reply_text id Unsubscribed) mid g
+
+-- an open session asks for a channel: it isn't subscribed, and there is room; it is subscribed, or asking; or there is no room
+pub record Began (k : ℕ) (c : List ℕ) (id : ℕ) (since : Option Position) (h g : Node) : Type 0 where
+  pub off : is_off (sub_at h k c) ≡ true
+  pub room : IsFull k h → ⊥
+  pub begins : Begins k c id since h g
+
+pub record AskedTwice (k : ℕ) (c : List ℕ) (id : ℕ) (h g : Node) : Type 0 where
+  pub off : is_off (sub_at h k c) ≡ false
+  pub told : Told k (error_text id error.AlreadySubscribed) h g
+
+pub record AskedTooMuch (k : ℕ) (c : List ℕ) (id : ℕ) (h g : Node) : Type 0 where
+  pub off : is_off (sub_at h k c) ≡ true
+  pub full : IsFull k h
+  pub told : Told k (error_text id error.LimitExceeded) h g
+
+pub record Asks (k : ℕ) (c : List ℕ) (id : ℕ) (since : Option Position) (h g : Node) : Type 0 where
+  pub sound : IsSound h
+  pub one : is_open (attached_at h k) ≡ true → Began k c id since h g ⊎ (AskedTwice k c id h g ⊎ AskedTooMuch k c id h g)
+
+-- who a session's client is: all clients connect as the empty user
+abbrev pub who_in : Option Attached → Option Who
+who_in Option.None = Option.None
+who_in (Some a) = Some (record { user = []; client = a.badge.client })

@@ -4,3 +4,4 @@ pub mod HubCalls
 pub mod NodesTie
 pub mod Tie
 pub mod Entries
+pub mod Exchange

@@ -1,8 +1,10 @@
 -- The nodes, and where clients sit at them, beside what the machine has for them.
-use Rattle.std.specs.Prelude.{◌≡◌, ◌≤◌, ℕ, nat_lt, true, false, is_some, IsSome, Option, Some, None, option_map, List, []}
+use Rattle.std.specs.Prelude.{◌≡◌, ◌≤◌, ℕ, nat_lt, true, false, is_some, Option, Some, None, option_map, List, [], length}
+use Rattle.cf_protocol.specs.Checks.{checks, first_failed}
 use Rattle.cf_protocol.specs.Names.{is_among}
 use Rattle.cf_protocol.specs.Note.{Lists}
-use Rattle.cf_protocol.specs.Settings.{NamespaceTable, settings_of}
+use Rattle.cf_protocol.specs.Request.{Subscribe}
+use Rattle.cf_protocol.specs.Settings.{NamespaceTable}
 use Rattle.cf_hub.specs.Hub.{Node, attached_at, largest}
 use Rattle.cf_hub.specs.InNotes.{SaysAt}
 use Rattle.cf_hub.specs.Session.{Attached}
@@ -29,6 +31,10 @@ name_of o = option_map (λ a. a.badge.client) o
 abbrev pub IsShutOff : Session → Type 0
 IsShutOff b = b.closed ≡ true → (c : List ℕ) → is_off (b.subs c) ≡ true
 
+-- a subscribe to the channel passes its checks
+abbrev pub MayAsk : NamespaceTable → List ℕ → Type 0
+MayAsk table c = first_failed (checks table (Subscribe c None)) ≡ None
+
 -- a client that isn't connected has nothing at a node, and nothing is on its way to or from it
 pub record IsAway (l : ClientLink) : Type 0 where
   pub node : l.node ≡ None
@@ -37,17 +43,18 @@ pub record IsAway (l : ClientLink) : Type 0 where
   pub way : l.way ≡ []
   pub up : l.up ≡ []
 
--- a client that is connected has the session of its seat; its channels are set up, and listed once
+-- a client that is connected has the session of its seat, and an id there; its channels pass the checks, and are listed once
 pub record IsSeated (table : NamespaceTable) (lists : Lists) (o : Option Attached) (node : ℕ) (l : ClientLink) : Type 0 where
   pub at : l.node ≡ Some node
   pub name : name_of o ≡ Some l.name
+  pub named : 1 ≤ length l.name
   pub says : SaysAt lists o l.session
   pub way : l.way ≡ []
   pub up : l.up ≡ []
   pub once : AreDistinct l.channels
   pub listed : (c : List ℕ) → is_off (l.session.subs c) ≡ false → is_among c l.channels ≡ true
   pub shut : IsShutOff l.session
-  pub served : (c : List ℕ) → is_off (l.session.subs c) ≡ false → IsSome (settings_of table c)
+  pub served : (c : List ℕ) → is_off (l.session.subs c) ≡ false → MayAsk table c
 
 abbrev pub ShowsLink : NamespaceTable → Lists → (ℕ → Option Node) → Option Seat → ClientLink → Type 0
 ShowsLink table lists hubs None l = IsAway l

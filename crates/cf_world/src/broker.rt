@@ -1,10 +1,9 @@
 //! What nodes share: the streams, the epochs that wait for them, and all that was accepted.
 ghost use Rattle.std.specs.Prelude.{◌≡◌, if◌then◌else◌, is_some, IfOk, OnOk, IsSome, None, option_copied, string_bytes};
-ghost use Rattle.cf_protocol.specs.Regular.{IsBody, IsInfo};
 ghost use Rattle.cf_protocol.specs.Settings.{NamespaceTable, settings_of};
 ghost use Rattle.cf_machine.specs.FreshEpochs.{AreFresh};
 ghost use Rattle.cf_machine.specs.PublicationList.{Broker as Shared, can_open, epoch_comes, forget, forget_all, new_broker, publication, stands_at, trim};
-ghost use Rattle.cf_world.specs.BrokerTie.{ShowsBroker, Histories, Publishes, Reads, Stands};
+ghost use Rattle.cf_world.specs.BrokerTie.{IsDatum, ShowsBroker, Histories, Publishes, Reads, Stands};
 
 use crate::epochs::WaitingEpochs;
 use crate::short::Short;
@@ -107,9 +106,7 @@ impl Broker {
         body: &str,
         info: Option<Info>,
     ) -> Result<Published, Short>
-        requires body { IsBody body.now }
-        requires info { IsInfo info }
-        ensures { IfOk result (λ r. (table : NamespaceTable) (m : Shared) → AreFresh m → ShowsBroker table self.old m → Publishes table m channel.now (record { body = body.now; info = info }) self.new r) }
+        ensures { IfOk result (λ r. (table : NamespaceTable) (m : Shared) → AreFresh m → IsDatum (record { body = body.now; info = info }) → ShowsBroker table self.old m → Publishes table m channel.now (record { body = body.now; info = info }) self.new r) }
     {
         if !self.streams.is_set_up(channel) {
             return Ok(Published::NotSetUp);

@@ -1,16 +1,21 @@
 //! Calls of one node's hub, among all.
-ghost use Rattle.std.specs.Prelude.{◌≡◌, ℕ, List, Some, None, OnOk, IfOk, option_and_then, option_map, slice_get, string_bytes};
-ghost use Rattle.cf_protocol.specs.Codes.{close_code_of};
+ghost use Rattle.std.specs.Prelude.{◌≡◌, ◌↔◌, ℕ, List, Some, None, not, false, IsTrue, OnOk, IfOk, option_and_then, option_map, slice_get, string_bytes};
+ghost use Rattle.cf_protocol.specs.Codes.{close_code_of, code_of};
+ghost use Rattle.cf_protocol.specs.Outgoing as sent;
+ghost use Rattle.cf_protocol.specs.Shown.{shown_outcome};
 ghost use Rattle.cf_hub.specs.Asking.{asked_of};
-ghost use Rattle.cf_hub.specs.Hub.{Node, attached_at, sub_at};
+ghost use Rattle.cf_hub.specs.Hub.{Node, attached_at, is_open, sub_at};
+ghost use Rattle.cf_hub.specs.Rows.{sub_in};
+ghost use Rattle.cf_hub.specs.SessionState.{is_unfinished};
 ghost use Rattle.cf_queue.specs.Meaning.{meaning};
-ghost use Rattle.cf_world.specs.HubCalls.{AtHub, Attaches, Checked, Closed, Delivered, Finished, Gone, Left, Renewed, Taken, Told, WasRead};
+ghost use Rattle.cf_world.specs.HubCalls.{Answered, Asks, AtHub, Attaches, Checked, Closed, Delivered, Finished, Gone, Left, LeftTold, Renewed, Taken, Told, WasRead, error_text, reply_text, who_in};
+ghost use Rattle.cf_world.specs.NodesTie.{seated};
 
 use crate::broker::{Accepted, NOW};
 use crate::peers::Seat;
 use crate::short::Short;
 use cf_hub::{Asked, Hub, HubRefusal};
-use cf_protocol::{CloseCode, Position};
+use cf_protocol::{CloseCode, ErrorCode, Info, Outcome, Outgoing, Position, write_reply};
 use cf_queue::Out;
 use cf_stream::Recovery;
 use std::alloc::Global;
@@ -76,6 +81,165 @@ pub(crate) fn say_in(hubs: &mut Vec<Hub>, seat: Seat, text: String) -> Result<()
         return Err(Short);
     }
     Ok(())
+}
+
+// The reply to a command is queued for a session.
+fn answer(
+    hub: &mut Hub,
+    alloc: Global,
+    session: u32,
+    id: u32,
+    outcome: Outcome,
+) -> Result<(), Short>
+    ensures { OnOk result (Told session (reply_text id (shown_outcome outcome)) hub.old hub.new) }
+{
+    let text = write_reply(alloc, &Outgoing::Answer { id, outcome })?;
+    let _said = hub.say(session, text);
+    if hub.short() {
+        return Err(Short);
+    }
+    Ok(())
+}
+
+// A command of a session is refused with an error.
+fn refuse(hub: &mut Hub, alloc: Global, session: u32, id: u32, code: ErrorCode) -> Result<(), Short>
+    ensures { OnOk result (Told session (error_text id code) hub.old hub.new) }
+{
+    let code = code.code();
+    answer(hub, alloc, session, id, Outcome::Failed { code })
+}
+
+/// The reply to a command is queued.
+pub(crate) fn answer_in(
+    hubs: &mut Vec<Hub>,
+    alloc: Global,
+    seat: Seat,
+    id: u32,
+    outcome: Outcome,
+) -> Result<(), Short>
+    ensures { OnOk result (Answered seat id (shown_outcome outcome) (slice_get hubs.old.items) (slice_get hubs.new.items)) }
+{
+    let Some(hub) = hubs.get_mut(seat.node as usize) else {
+        return Ok(());
+    };
+    answer(hub, alloc, seat.session, id, outcome)?;
+    Ok(())
+}
+
+/// A command is refused with an error.
+pub(crate) fn refuse_in(
+    hubs: &mut Vec<Hub>,
+    alloc: Global,
+    seat: Seat,
+    id: u32,
+    code: ErrorCode,
+) -> Result<(), Short>
+    ensures { OnOk result (Answered seat id (sent.Failed (code_of code)) (slice_get hubs.old.items) (slice_get hubs.new.items)) }
+{
+    let Some(hub) = hubs.get_mut(seat.node as usize) else {
+        return Ok(());
+    };
+    refuse(hub, alloc, seat.session, id, code)?;
+    Ok(())
+}
+
+/// A subscription is begun, or its ask refused.
+pub(crate) fn ask_in(
+    hubs: &mut Vec<Hub>,
+    alloc: Global,
+    seat: Seat,
+    id: u32,
+    channel: &str,
+    since: Option<Position>,
+) -> Result<(), Short>
+    ensures { OnOk result (AtHub seat.node (Asks seat.session channel.now id since) (slice_get hubs.old.items) (slice_get hubs.new.items)) }
+{
+    let Some(hub) = hubs.get_mut(seat.node as usize) else {
+        return Ok(());
+    };
+    ask(hub, alloc, seat.session, id, channel, since)?;
+    Ok(())
+}
+
+fn ask(
+    hub: &mut Hub,
+    alloc: Global,
+    session: u32,
+    id: u32,
+    channel: &str,
+    since: Option<Position>,
+) -> Result<(), Short>
+    ensures { OnOk result (Asks session channel.now id since hub.old hub.new) }
+{
+    hub.is_sound();
+    match hub.begin(session, channel, id, since) {
+        Ok(()) => Ok(()),
+        Err(HubRefusal::Already) => {
+            refuse(hub, alloc, session, id, ErrorCode::AlreadySubscribed)
+        }
+        Err(HubRefusal::TooMany) => refuse(hub, alloc, session, id, ErrorCode::LimitExceeded),
+        Err(HubRefusal::NoSession) => Ok(()),
+        Err(HubRefusal::Memory) => Err(Short),
+    }
+}
+
+/// A channel is left, and the session told so.
+pub(crate) fn lose_in(
+    hubs: &mut Vec<Hub>,
+    alloc: Global,
+    seat: Seat,
+    id: u32,
+    channel: &str,
+) -> Result<(), Short>
+    ensures { OnOk result (AtHub seat.node (LeftTold seat.session channel.now id) (slice_get hubs.old.items) (slice_get hubs.new.items)) }
+{
+    let Some(hub) = hubs.get_mut(seat.node as usize) else {
+        return Ok(());
+    };
+    lose(hub, alloc, seat.session, id, channel)?;
+    Ok(())
+}
+
+fn lose(hub: &mut Hub, alloc: Global, session: u32, id: u32, channel: &str) -> Result<(), Short>
+    ensures { OnOk result (LeftTold session channel.now id hub.old hub.new) }
+{
+    let _had = hub.leave(session, channel);
+    answer(hub, alloc, session, id, Outcome::Unsubscribed)
+}
+
+/// Whether a session is closed.
+pub(crate) fn is_closed_in(hubs: &Vec<Hub>, seat: Seat) -> bool
+    ensures { result ≡ not (is_open (seated (slice_get hubs.now.items) seat)) }
+{
+    match hubs.get(seat.node as usize) {
+        None => true,
+        Some(hub) => hub.is_closed(seat.session),
+    }
+}
+
+/// Whether a session waits for no reply to a subscribe.
+pub(crate) fn is_settled_in(hubs: &Vec<Hub>, seat: Seat) -> bool
+    ensures { IsTrue result ↔ ((c : List ℕ) → is_unfinished (sub_in (seated (slice_get hubs.now.items) seat) c) ≡ false) }
+{
+    match hubs.get(seat.node as usize) {
+        None => true,
+        Some(hub) => hub.is_settled(seat.session),
+    }
+}
+
+/// Who a session's client is. All clients connect as the empty user.
+pub(crate) fn info_in(hubs: &Vec<Hub>, alloc: Global, seat: Seat) -> Result<Option<Info>, Short>
+    ensures { IfOk result (λ who. who ≡ who_in (seated (slice_get hubs.now.items) seat)) }
+{
+    let Some(hub) = hubs.get(seat.node as usize) else {
+        return Ok(None);
+    };
+    let Some(client) = hub.client_id(seat.session) else {
+        return Ok(None);
+    };
+    let client = String::from_str(alloc, client)?;
+    let user = String::new(alloc);
+    Ok(Some(Info { user, client }))
 }
 
 /// A read of a stream is handed over.

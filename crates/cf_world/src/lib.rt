@@ -5,6 +5,7 @@ mod broker;
 mod entry;
 mod epochs;
 mod errand;
+mod granted;
 mod hubs;
 mod joining;
 mod peers;

@@ -15,7 +15,7 @@ not_refused : {T E : Type 0} (x : T) (e : E) → IsErrOf (Ok x) e → ⊥
 not_refused x e h = cc
 
 pub returns-in-Ok : goal.returns-in-Ok
-returns-in-Ok c = λ table m fresh h.
+returns-in-Ok c = λ table m fresh is-datum h.
     let channel : List ℕ = c.args.channel.now in
     let d : Datum = record { body = c.args.body.now; info = c.args.info } in
     let p : Position = c.in-Ok.position in
@@ -30,17 +30,17 @@ returns-in-Ok c = λ table m fresh h.
     (λ last. not_refused p StreamRefusal.AtLastOffset (c.in-Ok.ensures.last.1 last)) (ap (λ (q : Position). q.offset) c.in-Ok.ensures.position)
     c.in_ok-push-in-Ok.ensures.items made.channel made.epoch
     (made.publication ∙ search rules)
-    c.requires.body c.requires.info
+    is-datum.0 is-datum.1
 
 pub returns-in-Err-AtLastOffset : goal.returns-in-Err-AtLastOffset
-returns-in-Err-AtLastOffset c = λ table m fresh h.
+returns-in-Err-AtLastOffset c = λ table m fresh is-datum h.
     let is : IsErrOf c.publish.result StreamRefusal.AtLastOffset = search rules in
     let e = c.in-Err-AtLastOffset.ensures in
     full_shows table m c.args.self.now _ c.args.channel.now h (record { body = c.args.body.now; info = c.args.info })
     e.err (e.refusals.1 (λ i. absurd (cc))) refl (c.publish.ensures.last.0 is)
 
 pub returns-in-Err-NoEpoch : goal.returns-in-Err-NoEpoch
-returns-in-Err-NoEpoch c = λ table m fresh h.
+returns-in-Err-NoEpoch c = λ table m fresh is-datum h.
     let is : IsErrOf c.publish.result StreamRefusal.NoEpoch = search rules in
     let none = c.publish.ensures.no_epoch is in
     let n = no_epoch_shows table c.args.self.now _ m c.args.channel.now h fresh none.0 none.1 c.in-Err-NoEpoch.ensures.err refl in

@@ -1,0 +1,87 @@
+-- What becomes of a command that a client sends: at the broker, and at the session that sent it.
+use Rattle.std.specs.Prelude.{◌≡◌, ℕ, ℤ, nat_lt, ◌&&◌, not, is_some, Bool, true, false, Option, Some, None, List, length}
+use Rattle.cf_protocol.specs.Checks.{checks, first_failed, longest_text}
+use Rattle.cf_protocol.specs.Codes.{code_of}
+use Rattle.cf_protocol.specs.Outgoing.{Failed, Past, Published as PutDone}
+use Rattle.cf_protocol.specs.Request.{Command}
+use Rattle.cf_protocol.specs.Settings.{NamespaceTable}
+use Rattle.cf_protocol.specs.Written.{command_text}
+use Rattle.cf_protocol.specs.declared.codes.ErrorCode.TheVariants as error
+use Rattle.cf_client.specs.ClientView.{state_of}
+use Rattle.cf_client.specs.OneAnswer.{AreApart}
+use Rattle.cf_hub.specs.SessionState.{is_unfinished}
+use Rattle.cf_stream.specs.declared.answer.History.{History}
+use Rattle.cf_machine.specs.ClientRequest.{ClientRequest, SentCommand, Subscribe, Unsubscribe, Publish, History as ListHistory, command_of, request_of}
+use Rattle.cf_machine.specs.Config.{Config}
+use Rattle.cf_machine.specs.IntervalMachine.{command_by, id_left}
+use Rattle.cf_machine.specs.PublicationList.{Broker, can_open}
+use Rattle.cf_machine.specs.Weights.{command_length}
+use Rattle.cf_machine.specs.World.{World}
+use Rattle.cf_world.specs.BrokerTie.{Histories, Publishes}
+use Rattle.cf_world.specs.ClientTie.{request_by}
+use Rattle.cf_world.specs.HubCalls.{Answered, Hubs, who_in}
+use Rattle.cf_world.specs.NodesTie.{seated}
+use Rattle.cf_world.specs.declared.broker.Broker.{Broker as Code}
+use Rattle.cf_world.specs.declared.broker.Published.{Published}
+use Rattle.cf_world.specs.declared.broker.Published.TheVariants as outcome
+use Rattle.cf_world.specs.declared.errand.Errand.{Errand}
+use Rattle.cf_world.specs.declared.peers.Peer.{Peer}
+use Rattle.cf_world.specs.declared.peers.Seat.{Seat}
+
+-- ---- before anything is sent
+
+-- the command by which a client carries out an errand
+abbrev pub sent_by : Errand → Peer → SentCommand
+sent_by e p = record { id = (state_of p.client).client.fresh; request = request_by e (state_of p.client).client }
+
+-- its text is not too long, and no check of it fails
+abbrev pub passes : NamespaceTable → Command → Bool
+passes table k = not (is_some (first_failed (checks table k.request))) && not (nat_lt longest_text (length (command_text k)))
+
+-- it asks for a stream that neither stands nor can be opened
+abbrev pub asks_too_much : ClientRequest → Broker → Bool
+asks_too_much (Subscribe c from) b = false
+asks_too_much (Unsubscribe c) b = false
+asks_too_much (Publish c body) b = not (can_open c b)
+asks_too_much (ListHistory c limit) b = not (can_open c b)
+
+abbrev pub lacks_by : NamespaceTable → SentCommand → Broker → Bool
+lacks_by table k b = asks_too_much k.request b && passes table (command_of k)
+
+-- A client's command was sent where the client could send one and waited for no reply to a subscribe, and passed its checks.
+pub record IsGranted (cfg : Config) (m : World) (x : List ℕ) (p : Peer) (e : ClientRequest) : Type 0 where
+  pub left : id_left (m.links x) ≡ true
+  pub apart : AreApart (state_of p.client).client
+  pub quiet : (c : List ℕ) → is_unfinished ((m.links x).session.subs c) ≡ false
+  pub opened : (m.links x).session.closed ≡ false
+  pub fits : nat_lt longest_text (command_length (command_of (command_by x e m))) ≡ false
+  pub checked : first_failed (checks cfg.namespaces (request_of e)) ≡ None
+
+-- ---- once it passed its checks
+
+-- the nodes are as they were
+abbrev pub AreSame : Hubs → Hubs → Type 0
+AreSame old new = (j : ℕ) → new j ≡ old j
+
+-- what is said to a publish
+abbrev pub PutAnswered : Published → Seat → ℕ → Hubs → Hubs → Type 0
+PutAnswered outcome.Accepted s id old new = Answered s id PutDone old new
+PutAnswered outcome.AtLastOffset s id old new = Answered s id (Failed (code_of error.LimitExceeded)) old new
+PutAnswered outcome.NoEpoch s id old new = AreSame old new
+PutAnswered outcome.NotSetUp s id old new = AreSame old new
+
+-- a client's datum, which names it, is published, and the client is answered
+pub record Puts (table : NamespaceTable) (m : Broker) (s : Seat) (c body : List ℕ) (id : ℕ) (new : Code) (hubs hubs' : Hubs) : Type 0 where
+  pub result : Published
+  pub publishes : Publishes table m c (record { body = body; info = who_in (seated hubs s) }) new result
+  pub answered : PutAnswered result s id hubs hubs'
+
+-- what is said to a history
+abbrev pub ListAnswered : Option History → Seat → ℕ → Hubs → Hubs → Type 0
+ListAnswered (Some h) s id old new = Answered s id (Past h.position h.publications.items) old new
+ListAnswered None s id old new = AreSame old new
+
+pub record Lists (table : NamespaceTable) (m : Broker) (s : Seat) (c : List ℕ) (limit : ℤ) (id : ℕ) (new : Code) (hubs hubs' : Hubs) : Type 0 where
+  pub result : Option History
+  pub finds : Histories table m c limit new result
+  pub answered : ListAnswered result s id hubs hubs'

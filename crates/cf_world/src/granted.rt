@@ -1,0 +1,145 @@
+//! What a command comes to at the broker, and what its session is told of it.
+ghost use Rattle.std.specs.Prelude.{◌≡◌, None, Some, IfOk, IsSome, OnOk, slice_get};
+ghost use Rattle.std.specs.BTreeMap.{get_by_text};
+ghost use Rattle.cf_protocol.specs.Regular.{IsBody, IsInfo};
+ghost use Rattle.cf_protocol.specs.Settings.{NamespaceTable, settings_of};
+ghost use Rattle.cf_protocol.specs.Shown.{shown_command, shown_request};
+ghost use Rattle.cf_client.specs.ClientCalls.{call_fault};
+ghost use Rattle.cf_client.specs.ClientView.{state_of};
+ghost use Rattle.cf_machine.specs.FreshEpochs.{AreFresh};
+ghost use Rattle.cf_machine.specs.PublicationList.{Broker as Shared};
+ghost use Rattle.cf_world.specs.BrokerTie.{ShowsBroker};
+ghost use Rattle.cf_world.specs.Exchange.{Lists, Puts, lacks_by, passes, sent_by};
+ghost use Rattle.cf_world.specs.HubCalls.{who_in};
+ghost use Rattle.cf_world.specs.NodesTie.{seated};
+ghost use Rattle.cf_world.specs.declared.peers.Peer.{Peer as AnyPeer};
+
+use crate::broker::{Broker, Published};
+use crate::errand::Errand;
+use crate::hubs::{answer_in, info_in, refuse_in};
+use crate::peers::{Peer, Seat};
+use crate::short::Short;
+use cf_hub::Hub;
+use cf_protocol::{Command, Data, ErrorCode, Namespaces, Outcome, Request, write_command};
+use cf_session::refusal_of;
+use std::alloc::Global;
+use std::collections::BTreeMap;
+
+/// The longest text of a command, in bytes.
+const LONGEST_TEXT: usize = 65_536;
+
+/// Whether a client's command would pass its checks, and open a stream while no epoch waits.
+pub(crate) fn lacks_epoch(
+    alloc: Global,
+    namespaces: &Namespaces,
+    broker: &Broker,
+    peers: &BTreeMap<String, Peer>,
+    name: &str,
+    errand: &Errand<'_>,
+) -> Result<bool, Short>
+    ensures { IfOk result (λ lacks. (table : NamespaceTable) (m : Shared) (p : AnyPeer) → ShowsBroker table broker.now m → get_by_text peers.now name.now ≡ Some p → call_fault (state_of p.client) ≡ None → lacks ≡ lacks_by namespaces.now (sent_by errand.now p) m) }
+{
+    match errand {
+        Errand::Put { channel, body } => {
+            if broker.can_open(channel) {
+                return Ok(false);
+            }
+            let channel = String::from_str(alloc, channel)?;
+            let body = Data::Body(String::from_str(alloc, body)?);
+            would_pass(
+                alloc,
+                namespaces,
+                peers,
+                name,
+                Request::Publish { channel, body },
+            )
+        }
+        Errand::List { channel, limit } => {
+            if broker.can_open(channel) {
+                return Ok(false);
+            }
+            let request = Request::History {
+                channel: String::from_str(alloc, channel)?,
+                limit: *limit,
+                since: None,
+                reverse: false,
+            };
+            would_pass(alloc, namespaces, peers, name, request)
+        }
+        _ => Ok(false),
+    }
+}
+
+/// Whether a client's next command would pass its checks if it were this.
+fn would_pass(
+    alloc: Global,
+    namespaces: &Namespaces,
+    peers: &BTreeMap<String, Peer>,
+    name: &str,
+    request: Request,
+) -> Result<bool, Short>
+    ensures { IfOk result (λ pass. (p : AnyPeer) → get_by_text peers.now name.now ≡ Some p → call_fault (state_of p.client) ≡ None → pass ≡ passes namespaces.now (record { id = (state_of p.client).client.fresh; request = shown_request request })) }
+{
+    let Some(peer) = peers.get(name) else {
+        return Ok(false);
+    };
+    match peer.client.next_id() {
+        Ok(id) => passes(alloc, namespaces, &Command { id, request }),
+        Err(_) => Ok(false),
+    }
+}
+
+/// Whether a command passes its checks.
+fn passes(alloc: Global, namespaces: &Namespaces, command: &Command) -> Result<bool, Short>
+    ensures { IfOk result (λ pass. pass ≡ passes namespaces.now (shown_command command.now)) }
+{
+    if refusal_of(namespaces, &command.request).is_some() {
+        return Ok(false);
+    }
+    let text = write_command(alloc, command)?;
+    Ok(text.len() <= LONGEST_TEXT)
+}
+
+/// A client's datum is published, and the client is told.
+pub(crate) fn put_in(
+    broker: &mut Broker,
+    hubs: &mut Vec<Hub>,
+    alloc: Global,
+    seat: Seat,
+    id: u32,
+    channel: &str,
+    body: &str,
+) -> Result<(), Short>
+    ensures { OnOk result ((table : NamespaceTable) (m : Shared) → AreFresh m → IsBody body.now → IsInfo (who_in (seated (slice_get hubs.old.items) seat)) → ShowsBroker table broker.old m → Puts table m seat channel.now body.now id broker.new (slice_get hubs.old.items) (slice_get hubs.new.items)) }
+{
+    let info = info_in(hubs, alloc, seat)?;
+    match broker.publish(channel, body, info)? {
+        Published::Accepted => answer_in(hubs, alloc, seat, id, Outcome::Published),
+        Published::AtLastOffset => refuse_in(hubs, alloc, seat, id, ErrorCode::LimitExceeded),
+        Published::NoEpoch => Ok(()),
+        Published::NotSetUp => Ok(()),
+    }
+}
+
+/// The history of a channel is listed for a client.
+pub(crate) fn list_in(
+    broker: &mut Broker,
+    hubs: &mut Vec<Hub>,
+    alloc: Global,
+    seat: Seat,
+    id: u32,
+    channel: &str,
+    limit: i32,
+) -> Result<(), Short>
+    ensures { OnOk result ((table : NamespaceTable) (m : Shared) → AreFresh m → IsSome (settings_of table channel.now) → ShowsBroker table broker.old m → Lists table m seat channel.now limit id broker.new (slice_get hubs.old.items) (slice_get hubs.new.items)) }
+{
+    let Some(history) = broker.history(channel, limit)? else {
+        return Ok(());
+    };
+    let outcome = Outcome::Past {
+        position: history.position,
+        publications: history.publications,
+    };
+    answer_in(hubs, alloc, seat, id, outcome)?;
+    Ok(())
+}
