@@ -1,26 +1,23 @@
 -- A command that passed its checks is carried out, and the world goes on with the machine.
-use Rattle.std.proofs.Common.{◌≡◌, ◌≢◌, ◌≤◌, ◌+◌, inl, inr, ℕ, ℤ, suc, nat_le, nat_lt, not, Bool, true, false, if◌then◌else◌, is_some, Option, Some, None, option_map, List, [], ◌∷◌, min, max, length, arith, refl, sym, ap, ◌∙◌, subst}
+use Rattle.std.proofs.Common.{◌≡◌, ◌≤◌, ◌+◌, inl, inr, ℕ, ℤ, not, Bool, true, false, if◌then◌else◌, is_some, Option, Some, None, option_map, List, [], length, arith, refl, sym, ap, ◌∙◌, subst}
 use Rattle.std.proofs.lemmas.Bool.Decides.{nat_tests}
-use Rattle.std.specs.List.{All}
 use Rattle.cf_protocol.specs.Checks.{Refusal, Already, Full, AtLastOffset, refusal_code}
 use Rattle.cf_protocol.specs.Codes.{code_of}
 use Rattle.cf_protocol.specs.Datum.{Datum, Who}
-use Rattle.cf_protocol.specs.Fields.{max_u32}
-use Rattle.cf_protocol.specs.Names.{with, and_also}
-use Rattle.cf_protocol.specs.Note.{Lists as PublicationLists, Note, placed_from, Fails, Put as PutDone, Left as LeftNote, Listed}
-use Rattle.cf_protocol.specs.Outgoing.{Failed, Past, Published as PublishedOutcome, Unsubscribed}
+use Rattle.cf_protocol.specs.Names.{with}
+use Rattle.cf_protocol.specs.Note.{Lists as PublicationLists, placed_from, Fails, Put as PutDone, Left as LeftNote, Listed}
+use Rattle.cf_protocol.specs.Outgoing.{Past, Published as PublishedOutcome, Unsubscribed}
 use Rattle.cf_protocol.specs.Position.{Position}
 use Rattle.cf_protocol.specs.Regular.{ArePlaced, IsBody, IsCode, IsInfo}
 use Rattle.cf_protocol.specs.Settings.{NamespaceTable, settings_of}
 use Rattle.cf_protocol.specs.declared.codes.ErrorCode.{ErrorCode}
 use Rattle.cf_protocol.specs.declared.codes.ErrorCode.TheVariants as error
-use Rattle.cf_client.specs.ClientCalls.{State}
 use Rattle.cf_client.specs.ClientState.{Client}
 use Rattle.cf_client.specs.ClientView.{state_of}
 use Rattle.cf_queue.specs.OutQueue.{Text}
 use Rattle.cf_hub.specs.AlikeMoves.{CallsAreAlike, MovesAreAlike}
 use Rattle.cf_hub.specs.Counts.{CountsAll, CountsSession}
-use Rattle.cf_hub.specs.Hub.{Begins, Node, attached_at, is_open}
+use Rattle.cf_hub.specs.Hub.{Node, attached_at, is_open}
 use Rattle.cf_hub.specs.InNotes.{IsSaid, SaysAt}
 use Rattle.cf_hub.specs.Rows.{sub_in}
 use Rattle.cf_hub.specs.Session.{Attached}
@@ -28,20 +25,20 @@ use Rattle.cf_hub.specs.SessionState.{Off, Asked, Ready, On, begins, is_off, is_
 use Rattle.cf_hub.specs.Spoken.{spoken}
 use Rattle.cf_hub.specs.Wordings.{plain}
 use Rattle.cf_stream.specs.StreamAnswer.{Listing, listed_above}
-use Rattle.cf_stream.specs.StreamState.{StreamState, last_offset, position_of}
+use Rattle.cf_stream.specs.StreamState.{StreamState, position_of}
 use Rattle.cf_stream.specs.declared.answer.History.{History}
 use Rattle.cf_machine.specs.ClientLink.{ClientLink}
 use Rattle.cf_machine.specs.ClientRequest.{ClientRequest, SentCommand, Subscribe, Unsubscribe, Publish, History as ListHistory, channel_of}
 use Rattle.cf_machine.specs.Config.{Config}
 use Rattle.cf_machine.specs.IntervalMachine.{broker_by, command_by, datum_by, exchange, judgement, size_of}
-use Rattle.cf_machine.specs.PublicationList.{Broker, at_last_offset, can_open, opened, publish}
+use Rattle.cf_machine.specs.PublicationList.{Broker, can_open, opened, publish}
 use Rattle.cf_machine.specs.Refusals.{Accepted, Judgement, Refused, TooLong, Unheard, has_no_room, refusal_of, refused_with, subscribe_refusal}
 use Rattle.cf_machine.specs.Session.{Session, Sub}
 use Rattle.cf_machine.specs.World.{World}
-use Rattle.cf_world.specs.BrokerTie.{FindsPast, Histories, IsStanding, Publishes, ShowsBroker}
+use Rattle.cf_world.specs.BrokerTie.{Histories, IsStanding, Publishes, ShowsBroker}
 use Rattle.cf_world.specs.ClientTie.{Becomes, IsOwn, ShowsPeer, sent_state}
 use Rattle.cf_world.specs.Exchange.{IsGranted, Lists, Puts, PutAnswered, ListAnswered}
-use Rattle.cf_world.specs.HubCalls.{Answered, AskedTooMuch, AskedTwice, Asks, AtHub, Began, Hubs, LeftTold, OneHub, Told, error_text, reply_text, who_in}
+use Rattle.cf_world.specs.HubCalls.{AskedTooMuch, AskedTwice, Asks, AtHub, Began, Hubs, LeftTold, OneHub, Told, error_text, reply_text, who_in}
 use Rattle.cf_world.specs.NodesTie.{IsSeated, name_of, seated, session_in}
 use Rattle.cf_world.specs.Tie.{AreTied}
 use Rattle.cf_world.specs.declared.broker.Broker.{Broker as Code}
@@ -52,13 +49,13 @@ use Rattle.cf_world.specs.declared.peers.Seat.{Seat}
 use Rattle.cf_world.proofs.Answering.{answer_goes, begin_goes}
 use Rattle.cf_world.proofs.BoardLists.{grown-refl}
 use Rattle.cf_world.proofs.Ends.{Keeps, leaves_keeps, push_keeps}
-use Rattle.cf_world.proofs.Exchanged.{after, exchange_is, met, met_ask, met_history, met_leave, met_publish, met_refused, with_id}
+use Rattle.cf_world.proofs.Exchanged.{after, exchange_is, met, met_ask, met_history, met_refused}
 use Rattle.cf_world.proofs.Exchanging.{exchange_goes, sat}
 use Rattle.cf_world.proofs.Going.{Stays, grown-opened, grown-publish}
 use Rattle.cf_world.proofs.Looking.{off_at, open_at}
-use Rattle.cf_world.proofs.NodesTie.{LinkGoes, link_goes, met_name, one_name, seat_shows}
+use Rattle.cf_world.proofs.NodesTie.{link_goes, met_name, one_name, seat_shows}
 use Rattle.cf_world.proofs.Owned.{push-own}
-use Rattle.cf_world.proofs.Passing.{list-set-up, publish-set-up}
+use Rattle.cf_world.proofs.Passing.{publish-set-up}
 use Rattle.cf_world.proofs.ReadGoes.{lists-opened}
 use Rattle.cf_world.proofs.Reading.{Missing, regular-placed}
 use Rattle.cf_world.proofs.Rooms.{row_full, row_room}

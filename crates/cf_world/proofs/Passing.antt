@@ -1,5 +1,5 @@
 -- What a command has that passes its checks, and whether it would open a stream while no epoch waits.
-use Rattle.std.proofs.Common.{◌≡◌, ℕ, ℤ, ◌&&◌, ◌||◌, not, nat_lt, Bool, true, false, if◌then◌else◌, is_some, IsSome, Option, Some, None, option_map, List, [], ◌∷◌, refl, sym, ap, ◌∙◌, length}
+use Rattle.std.proofs.Common.{◌≡◌, ℕ, ℤ, ◌&&◌, not, nat_lt, Bool, true, false, if◌then◌else◌, is_some, IsSome, Option, Some, None, option_map, List, [], ◌∷◌, refl, sym, ap, ◌∙◌, length}
 use Rattle.cf_protocol.specs.Checks.{Check, Refusal, AtLastOffset, checks, first_failed, is_bad_channel, longest_text, refusal_code, set_up, well_named}
 use Rattle.cf_protocol.specs.Request as request
 use Rattle.cf_protocol.specs.Request.{Command}
@@ -13,8 +13,8 @@ use Rattle.cf_machine.specs.ClientLink.{ClientLink}
 use Rattle.cf_machine.specs.ClientRequest.{ClientRequest, SentCommand, Subscribe, Unsubscribe, Publish, History, command_of, request_of}
 use Rattle.cf_machine.specs.Config.{Config}
 use Rattle.cf_machine.specs.IntervalMachine.{command_by, judgement, lacks_epoch}
-use Rattle.cf_machine.specs.PublicationList.{Broker, at_last_offset, can_open, is_full, stands_or_opens}
-use Rattle.cf_machine.specs.Refusals.{Judgement, Accepted, Refused, TooLong, Unheard, judged, refusal_of, refused_with}
+use Rattle.cf_machine.specs.PublicationList.{Broker, can_open, is_full, stands_or_opens}
+use Rattle.cf_machine.specs.Refusals.{Accepted, TooLong, Unheard, refusal_of, refused_with}
 use Rattle.cf_machine.specs.Weights.{command_length}
 use Rattle.cf_machine.specs.World.{World}
 use Rattle.cf_world.specs.ClientTie.{request_by}

@@ -1,5 +1,5 @@
 -- What the calls of one node's hub make of all nodes.
-use Rattle.std.specs.Prelude.{◌≡◌, ◌≢◌, ◌⊎◌, ◌+◌, ℕ, suc, Bool, true, false, Option, Some, List, [], ◌∷◌}
+use Rattle.std.specs.Prelude.{◌≡◌, ◌≢◌, ◌⊎◌, ◌+◌, ℕ, suc, true, false, Option, Some, List, [], ◌∷◌}
 use Rattle.cf_protocol.specs.Codes.{code_of}
 use Rattle.cf_protocol.specs.Datum.{Placed}
 use Rattle.cf_protocol.specs.Outgoing.{Answer, Failed, Outcome, Unsubscribed}

@@ -4,7 +4,6 @@ use mir.Val.{of_z, to_z}
 use Rattle.std.proofs.lemmas.Int.{to_z-of_z}
 use Rattle.std.proofs.lemmas.Result.{IfOk-weaker}
 use Rattle.cf_client.specs.ClientView.{state_of}
-use Rattle.cf_machine.specs.PublicationList.{can_open}
 use Rattle.cf_world.specs.ClientTie.{request_by}
 use Rattle.cf_world.specs.declared.errand.Errand.{Errand}
 use Rattle.cf_world.proofs.Passing.{list-lacks, put-lacks}
