@@ -32,6 +32,11 @@ pub mod Connecting
 pub mod SentOwn
 pub mod Answering
 pub mod Allowing
-pub mod Passing
+pub mod OneCommand
 pub mod Saying
+pub mod Passing
+pub mod Hearing
+pub mod Sendable
+pub mod Sends
 pub mod Granting
+pub mod Exchanges

@@ -8,6 +8,7 @@ use Rattle.cf_protocol.specs.Frame.{IsReplies}
 use Rattle.cf_protocol.specs.Names.{with}
 use Rattle.cf_protocol.specs.Note.{Note, Reply, Pub, End, Fails, Put as PutDone, Left, Listed, PingDue, Close}
 use Rattle.cf_protocol.specs.Outgoing.{Outgoing}
+use Rattle.cf_protocol.specs.Regular.{IsFrom}
 use Rattle.cf_protocol.specs.Written.{command_text}
 use Rattle.cf_client.specs.AppItem.{AppItem}
 use Rattle.cf_client.specs.ClientCalls.{State, connected, new_state, TakesAll, asked, ask_fault, call_fault, called, left, leave_fault, reconnected}
@@ -62,6 +63,13 @@ send_fault (errand.AskFrom channel) s = ask_fault channel.now s
 send_fault (errand.Leave channel) s = leave_fault channel.now s
 send_fault (errand.Put channel body) s = call_fault s
 send_fault (errand.List channel limit) s = call_fault s
+
+-- a position from which it asks is read back
+abbrev pub AsksFrom : ClientRequest → Type 0
+AsksFrom (Subscribe c from) = IsFrom from
+AsksFrom (Unsubscribe c) = ⊤
+AsksFrom (Publish c body) = ⊤
+AsksFrom (History c limit) = ⊤
 
 -- what a client makes of an errand that it sends
 abbrev pub sent_state : ClientRequest → State → State
@@ -118,6 +126,8 @@ pub record Sent (e : Errand) (x text : List ℕ) (p : Peer) (old new : List ℕ 
   pub allowed : send_fault e (state_of p.client) ≡ None
   pub said : text ≡ command_text (command_of (record { id = (state_of p.client).client.fresh; request = request_by e (state_of p.client).client }))
   pub becomes : Becomes x p (sent_state (request_by e (state_of p.client).client) (state_of p.client)) old new
+  pub apart : AreApart (state_of p.client).client
+  pub since : AsksFrom (request_by e (state_of p.client).client)
 
 -- it can't, and stays as it was
 pub record NotSent (e : Errand) (x : List ℕ) (p : Peer) (old new : List ℕ → Option Peer) : Type 0 where

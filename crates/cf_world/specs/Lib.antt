@@ -5,3 +5,6 @@ pub mod NodesTie
 pub mod Tie
 pub mod Entries
 pub mod Exchange
+pub mod Judging
+pub mod Sending
+pub mod Errands

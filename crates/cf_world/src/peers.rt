@@ -150,8 +150,9 @@ impl Peer {
     ghost use Rattle.cf_protocol.specs.Written.{command_text};
     ghost use Rattle.cf_client.specs.ClientCalls.{RefusedBy, connected, reconnected};
     ghost use Rattle.cf_client.specs.ClientView.{state_of};
+    ghost use Rattle.cf_client.specs.OneAnswer.{AreApart};
     ghost use Rattle.cf_machine.specs.ClientRequest.{command_of};
-    ghost use Rattle.cf_world.specs.ClientTie.{LeavesAs, is_at, request_by, send_fault, sent_state};
+    ghost use Rattle.cf_world.specs.ClientTie.{AsksFrom, LeavesAs, is_at, request_by, send_fault, sent_state};
 
     fn break_off(&mut self)
         ensures state { state_of self.new.client ≡ reconnected (state_of self.old.client) }
@@ -197,7 +198,10 @@ impl Peer {
         ensures refused { RefusedBy (send_fault errand.now (state_of self.old.client)) result }
         ensures err { OnErr result (state_of self.new.client ≡ state_of self.old.client) }
         ensures seat { self.new.seat ≡ self.old.seat }
+        ensures apart { AreApart (state_of self.old.client).client }
+        ensures since { AsksFrom (request_by errand.now (state_of self.old.client).client) }
     {
+        self.client.is_sound();
         match errand {
             Errand::Ask { channel } => self.client.ask(channel),
             Errand::AskFrom { channel } => self.client.ask_from(channel),

@@ -31,6 +31,8 @@ returns-in-Ok c = λ p there.
       allowed = sent-none (send_fault c.args.errand.now (state_of k.client)) c.in-Ok.text (subst (λ (r : Result (String Global) ClientFault). RefusedBy (send_fault c.args.errand.now (state_of k.client)) r) was refused);
       said = c.in-Ok.ensures.text;
       becomes = record { client = v.client; now = now; state_is = c.in-Ok.ensures.ok };
+      apart = c.send.ensures.apart;
+      since = c.send.ensures.since;
     })
 
 pub returns-in-Err-NotNow : goal.returns-in-Err-NotNow

@@ -1,0 +1,112 @@
+-- A command that passed its checks is carried out: the event has happened.
+use Rattle.std.proofs.Common.{◌≡◌, ◌∙◌, ℕ, ℤ, not, Bool, true, false, Option, Some, None, IsSome, List, refl, sym, ap, subst}
+use Rattle.cf_protocol.specs.Note.{Lists as PublicationLists}
+use Rattle.cf_protocol.specs.Position.{Position}
+use Rattle.cf_protocol.specs.Regular.{IsBody, IsInfo}
+use Rattle.cf_protocol.specs.Settings.{NamespaceTable, settings_of}
+use Rattle.cf_protocol.specs.Shown.{shown_command}
+use Rattle.cf_client.specs.ClientView.{state_of}
+use Rattle.cf_hub.specs.AlikeMoves.{CallsAreAlike, MovesAreAlike}
+use Rattle.cf_hub.specs.Counts.{CountsAll, CountsSession}
+use Rattle.cf_hub.specs.Hub.{Node}
+use Rattle.cf_machine.specs.ClientRequest.{ClientRequest, Subscribe, Unsubscribe, Publish, History, command_of}
+use Rattle.cf_machine.specs.Config.{Config}
+use Rattle.cf_machine.specs.FreshEpochs.{AreFresh}
+use Rattle.cf_machine.specs.IntervalMachine.{command_by, exchange, happens}
+use Rattle.cf_machine.specs.PublicationList.{Broker, can_open}
+use Rattle.cf_machine.specs.World.{World}
+use Rattle.cf_world.specs.BrokerTie.{ShowsBroker}
+use Rattle.cf_world.specs.ClientTie.{Becomes, request_by, sent_state}
+use Rattle.cf_world.specs.Errands.{event_by}
+use Rattle.cf_world.specs.Exchange.{AreSame, IsGranted, Lists, Puts, asks_too_much}
+use Rattle.cf_world.specs.HubCalls.{Asks, AtHub, Hubs, LeftTold, who_in}
+use Rattle.cf_world.specs.NodesTie.{seated}
+use Rattle.cf_world.specs.Sending.{IsSent}
+use Rattle.cf_world.specs.Tie.{AreTied}
+use Rattle.cf_world.specs.declared.broker.Broker.{Broker as Code}
+use Rattle.cf_world.specs.declared.errand.Errand.{Errand}
+use Rattle.cf_world.specs.declared.peers.Peer.{Peer}
+use Rattle.cf_world.specs.declared.sending.Granted.{Granted}
+use Rattle.cf_world.proofs.Going.{Stays}
+use Rattle.cf_world.proofs.Granting.{ask_granted, info_regular, leave_granted, list_granted, put_granted}
+use Rattle.cf_world.proofs.Passing.{list-set-up}
+use Rattle.cf_world.proofs.Reading.{Missing}
+
+is_open : (b : Bool) → not b ≡ false → b ≡ true
+is_open true h = refl
+is_open false h = absurd (cc)
+
+module _ {cfg : Config} {table : NamespaceTable} {b : Code} {hubs : ℕ → Option Node} {peers : List ℕ → Option Peer} {m : World}
+    (t : AreTied cfg table b hubs peers m) (x : List ℕ) (e : Errand) (mid : ℕ → Option Node) (peers' : List ℕ → Option Peer)
+    (g : Granted) (sent : IsSent cfg m x e hubs mid peers peers' g) (stays : Stays)
+    (calls : (lists : PublicationLists) → CallsAreAlike lists) (moves : (lists : PublicationLists) → MovesAreAlike lists) where
+  abbrev p : Peer
+  p = sent.peer
+
+  abbrev asked : ClientRequest
+  asked = request_by e (state_of p.client).client
+
+  -- hubs that are as they were are the same
+  as_before : (P : Hubs → Type 0) → P mid → P hubs
+  as_before P h = subst P (λ i j. sent.same j i) h
+
+  module _ (q : ClientRequest) (is : asked ≡ q) where
+    becomes : Becomes x p (sent_state q (state_of p.client)) peers peers'
+    becomes = subst (λ (r : ClientRequest). Becomes x p (sent_state r (state_of p.client)) peers peers') is sent.becomes
+
+    granted : IsGranted cfg m x p q
+    granted = subst (λ (r : ClientRequest). IsGranted cfg m x p r) is sent.granted
+
+    command : shown_command g.command ≡ command_of (command_by x q m)
+    command = sent.command ∙ ap (λ (r : ClientRequest). command_of (command_by x r m)) is
+
+    opens : asks_too_much q m.broker ≡ false
+    opens = ap (λ (r : ClientRequest). asks_too_much r m.broker) (sym is) ∙ sent.opens
+
+    happened : (new : Code) (hubs' : ℕ → Option Node) → AreTied cfg table new hubs' peers' (exchange cfg x q m) → AreTied cfg table new hubs' peers' (happens cfg m (event_by e x))
+    happened new hubs' tied =
+        subst (λ (w : World). AreTied cfg table new hubs' peers' w) (sym (sent.happens ∙ ap (λ (r : ClientRequest). exchange cfg x r m) is)) tied
+
+  pub asks_done : (c : List ℕ) (since : Option Position) → asked ≡ Subscribe c since → CountsSession → CountsAll → (hubs' : ℕ → Option Node)
+      → ((id : ℕ) (channel : List ℕ) (from : Option Position) → shown_command g.command ≡ command_of (record { id = id; request = Subscribe channel from }) → AtHub g.seat.node (Asks g.seat.session channel id from) mid hubs')
+      → AreTied cfg table b hubs' peers' (happens cfg m (event_by e x))
+  asks_done c since is session all hubs' did =
+      let q : ClientRequest = Subscribe c since in
+      let n : ℕ = (m.links x).client.fresh in
+      happened q is b hubs'
+      (ask_granted t x g.seat p sent.found sent.sits c since peers' (becomes q is) stays calls moves (granted q is) session all n refl hubs'
+      (as_before (λ (f : Hubs). AtHub g.seat.node (Asks g.seat.session c n since) f hubs') (did n c since (command q is))))
+
+  pub leave_done : (c : List ℕ) → asked ≡ Unsubscribe c → (hubs' : ℕ → Option Node)
+      → ((id : ℕ) (channel : List ℕ) → shown_command g.command ≡ command_of (record { id = id; request = Unsubscribe channel }) → AtHub g.seat.node (LeftTold g.seat.session channel id) mid hubs')
+      → AreTied cfg table b hubs' peers' (happens cfg m (event_by e x))
+  leave_done c is hubs' did =
+      let q : ClientRequest = Unsubscribe c in
+      let n : ℕ = (m.links x).client.fresh in
+      happened q is b hubs'
+      (leave_granted t x g.seat p sent.found sent.sits c peers' (becomes q is) stays calls moves (granted q is) n refl hubs'
+      (as_before (λ (f : Hubs). AtHub g.seat.node (LeftTold g.seat.session c n) f hubs') (did n c (command q is))))
+
+  pub put_done : (c body : List ℕ) → asked ≡ Publish c body → AreFresh m.broker → IsBody body → (new : Code) (hubs' : ℕ → Option Node)
+      → ((id : ℕ) (channel text : List ℕ) → shown_command g.command ≡ command_of (record { id = id; request = Publish channel text }) → (namespaces : NamespaceTable) (shared : Broker)
+      → AreFresh shared → IsBody text → IsInfo (who_in (seated mid g.seat)) → ShowsBroker namespaces b shared → Puts namespaces shared g.seat channel text id new mid hubs')
+      → AreTied cfg table new hubs' peers' (happens cfg m (event_by e x))
+  put_done c body is fresh is_body new hubs' did =
+      let q : ClientRequest = Publish c body in
+      let n : ℕ = (m.links x).client.fresh in
+      let info : IsInfo (who_in (seated hubs g.seat)) = info_regular t x g.seat p sent.found sent.sits c body peers' (becomes q is) stays calls moves (granted q is) in
+      let here : IsInfo (who_in (seated mid g.seat)) = subst (λ (f : Hubs). IsInfo (who_in (seated f g.seat))) (λ i j. sym (sent.same j) i) info in
+      happened q is new hubs'
+      (put_granted t x g.seat p sent.found sent.sits c body peers' (becomes q is) stays calls moves (granted q is) n refl (is_open (can_open c m.broker) (opens q is)) new hubs'
+      (as_before (λ (f : Hubs). Puts cfg.namespaces m.broker g.seat c body n new f hubs') (did n c body (command q is) cfg.namespaces m.broker fresh is_body here t.broker)))
+
+  pub list_done : (c : List ℕ) (limit : ℤ) → asked ≡ History c limit → AreFresh m.broker → Missing → (new : Code) (hubs' : ℕ → Option Node)
+      → ((id : ℕ) (channel : List ℕ) (most : ℤ) → shown_command g.command ≡ command_of (record { id = id; request = History channel most }) → (namespaces : NamespaceTable) (shared : Broker)
+      → AreFresh shared → IsSome (settings_of namespaces channel) → ShowsBroker namespaces b shared → Lists namespaces shared g.seat channel most id new mid hubs')
+      → AreTied cfg table new hubs' peers' (happens cfg m (event_by e x))
+  list_done c limit is fresh missing new hubs' did =
+      let q : ClientRequest = History c limit in
+      let n : ℕ = (m.links x).client.fresh in
+      happened q is new hubs'
+      (list_granted t x g.seat p sent.found sent.sits c limit peers' (becomes q is) stays missing calls moves (granted q is) n refl (is_open (can_open c m.broker) (opens q is)) new hubs'
+      (as_before (λ (f : Hubs). Lists cfg.namespaces m.broker g.seat c limit n new f hubs') (did n c limit (command q is) cfg.namespaces m.broker fresh (list-set-up cfg.namespaces c limit (granted q is).checked) t.broker)))

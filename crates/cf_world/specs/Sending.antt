@@ -1,0 +1,63 @@
+-- A client sends a command, and its node hears it: what becomes of it before hub and broker are asked.
+use Rattle.std.specs.Prelude.{◌≡◌, ℕ, not, Bool, false, Option, Some, None, List}
+use Rattle.cf_protocol.specs.Codes.{code_of}
+use Rattle.cf_protocol.specs.Outgoing.{Failed}
+use Rattle.cf_protocol.specs.Settings.{NamespaceTable}
+use Rattle.cf_protocol.specs.Shown.{shown_command}
+use Rattle.cf_client.specs.ClientView.{state_of}
+use Rattle.cf_hub.specs.Hub.{is_open}
+use Rattle.cf_machine.specs.ClientRequest.{command_of}
+use Rattle.cf_machine.specs.Config.{Config}
+use Rattle.cf_machine.specs.IntervalMachine.{command_by, exchange, happens}
+use Rattle.cf_machine.specs.Refusals.{bad_message}
+use Rattle.cf_machine.specs.World.{World}
+use Rattle.cf_world.specs.ClientTie.{Becomes, request_by, sent_state}
+use Rattle.cf_world.specs.Errands.{event_by}
+use Rattle.cf_world.specs.Exchange.{AreSame, IsGranted, asks_too_much}
+use Rattle.cf_world.specs.HubCalls.{Answered, AtHub, Closed, Hubs}
+use Rattle.cf_world.specs.Judging.{Judges}
+use Rattle.cf_world.specs.NodesTie.{seated}
+use Rattle.cf_world.specs.Tie.{AreTied}
+use Rattle.cf_world.specs.declared.broker.Broker.{Broker as Code}
+use Rattle.cf_world.specs.declared.errand.Errand.{Errand}
+use Rattle.cf_world.specs.declared.judging.Judged.{Judged}
+use Rattle.cf_world.specs.declared.judging.Judged.TheVariants as judged
+use Rattle.cf_world.specs.declared.peers.Peer.{Peer}
+use Rattle.cf_world.specs.declared.peers.Seat.{Seat}
+use Rattle.cf_world.specs.declared.sending.Granted.{Granted}
+
+-- ---- a node hears a text
+
+-- what a judgement makes of the nodes at once
+abbrev pub Acts : Seat → Judged → Hubs → Hubs → Type 0
+Acts s judged.Unheard old new = AreSame old new
+Acts s judged.TooLong old new = AtHub s.node (Closed s.session bad_message) old new
+Acts s judged.Unreadable old new = AreSame old new
+Acts s (judged.Refused id code) old new = Answered s id (Failed (code_of code)) old new
+Acts s (judged.Granted command) old new = AreSame old new
+
+pub record Hears (table : NamespaceTable) (s : Seat) (text : List ℕ) (old new : Hubs) (j : Judged) : Type 0 where
+  pub closed : Bool
+  pub is_closed : closed ≡ not (is_open (seated old s))
+  pub judges : Judges table closed text j
+  pub acts : Acts s j old new
+
+-- ---- what is sent
+
+module _ (cfg : Config) (m : World) (x : List ℕ) (e : Errand) (hubs hubs' : Hubs) (peers peers' : List ℕ → Option Peer) where
+  -- The client sent its command, which passed its checks, and hub and broker are to be asked.
+  pub record IsSent (g : Granted) : Type 0 where
+    pub peer : Peer
+    pub found : peers x ≡ Some peer
+    pub sits : peer.seat ≡ Some g.seat
+    pub becomes : Becomes x peer (sent_state (request_by e (state_of peer.client).client) (state_of peer.client)) peers peers'
+    pub same : AreSame hubs hubs'
+    pub granted : IsGranted cfg m x peer (request_by e (state_of peer.client).client)
+    pub opens : asks_too_much (request_by e (state_of peer.client).client) m.broker ≡ false
+    pub command : shown_command g.command ≡ command_of (command_by x (request_by e (state_of peer.client).client) m)
+    pub happens : happens cfg m (event_by e x) ≡ exchange cfg x (request_by e (state_of peer.client).client) m
+
+  -- or all that is to happen has happened
+  abbrev pub SendsAs : NamespaceTable → Code → Option Granted → Type 0
+  SendsAs table b None = AreTied cfg table b hubs' peers' (happens cfg m (event_by e x))
+  SendsAs table b (Some g) = IsSent g
