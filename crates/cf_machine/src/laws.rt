@@ -1,19 +1,19 @@
 //! What holds of every run of the interval machine: stream safety.
 //!
 //! Each law is a function that does nothing: its contract is the law.
-ghost use Rattle.std.specs.Prelude.{◌≡◌, All, List, ℕ};
+ghost use Rattle.std.specs.Prelude.{◌≡◌, [], ◌∷◌, ◌++◌, ◌+◌, All, List, length, ℕ};
 ghost use Rattle.cf_client.specs.ClientState.{last_of};
 ghost use Rattle.cf_machine.specs.AnswersById.{AreForChannel};
 ghost use Rattle.cf_machine.specs.Config.{Config};
 ghost use Rattle.cf_machine.specs.Event.{Event};
 ghost use Rattle.cf_machine.specs.FreshEpochs.{AreFresh};
-ghost use Rattle.cf_machine.specs.IntervalMachine.{run};
+ghost use Rattle.cf_machine.specs.IntervalMachine.{happens, run};
 ghost use Rattle.cf_machine.specs.Leading.{IsListed, LeadsOn, coming};
 ghost use Rattle.cf_machine.specs.LooseRun.{Happening, lines, loose_run};
 ghost use Rattle.cf_machine.specs.PublicationList.{StandsOver, tops};
 ghost use Rattle.cf_machine.specs.StreamSafety.{AreTrueTo, Safe};
 ghost use Rattle.cf_machine.specs.Tellable.{IsTellable};
-ghost use Rattle.cf_machine.specs.Told.{loose_trace, trace};
+ghost use Rattle.cf_machine.specs.Told.{loose_trace, trace, writes};
 ghost use Rattle.cf_machine.specs.World.{start};
 
 /// The headline, of every schedule under every configuration: no two clients ever hold different publications at one place;
@@ -75,4 +75,10 @@ pub fn schedules_are_loose_runs()
 #[tactic(auto, using(crate::proofs::Tellable::what_waits))]
 pub fn what_waits_is_listed()
     ensures { (config : Config) (events : List Event) (client : List ℕ) → All (IsTellable (run config start events).broker.lists) ((run config start events).links client).session.notes }
+{}
+
+/// One event more takes the world that a run led to one step on, and adds its entries to the run's trace.
+pub fn one_event_more()
+    ensures run { (config : Config) (events : List Event) (event : Event) → run config start (events ++ event ∷ []) ≡ happens config (run config start events) event }
+    ensures trace { (config : Config) (events : List Event) (event : Event) → trace config 1 start (events ++ event ∷ []) ≡ trace config 1 start events ++ writes config (1 + length events) (run config start events) event }
 {}
