@@ -46,7 +46,7 @@ use Rattle.cf_world.proofs.NodesTie.{LinkGoes, link_goes, one_name, seat_shows, 
 use Rattle.cf_world.proofs.Sitting.{client_here, hub_there, seat_here}
 use Rattle.cf_world.proofs.TakeKeeps.{Kept, own_kept, takes_kept}
 use Rattle.cf_world.proofs.Telling.{items_agree}
-use Rattle.cf_world.specs.Entries.{told_of}
+use Rattle.cf_world.specs.Items.{told_of}
 
 -- ---- a text's note reaches the client
 

@@ -13,7 +13,7 @@ use Rattle.cf_client.specs.OneMeaning as told
 use Rattle.cf_machine.specs.PublicationList.{body_at, body_of}
 use Rattle.cf_machine.specs.Tellable.{IsTellable}
 use Rattle.cf_machine.specs.Told.{asks_under, end_items, items, pub_items, reply_items, run_items}
-use Rattle.cf_world.specs.Entries.{told_of}
+use Rattle.cf_world.specs.Items.{told_of}
 use Rattle.cf_machine.specs.Trace.{Item, Subscribed, Published, Refused, Listed}
 
 record Next (ds : List Datum) (o : ℕ) : Type 0 where

@@ -1,3 +1,4 @@
+pub mod Items
 pub mod BrokerTie
 pub mod ClientTie
 pub mod HubCalls

@@ -1,5 +1,5 @@
 -- A world shows a state of the machine: each part of it stands beside what the machine has for that part.
-use Rattle.std.specs.Prelude.{◌≡◌, ℕ, Option, List, flat_map, option_and_then, option_map, slice_get}
+use Rattle.std.specs.Prelude.{◌≡◌, ℕ, Option, List, map, option_and_then, option_map, slice_get}
 use Rattle.std.specs.BTreeMap.{get_by_text}
 use Rattle.cf_protocol.specs.Settings.{NamespaceTable}
 use Rattle.cf_client.specs.ClientView.{ClientView}
@@ -39,7 +39,7 @@ GoesOn e old new = (cfg : Config) (past : List Event) → Tied cfg old (run cfg 
 
 -- these entries are those of event number n
 abbrev pub Writes : ℕ → Event → Code → List Entry → Type 0
-Writes n e old es = (cfg : Config) (past : List Event) → Tied cfg old (run cfg start past) → flat_map shown_entry es ≡ writes cfg n (run cfg start past) e
+Writes n e old es = (cfg : Config) (past : List Event) → Tied cfg old (run cfg start past) → map shown_entry es ≡ writes cfg n (run cfg start past) e
 
 -- ---- its parts
 

@@ -1,10 +1,11 @@
 //! What reaches a client, and what its application gets.
-ghost use Rattle.std.specs.Prelude.{◌≡◌, [], ◌∷◌, IfOk, OnOk, flat_map, map};
+ghost use Rattle.std.specs.Prelude.{◌≡◌, [], ◌∷◌, IfNone, IfOk, IfSome, IsTrue, OnOk, flat_map, map};
 ghost use Rattle.cf_client.specs.Shown.{shown_item};
 ghost use Rattle.cf_machine.specs.Event as said;
 ghost use Rattle.cf_machine.specs.Told.{entries as entries_of};
 ghost use Rattle.cf_machine.specs.Trace as item;
-ghost use Rattle.cf_world.specs.Entries.{shown_entry, told_of};
+ghost use Rattle.cf_world.specs.Entries.{shown_entry};
+ghost use Rattle.cf_world.specs.Items.{is_got, told_of};
 ghost use Rattle.cf_world.specs.Tie.{GoesOn, Writes};
 
 use crate::entry::{Entry, Item};
@@ -60,20 +61,32 @@ fn entries(
     name: &str,
     told: Vec<AppEvent>,
 ) -> Result<Vec<Entry>, AllocError>
-    ensures { IfOk result (λ es. flat_map shown_entry es.items ≡ entries_of at name.now (flat_map told_of (map shown_item told.items))) }
+    ensures { IfOk result (λ es. map shown_entry es.items ≡ entries_of at name.now (flat_map told_of (map shown_item told.items))) }
 {
     let mut entries = Vec::new(alloc);
     for event in told {
-        let client = String::from_str(alloc, name)?;
-        let item = Item::Told(event);
-        entries.push(Entry { at, client, item })?;
+        if let Some(item) = item_of(event) {
+            let client = String::from_str(alloc, name)?;
+            entries.push(Entry { at, client, item })?;
+        }
     }
     Ok(entries)
 }
 
+// What an application is told of. It isn't told of a ping.
+fn item_of(event: AppEvent) -> Option<Item>
+    ensures told { IfSome result (λ i. (i ≡ Item.Told event) × IsTrue (is_got i)) }
+    ensures ping { IfNone result (told_of (shown_item event) ≡ []) }
+{
+    match event {
+        AppEvent::PongDue => None,
+        event => Some(Item::Told(event)),
+    }
+}
+
 // A close, as an entry of event number `at`.
 fn closed(alloc: Global, at: usize, name: &str, code: u16) -> Result<Vec<Entry>, AllocError>
-    ensures { IfOk result (λ es. flat_map shown_entry es.items ≡ entries_of at name.now (item.Closed code ∷ [])) }
+    ensures { IfOk result (λ es. map shown_entry es.items ≡ entries_of at name.now (item.Closed code ∷ [])) }
 {
     let mut entries = Vec::new(alloc);
     let client = String::from_str(alloc, name)?;
