@@ -3,8 +3,9 @@ use Rattle.std.proofs.Common.{◌≡◌, ◌≢◌, inl, inr, ℕ, ◌≤◌, �
 use Rattle.std.specs.Fmt.{decimal}
 use Rattle.std.proofs.lemmas.Fmt.{decimal_injective}
 use Rattle.cf_schedule.specs.Word.{IsClientName, IsChannelName}
-use Rattle.cf_schedule.specs.Event.{Event, Epoch, Connect, Ask, AskFrom, Read, Finish, Publish, PublishBy, Deliver, Take, Break, Leave, Trim, Forget, BrokerRestart, Restart, Check, ListHistory}
-use Rattle.cf_schedule.specs.ScheduleLine.{Says, IsPassedOver, spaced, IsLimit, IsData, last_number}
+use Rattle.cf_machine.specs.Event.{Event, Epoch, Connect, Ask, AskFrom, Read, Finish, Publish, PublishBy, Deliver, Take, Break, Leave, Trim, Forget, BrokerRestart, Restart, Check, ListHistory}
+use Rattle.cf_machine.specs.TraceLine.{spaced}
+use Rattle.cf_schedule.specs.ScheduleLine.{Says, IsPassedOver, IsLimit, IsData, last_number}
 use Rattle.cf_schedule.proofs.Spacing.{one_cut, never_cut, unspaced_word, unspaced_client, unspaced_channel, unspaced_number}
 use Rattle.cf_schedule.proofs.Numbers.{number_unsigned}
 use Rattle.cf_schedule.proofs.Lines.{Rest, splits, is_epoch, is_connect, is_ask, is_askfrom, is_read, is_finish, is_publish, is_put, is_deliver, is_take, is_break, is_leave, is_trim, is_forget, is_restart, is_check, is_list}

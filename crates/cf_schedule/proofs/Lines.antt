@@ -4,8 +4,9 @@ use Rattle.std.specs.Str.{bytes_eq}
 use Rattle.std.specs.Fmt.{decimal}
 use Rattle.std.proofs.lemmas.Bool.{false≢true}
 use Rattle.cf_schedule.specs.Word.{IsClientName, IsChannelName}
-use Rattle.cf_schedule.specs.Event.{Event, Epoch, Connect, Ask, AskFrom, Read, Finish, Publish, PublishBy, Deliver, Take, Break, Leave, Trim, Forget, BrokerRestart, Restart, Check, ListHistory}
-use Rattle.cf_schedule.specs.ScheduleLine.{Says, spaced, IsEpochWord, IsLimit, IsData, last_number, most_left}
+use Rattle.cf_machine.specs.Event.{Event, Epoch, Connect, Ask, AskFrom, Read, Finish, Publish, PublishBy, Deliver, Take, Break, Leave, Trim, Forget, BrokerRestart, Restart, Check, ListHistory}
+use Rattle.cf_machine.specs.TraceLine.{spaced}
+use Rattle.cf_schedule.specs.ScheduleLine.{Says, IsEpochWord, IsLimit, IsData, last_number, most_left}
 use Rattle.cf_schedule.specs.LineRead.{IsUnspaced, IsNone}
 use Rattle.cf_schedule.proofs.Spacing.{one_cut, never_cut, unspaced_word}
 

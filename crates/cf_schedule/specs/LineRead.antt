@@ -1,8 +1,9 @@
 -- What the readers of a line's parts answer. (This project's own format.)
 use Rattle.std.specs.Prelude.{◌≡◌, ◌≢◌, ℕ, ◌≤◌, List, [], ◌∷◌, ◌++◌, Result, Ok, Err, Option, Some, None}
 use Rattle.std.specs.Fmt.{decimal}
-use Rattle.cf_schedule.specs.Event.{Event}
-use Rattle.cf_schedule.specs.ScheduleLine.{spaced, IsData, last_number}
+use Rattle.cf_machine.specs.Event.{Event}
+use Rattle.cf_machine.specs.TraceLine.{spaced}
+use Rattle.cf_schedule.specs.ScheduleLine.{IsData, last_number}
 use Rattle.cf_schedule.specs.Seen.{seen}
 use Rattle.cf_schedule.specs.declared.event.Event as declared
 use Rattle.cf_schedule.specs.declared.event.EventFault.{EventFault}

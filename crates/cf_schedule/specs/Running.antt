@@ -1,10 +1,12 @@
--- How the program's own parts stand beside the machine. Nothing here has to be believed of a run.
-pub mod TextLine
-pub mod SessionCalls
-pub mod ClientCalls
-pub mod OutQueue
-pub mod Subscription
-pub mod HubState
-pub mod NodeState
-pub mod BrokerTie
-pub mod Tie
+-- A world of a schedule, as contracts see it.
+use Rattle.std.specs.Prelude.{Bool}
+use Rattle.cf_world.specs.declared.world.World.{World as Parts}
+use Rattle.cf_schedule.specs.declared.world.World.{World}
+
+-- the broker, the nodes and the clients
+abbrev pub parts : World → Parts
+parts w = w.parts
+
+-- whether a part of it found no memory
+abbrev pub is_short : World → Bool
+is_short w = w.is_short

@@ -7,7 +7,7 @@ use Rattle.cf_json.specs.Spans.{Span, Document}
 use Rattle.cf_json.specs.Compact.{compact_text}
 use Rattle.cf_protocol.specs.Epoch.{IsEpoch}
 use Rattle.cf_schedule.specs.Word.{IsClientName, IsChannelName}
-use Rattle.cf_schedule.specs.Event.{Event, Epoch, Connect, Ask, AskFrom, Read, Finish, Publish, PublishBy, Deliver, Take, Break, Leave, Trim, Forget, BrokerRestart, Restart, Check, ListHistory}
+use Rattle.cf_machine.specs.Event.{Event, Epoch, Connect, Ask, AskFrom, Read, Finish, Publish, PublishBy, Deliver, Take, Break, Leave, Trim, Forget, BrokerRestart, Restart, Check, ListHistory}
 
 -- ---- words
 

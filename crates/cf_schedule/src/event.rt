@@ -3,8 +3,9 @@
 ghost use Rattle.std.specs.Prelude.{◌≡◌, ◌≢◌, ℕ, ℤ, pos, neg_ℤ, ◌^◌, ◌<◌, List, [], ◌∷◌, ◌++◌, codes, IfOk, IfErr, MatchOption, ◌≤◌};
 ghost use Rattle.std.specs.Fmt.{decimal};
 ghost use Rattle.cf_schedule.specs.Word.{IsClientName, IsChannelName};
-ghost use Rattle.cf_schedule.specs.ScheduleLine.{Says, IsPassedOver, IsLimit, IsData, spaced, last_number, most_left};
-ghost use Rattle.cf_schedule.specs.Event.{Event as SaidEvent};
+ghost use Rattle.cf_machine.specs.TraceLine.{spaced};
+ghost use Rattle.cf_schedule.specs.ScheduleLine.{Says, IsPassedOver, IsLimit, IsData, last_number, most_left};
+ghost use Rattle.cf_machine.specs.Event.{Event as SaidEvent};
 ghost use Rattle.cf_schedule.specs.Seen.{seen};
 ghost use Rattle.cf_schedule.specs.LineRead.{IsUnspaced, CutsAtSpace, IsLastWord, Refused, IsNone, Answers, ReadAs};
 

@@ -1,29 +1,26 @@
 //! A whole run of a schedule.
 ghost use Rattle.std.specs.Prelude.{◌≡◌, map, IfOk, IfErr};
 ghost use Rattle.std.specs.List.{list_any};
+ghost use Rattle.cf_machine.specs.LooseRun.{lines};
+ghost use Rattle.cf_machine.specs.StreamSafety.{Safe};
+ghost use Rattle.cf_machine.specs.Told.{trace};
+ghost use Rattle.cf_machine.specs.World.{start};
 ghost use Rattle.cf_schedule.specs.Fresh.{are_fresh, is_new, brings};
-ghost use Rattle.cf_schedule.specs.LooseRun.{lines};
-ghost use Rattle.cf_schedule.specs.NotYet.{NoneIsNotYet};
 ghost use Rattle.cf_schedule.specs.Seen.{seen, shown_config};
 ghost use Rattle.cf_schedule.specs.Shown.{shown_trace};
 ghost use Rattle.cf_schedule.specs.Stopping.{Stops};
-ghost use Rattle.cf_schedule.specs.StreamSafety.{Safe};
-ghost use Rattle.cf_schedule.specs.Told.{trace};
-ghost use Rattle.cf_schedule.specs.World.{start};
 
 use crate::config::Config;
 use crate::event::Event;
-use crate::halt::Halt;
 use crate::trace::Trace;
 use crate::world::World;
+use cf_machine::laws::{one_event_more, safe_always};
 use cf_protocol::Epoch;
 use std::alloc::Global;
 
 /// Why a run stopped before the end of its schedule, and what the applications had got by then.
 #[derive(Drop)]
 pub enum Stopped {
-    /// The event after the first `done` needs a part that isn't built yet.
-    NotYet { done: usize, trace: Trace },
     /// No memory was left for the event after the first `done`, or for the world before the first.
     Memory { done: usize, trace: Trace },
 }
@@ -31,10 +28,11 @@ pub enum Stopped {
 /// What the applications get in a run of a schedule.
 pub fn run(alloc: Global, config: &Config, events: &[Event]) -> Result<Trace, Stopped>
     ensures whole { IfOk result (λ t. shown_trace t ≡ trace (shown_config config.now) 1 start (map seen events.now)) }
-    ensures built { IfOk result (λ t. NoneIsNotYet (shown_config config.now) start (map seen events.now)) }
     ensures safe { IfOk result (λ t. Safe (shown_config config.now) (lines (map seen events.now)) (shown_trace t)) }
     ensures stopped { IfErr result (Stops (shown_config config.now) (map seen events.now)) }
 {
+    safe_always();
+    one_event_more();
     let mut trace = Trace {
         entries: Vec::new(alloc),
     };
@@ -42,14 +40,11 @@ pub fn run(alloc: Global, config: &Config, events: &[Event]) -> Result<Trace, St
         return Err(Stopped::Memory { done: 0, trace });
     };
     for (done, event) in events.iter().enumerate() {
-        match world.step(done + 1, event) {
-            Ok(mut entries) => {
-                if trace.entries.append(&mut entries).is_err() {
-                    return Err(Stopped::Memory { done, trace });
-                }
-            }
-            Err(Halt::NotYet) => return Err(Stopped::NotYet { done, trace }),
-            Err(Halt::Memory) => return Err(Stopped::Memory { done, trace }),
+        let Ok(mut entries) = world.step(done + 1, event) else {
+            return Err(Stopped::Memory { done, trace });
+        };
+        if trace.entries.append(&mut entries).is_err() {
+            return Err(Stopped::Memory { done, trace });
         }
     }
     Ok(trace)

@@ -1,380 +1,115 @@
-//! The world of a schedule: a broker, nodes and clients, in one thread.
-ghost use Rattle.std.specs.Prelude.{◌≡◌, ℕ, List, [], true, Option, Some, None, is_some, map, string_bytes, OnOk, IfOk, IfErr, IsErrOf};
-ghost use Rattle.std.specs.BTreeMap.{get_by_text};
-ghost use Rattle.cf_protocol.specs.Outgoing.{Answer, Connected};
-ghost use Rattle.cf_protocol.specs.Written.{outgoing_text};
-ghost use Rattle.cf_schedule.specs.Running.NodeState.{line_on};
-ghost use Rattle.cf_schedule.specs.Running.ClientCalls.{TextRefused, is_connected};
-ghost use Rattle.cf_schedule.specs.Shown.{shown_item, shown_entry};
-ghost use Rattle.cf_schedule.specs.Told.{entries as entries_of};
-ghost use Rattle.cf_schedule.specs.declared.world.Peer.{Peer as AnyPeer};
-ghost use Rattle.cf_schedule.specs.Event as said;
+//! The world of a schedule, event by event.
+ghost use Rattle.std.specs.Prelude.{◌≡◌, IfOk, IsErr, IsTrue, OnOk, false, is_err, option_copied};
+ghost use Rattle.cf_machine.specs.World.{start};
+ghost use Rattle.cf_schedule.specs.Running.{is_short, parts};
 ghost use Rattle.cf_schedule.specs.Seen.{seen, shown_config};
-ghost use Rattle.cf_schedule.specs.Running.Tie.{Tied, GoesOn, StopsAt, Writes, AsksOrNot, Heard};
-ghost use Rattle.cf_schedule.specs.World.{start};
+ghost use Rattle.cf_world.specs.Tie.{GoesOn, Tied, Writes, client_of, hub_of, streams_of};
 
-use crate::body::Body;
-use crate::broker::Broker;
-use crate::client::{AppEvent, Client, ClientFault};
 use crate::config::Config;
 use crate::event::Event;
-use crate::halt::Halt;
-use crate::hub::HubRefusal;
-use crate::nodes::Nodes;
-use crate::session::{Action, on_text};
-use crate::trace::Entry;
-use cf_protocol::laws::{commands_read_back, replies_read_back};
-use cf_protocol::{Epoch, Namespaces, Outcome, Outgoing, write_reply};
-use std::alloc::{AllocError, Global};
-use std::collections::BTreeMap;
+use cf_client::Client;
+use cf_hub::Hub;
+use cf_stream::Streams;
+use cf_world::{Entry, Short, World as Parts};
+use std::alloc::Global;
 
-/// A client that is connected, and its session.
-#[derive(Drop)]
-struct Peer {
-    client: Client,
-    node: u8,
-    session: u32,
-}
-
-/// The broker, nodes and clients, and all that lies between them.
+/// The broker, the nodes and all clients. Once a part of it found no memory it carries out nothing more.
 #[derive(Drop)]
 pub struct World {
-    namespaces: Namespaces,
-    broker: Broker,
-    nodes: Nodes,
-    peers: BTreeMap<String, Peer>,
+    parts: Parts,
+    is_short: bool,
     alloc: Global,
 }
 
 impl World {
     /// A world in which nothing has happened.
-    pub fn new(alloc: Global, config: &Config) -> Result<World, AllocError>
-        ensures { IfOk result (λ w. Tied (shown_config config.now) w start) }
+    pub fn new(alloc: Global, config: &Config) -> Result<World, Short>
+        ensures tied { IfOk result (λ w. Tied (shown_config config.now) (parts w) start) }
+        ensures ready { IfOk result (λ w. is_short w ≡ false) }
     {
+        let parts = Parts::new(alloc, config.nodes, &config.namespaces)?;
         Ok(World {
-            namespaces: config.namespaces.copied()?,
-            broker: Broker::new(alloc, &config.namespaces)?,
-            nodes: Nodes::new(alloc, config.nodes)?,
-            peers: BTreeMap::new(alloc),
+            parts,
+            is_short: false,
             alloc,
         })
     }
 
-    /// Carries out an event, the one of number `at`, and gives what applications got by it.
-    #[tactic(auto, using(crate::proofs::TieRuns::silent))]
-    pub fn step(&mut self, at: usize, event: &Event) -> Result<Vec<Entry>, Halt>
-        ensures ok { OnOk result (GoesOn (seen event.now) self.old self.new) }
-        ensures writes { IfOk result (λ es. Writes at (seen event.now) self.old es.items) }
-        ensures not_yet { IsErrOf result Halt.NotYet → StopsAt (seen event.now) self.old }
+    /// Carries out an event, the one of number `at`, and gives what applications got by it. After it answered `Short` it does
+    /// so ever after.
+    pub fn step(&mut self, at: usize, event: &Event) -> Result<Vec<Entry>, Short>
+        ensures ok { OnOk result (GoesOn (seen event.now) (parts self.old) (parts self.new)) }
+        ensures writes { IfOk result (λ es. Writes at (seen event.now) (parts self.old) es.items) }
+        ensures short { is_short self.new ≡ is_err result }
+        ensures stays_short { IsTrue (is_short self.old) → IsErr result }
     {
-        match event {
-            Event::Epoch { epoch } => {
-                self.epoch(*epoch)?;
-                Ok(Vec::new(self.alloc))
-            }
-            Event::Connect { client, node } => {
-                self.connect(client.as_str(), *node)?;
-                Ok(Vec::new(self.alloc))
-            }
-            Event::Ask { client, channel } => {
-                self.ask(client.as_str(), channel.as_str())?;
-                Ok(Vec::new(self.alloc))
-            }
-            Event::Read { client, channel } => {
-                self.read(client.as_str(), channel.as_str())?;
-                Ok(Vec::new(self.alloc))
-            }
-            Event::Finish { client, channel } => {
-                self.finish(client.as_str(), channel.as_str())?;
-                Ok(Vec::new(self.alloc))
-            }
-            Event::Publish { channel, body } => {
-                self.publish(channel.as_str(), body)?;
-                Ok(Vec::new(self.alloc))
-            }
-            Event::Deliver { node, publication } => {
-                self.deliver(*node, *publication)?;
-                Ok(Vec::new(self.alloc))
-            }
-            Event::Take { client } => self.take(at, client.as_str()),
-            Event::Trim { channel, count } => {
-                self.trim(channel.as_str(), *count);
-                Ok(Vec::new(self.alloc))
-            }
-            Event::Forget { channel } => {
-                self.forget(channel.as_str());
-                Ok(Vec::new(self.alloc))
-            }
-            Event::BrokerRestart => {
-                self.restart_broker();
-                Ok(Vec::new(self.alloc))
-            }
-            Event::AskFrom { .. } => Err(Halt::NotYet),
-            Event::PublishBy { .. } => Err(Halt::NotYet),
-            Event::Break { .. } => Err(Halt::NotYet),
-            Event::Leave { .. } => Err(Halt::NotYet),
-            Event::Restart { .. } => Err(Halt::NotYet),
-            Event::Check { .. } => Err(Halt::NotYet),
-            Event::ListHistory { .. } => Err(Halt::NotYet),
+        if self.is_short {
+            return Err(Short);
         }
+        let got = carry_out(&mut self.parts, self.alloc, at, event);
+        self.is_short = got.is_err();
+        got
     }
 
-    fn epoch(&mut self, epoch: Epoch) -> Result<(), Halt>
-        ensures ok { OnOk result (GoesOn (said.Epoch epoch) self.old self.new) }
-        ensures not_yet { IsErrOf result Halt.NotYet → StopsAt (said.Epoch epoch) self.old }
+    /// A node's sessions.
+    pub fn hub(&self, node: u8) -> Option<&Hub>
+        ensures { option_copied result ≡ hub_of (parts self.now) node }
     {
-        self.broker.epoch(epoch)?;
-        Ok(())
+        self.parts.hub(node)
     }
 
-    fn publish(&mut self, channel: &str, body: &Body) -> Result<(), Halt>
-        ensures ok { OnOk result (GoesOn (said.Publish channel.now body.now) self.old self.new) }
-        ensures not_yet { IsErrOf result Halt.NotYet → StopsAt (said.Publish channel.now body.now) self.old }
+    /// The streams that all nodes share.
+    pub fn streams(&self) -> &Streams
+        ensures { result.now ≡ streams_of (parts self.now) }
     {
-        self.broker.publish(channel, body)?;
-        Ok(())
+        self.parts.streams()
     }
 
-    fn trim(&mut self, channel: &str, count: usize)
-        ensures { GoesOn (said.Trim channel.now count) self.old self.new }
+    /// The client of this name, if it ever connected.
+    pub fn client(&self, name: &str) -> Option<&Client>
+        ensures { option_copied result ≡ client_of (parts self.now) name.now }
     {
-        self.broker.trim(channel, count);
-    }
-
-    fn forget(&mut self, channel: &str)
-        ensures { GoesOn (said.Forget channel.now) self.old self.new }
-    {
-        self.broker.forget(channel);
-    }
-
-    fn restart_broker(&mut self)
-        ensures { GoesOn said.BrokerRestart self.old self.new }
-    {
-        self.broker.forget_all();
-    }
-
-    fn connect(&mut self, name: &str, node: u8) -> Result<(), Halt>
-        ensures ok { OnOk result (GoesOn (said.Connect name.now node) self.old self.new) }
-        ensures not_yet { IsErrOf result Halt.NotYet → StopsAt (said.Connect name.now node) self.old }
-    {
-        if is_known(&self.peers, name) {
-            return Ok(());
-        }
-        if !self.nodes.has(node) {
-            return Ok(());
-        }
-        commands_read_back();
-        replies_read_back();
-        let mut client = Client::new(self.alloc);
-        let text = client.connect("")?;
-        let Action::Attach { id } = on_text(self.alloc, &self.namespaces, text.as_str())? else {
-            return Err(Halt::NotYet);
-        };
-        let session = self.nodes.attach(node)?;
-        let reply = self.connected_text(node, session, id)?;
-        client.on_text(reply.as_str())?;
-        let peer = Peer {
-            client,
-            node,
-            session,
-        };
-        let key = String::from_str(self.alloc, name)?;
-        self.peers.insert(key, peer)?;
-        Ok(())
-    }
-
-    // The reply to a connect command.
-    fn connected_text(&self, node: u8, session: u32, id: u32) -> Result<String, Halt>
-        ensures text { IfOk result (λ text. (client : List ℕ) × (string_bytes text ≡ outgoing_text (Answer id (Connected client)))) }
-        ensures not_yet { IsErrOf result Halt.NotYet → line_on self.now.nodes node session ≡ None }
-    {
-        let Some(client) = self.nodes.client_id(node, session) else {
-            return Err(Halt::NotYet);
-        };
-        let client = String::from_str(self.alloc, client)?;
-        let reply = Outgoing::Answer {
-            id,
-            outcome: Outcome::Connected { client },
-        };
-        let text = write_reply(self.alloc, &reply)?;
-        Ok(text)
-    }
-
-    fn ask(&mut self, name: &str, channel: &str) -> Result<(), Halt>
-        ensures ok { OnOk result (GoesOn (said.Ask name.now channel.now) self.old self.new) }
-        ensures not_yet { IsErrOf result Halt.NotYet → StopsAt (said.Ask name.now channel.now) self.old }
-    {
-        let Some(peer) = self.peers.get(name) else {
-            return Ok(());
-        };
-        let node = peer.node;
-        let session = peer.session;
-        if !self.nodes.is_ready(node, session) {
-            return Ok(());
-        }
-        commands_read_back();
-        let Some(text) = ask_by(&mut self.peers, name, channel)? else {
-            return Ok(());
-        };
-        let Action::Begin { id, channel, since } = on_text(
-            self.alloc,
-            &self.namespaces,
-            text.as_str(),
-        )?
-        else {
-            return Err(Halt::NotYet);
-        };
-        self.nodes
-            .begin(node, session, channel.as_str(), id, since)?;
-        Ok(())
-    }
-
-    fn read(&mut self, name: &str, channel: &str) -> Result<(), Halt>
-        ensures ok { OnOk result (GoesOn (said.Read name.now channel.now) self.old self.new) }
-        ensures not_yet { IsErrOf result Halt.NotYet → StopsAt (said.Read name.now channel.now) self.old }
-    {
-        let Some(peer) = self.peers.get(name) else {
-            return Ok(());
-        };
-        let Some(since) = self.nodes.asked(peer.node, peer.session, channel) else {
-            return Ok(());
-        };
-        if let Some(recovery) = self.broker.read(channel, since)? {
-            self.nodes
-                .read_done(peer.node, peer.session, channel, recovery);
-        }
-        Ok(())
-    }
-
-    fn finish(&mut self, name: &str, channel: &str) -> Result<(), Halt>
-        ensures ok { OnOk result (GoesOn (said.Finish name.now channel.now) self.old self.new) }
-        ensures not_yet { IsErrOf result Halt.NotYet → StopsAt (said.Finish name.now channel.now) self.old }
-    {
-        let Some(peer) = self.peers.get(name) else {
-            return Ok(());
-        };
-        self.nodes.finish(peer.node, peer.session, channel)?;
-        Ok(())
-    }
-
-    fn deliver(&mut self, node: u8, number: u64) -> Result<(), Halt>
-        ensures ok { OnOk result (GoesOn (said.Deliver node number) self.old self.new) }
-        ensures not_yet { IsErrOf result Halt.NotYet → StopsAt (said.Deliver node number) self.old }
-    {
-        let Some(accepted) = self.broker.accepted(number) else {
-            return Ok(());
-        };
-        self.nodes.deliver(
-            node,
-            accepted.channel.as_str(),
-            accepted.epoch,
-            &accepted.publication,
-        )?;
-        Ok(())
-    }
-
-    fn take(&mut self, at: usize, name: &str) -> Result<Vec<Entry>, Halt>
-        ensures ok { OnOk result (GoesOn (said.Take name.now) self.old self.new) }
-        ensures writes { IfOk result (λ es. Writes at (said.Take name.now) self.old es.items) }
-        ensures not_yet { IsErrOf result Halt.NotYet → StopsAt (said.Take name.now) self.old }
-    {
-        let Some(peer) = self.peers.get(name) else {
-            return Ok(Vec::new(self.alloc));
-        };
-        let Some(text) = self.nodes.take(peer.node, peer.session) else {
-            return Ok(Vec::new(self.alloc));
-        };
-        replies_read_back();
-        let items = hear(&mut self.peers, self.alloc, name, text.as_str())?;
-        let entries = entries(self.alloc, at, name, items)?;
-        Ok(entries)
+        self.parts.client(name)
     }
 }
 
-fn is_known(peers: &BTreeMap<String, Peer>, name: &str) -> bool
-    ensures { result ≡ is_some (get_by_text peers.now name.now) }
-{
-    peers.contains_key(name)
-}
-
-// A client asks for a channel. None where it can't: it isn't idle there, or its ids are used up.
-#[tactic(auto, using(std::proofs::lemmas::Map::Text::text_keys))]
-fn ask_by(
-    peers: &mut BTreeMap<String, Peer>,
-    name: &str,
-    channel: &str,
-) -> Result<Option<String>, AllocError>
-    ensures { IfOk result (λ text. (p : AnyPeer) → get_by_text peers.old name.now ≡ Some p → is_connected p.client ≡ true → AsksOrNot name.now channel.now p (get_by_text peers.old) (get_by_text peers.new) text) }
-{
-    let Some(peer) = peers.get_mut(name) else {
-        return Ok(None);
-    };
-    match peer.client.ask(channel) {
-        Ok(text) => Ok(Some(text)),
-        Err(ClientFault::Memory) => Err(AllocError),
-        Err(_) => Ok(None),
-    }
-}
-
-// A client takes a text.
-#[tactic(auto, using(std::proofs::lemmas::Map::Text::text_keys))]
-fn hear(
-    peers: &mut BTreeMap<String, Peer>,
-    alloc: Global,
-    name: &str,
-    text: &str,
-) -> Result<Vec<AppEvent>, ClientFault>
-    ensures heard { IfOk result (λ items. (p : AnyPeer) → get_by_text peers.old name.now ≡ Some p → Heard name.now text.now p (get_by_text peers.old) (get_by_text peers.new) (map shown_item items.items)) }
-    ensures refused { IfErr result (λ fault. (p : AnyPeer) → get_by_text peers.old name.now ≡ Some p → TextRefused text.now (is_connected p.client) fault) }
-{
-    let Some(peer) = peers.get_mut(name) else {
-        return Ok(Vec::new(alloc));
-    };
-    let items = peer.client.on_text(text)?;
-    Ok(items)
-}
-
-// What the application of a client got, as entries of event number `at`.
-fn entries(
+// An event, by the method of its kind. Only a take gives an application something.
+fn carry_out(
+    parts: &mut Parts,
     alloc: Global,
     at: usize,
-    name: &str,
-    items: Vec<AppEvent>,
-) -> Result<Vec<Entry>, AllocError>
-    ensures { IfOk result (λ entries. map shown_entry entries.items ≡ entries_of at name.now (map shown_item items.items)) }
+    event: &Event,
+) -> Result<Vec<Entry>, Short>
+    ensures ok { OnOk result (GoesOn (seen event.now) parts.old parts.new) }
+    ensures writes { IfOk result (λ es. Writes at (seen event.now) parts.old es.items) }
 {
-    let mut entries = Vec::new(alloc);
-    for item in items {
-        let client = String::from_str(alloc, name)?;
-        entries.push(Entry { at, client, item })?;
+    match event {
+        Event::Epoch { epoch } => parts.epoch(*epoch)?,
+        Event::Connect { client, node } => parts.connect(client.as_str(), *node)?,
+        Event::Ask { client, channel } => parts.ask(client.as_str(), channel.as_str())?,
+        Event::AskFrom { client, channel } => parts.ask_from(client.as_str(), channel.as_str())?,
+        Event::Read { client, channel } => parts.read(client.as_str(), channel.as_str())?,
+        Event::Finish { client, channel } => parts.finish(client.as_str(), channel.as_str())?,
+        Event::Publish { channel, body } => parts.publish(channel.as_str(), body.as_str())?,
+        Event::PublishBy {
+            client,
+            channel,
+            body,
+        } => parts.put(client.as_str(), channel.as_str(), body.as_str())?,
+        Event::Deliver { node, publication } => parts.deliver(*node, *publication)?,
+        Event::Take { client } => return parts.take(at, client.as_str()),
+        Event::Break { client } => parts.break_off(client.as_str()),
+        Event::Leave { client, channel } => parts.leave(client.as_str(), channel.as_str())?,
+        Event::Trim { channel, count } => parts.trim(channel.as_str(), *count),
+        Event::Forget { channel } => parts.forget(channel.as_str()),
+        Event::BrokerRestart => parts.restart_broker(),
+        Event::Restart { node } => parts.restart(*node)?,
+        Event::Check { client, channel } => parts.check(client.as_str(), channel.as_str())?,
+        Event::ListHistory {
+            client,
+            channel,
+            limit,
+        } => parts.list(client.as_str(), channel.as_str(), *limit)?,
     }
-    Ok(entries)
-}
-
-impl From<ClientFault> for Halt {
-    ghost use Rattle.std.specs.Prelude.{◌≡◌};
-    ghost use Rattle.cf_schedule.specs.Running.Tie.{halt_by_client};
-
-    ghost from_gives = { λ fault h. h ≡ halt_by_client fault };
-
-    fn from(fault: ClientFault) -> Halt {
-        match fault {
-            ClientFault::Memory => Halt::Memory,
-            _ => Halt::NotYet,
-        }
-    }
-}
-
-impl From<HubRefusal> for Halt {
-    ghost use Rattle.std.specs.Prelude.{◌≡◌};
-    ghost use Rattle.cf_schedule.specs.Running.Tie.{halt_by_hub};
-
-    ghost from_gives = { λ refusal h. h ≡ halt_by_hub refusal };
-
-    fn from(refusal: HubRefusal) -> Halt {
-        match refusal {
-            HubRefusal::Memory => Halt::Memory,
-            _ => Halt::NotYet,
-        }
-    }
+    Ok(Vec::new(alloc))
 }

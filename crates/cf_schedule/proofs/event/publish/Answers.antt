@@ -1,7 +1,8 @@
 use Rattle.std.proofs.Common.{◌≢◌, ℕ, List, [], ◌∷◌}
 use Rattle.std.proofs.lemmas.Result.{err_from_is_err_and}
 use Rattle.cf_schedule.specs.Word.{IsChannelName}
-use Rattle.cf_schedule.specs.ScheduleLine.{IsData, spaced}
+use Rattle.cf_machine.specs.TraceLine.{spaced}
+use Rattle.cf_schedule.specs.ScheduleLine.{IsData}
 use Rattle.cf_schedule.proofs.Lines.{no_publish}
 use Rattle.cf_schedule.proofs.Refusals.{refused_so}
 use Rattle.cf_schedule.proofs.event.publish.Goals as goal

@@ -1,7 +1,8 @@
 use Rattle.std.proofs.Common.{◌≢◌, ℕ, List, [], ◌∷◌, sym, subst}
 use Rattle.std.proofs.lemmas.Result.{err_from_is_err_and}
 use Rattle.cf_schedule.specs.Word.{IsClientName, IsChannelName}
-use Rattle.cf_schedule.specs.ScheduleLine.{IsData, spaced}
+use Rattle.cf_machine.specs.TraceLine.{spaced}
+use Rattle.cf_schedule.specs.ScheduleLine.{IsData}
 use Rattle.cf_schedule.proofs.Spacing.{never_cut, unspaced_client}
 use Rattle.cf_schedule.proofs.Lines.{no_put}
 use Rattle.cf_schedule.proofs.Refusals.{refused_name, refused_so, same_cut}

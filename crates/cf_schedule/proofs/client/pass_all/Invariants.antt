@@ -1,7 +1,0 @@
-use Rattle.std.proofs.Common.{◌≡◌, ◌++◌, map}
-use Rattle.cf_schedule.specs.Running.ClientCalls.{published}
-use Rattle.cf_schedule.specs.Shown.{shown_item}
-use Rattle.cf_schedule.proofs.client.pass_all.Given as goal
-
-abbrev pub invariant-loop-publication : goal.invariant-loop-publication
-invariant-loop-publication l = map shown_item l.events.items ≡ map shown_item l.fn.events.items ++ map (published l.channel l.epoch) l.yielded

@@ -1,8 +1,0 @@
-use Rattle.cf_schedule.proofs.Headline.{notes_lead, positions_listed}
-use Rattle.cf_schedule.proofs.laws.notes_lead.Goals as goal
-
-pub returns-clause-lead : goal.returns-clause-lead
-returns-clause-lead c = notes_lead
-
-pub returns-clause-listed : goal.returns-clause-listed
-returns-clause-listed c = positions_listed

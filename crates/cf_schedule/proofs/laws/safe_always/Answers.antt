@@ -1,5 +1,0 @@
-use Rattle.cf_schedule.proofs.Headline.{safe_run}
-use Rattle.cf_schedule.proofs.laws.safe_always.Goals as goal
-
-pub returns : goal.returns
-returns c = safe_run
