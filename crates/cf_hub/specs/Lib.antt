@@ -1,5 +1,4 @@
 pub mod PositionCheck
-pub mod Connection
 pub mod SessionState
 pub mod WantOfMemory
 pub mod Wordings
