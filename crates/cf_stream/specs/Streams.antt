@@ -74,6 +74,14 @@ seconds_at t c = seconds_of (settings_of t c)
 abbrev pub stream_of : Kept → List ℕ → Option Shown
 stream_of k c = fin.get k.streams c
 
+-- how many publications a channel holds, 0 where it has no stream
+abbrev pub held_of : Option Shown → ℕ
+held_of None = 0
+held_of (Some s) = length s.held
+
+abbrev pub held_at : Kept → List ℕ → ℕ
+held_at k c = held_of (stream_of k c)
+
 -- streams with another stream, or none, at one channel
 abbrev pub set_stream : Channels → List ℕ → Option Shown → Channels
 set_stream m c None = fin.remove m c

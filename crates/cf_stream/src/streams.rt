@@ -6,7 +6,7 @@ ghost use Rattle.std.specs.FinMap as fin;
 ghost use Rattle.std.specs.String.{string_bytes, string_cmp};
 ghost use Rattle.cf_protocol.specs.Settings.{settings_of};
 ghost use Rattle.cf_stream.specs.Stream.{pushed, used_at, trimmed, position_of, IsRecovery, IsHistory, stays, ticked, newest_of};
-ghost use Rattle.cf_stream.specs.Streams.{stream_of, put_at, stood_or, stood_or_opened, IsOfAnother, SetsAt, after_tick, due_at, due_to, due_channels, IsSetUp, size_at, seconds_at};
+ghost use Rattle.cf_stream.specs.Streams.{stream_of, held_at, put_at, stood_or, stood_or_opened, IsOfAnother, SetsAt, after_tick, due_at, due_to, due_channels, IsSetUp, size_at, seconds_at};
 ghost use Rattle.cf_stream.specs.PublicationList.{published, kept_newest};
 ghost use Rattle.cf_stream.specs.ChannelLists.{AreShown, ChangesAt, ReadsAt, ListsAt, StandsAt, life_or};
 ghost use Rattle.cf_stream.specs.LogState.{IsState, Adds, opening, if_stands, ending, due_entries};
@@ -225,6 +225,16 @@ impl Streams {
         match self.map.get(channel) {
             None => None,
             Some(stream) => stream.last(),
+        }
+    }
+
+    /// How many publications a channel holds, 0 where it has no stream. It takes no memory and opens nothing.
+    pub fn held(&self, channel: &str) -> usize
+        ensures { result ≡ held_at self.now channel.now }
+    {
+        match self.map.get(channel) {
+            None => 0,
+            Some(stream) => stream.held(),
         }
     }
 }
