@@ -25,3 +25,10 @@ stand_of Off = None
 stand_of (Asked id since b) = None
 stand_of (Ready id was r b) = None
 stand_of (On at mark) = Some (record { at = at; mark = mark })
+
+-- where a finished subscription stands
+abbrev pub place_of : {B : Type 0} → Subscription B → Option Position
+place_of Off = None
+place_of (Asked id since b) = None
+place_of (Ready id was r b) = None
+place_of (On at mark) = Some at

@@ -123,8 +123,8 @@ impl Hub {
         }
     }
 
-    /// Whether a session follows a channel, or is asking for it.
-    fn has(&self, session: u32, channel: &str) -> bool
+    /// Whether a session follows a channel, or is asking for it. It takes no memory.
+    pub fn has(&self, session: u32, channel: &str) -> bool
         ensures { result ≡ not (is_off (sub_at self.now session channel.now)) }
     {
         has_in(&self.sessions, session, channel)

@@ -14,6 +14,7 @@ mod said;
 mod serving;
 mod session;
 mod sessions;
+mod sight;
 mod subscription;
 #[cfg(test)]
 mod tests;

@@ -1,0 +1,10 @@
+use Rattle.std.proofs.Common.{◌∙◌, ℕ, Option, ap, sym}
+use Rattle.cf_hub.specs.Checked.{place_of}
+use Rattle.cf_hub.specs.Rows.{sub_in}
+use Rattle.cf_hub.specs.Hub.{Node}
+use Rattle.cf_hub.specs.Session.{Attached}
+use Rattle.cf_hub.proofs.Hubs.{seen}
+use Rattle.cf_hub.proofs.hub.Hub.place.Goals as goal
+
+pub returns : goal.returns
+returns c = c.place_in.ensures ∙ ap (λ (g : ℕ → Option Attached). place_of (sub_in (g c.args.session) c.args.channel.now)) (sym (seen c.args.self.now c.self.inside.sessions (ap (λ (h : Node). h.sessions) (sym c.self.view_is))))
