@@ -3,14 +3,14 @@ ghost use Rattle.std.specs.Prelude.{◌≡◌, IfOk, IsErr, IsTrue, OnOk, false,
 ghost use Rattle.cf_machine.specs.World.{start};
 ghost use Rattle.cf_schedule.specs.Running.{is_short, parts};
 ghost use Rattle.cf_schedule.specs.Seen.{seen, shown_config};
-ghost use Rattle.cf_world.specs.Tie.{GoesOn, Tied, Writes, client_of, hub_of, streams_of};
+ghost use Rattle.cf_world.specs.Tie.{GoesOn, Tied, Writes, client_of, hub_of, seat_at, streams_of};
 
 use crate::config::Config;
 use crate::event::Event;
 use cf_client::Client;
 use cf_hub::Hub;
 use cf_stream::Streams;
-use cf_world::{Entry, Short, World as Parts};
+use cf_world::{Entry, Seat, Short, World as Parts};
 use std::alloc::Global;
 
 /// The broker, the nodes and all clients. Once a part of it found no memory it carries out nothing more.
@@ -70,6 +70,13 @@ impl World {
         ensures { option_copied result ≡ client_of (parts self.now) name.now }
     {
         self.parts.client(name)
+    }
+
+    /// Where the session of a client is, if it is connected.
+    pub fn seat(&self, name: &str) -> Option<Seat>
+        ensures { result ≡ seat_at (parts self.now) name.now }
+    {
+        self.parts.seat(name)
     }
 }
 

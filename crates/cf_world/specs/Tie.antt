@@ -51,3 +51,6 @@ streams_of w = w.broker.streams
 
 abbrev pub client_of : Code → List ℕ → Option ClientView
 client_of w x = option_map (λ p. p.client) (get_by_text w.peers x)
+
+abbrev pub seat_at : Code → List ℕ → Option Seat
+seat_at w x = seats_of (get_by_text w.peers) x

@@ -14,9 +14,11 @@ mod peers;
 mod sending;
 mod serving;
 mod short;
+mod sight;
 mod taking;
 mod world;
 
 pub use entry::{Entry, Item};
+pub use peers::Seat;
 pub use short::Short;
 pub use world::World;

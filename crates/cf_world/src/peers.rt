@@ -15,9 +15,9 @@ use std::collections::BTreeMap;
 
 /// Where a session is: its node, and its number there.
 #[derive(Clone, Copy, PartialEq, Eq)]
-pub(crate) struct Seat {
-    pub(crate) node: u8,
-    pub(crate) session: u32,
+pub struct Seat {
+    pub node: u8,
+    pub session: u32,
 }
 
 /// A client, and its session while it is connected.
