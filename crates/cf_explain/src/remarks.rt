@@ -1,0 +1,63 @@
+//! Lines that stand beside those of a trace.
+
+use std::alloc::{AllocError, Global};
+use std::marker::Model;
+
+/// Remarks: each is a line that begins with `#` and a space, as no line of a trace does.
+#[derive(Drop)]
+pub struct Remarks {
+    text: String,
+    alloc: Global,
+}
+
+impl Model for Remarks {
+    ghost use Rattle.std.specs.Prelude.{ℕ, List, string_bytes};
+    ghost use Rattle.cf_explain.specs.Remarks.{AreRemarks};
+
+    ghost Value = { List ℕ };
+
+    ghost view = { λ r. string_bytes r.text };
+
+    ghost invariant = { λ r. AreRemarks (string_bytes r.text) };
+}
+
+impl Remarks {
+    ghost use Rattle.std.specs.Prelude.{◌≡◌, []};
+    ghost use Rattle.cf_explain.specs.Remarks.{AreRemarks};
+
+    /// No remark. It takes no memory.
+    pub fn new(alloc: Global) -> Remarks
+        ensures { result ≡ [] }
+    {
+        Remarks {
+            text: String::new(alloc),
+            alloc,
+        }
+    }
+
+    /// The lines. It takes no memory.
+    pub fn as_str(&self) -> &str
+        ensures text { result.now ≡ self.now }
+        ensures remarks { AreRemarks self.now }
+    {
+        self.text.as_str()
+    }
+
+    /// Adds a text: each of its lines is a remark.
+    pub fn add(&mut self, text: &str) -> Result<(), AllocError> {
+        for line in text.split('\n') {
+            self.add_line(line)?;
+        }
+        Ok(())
+    }
+
+    // Adds a line. Where it has a line feed none is added.
+    fn add_line(&mut self, line: &str) -> Result<(), AllocError> {
+        if line.contains('\n') {
+            return Ok(());
+        }
+        let remark = format!(in self.alloc; "# {line}\n")?;
+        self.text.push_str(remark.as_str())?;
+        Ok(())
+    }
+}
