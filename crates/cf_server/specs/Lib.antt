@@ -1,4 +1,1 @@
 pub mod Status
-pub mod ScheduleText
-pub mod ScheduleRead
-pub mod Simulation

@@ -2,7 +2,7 @@
 
 use crate::fault::Fault;
 use clap::error::ErrorKind;
-use clap::{Arg, ArgMatches, Command, Error, value_parser};
+use clap::{Arg, ArgAction, ArgMatches, Command, Error, value_parser};
 use std::alloc::{AllocError, Global};
 use std::process::ExitCode;
 
@@ -73,13 +73,27 @@ const SCHEDULE_NOTES: &str = "A schedule has a line for each event, its words pa
   trim C K        C's stream holds the newest K publications and no more
   forget C        C's stream is gone, and the next one has a new epoch
   brokerrestart   all streams are gone
-These are read, but the program can't carry them out yet, and stops there:
-  askfrom X C, break X, leave X C, put X C DATA, list X C LIMIT, check X C, restart N
-A line that is empty or begins with # is passed over. An event that can't happen changes nothing.
+  break X         X's connection breaks, and what waits for X is lost
+  restart N       node N restarts, and its connections break
+  askfrom X C     as ask, from the last position that X had in C
+  check X C       X's node compares where X is in C with the stream
+  leave X C       X sends the unsubscribe command
+  put X C DATA    X publishes JSON data to C
+  list X C LIMIT  X asks for what C's stream holds, at most LIMIT publications
+A line that is empty or begins with # is passed over. An event that can't happen changes nothing; --explain says why.
 
 What is printed, each by the `take` that brings it:
-  X C sub E O fresh  X is subscribed to C, from offset O of epoch E
-  X C pub E O DATA   X got the publication of C at offset O of epoch E";
+  X C sub E O fresh      X is subscribed to C, from offset O of epoch E
+  X C sub E O recovered  the same after askfrom, and what X missed follows
+  X C sub E O lost       the same after askfrom, and what X missed can't be had
+  X C pub E O DATA       X got the publication of C at offset O of epoch E
+  X C again 2500         X's subscription has ended, and X is to come back
+  X C refused CODE       a command of X was answered with an error
+  X C list E O COUNT     X got so many publications of C's history
+  X closed CODE          X's connection was closed
+
+With --explain, lines that begin with # stand among them: each event with its line's number, the texts that were sent and
+taken, and what stands otherwise than before, or why nothing changed.";
 
 /// What the program is to do.
 #[derive(Clone, Copy, Debug, PartialEq, Eq)]
@@ -89,11 +103,12 @@ pub enum Job<'a> {
     Serve(ServeOptions<'a>),
 }
 
-/// What `simulate` runs with: how many nodes, and the text of the namespaces.
+/// What `simulate` runs with: how many nodes, the text of the namespaces, and whether it tells what each event did.
 #[derive(Clone, Copy, Debug, PartialEq, Eq)]
 pub struct Options<'a> {
     pub nodes: u8,
     pub namespaces: &'a str,
+    pub explains: bool,
 }
 
 /// What `speak` runs with: the texts of namespaces, tokens and epochs.
@@ -139,7 +154,15 @@ fn simulate_command<'a>(alloc: Global) -> Result<Command<'a>, AllocError> {
         .about(SIMULATE)
         .after_help(SCHEDULE_NOTES);
     let command = command.arg(nodes_option(alloc))?;
-    command.arg(namespaces_option(alloc))
+    let command = command.arg(namespaces_option(alloc))?;
+    command.arg(explain_option(alloc))
+}
+
+fn explain_option<'a>(alloc: Global) -> Arg<'a> {
+    Arg::new(alloc, "explain")
+        .long("explain")
+        .help("Tells beside each event what it did, or why it changed nothing")
+        .action(ArgAction::SetTrue)
 }
 
 // Which users the tokens stand for.
@@ -223,6 +246,7 @@ fn options_of<'a>(found: &ArgMatches<'a>) -> Options<'a> {
     Options {
         nodes: found.get_one::<u8>("nodes").unwrap_or(1),
         namespaces: found.get_str("ns").unwrap_or(DEFAULT_NAMESPACES),
+        explains: found.get_flag("explain"),
     }
 }
 

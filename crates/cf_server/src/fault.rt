@@ -2,7 +2,8 @@
 ghost use Rattle.std.specs.Prelude.{◌≡◌};
 ghost use Rattle.cf_server.specs.Status.{status_of};
 
-use cf_protocol::{Epoch, ReadFault};
+use cf_protocol::ReadFault;
+use cf_simulate::SimulateFault;
 use std::alloc::{AllocError, AllocFailed};
 use std::io;
 use thiserror::Error;
@@ -10,18 +11,12 @@ use thiserror::Error;
 /// Why a command of the program ended before its end. The message is what the program writes to standard error.
 #[derive(Debug, Drop, Error)]
 pub enum Fault {
-    /// The line is none of a schedule's.
-    #[error("line {line}: unreadable")]
-    Unreadable { line: usize },
-    /// The line gives an epoch that an earlier line gave.
-    #[error("line {line}: epoch {epoch} is used twice")]
-    UsedTwice { line: usize, epoch: Epoch },
+    /// A schedule can't be used, or its run ended before its end.
+    #[error("{fault}")]
+    Simulation { fault: SimulateFault },
     /// The input isn't UTF-8.
     #[error("not UTF-8")]
     NotUtf8,
-    /// The line's event needs a part that isn't built yet.
-    #[error("line {line}: not yet")]
-    NotYet { line: usize },
     /// A setting is of another form than it should be.
     #[error("unusable setting")]
     Setting,
@@ -38,6 +33,7 @@ impl Fault {
         ensures { result ≡ status_of self.now }
     {
         match self {
+            Fault::Simulation { fault } => fault.status(),
             Fault::Memory => 3,
             Fault::InputOutput => 4,
             _ => 2,
@@ -67,6 +63,17 @@ impl<T: Drop> From<AllocFailed<T>> for Fault {
     }
 }
 
+impl From<SimulateFault> for Fault {
+    ghost use Rattle.std.specs.Prelude.{◌≡◌};
+    ghost use Rattle.cf_server.specs.declared.fault.Fault.TheVariants.{Simulation};
+
+    ghost from_gives = { λ fault given. given ≡ Simulation fault };
+
+    fn from(fault: SimulateFault) -> Fault {
+        Fault::Simulation { fault }
+    }
+}
+
 impl From<ReadFault> for Fault {
     fn from(fault: ReadFault) -> Fault {
         match fault {
@@ -77,10 +84,6 @@ impl From<ReadFault> for Fault {
 }
 
 impl From<io::Error> for Fault {
-    ghost use Rattle.cf_server.specs.Simulation.{IsOutside};
-
-    ghost from_gives = { λ _ fault. IsOutside fault };
-
     fn from(error: io::Error) -> Fault {
         match error.kind() {
             io::ErrorKind::OutOfMemory => Fault::Memory,

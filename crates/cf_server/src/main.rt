@@ -4,19 +4,17 @@
 mod boot_epochs;
 mod command_line;
 mod fault;
-mod schedule;
 mod serve;
-mod simulate;
 mod speak;
 #[cfg(test)]
 mod tests;
 
 use cf_protocol::read_namespaces;
 use cf_schedule::Config;
+use cf_simulate::simulate;
 use command_line::{Job, Options, SpeakOptions};
 use fault::Fault;
 use serve::serve;
-use simulate::simulate;
 use speak::{setup_of, speak};
 use std::alloc::Global;
 use std::io::{BufReader, BufWriter, Write};
@@ -46,10 +44,12 @@ fn simulate_standard<R: Input + Print + AllocGlobal>(
     options: Options<'_>,
 ) -> Result<(), Fault> {
     let alloc = rt.alloc();
+    let explains = options.explains;
     let config = config_of(alloc, options)?;
     let mut reader = rt.reader();
     let mut writer = BufWriter::new(alloc, io::writer(rt))?;
-    simulate(alloc, &mut reader, &mut writer, &config)
+    simulate(alloc, &mut reader, &mut writer, &config, explains)?;
+    Ok(())
 }
 
 fn speak_standard<R: Input + Print + AllocGlobal>(

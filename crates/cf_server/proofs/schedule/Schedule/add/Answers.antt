@@ -1,5 +1,0 @@
-use Rattle.cf_server.proofs.Reading.{one_more}
-use Rattle.cf_server.proofs.schedule.Schedule.add.Goals as goal
-
-pub returns-clause-ok : goal.returns-clause-ok
-returns-clause-ok c = λ nodes before line says read. one_more nodes before line c.args.self.now _ c.args.event says c.in_ok-note_epoch.ensures.ok c.in_ok-push-2.ensures.items read

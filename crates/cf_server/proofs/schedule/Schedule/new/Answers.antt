@@ -1,6 +1,0 @@
-use Rattle.std.proofs.Common.{rules}
-use Rattle.cf_server.proofs.Reading.{none_read}
-use Rattle.cf_server.proofs.schedule.Schedule.new.Goals as goal
-
-pub returns : goal.returns
-returns c = λ nodes. none_read nodes _ c.new.ensures.items (search rules)

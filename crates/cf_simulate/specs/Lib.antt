@@ -1,0 +1,4 @@
+pub mod ScheduleText
+pub mod ScheduleRead
+pub mod Simulation
+pub mod Status

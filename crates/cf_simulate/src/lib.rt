@@ -1,0 +1,12 @@
+//! Schedules as texts, carried out event by event: what `cf_server simulate` does, without its process.
+#![tactic(auto)]
+
+mod fault;
+mod schedule;
+mod simulation;
+#[cfg(test)]
+mod tests;
+
+pub use fault::SimulateFault;
+pub use schedule::{Line, Schedule};
+pub use simulation::simulate;

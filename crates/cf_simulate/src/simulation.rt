@@ -1,0 +1,199 @@
+//! The command `simulate`: a schedule is read, and run event by event; the lines of each are written before the next.
+ghost use Rattle.std.specs.Prelude.{◌≡◌, map, string_bytes, true, false, OnOk, OnErr, IfOk, IfErr, IfSome};
+ghost use Rattle.std.specs.Io.KnownBytes.{Appends, Keeps};
+ghost use Rattle.cf_machine.specs.TraceLine.{printed};
+ghost use Rattle.cf_schedule.specs.Running.{parts};
+ghost use Rattle.cf_schedule.specs.Seen.{seen, shown_config};
+ghost use Rattle.cf_world.specs.Entries.{shown_entry};
+ghost use Rattle.cf_world.specs.Tie.{GoesOn};
+ghost use Rattle.cf_simulate.specs.Simulation.{AddsPart, Leaves, WritesAll, Prints, ShowsEvent, Ends, EndsRun};
+
+use crate::fault::SimulateFault;
+use crate::schedule::{Line, Schedule};
+use cf_explain::Explainer;
+use cf_machine::laws::one_event_more;
+use cf_schedule::{Config, Event, World};
+use cf_world::{Entry, Short};
+use std::alloc::{AllocError, Global};
+use std::io::{ErrorKind, Read, Write};
+use std::str;
+
+/// The most writes for one line. A writer that takes nothing more by then has failed.
+const MAX_WRITES: u64 = 4_294_967_296;
+
+/// Reads all of a schedule, runs it, and writes its trace, a line for each entry. Nothing is written where the input can't
+/// be used. Each event's lines are written before the next event, so where the run stops for want of memory the lines of the
+/// events before it stand written, and no part of another's.
+pub fn simulate<R: Read, W: Write>(
+    alloc: Global,
+    reader: &mut R,
+    writer: &mut W,
+    config: &Config,
+    explains: bool,
+) -> Result<(), SimulateFault>
+    ensures done { OnOk result (IfSome (R.remaining reader.old) (λ input. Prints explains (shown_config config.now) input (W.contents writer.old) (W.contents writer.new))) }
+    ensures ends { IfErr result (λ f. IfSome (R.remaining reader.old) (λ input. Ends explains (shown_config config.now) input (W.contents writer.old) (W.contents writer.new) f)) }
+{
+    let mut input = Vec::new(alloc);
+    reader.read_to_end(&mut input)?;
+    simulate_bytes(alloc, input.as_slice(), writer, config, explains)
+}
+
+// The same of an input that was read.
+fn simulate_bytes<W: Write>(
+    alloc: Global,
+    input: &[u8],
+    writer: &mut W,
+    config: &Config,
+    explains: bool,
+) -> Result<(), SimulateFault>
+    ensures done { OnOk result (Prints explains (shown_config config.now) input.now (W.contents writer.old) (W.contents writer.new)) }
+    ensures ends { IfErr result (Ends explains (shown_config config.now) input.now (W.contents writer.old) (W.contents writer.new)) }
+{
+    let Ok(text) = str::from_utf8(input) else {
+        return Err(SimulateFault::NotUtf8);
+    };
+    let schedule = Schedule::read(alloc, text, config.nodes)?;
+    write_run(alloc, writer, config, &schedule, explains)
+}
+
+// Runs a schedule, and writes its trace up to where it stops.
+fn write_run<W: Write>(
+    alloc: Global,
+    writer: &mut W,
+    config: &Config,
+    schedule: &Schedule<'_>,
+    explains: bool,
+) -> Result<(), SimulateFault>
+    ensures done { OnOk result (WritesAll explains (shown_config config.now) (map seen schedule.now.events.items) (W.contents writer.old) (W.contents writer.new)) }
+    ensures ends { IfErr result (EndsRun explains (shown_config config.now) (map seen schedule.now.events.items) (W.contents writer.old) (W.contents writer.new)) }
+{
+    let run = write_events(alloc, writer, config, schedule, explains);
+    match writer.flush() {
+        Ok(()) => run,
+        Err(_) => Err(SimulateFault::InputOutput),
+    }
+}
+
+// Carries out the events of a schedule one after another, and writes the lines of each before the next.
+fn write_events<W: Write>(
+    alloc: Global,
+    writer: &mut W,
+    config: &Config,
+    schedule: &Schedule<'_>,
+    explains: bool,
+) -> Result<(), SimulateFault>
+    ensures done { OnOk result (WritesAll explains (shown_config config.now) (map seen schedule.now.events.items) (W.contents writer.old) (W.contents writer.new)) }
+    ensures ends { IfErr result (EndsRun explains (shown_config config.now) (map seen schedule.now.events.items) (W.contents writer.old) (W.contents writer.new)) }
+{
+    one_event_more();
+    let events = schedule.events.as_slice();
+    let mut world = World::new(alloc, config)?;
+    let mut explainer = Explainer::new(alloc);
+    for (done, event) in events.iter().enumerate() {
+        let line = schedule.line(done);
+        let lines = event_text(
+            alloc,
+            &mut world,
+            explains,
+            &mut explainer,
+            done + 1,
+            event,
+            line,
+        )?;
+        write_bytes(writer, lines.as_bytes())?;
+    }
+    Ok(())
+}
+
+// Carries out an event, the one of number `at`, which stands in this line, and gives what is written of it.
+fn event_text(
+    alloc: Global,
+    world: &mut World,
+    explains: bool,
+    explainer: &mut Explainer,
+    at: usize,
+    event: &Event,
+    line: Line<'_>,
+) -> Result<String, Short>
+    ensures ok { OnOk result (GoesOn (seen event.now) (parts world.old) (parts world.new)) }
+    ensures shows { IfOk result (λ text. ShowsEvent explains at (seen event.now) (parts world.old) (string_bytes text)) }
+{
+    if explains {
+        explained_text(alloc, world, explainer, at, event, line)
+    } else {
+        event_lines(alloc, world, at, event)
+    }
+}
+
+// Carries out an event, and gives the lines of what applications got by it, behind remarks on what it did.
+fn explained_text(
+    alloc: Global,
+    world: &mut World,
+    explainer: &mut Explainer,
+    at: usize,
+    event: &Event,
+    line: Line<'_>,
+) -> Result<String, Short>
+    ensures ok { OnOk result (GoesOn (seen event.now) (parts world.old) (parts world.new)) }
+    ensures shows { IfOk result (λ text. ShowsEvent true at (seen event.now) (parts world.old) (string_bytes text)) }
+{
+    explainer.before(world, event)?;
+    let lines = event_lines(alloc, world, at, event)?;
+    let remarks = explainer.after(world, event, line.number, line.text)?;
+    let mut text = String::from_str(alloc, remarks.as_str())?;
+    text.push_str(lines.as_str())?;
+    Ok(text)
+}
+
+// Carries out an event, and gives the lines of what applications got by it.
+fn event_lines(alloc: Global, world: &mut World, at: usize, event: &Event) -> Result<String, Short>
+    ensures ok { OnOk result (GoesOn (seen event.now) (parts world.old) (parts world.new)) }
+    ensures shows { IfOk result (λ text. ShowsEvent false at (seen event.now) (parts world.old) (string_bytes text)) }
+{
+    let entries = world.step(at, event)?;
+    let lines = entry_lines(alloc, entries.as_slice())?;
+    Ok(lines)
+}
+
+// The lines of entries.
+fn entry_lines(alloc: Global, entries: &[Entry]) -> Result<String, AllocError>
+    ensures { IfOk result (λ lines. string_bytes lines ≡ printed (map shown_entry entries.now)) }
+{
+    let mut lines = String::new(alloc);
+    for entry in entries {
+        let line = format!(in alloc; "{entry}\n")?;
+        lines.push_str(line.as_str())?;
+    }
+    Ok(lines)
+}
+
+// Writes these bytes, or their front where a write fails.
+fn write_bytes<W: Write>(writer: &mut W, bytes: &[u8]) -> Result<(), SimulateFault>
+    ensures all { OnOk result (Appends (W.contents writer.old) (W.contents writer.new) bytes.now) }
+    ensures part { OnErr result (AddsPart (W.contents writer.old) (W.contents writer.new) bytes.now) }
+    ensures fault { IfErr result (λ f. f ≡ SimulateFault.InputOutput) }
+{
+    let mut rest = bytes;
+    for _ in 0..MAX_WRITES {
+        if rest.is_empty() {
+            return Ok(());
+        }
+        rest = write_some(writer, rest)?;
+    }
+    Err(SimulateFault::InputOutput)
+}
+
+// Writes some of these bytes, and gives what is left. None is written where the write was interrupted, or fails.
+fn write_some<'a, W: Write>(writer: &mut W, bytes: &'a [u8]) -> Result<&'a [u8], SimulateFault>
+    ensures some { IfOk result (λ rest. Leaves (W.contents writer.old) (W.contents writer.new) bytes.now rest.now) }
+    ensures none { OnErr result (Keeps (W.contents writer.old) (W.contents writer.new)) }
+    ensures fault { IfErr result (λ f. f ≡ SimulateFault.InputOutput) }
+{
+    match writer.write(bytes) {
+        Ok(0) => Err(SimulateFault::InputOutput),
+        Ok(count) => Ok(&bytes[count..]),
+        Err(error) if error.kind() == ErrorKind::Interrupted => Ok(bytes),
+        Err(_) => Err(SimulateFault::InputOutput),
+    }
+}
