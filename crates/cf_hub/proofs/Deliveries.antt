@@ -14,6 +14,7 @@ use Rattle.cf_hub.specs.Hub.{Node, BringStep, Brings, Delivers, attached_at, cou
 use Rattle.cf_hub.specs.Rows.{Agrees, sub_in, rows_after}
 use Rattle.cf_hub.specs.Session.{Attached}
 use Rattle.cf_hub.specs.SessionState.{Subscription, Off, Asked, Ready, On, SessionState, come_at, is_off}
+use Rattle.cf_hub.specs.Turns.{Turns, get_turns, gets_turn}
 use Rattle.cf_hub.specs.WantOfMemory.{Both}
 use Rattle.cf_hub.specs.Wordings.{Held, at_offset, delivering}
 use Rattle.cf_hub.proofs.Rows.{has, without, Once, follows_has, once_sessions, few_sessions, sessions_without_follow, sessions_without_session}
@@ -38,6 +39,7 @@ pub record IsOnItsWay (p : Placed) (c e : List ℕ) (old now : Node) (next : Opt
   pub served : (k : ℕ) → has k todo ≡ false → Both (Brings (is_in k hit) c e p) (attached_at old k) (attached_at now k)
   pub counted : counts ≡ tally (λ k. fate_at c (at_offset e p) (attached_at old k) (attached_at now k)) done none
   pub so_many : total counts ≡ length done
+  pub turns : now.turns ≡ get_turns done old.turns
   pub agrees : Agrees (attached_at now) now.rows
 
 -- ---- at first
@@ -79,10 +81,15 @@ starts p c e h rows agrees small =
       served = λ k m. no_subscriber false p c e (attached_at h k) (un_not (is_off (sub_in (attached_at h k) c)) (sym (agrees c k) ∙ follows_has h.rows c k ∙ m));
       counted = refl;
       so_many = refl;
+      turns = refl;
       agrees = agrees;
     }
 
 -- ---- one step
+
+pub turns_snoc : (k : ℕ) (ks : List ℕ) (t : Turns) → get_turns (ks ++ k ∷ []) t ≡ gets_turn k (get_turns ks t)
+turns_snoc k [] t = refl
+turns_snoc k (j ∷ ks) t = turns_snoc k ks (gets_turn j t)
 
 -- the sessions for which memory was refused, with one more if so
 abbrev pub hit_more : Bool → ℕ → List ℕ → List ℕ
@@ -155,6 +162,7 @@ module _ (p : Placed) (c e : List ℕ) (old now new : Node) (k : ℕ) (counts : 
         served = λ j m. serve w rest is was j m (j == k) refl;
         counted = sym (tally_snoc (λ j. fate_at c (at_offset e p) (attached_at old j) (attached_at new j)) w.done k none ∙ ap (λ g. one_more g (tally (λ j. fate_at c (at_offset e p) (attached_at old j) (attached_at new j)) w.done none)) (sym (s.fate ∙ ap (λ o. fate_at c (at_offset e p) o (attached_at new k)) was)) ∙ ap (one_more f) (sym (w.counted ∙ tally_same (λ j. fate_at c (at_offset e p) (attached_at old j) (attached_at now j)) (λ j. fate_at c (at_offset e p) (attached_at old j) (attached_at new j)) w.done none (λ j m. ap (fate_at c (at_offset e p) (attached_at old j)) (sym (s.others j (other j (apart j k w.done m passed))))))));
         so_many = total_more f counts ∙ ap (λ n. n + 1) w.so_many ∙ sym (snoc_length k w.done);
+        turns = s.turns ∙ ap (gets_turn k) w.turns ∙ sym (turns_snoc k w.done old.turns);
         agrees = s.agrees;
       }
     where
@@ -215,6 +223,9 @@ ends_counted p c e old now counts w = w.counted ∙ ap (λ ks. tally (λ k. fate
 
 pub ends_so_many : (p : Placed) (c e : List ℕ) (old now : Node) (counts : Delivered) (w : IsOnItsWay p c e old now None counts) → total counts ≡ length (sessions_of old.rows c)
 ends_so_many p c e old now counts w = w.so_many ∙ ap length (sym (ends_all p c e old now counts w))
+
+pub ends_turns : (p : Placed) (c e : List ℕ) (old now : Node) (counts : Delivered) → IsOnItsWay p c e old now None counts → now.turns ≡ get_turns (sessions_of old.rows c) old.turns
+ends_turns p c e old now counts w = w.turns ∙ ap (λ ks. get_turns ks old.turns) (sym (ends_all p c e old now counts w))
 
 -- ---- while it goes on
 

@@ -21,3 +21,5 @@ pub mod InNotes
 pub mod AlikeMoves
 pub mod Settling
 pub mod Counts
+pub mod Marks
+pub mod Naming

@@ -8,6 +8,7 @@ use Rattle.cf_hub.specs.Hub.{Node, InState, Meets, PingStep, Pings, attached_at,
 use Rattle.cf_hub.specs.Rows.{Agrees, off_after, rows_after, sub_in}
 use Rattle.cf_hub.specs.Session.{Attached, shown_all}
 use Rattle.cf_hub.specs.SessionState.{SessionState, is_off}
+use Rattle.cf_hub.specs.Turns.{gets_turn}
 use Rattle.cf_hub.specs.WantOfMemory.{Both}
 use Rattle.cf_hub.specs.Wordings.{Held}
 use Rattle.cf_hub.proofs.Hubs.{seen, agrees_seen}
@@ -38,12 +39,13 @@ module _ (f : Fate) (c : List ℕ) (k : ℕ) (m n : BTreeMap ℕ Session) (rows 
     pub met_seen_at : (R : (ℕ → Option Attached) → Bool → SessionState Held Item → SessionState Held Item → Type 0) (hit : Bool) → Both (InState (R (attached_in m) hit)) (attached_in m k) (attached_in n k) → new.refused ≡ counted (one_if hit) old.refused → Meets k (R (attached_at old)) old new
     met_seen_at R hit here count = subst (λ (g : ℕ → Option Attached). Meets k (R g) old new) (sym (seen old m was)) (met_seen (R (attached_in m)) hit here count)
 
-    pub ping_seen : (now : ℕ) (hit : Bool) → Both (Pings hit now) (attached_in m k) (attached_in n k) → new.refused ≡ counted (one_if hit) old.refused → PingStep now k old new
-    ping_seen now hit here count =
+    pub ping_seen : (now : ℕ) (hit : Bool) → Both (Pings hit now) (attached_in m k) (attached_in n k) → new.refused ≡ counted (one_if hit) old.refused → new.turns ≡ gets_turn k old.turns → PingStep now k old new
+    ping_seen now hit here count turns =
         record {
           hit = hit;
           here = seen_both (Pings hit now) here;
           others = λ j h. ap (λ g. g j) (seen new n is) ∙ others j h ∙ ap (λ g. g j) (sym (seen old m was));
           count = count;
+          turns = turns;
           agrees = agrees_seen new n is (met_agrees new.rows gone);
         }

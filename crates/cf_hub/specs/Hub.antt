@@ -1,4 +1,5 @@
 -- A node's sessions by number, and which session follows which channel.
+pub use Rattle.cf_hub.specs.Turns.{is_in}
 use Rattle.std.specs.Prelude.{◌≡◌, ◌≢◌, ◌≤◌, ◌<◌, ◌⊎◌, ◌&&◌, ℕ, ◌+◌, ◌-◌, ◌==◌, min, not, Bool, true, false, if◌then◌else◌, Option, Some, None, option_map, is_some, List, [], length, filter, codes, ◌++◌, ◌∷◌}
 use Rattle.std.specs.BTreeMap.{BTreeMap, get, is_at}
 use Rattle.std.specs.Fmt.{decimal}
@@ -15,6 +16,7 @@ use Rattle.cf_hub.specs.declared.delivered.Fate.{Fate}
 use Rattle.cf_hub.specs.Session.{Attached, Shown, attached_shown, attached_of, ticked, ticks}
 use Rattle.cf_hub.specs.SessionState.{SessionState, Subscription, begins, comes, is_off, opens}
 use Rattle.cf_hub.specs.WantOfMemory.{Both, OrCloses, Serves}
+use Rattle.cf_hub.specs.Turns.{Turns, first_turn, get_turns, gets_turn, no_turns, turns_left}
 use Rattle.cf_hub.specs.Wordings.{Held, at_offset, delivering, plain}
 use Rattle.cf_hub.specs.declared.session.Session.{Session}
 use Rattle.cf_hub.specs.declared.refusal.HubRefusal.{HubRefusal}
@@ -23,7 +25,8 @@ use Rattle.cf_hub.specs.declared.said.Said.{Said}
 use Rattle.cf_hub.specs.declared.said.Said.TheVariants as said
 
 -- what contracts see of a hub: its node, its boot number, and how many client ids it has used; its sessions by number; which
--- session follows which channel; and how many requests for memory were refused, up to the largest number of 64 bits
+-- session follows which channel; how many requests for memory were refused, up to the largest number of 64 bits; and which
+-- sessions have got something to send
 pub record Node : Type 0 where
   pub node : ℕ
   pub boot : ℕ
@@ -31,6 +34,7 @@ pub record Node : Type 0 where
   pub sessions : List (ℕ × Shown)
   pub rows : List Follow
   pub refused : ℕ
+  pub turns : Turns
 
 abbrev pub largest : ℕ
 largest = 18446744073709551615
@@ -44,7 +48,7 @@ attached_in sessions k = option_map attached_of (get nat_cmp sessions k)
 
 -- no session yet
 abbrev pub empty : ℕ → ℕ → Node
-empty node boot = record { node = node; boot = boot; used = 0; sessions = []; rows = []; refused = 0 }
+empty node boot = record { node = node; boot = boot; used = 0; sessions = []; rows = []; refused = 0; turns = no_turns }
 
 -- the most sessions of a node, and the most channels of a session
 abbrev pub most_sessions : ℕ
@@ -105,6 +109,10 @@ abbrev pub waits_in : Option Attached → List Item
 waits_in None = []
 waits_in (Some a) = a.state.notes
 
+abbrev pub is_waiting : List Item → Bool
+is_waiting [] = false
+is_waiting (n ∷ ns) = true
+
 -- ---- want of memory
 
 -- the count of refused requests after n more
@@ -119,9 +127,6 @@ one_if b = if b then 1 else 0
 -- what a delivery makes of a session
 abbrev pub Brings : Bool → List ℕ → List ℕ → Placed → Attached → Attached → Type 0
 Brings refused c e p = InState (Serves refused (delivering p) c (comes (delivering p) c (at_offset e p)))
-
-abbrev pub is_in : ℕ → List ℕ → Bool
-is_in k ks = list_any (λ j. j == k) ks
 
 -- A delivery meets each session: the ones that are hit, for which memory was refused, are as many as the refused requests at
 -- most, and all others go to what the machine makes of them.
@@ -153,6 +158,7 @@ pub record BringStep (c e : List ℕ) (p : Placed) (k : ℕ) (f : Fate) (old new
   pub fate : f ≡ fate_at c (at_offset e p) (attached_at old k) (attached_at new k)
   pub rows : new.rows ≡ rows_after f c k old.rows
   pub count : new.refused ≡ counted (one_if hit) old.refused
+  pub turns : new.turns ≡ gets_turn k old.turns
   pub agrees : Agrees (attached_at new) new.rows
 
 -- Session k meets a call that may want memory: R says what became of its state, where memory was refused for it or not.
@@ -169,7 +175,7 @@ said_in None = said.Gone
 said_in (Some a) = if a.state.closed then said.Closed else said.Kept
 
 -- The tick meets each session: those that are hit, for which memory was refused, are as many as the refused requests at most,
--- and all others go to what it makes of them.
+-- and all others go to what it makes of them. Each gets its turn.
 abbrev pub Pings : Bool → ℕ → Attached → Attached → Type 0
 Pings hit now a b = OrCloses hit plain (ticks plain now a.badge) a.state b.state × (b.badge ≡ ticked now a.badge)
 
@@ -179,6 +185,9 @@ pub record Ticks (now : ℕ) (old new : Node) : Type 0 where
   pub requests : ℕ
   pub few_hit : length hit ≤ requests
   pub count : new.refused ≡ counted requests old.refused
+  pub all : List ℕ
+  pub all_sessions : (k : ℕ) → is_in k all ≡ is_some (attached_at old k)
+  pub turns : new.turns ≡ get_turns all old.turns
   pub agrees : Agrees (attached_at new) new.rows
 
 -- ---- refusals
@@ -240,12 +249,19 @@ pub record Begins (k : ℕ) (c : List ℕ) (id : ℕ) (since : Option Position) 
   pub rows : new.rows ≡ with_follow old.rows c k
   pub rest : SameRest old new
 
+-- k is the first whose turn it is and for whose client something waits; it and those before it have had their turn
+pub record IsNextTurn (sessions : ℕ → Option Attached) (old new : Turns) (k : Option ℕ) : Type 0 where
+  pub first : k ≡ first_turn (λ j. is_waiting (waits_in (sessions j))) old.numbers
+  pub left : new.numbers ≡ turns_left (λ j. is_waiting (waits_in (sessions j))) old.numbers
+  pub known : new.known ≡ old.known
+
 -- session k meets a tick
 pub record PingStep (now k : ℕ) (old new : Node) : Type 0 where
   pub hit : Bool
   pub here : Both (Pings hit now) (attached_at old k) (attached_at new k)
   pub others : OthersStay k old new
   pub count : new.refused ≡ counted (one_if hit) old.refused
+  pub turns : new.turns ≡ gets_turn k old.turns
   pub agrees : Agrees (attached_at new) new.rows
 
 -- session k is open, and whether its channel is off is so

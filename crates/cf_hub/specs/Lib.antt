@@ -16,3 +16,5 @@ pub mod Alike
 pub mod InNotes
 pub mod AlikeMoves
 pub mod Counts
+pub mod Turns
+pub mod Marks

@@ -7,6 +7,7 @@ ghost use Rattle.cf_hub.specs.Delivery.{fate_at, none, tally, total};
 ghost use Rattle.cf_hub.specs.Hub.{BringStep, Delivers, One, OthersStay, SameNode, SameRest, attached_at, counted, empty, largest, one_if, sub_at};
 ghost use Rattle.cf_hub.specs.Rows.{Agrees};
 ghost use Rattle.cf_hub.specs.SessionState.{closes_now, is_off, leaves, takes_front};
+ghost use Rattle.cf_hub.specs.Turns.{get_turns, gets_turn};
 ghost use Rattle.cf_hub.specs.Wordings.{at_offset, push_text};
 
 use crate::delivered::{Delivered, Fate};
@@ -51,7 +52,7 @@ impl Model for Hub {
     ghost use Rattle.cf_hub.specs.Rows.{Agrees};
     ghost use Rattle.cf_hub.specs.Session.{shown_all};
 
-    ghost view = { λ h. record { node = h.node; boot = h.boot; used = h.used; sessions = shown_all h.sessions.entries; rows = h.rows; refused = h.refused } };
+    ghost view = { λ h. record { node = h.node; boot = h.boot; used = h.used; sessions = shown_all h.sessions.entries; rows = h.rows; refused = h.refused; turns = h.listed } };
 
     ghost invariant = { λ h. Agrees (attached_in h.sessions) h.rows × AreNumbered h.free_from (attached_in h.sessions) };
 }
@@ -81,6 +82,7 @@ impl Hub {
         ensures rest { SameNode self.old self.new }
         ensures counts { result ≡ tally (λ k. fate_at channel.now (at_offset epoch.now publication.now) (attached_at self.old k) (attached_at self.new k)) (sessions_of self.old.rows channel.now) none }
         ensures adds_up { total result ≡ length (sessions_of self.old.rows channel.now) }
+        ensures turns { self.new.turns ≡ get_turns (sessions_of self.old.rows channel.now) self.old.turns }
         ensures agrees { Agrees (attached_at self.new) self.new.rows }
     {
         let written = push_text(self.alloc, channel, publication);
@@ -100,6 +102,7 @@ impl Hub {
         ensures found { result ≡ not (is_off (sub_at self.old session channel.now)) }
         ensures sessions { One session (leaves channel.now) self.old self.new }
         ensures rest { SameRest self.old self.new }
+        ensures turns { self.new.turns ≡ self.old.turns }
     {
         leave_one(&mut self.sessions, session, channel);
         self.rows.remove(channel, session)
@@ -110,6 +113,7 @@ impl Hub {
     pub fn close(&mut self, session: u32, code: u16)
         ensures sessions { One session (closes_now (Close code)) self.old self.new }
         ensures rest { SameRest self.old self.new }
+        ensures turns { self.new.turns ≡ gets_turn session self.old.turns }
     {
         self.listed.add(session);
         if close_one(&mut self.sessions, session, code) {
@@ -122,6 +126,7 @@ impl Hub {
         ensures front { option_map meaning result ≡ option_and_then (λ a. slice_get a.state.notes 0) (attached_at self.old session) }
         ensures sessions { One session takes_front self.old self.new }
         ensures rest { SameRest self.old self.new }
+        ensures turns { self.new.turns ≡ self.old.turns }
     {
         take_one(&mut self.sessions, session)
     }
@@ -133,6 +138,7 @@ impl Hub {
         ensures others { OthersStay session self.old self.new }
         ensures agrees { Agrees (attached_at self.new) self.new.rows }
         ensures rest { SameRest self.old self.new }
+        ensures turns { self.new.turns ≡ self.old.turns }
     {
         drop_one(&mut self.sessions, session);
         self.free_from = self.free_from.min(session);
@@ -158,6 +164,7 @@ impl Hub {
         ensures rest { SameNode self.old self.new }
         ensures counts { result ≡ tally (λ k. fate_at channel.now (at_offset epoch.now publication.now) (attached_at self.old k) (attached_at self.new k)) (sessions_of self.old.rows channel.now) none }
         ensures adds_up { total result ≡ length (sessions_of self.old.rows channel.now) }
+        ensures turns { self.new.turns ≡ get_turns (sessions_of self.old.rows channel.now) self.old.turns }
         ensures agrees { Agrees (attached_at self.new) self.new.rows }
     {
         let mut counts = Delivered::none();

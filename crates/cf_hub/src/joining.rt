@@ -18,6 +18,7 @@ impl Hub {
     ghost use Rattle.cf_hub.specs.Checked.{stand_of};
     ghost use Rattle.cf_hub.specs.Hub.{Begins, IsFull, IsLeastFree, NoRoom, Opens, attached_at, is_open, largest, most_channels, most_sessions, sub_at, IsOpenWith, IsRefused, IsSame};
     ghost use Rattle.cf_hub.specs.SessionState.{is_off};
+    ghost use Rattle.cf_hub.specs.Turns.{SameTurns};
 
     /// A new session, by its number: the least that no session has.
     pub fn attach(&mut self, user: String, now: u64) -> Result<u32, HubRefusal>
@@ -26,6 +27,8 @@ impl Hub {
         ensures too_many { IsErrOf result HubRefusal.TooMany ↔ NoRoom self.old }
         ensures refusals { IfErr result (λ e. e ≢ HubRefusal.TooMany → e ≡ HubRefusal.Memory) }
         ensures err { IfErr result (λ e. IsRefused e self.old self.new) }
+        ensures known { IfOk result (λ k. k < self.new.turns.known) }
+        ensures turns { SameTurns self.old.turns self.new.turns }
     {
         let Some(number) = self.free_number() else {
             return Err(HubRefusal::TooMany);
@@ -60,7 +63,9 @@ impl Hub {
         requires below { number < most_sessions }
         requires left { self.old.used < largest }
         ensures opens { OnOk result (Opens number (string_bytes user) now self.old self.new) }
-        ensures err { OnErr result (self.new ≡ self.old) }
+        ensures err { OnErr result (IsSame self.old self.new) }
+        ensures known { OnOk result (number < self.new.turns.known) }
+        ensures turns { SameTurns self.old.turns self.new.turns }
     {
         self.listed.make_room(number)?;
         let client = write_client_id(self.alloc, self.node, self.boot, self.used + 1)?;
@@ -112,6 +117,7 @@ impl Hub {
         ensures already { IsErrOf result HubRefusal.Already ↔ IsOpenWith (λ off. off ≡ false) session channel.now self.old }
         ensures too_many { IsErrOf result HubRefusal.TooMany ↔ (IsOpenWith (λ off. off ≡ true) session channel.now self.old × IsFull session self.old) }
         ensures err { IfErr result (λ e. IsRefused e self.old self.new) }
+        ensures turns { self.new.turns ≡ self.old.turns }
     {
         self.may_begin(session, channel)?;
         match self.start(session, channel, id, since) {
@@ -177,6 +183,7 @@ impl Hub {
         requires room { length self.old.rows < most_rows }
         ensures ok { OnOk result (Begins session channel.now id since self.old self.new) }
         ensures err { OnErr result (IsSame self.old self.new) }
+        ensures turns { self.new.turns ≡ self.old.turns }
     {
         match self.rows.add(self.alloc, channel, session) {
             Ok(()) => {}

@@ -1,6 +1,10 @@
 //! The sessions that have got something to send, by number.
+ghost use Rattle.std.specs.Prelude.{◌≡◌};
+ghost use Rattle.cf_hub.specs.Turns.{gets_turn, no_turns};
+
 use std::alloc::{AllocError, Global};
 use std::collections::VecDeque;
+use std::marker::Model;
 
 /// Numbers of sessions that have got something to send since they were last named, each once, in order.
 #[derive(Drop)]
@@ -10,9 +14,27 @@ pub(crate) struct Listed {
     is_listed: Vec<bool>,
 }
 
+impl Model for Listed {
+    ghost use Rattle.std.specs.Prelude.{length};
+    ghost use Rattle.std.specs.VecDeque.{deque_capacity};
+    ghost use Rattle.cf_hub.specs.Turns.{Turns};
+    ghost use Rattle.cf_hub.specs.Marks.{AreMarked};
+
+    ghost Value = { Turns };
+
+    ghost view = { λ l. record { numbers = l.numbers.items; known = length l.is_listed.items } };
+
+    ghost invariant = { λ l. AreMarked l.numbers.items l.is_listed.items (deque_capacity l.numbers) };
+}
+
 impl Listed {
+    ghost use Rattle.std.specs.Prelude.{◌≡◌, ◌<◌, ◌∷◌, [], MatchOption, OnOk};
+    ghost use Rattle.cf_hub.specs.Turns.{SameTurns, gets_turn, no_turns};
+
     /// None, and no room. It takes no memory.
-    pub(crate) fn new(alloc: Global) -> Listed {
+    pub(crate) fn new(alloc: Global) -> Listed
+        ensures { result ≡ no_turns }
+    {
         Listed {
             numbers: VecDeque::new(alloc),
             is_listed: Vec::new(alloc),
@@ -20,7 +42,10 @@ impl Listed {
     }
 
     /// Makes room for a number.
-    pub(crate) fn make_room(&mut self, number: u32) -> Result<(), AllocError> {
+    pub(crate) fn make_room(&mut self, number: u32) -> Result<(), AllocError>
+        ensures ok { OnOk result (number < self.new.known) }
+        ensures same { SameTurns self.old self.new }
+    {
         let count = number as usize + 1;
         if count > self.is_listed.len() {
             self.numbers
@@ -30,26 +55,24 @@ impl Listed {
         Ok(())
     }
 
-    /// How many there are.
-    pub(crate) fn len(&self) -> usize {
-        self.numbers.len()
-    }
-
-    /// Adds a number, unless it is there. It uses the room that was made.
-    pub(crate) fn add(&mut self, number: u32) {
-        if let Some(is_listed) = self.is_listed.get_mut(number as usize) {
-            if !*is_listed && self.numbers.push_back(number).is_ok() {
-                *is_listed = true;
-            }
+    /// Adds a number that has room, unless it is there. It takes no memory.
+    pub(crate) fn add(&mut self, number: u32)
+        ensures { self.new ≡ gets_turn number self.old }
+    {
+        let place = number as usize;
+        if place < self.is_listed.len() && !self.is_listed[place] {
+            self.numbers.push_back_reserved(number);
+            self.is_listed[place] = true;
         }
     }
 
-    /// Takes the first number.
-    pub(crate) fn take(&mut self) -> Option<u32> {
+    /// Takes the first number. It takes no memory.
+    pub(crate) fn take(&mut self) -> Option<u32>
+        ensures known { self.new.known ≡ self.old.known }
+        ensures first { MatchOption result ((self.old.numbers ≡ []) × (self.new.numbers ≡ [])) (λ k. self.old.numbers ≡ k ∷ self.new.numbers) }
+    {
         let number = self.numbers.pop_front()?;
-        if let Some(is_listed) = self.is_listed.get_mut(number as usize) {
-            *is_listed = false;
-        }
+        self.is_listed[number as usize] = false;
         Some(number)
     }
 }

@@ -16,11 +16,12 @@ impl Hub {
     ghost use Rattle.cf_queue.specs.OutQueue.{Text};
     ghost use Rattle.cf_hub.specs.Checked.{check_answer, stand_of};
     ghost use Rattle.cf_hub.specs.Finish.{FinishesAt};
-    ghost use Rattle.cf_hub.specs.Hub.{HasNoneFrom, IsBounded, IsNextFrom, Meets, One, PingStep, largest, most_sessions, SameNode, SameRest, Ticks, attached_at, is_open, said_in, sub_at, waits_in};
+    ghost use Rattle.cf_hub.specs.Hub.{HasNoneFrom, IsBounded, IsNextFrom, IsNextTurn, Meets, One, PingStep, largest, most_sessions, SameNode, SameRest, Ticks, attached_at, is_open, said_in, sub_at, waits_in};
     ghost use Rattle.cf_hub.specs.Rows.{Agrees};
     ghost use Rattle.cf_hub.specs.Session.{badge_ponged};
     ghost use Rattle.cf_hub.specs.SessionState.{checks, is_asked, is_ready, push, reads};
     ghost use Rattle.cf_hub.specs.Subscriptions.{reading_of};
+    ghost use Rattle.cf_hub.specs.Turns.{gets_turn};
     ghost use Rattle.cf_hub.specs.WantOfMemory.{OrCloses};
     ghost use Rattle.cf_hub.specs.Wordings.{plain, reading};
 
@@ -30,6 +31,7 @@ impl Hub {
         ensures asked { result ≡ is_asked (sub_at self.old session channel.now) }
         ensures sessions { One session (reads (reading recovery.publications.items) channel.now (reading_of recovery)) self.old self.new }
         ensures rest { SameRest self.old self.new }
+        ensures turns { self.new.turns ≡ self.old.turns }
     {
         read_one(&mut self.sessions, session, channel, recovery)
     }
@@ -40,6 +42,7 @@ impl Hub {
         ensures found { result ≡ is_ready (sub_at self.old session channel.now) }
         ensures session { Meets session (λ hit. FinishesAt hit channel.now (sub_at self.old session channel.now)) self.old self.new }
         ensures rest { SameNode self.old self.new }
+        ensures turns { self.new.turns ≡ gets_turn session self.old.turns }
     {
         self.listed.add(session);
         let (found, step) = finish_one(&mut self.sessions, self.alloc, session, channel);
@@ -53,6 +56,7 @@ impl Hub {
         ensures said { result ≡ said_in (attached_at self.new session) }
         ensures session { Meets session (λ hit. OrCloses hit plain (push plain (Text (string_bytes text)))) self.old self.new }
         ensures rest { SameNode self.old self.new }
+        ensures turns { self.new.turns ≡ gets_turn session self.old.turns }
     {
         self.listed.add(session);
         let (said, step) = say_one(&mut self.sessions, session, text);
@@ -67,6 +71,7 @@ impl Hub {
         ensures answer { result ≡ check_answer top (sub_at self.old session channel.now) }
         ensures session { Meets session (λ hit. OrCloses hit plain (checks plain channel.now top)) self.old self.new }
         ensures rest { SameNode self.old self.new }
+        ensures turns { self.new.turns ≡ gets_turn session self.old.turns }
     {
         self.listed.add(session);
         let (checked, step) = check_one(&mut self.sessions, self.alloc, session, channel, top);
@@ -80,6 +85,7 @@ impl Hub {
         ensures here { attached_at self.new session ≡ option_map badge_ponged (attached_at self.old session) }
         ensures others { (k : ℕ) → k ≢ session → attached_at self.new k ≡ attached_at self.old k }
         ensures rest { SameRest self.old self.new }
+        ensures turns { self.new.turns ≡ self.old.turns }
     {
         pong_one(&mut self.sessions, session);
     }
@@ -102,7 +108,8 @@ impl Hub {
     /// No session changes. It takes no memory.
     pub fn next_with_output(&mut self) -> Option<u32>
         ensures waiting { IfSome result (λ k. waits_in (attached_at self.old k) ≢ []) }
-        ensures same { self.new ≡ self.old }
+        ensures next { IsNextTurn (attached_at self.old) self.old.turns self.new.turns result }
+        ensures same { self.new ≡ record self.old { turns = self.new.turns } }
     {
         next_in(&mut self.listed, &self.sessions)
     }

@@ -65,6 +65,7 @@ impl Session {
     ghost use Rattle.cf_queue.specs.Meaning.{meaning};
     ghost use Rattle.cf_queue.specs.OutQueue.{Text, Close};
     ghost use Rattle.cf_hub.specs.Delivery.{fate_of};
+    ghost use Rattle.cf_hub.specs.Hub.{is_waiting};
     ghost use Rattle.cf_hub.specs.Rows.{off_after};
     ghost use Rattle.cf_hub.specs.Session.{badge_of, state_of};
     ghost use Rattle.cf_hub.specs.SessionState.{Off, On, closes_now, comes, is_off, no_memory, opens, push, put_sub, takes_front};
@@ -110,7 +111,7 @@ impl Session {
 
     /// Whether nothing waits.
     pub(crate) fn is_silent(&self) -> bool
-        ensures { (state_of self.now).notes ≡ [] → result ≡ true }
+        ensures { result ≡ not (is_waiting (state_of self.now).notes) }
     {
         self.queue.is_empty()
     }

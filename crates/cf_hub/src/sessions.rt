@@ -5,7 +5,7 @@ ghost use Rattle.std.specs.Ordering.{nat_cmp};
 ghost use Rattle.cf_queue.specs.Meaning.{meaning};
 ghost use Rattle.cf_queue.specs.OutQueue.{Close, Text};
 ghost use Rattle.cf_hub.specs.Delivery.{fate_at};
-ghost use Rattle.cf_hub.specs.Hub.{Brings, HasNoneFrom, InState, IsNextFrom, Pings, attached_in, counted, is_open, moves, one_if, said_in, waits_in};
+ghost use Rattle.cf_hub.specs.Hub.{Brings, HasNoneFrom, InState, IsNextFrom, IsNextTurn, Pings, attached_in, counted, is_open, is_waiting, moves, one_if, said_in, waits_in};
 ghost use Rattle.cf_hub.specs.Checked.{check_answer, stand_of};
 ghost use Rattle.cf_hub.specs.Finish.{FinishesAt};
 ghost use Rattle.cf_hub.specs.Rows.{off_after, rows_after, sub_in};
@@ -305,7 +305,7 @@ pub(crate) fn insert_one(
 
 /// Whether something waits for one session's client.
 fn has_output(sessions: &BTreeMap<u32, Session>, number: u32) -> bool
-    ensures { waits_in (attached_in sessions.now number) ≡ [] → result ≡ false }
+    ensures { result ≡ is_waiting (waits_in (attached_in sessions.now number)) }
 {
     match sessions.get(&number) {
         None => false,
@@ -315,13 +315,11 @@ fn has_output(sessions: &BTreeMap<u32, Session>, number: u32) -> bool
 
 /// The first listed number of a session for whose client something waits. It and those before it are no longer listed.
 pub(crate) fn next_in(listed: &mut Listed, sessions: &BTreeMap<u32, Session>) -> Option<u32>
-    ensures { IfSome result (λ k. waits_in (attached_in sessions.now k) ≢ []) }
+    ensures { IsNextTurn (attached_in sessions.now) listed.old listed.new result }
 {
-    for _ in 0..listed.len() {
-        if let Some(number) = listed.take() {
-            if has_output(sessions, number) {
-                return Some(number);
-            }
+    while let Some(number) = listed.take() {
+        if has_output(sessions, number) {
+            return Some(number);
         }
     }
     None

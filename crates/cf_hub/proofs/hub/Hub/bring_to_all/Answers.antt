@@ -1,7 +1,7 @@
 use Rattle.std.proofs.Common.{rules, ◌≡◌, ℕ, Option, Some, None, subst, sym, slice_get}
 use Rattle.cf_followers.specs.Follows.{sessions_of, after_in}
 use Rattle.cf_hub.specs.declared.delivered.Delivered.{Delivered}
-use Rattle.cf_hub.proofs.Deliveries.{IsOnItsWay, starts, steps, ends_served, ends_counted, ends_so_many}
+use Rattle.cf_hub.proofs.Deliveries.{IsOnItsWay, starts, steps, ends_served, ends_counted, ends_so_many, ends_turns}
 use Rattle.cf_hub.proofs.hub.Hub.bring_to_all.Goals as goal
 
 pub loop-next-init : goal.loop-next-init
@@ -38,4 +38,10 @@ pub returns-clause-adds_up : goal.returns-clause-adds_up
 returns-clause-adds_up c =
     let none_left : c.loop-next.next ≡ None = search rules in
     ends_so_many c.args.publication.now c.args.channel.now c.args.epoch.now c.args.self.now c.loop-next.self c.loop-next.counts
+    (subst (λ (next : Option ℕ). IsOnItsWay c.args.publication.now c.args.channel.now c.args.epoch.now c.args.self.now c.loop-next.self next c.loop-next.counts) none_left c.loop-next.invariant.0)
+
+pub returns-clause-turns : goal.returns-clause-turns
+returns-clause-turns c =
+    let none_left : c.loop-next.next ≡ None = search rules in
+    ends_turns c.args.publication.now c.args.channel.now c.args.epoch.now c.args.self.now c.loop-next.self c.loop-next.counts
     (subst (λ (next : Option ℕ). IsOnItsWay c.args.publication.now c.args.channel.now c.args.epoch.now c.args.self.now c.loop-next.self next c.loop-next.counts) none_left c.loop-next.invariant.0)

@@ -10,7 +10,7 @@ loop-number-preserved c =
     let next = c.in-Some.ensures.next.0 in let below = c.in-Some.ensures.next.1 in record {
       pinging =
           goes_on_pinging c.args.now c.in-Some.number c.args.self.now c.loop-number.self c.ping.new.self c.ping.ensures.step
-          (skips_pinging c.args.now c.loop-number.from c.args.self.now c.loop-number.self c.loop-number.invariant.pinging c.in-Some.number next.above next.between);
+          (skips_pinging c.args.now c.loop-number.from c.args.self.now c.loop-number.self c.loop-number.invariant.pinging c.in-Some.number next.above next.between) next.taken;
       same = search rules;
       within = omega (arith, below);
     }
