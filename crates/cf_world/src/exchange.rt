@@ -1,8 +1,8 @@
 //! Commands that clients send: each is heard by its node, and answered.
-ghost use Rattle.std.specs.Prelude.{◌≡◌, ℕ, List, Option, OnOk, slice_get};
+ghost use Rattle.std.specs.Prelude.{◌≡◌, ℕ, ℤ, List, Option, OnOk, IsSome, slice_get};
 ghost use Rattle.cf_protocol.specs.Position.{Position as Place};
 ghost use Rattle.cf_protocol.specs.Regular.{IsBody, IsInfo};
-ghost use Rattle.cf_protocol.specs.Settings.{NamespaceTable};
+ghost use Rattle.cf_protocol.specs.Settings.{NamespaceTable, settings_of};
 ghost use Rattle.cf_protocol.specs.Shown.{shown_command};
 ghost use Rattle.cf_machine.specs.ClientRequest as request;
 ghost use Rattle.cf_machine.specs.ClientRequest.{command_of};
@@ -10,14 +10,14 @@ ghost use Rattle.cf_machine.specs.Event as said;
 ghost use Rattle.cf_machine.specs.FreshEpochs.{AreFresh};
 ghost use Rattle.cf_machine.specs.PublicationList.{Broker as Shared};
 ghost use Rattle.cf_world.specs.BrokerTie.{ShowsBroker};
-ghost use Rattle.cf_world.specs.Exchange.{Puts};
+ghost use Rattle.cf_world.specs.Exchange.{Lists, Puts};
 ghost use Rattle.cf_world.specs.HubCalls.{Asks, AtHub, LeftTold, who_in};
 ghost use Rattle.cf_world.specs.NodesTie.{seated};
 ghost use Rattle.cf_world.specs.Tie.{GoesOn};
 
 use crate::broker::Broker;
 use crate::errand::Errand;
-use crate::granted::put_in;
+use crate::granted::{list_in, put_in};
 use crate::hubs::{ask_in, lose_in};
 use crate::sending::{Granted, send_in};
 use crate::short::Short;
@@ -128,6 +128,31 @@ impl World {
         publish_in(&mut self.broker, &mut self.hubs, self.alloc, granted)?;
         Ok(())
     }
+
+    /// A client asks for the history of a channel: for at most so many publications, or for all where the limit is below 0.
+    pub fn list(&mut self, name: &str, channel: &str, limit: i32) -> Result<(), Short>
+        ensures { OnOk result (GoesOn (said.ListHistory name.now channel.now limit) self.old self.new) }
+    {
+        calls_are_alike();
+        moves_are_alike();
+        what_is_said_stays();
+        epochs_are_fresh();
+        let errand = Errand::List { channel, limit };
+        let Some(granted) = send_in(
+            &self.namespaces,
+            &self.broker,
+            &mut self.hubs,
+            &mut self.peers,
+            self.alloc,
+            name,
+            &errand,
+        )?
+        else {
+            return Ok(());
+        };
+        history_in(&mut self.broker, &mut self.hubs, self.alloc, granted)?;
+        Ok(())
+    }
 }
 
 // The command is a subscribe: the subscription is begun, or the ask refused.
@@ -194,6 +219,29 @@ fn publish_in(
             }
             _ => Ok(()),
         },
+        _ => Ok(()),
+    }
+}
+
+// The command is a history: it is listed.
+fn history_in(
+    broker: &mut Broker,
+    hubs: &mut Vec<Hub>,
+    alloc: Global,
+    granted: Granted,
+) -> Result<(), Short>
+    ensures { OnOk result ((id : ℕ) (channel : List ℕ) (limit : ℤ)
+        → shown_command granted.command ≡ command_of (record { id = id; request = request.History channel limit })
+        → (table : NamespaceTable) (m : Shared) → AreFresh m → IsSome (settings_of table channel) → ShowsBroker table broker.old m
+        → Lists table m granted.seat channel limit id broker.new (slice_get hubs.old.items) (slice_get hubs.new.items)) }
+{
+    let Granted { seat, command } = granted;
+    let Command { id, request } = command;
+    match request {
+        Request::History { channel, limit, .. } => {
+            list_in(broker, hubs, alloc, seat, id, channel.as_str(), limit)?;
+            Ok(())
+        }
         _ => Ok(()),
     }
 }
