@@ -84,6 +84,12 @@ fn long_compact(rt: HostRuntime) -> Result<(), Fail> {
     let short = compact(alloc, text.as_str(), scan(text.as_str())?)?;
     let wanted = format!(in alloc; "[{}12]", repeated(alloc, "\" \",", 10922)?.as_str())?;
     assert!(rt; short.as_str() == wanted.as_str());
+    // compact already, without a space and with one in a string
+    for piece in ["1,", "\" \","] {
+        let text = format!(in alloc; "[{}12]", repeated(alloc, piece, 16_000)?.as_str())?;
+        let same = compact(alloc, text.as_str(), scan(text.as_str())?)?;
+        assert!(rt; same.as_str() == text.as_str());
+    }
     Ok(())
 }
 

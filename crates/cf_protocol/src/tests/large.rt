@@ -1,4 +1,5 @@
 //! Calls at their largest sizes, with ample memory, and the texts of faults.
+use super::{Sender, says};
 use crate::{
     Epoch, Outcome, Outgoing, Publication, Pushed, ReadFault, read_commands, read_namespaces,
     read_replies, read_tokens, write_publication, write_reply, write_unsubscribe,
@@ -87,6 +88,57 @@ fn longest_reply(rt: HostRuntime) -> Result<(), Fail> {
         assert!(rt; has_all);
     }
     assert!(rt; replies.len() == 1);
+    Ok(())
+}
+
+/// A presence reply with this many clients, as it is written.
+fn presence_of(alloc: Global, count: u32) -> Result<String, AllocError> {
+    let mut text = String::from_str(alloc, "{\"id\":6,\"presence\":{\"presence\":{")?;
+    for number in 1000..count.saturating_add(1000) {
+        if number > 1000 {
+            text.push(',')?;
+        }
+        let client = format!(in alloc; "0-1-{number}")?;
+        write!(
+            text,
+            "\"{client}\":{{\"client\":\"{client}\",\"user\":\"user{number}\"}}"
+        )?;
+    }
+    text.push_str("}}}")?;
+    Ok(text)
+}
+
+#[test]
+fn longest_texts(rt: HostRuntime) -> Result<(), Fail> {
+    let alloc = rt.alloc();
+    let long = repeated(alloc, "news ", 13_000)?;
+    for (sender, front, end) in [
+        (
+            Sender::Client,
+            "{\"connect\":{\"token\":\"",
+            "\"},\"id\":1}",
+        ),
+        (
+            Sender::Client,
+            "{\"id\":1,\"subscribe\":{\"channel\":\"",
+            "\"}}",
+        ),
+        (Sender::Client, "{\"id\":1,\"publish\":{\"data\":\"", "\"}}"),
+        (
+            Sender::Server,
+            "{\"push\":{\"channel\":\"",
+            "\",\"pub\":{\"data\":1}}}",
+        ),
+        (Sender::Server, "{\"push\":{\"pub\":{\"data\":\"", "\"}}}"),
+    ] {
+        let text = format!(in alloc; "{front}{long}{end}")?;
+        assert!(rt;
+            says(alloc, sender, text.as_str(), text.as_str()),
+            "{front}"
+        );
+    }
+    let text = presence_of(alloc, 1000)?;
+    assert!(rt; says(alloc, Sender::Server, text.as_str(), text.as_str()));
     Ok(())
 }
 
