@@ -185,6 +185,10 @@ fn every_kind(rt: HostRuntime) -> Result<(), Fail> {
         ),
         ("{}{}", "pong due;pong due;"),
         (
+            "{\"push\":{\"channel\":\"news\",\"pub\":{\"data\":1,\"info\":{\"client\":\"0-1-1\",\"user\":\"ann\"},\"offset\":1}}}",
+            "published news aaaa 1 1;",
+        ),
+        (
             "{\"push\":{\"channel\":\"news\",\"unsubscribe\":{\"code\":2499}}}",
             "",
         ),
@@ -216,6 +220,24 @@ fn largest_reply(rt: HostRuntime) -> Result<(), Fail> {
     }
     text.push_str("{\"data\":1,\"offset\":300}]}}")?;
     assert_eq!(rt; client.on_text(text.as_str())?.len(), 301);
+    Ok(())
+}
+
+/// A hundred channels with two calls each, and long texts, with ample memory.
+#[test]
+fn many_channels(rt: HostRuntime) -> Result<(), Fail> {
+    let alloc = rt.alloc();
+    let long = "1".repeat(alloc, 65_000)?;
+    let mut client = Client::new(alloc);
+    client.connect(long.as_str())?;
+    for number in 0..100 {
+        let channel = format!(in alloc; "c{number}")?;
+        client.ask(channel.as_str())?;
+        client.put(channel.as_str(), "1")?;
+        client.list(channel.as_str(), -1)?;
+    }
+    client.ask(long.as_str())?;
+    client.put("news", long.as_str())?;
     Ok(())
 }
 

@@ -42,6 +42,7 @@ fn thousand(alloc: Global, presence: &mut Presence, now: u64) -> Result<(), Fail
     Ok(())
 }
 
+/// They come and go, and one of them enters a hundred channels more.
 #[test]
 fn a_thousand_clients(rt: HostRuntime) -> Result<(), Fail> {
     let mut presence = Presence::new(rt.alloc());
@@ -58,6 +59,12 @@ fn a_thousand_clients(rt: HostRuntime) -> Result<(), Fail> {
     let stats = presence.stats("news");
     assert_eq!(rt; stats.clients, 998);
     assert_eq!(rt; stats.users, 10);
+    for number in 0..100 {
+        let channel = format!(in rt.alloc(); "c{number}")?;
+        presence.enter(channel.as_str(), "0-1-1", "ann", 60)?;
+    }
+    let stats = presence.stats("c99");
+    assert_eq!(rt; stats.clients, 1);
     Ok(())
 }
 
