@@ -4,17 +4,14 @@ ghost use Rattle.cf_session.specs.Shown.{answer_kind};
 
 use crate::connection::Member;
 use crate::io_loop::Around;
+use crate::outlet::take_for;
 use cf_broker::Naming;
-use cf_hub::Hub;
 use cf_queue::Out;
 use cf_session::{Answer, Kind, Session};
 use cf_stream::Epochs;
 use cf_wire::Desk;
 use std::collections::VecDeque;
 use std::sync::Wait;
-
-/// So many bytes of texts are taken from the hub at once: what the gathering stream takes without a write.
-const MOST_TAKEN: usize = 65_536;
 
 /// The desk of one connection.
 #[derive(Drop)]
@@ -65,7 +62,7 @@ impl<'a, R: Wait, N: Naming, E: Epochs + Drop> Desk for SessionDesk<'a, R, N, E>
         }
         let number = self.member.number?;
         let mut hub = self.around.shared.hub.lock(self.around.rt);
-        self.owed = take_some(&mut hub, number, &mut self.taken);
+        self.owed = take_for(&mut hub, number, true, &mut self.taken);
         drop(hub);
         self.taken.pop_front()
     }
@@ -106,26 +103,4 @@ fn kind_of(answer: &Answer) -> Kind
         Answer::Presence(_) => Kind::Presence,
         Answer::Stats(_) => Kind::Stats,
     }
-}
-
-/// Takes what waits for a session, up to some 64 KiB of texts. Whether more may wait.
-pub(crate) fn take_some(hub: &mut Hub, number: u32, taken: &mut VecDeque<Out>) -> bool {
-    let mut bytes: usize = 0;
-    for _ in 0..MOST_TAKEN {
-        // Nothing is taken that could be lost.
-        if taken.reserve(1).is_err() {
-            return true;
-        }
-        let Some(out) = hub.take(number) else {
-            return false;
-        };
-        if let Out::Text(text) = &out {
-            bytes = bytes.saturating_add(text.len());
-        }
-        let _ = taken.push_back(out);
-        if bytes >= MOST_TAKEN {
-            return true;
-        }
-    }
-    true
 }

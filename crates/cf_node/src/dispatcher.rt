@@ -1,7 +1,11 @@
 //! The worker that brings what the broker published to the node's hub.
+ghost use Rattle.cf_node.specs.Dispatch.{Dispatches};
+
 use crate::gate::{DISPATCHER, Gate};
+use crate::post::{Post, pass_on};
 use crate::shared::Shared;
 use cf_broker::Delivery;
+use cf_hub::Delivered;
 use cf_link::Receiver;
 use std::sync::Wait;
 use std::sync::atomic::{AtomicU64, Ordering};
@@ -11,15 +15,55 @@ use std::time::{Clock, Duration};
 // How long it sleeps at most where nothing comes, in milliseconds: a program that ends waits for it as long.
 const LONGEST_SLEEP: u64 = 500;
 
-/// Delivers what comes over the link until `stop` isn't 0, and sleeps while nothing comes.
-pub(crate) fn dispatch<R: Wait + Clock, G: Gate>(
+/// The dispatcher's end of the node's link, and the hub under its lock.
+#[derive(Drop)]
+pub(crate) struct NodePost<'a, R> {
+    pub(crate) rt: &'a R,
+    pub(crate) receiver: Receiver<Delivery>,
+    pub(crate) shared: &'a Shared,
+}
+
+impl<'a, R: Wait + Clock> Post for NodePost<'a, R> {
+    ghost use Rattle.std.specs.Prelude.{◌≡◌, ◌++◌, ◌∷◌, [], MatchOption};
+    ghost use Rattle.cf_link.specs.Link.{IsSameLink};
+
+    ghost receives = { λ old came new.
+        IsSameLink new.receiver old.receiver
+        × MatchOption came (new.receiver.items ≡ old.receiver.items) (λ d. new.receiver.items ≡ old.receiver.items ++ d ∷ []) };
+
+    // Between two workers no more can be said of the hub.
+    ghost brings = { λ old _ _ new. new ≡ old };
+
+    ghost wakes = { λ old new. new ≡ old };
+
+    fn receive(&mut self) -> Option<Delivery> {
+        self.receiver
+            .receive_within(self.rt, Duration::from_millis(LONGEST_SLEEP))
+    }
+
+    fn bring(&mut self, delivery: &Delivery) -> Delivered {
+        self.shared.hub.lock(self.rt).deliver(
+            delivery.channel.as_str(),
+            &delivery.epoch,
+            &delivery.publication,
+        )
+    }
+
+    fn wake(&mut self) {
+        self.shared.wake();
+    }
+}
+
+/// Takes turns until `stop` isn't 0.
+pub(crate) fn dispatch<R: Wait + Clock, P: Post, G: Gate>(
     rt: &R,
     node: u8,
-    shared: &Shared,
-    mut receiver: Receiver<Delivery>,
+    post: &mut P,
     gate: &G,
     stop: &AtomicU64,
-) {
+)
+    ensures { Dispatches P.receives P.brings P.wakes post.old post.new }
+{
     let mut turn: u64 = 0;
     for _ in rt.forever() {
         if stop.load(Ordering::SeqCst) != 0 {
@@ -27,26 +71,9 @@ pub(crate) fn dispatch<R: Wait + Clock, G: Gate>(
         }
         turn = turn.wrapping_add(1);
         if gate.may(node, DISPATCHER, turn) {
-            if let Some(delivery) = receiver.receive_within(
-                rt,
-                Duration::from_millis(LONGEST_SLEEP),
-            ) {
-                deliver(rt, shared, &delivery);
-            }
+            pass_on(post);
         } else {
             thread::yield_now();
         }
-    }
-}
-
-// Gives the hub one publication, and wakes the IO loop where a client got something by it.
-fn deliver<R: Wait>(rt: &R, shared: &Shared, delivery: &Delivery) {
-    let delivered = shared.hub.lock(rt).deliver(
-        delivery.channel.as_str(),
-        &delivery.epoch,
-        &delivery.publication,
-    );
-    if delivered.passed > 0 || delivered.ended > 0 || delivered.closed > 0 {
-        shared.wake();
     }
 }

@@ -1,8 +1,9 @@
 //! The worker that serves the sockets: it turns a connection that has something to read or something to send, and no other.
 use crate::connection::{Connection, Head, Open};
-use crate::desk::{SessionDesk, take_some};
+use crate::desk::SessionDesk;
 use crate::gate::{Gate, IO_LOOP};
 use crate::node::{LISTENER, Setup, WAKER};
+use crate::outlet::take_for;
 use crate::shared::Shared;
 use crate::socket::Socket;
 use cf_broker::{Broker, Naming, Passes};
@@ -414,9 +415,9 @@ impl<'a, R: Wait, N: Naming, E: Epochs + Drop> IoLoop<'a, R, N, E> {
             let Some(Connection::Open(open)) = self.places.get_mut(place) else {
                 continue;
             };
-            open.desk.owed = true;
-            if open.desk.member.number == Some(number) && open.takes_more() {
-                open.desk.owed = take_some(&mut hub, number, &mut open.desk.taken);
+            let is_free = open.desk.member.number == Some(number) && open.takes_more();
+            open.desk.owed = take_for(&mut hub, number, is_free, &mut open.desk.taken);
+            if is_free {
                 let _ = batch.push(place);
             }
         }

@@ -11,10 +11,14 @@ mod dispatcher;
 mod gate;
 mod io_loop;
 mod node;
+mod outlet;
 mod passes;
+mod post;
 mod rounds;
 mod shared;
 mod socket;
 
 pub use gate::{DISPATCHER, Gate, IO_LOOP};
 pub use node::{Node, Setup};
+pub use outlet::take_for;
+pub use post::{Post, pass_on};

@@ -1,7 +1,7 @@
 //! A node, and what it is set up with.
 ghost use Rattle.std.specs.Prelude.{◌≡◌};
 
-use crate::dispatcher::dispatch;
+use crate::dispatcher::{NodePost, dispatch};
 use crate::gate::Gate;
 use crate::io_loop::{Around, serve};
 use crate::shared::Shared;
@@ -127,7 +127,12 @@ impl<'a, N: Naming> Node<'a, N> {
         };
         let around = &around;
         thread::scope(thread::scope_env(), rt, |scope| {
-            let _ = scope.spawn(move || dispatch(rt, node, shared, receiver, gate, stop));
+            let mut post = NodePost {
+                rt,
+                receiver,
+                shared,
+            };
+            let _ = scope.spawn(move || dispatch(rt, node, &mut post, gate, stop));
             serve(around, poll, listener, gate, stop)
         })
     }

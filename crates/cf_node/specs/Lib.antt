@@ -1,0 +1,2 @@
+pub mod Dispatch
+pub mod Outlet
