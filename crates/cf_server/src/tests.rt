@@ -1,4 +1,6 @@
 //! The program's words, a simulation, and what its parts do in tests of their own.
+mod beats;
+mod dispatching;
 mod serving;
 mod speaking;
 

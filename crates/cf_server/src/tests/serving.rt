@@ -3,6 +3,7 @@ ghost use Rattle.std.specs.Prelude.{◌≡◌};
 ghost use Rattle.cf_broker.specs.Shards.{names};
 
 use crate::boot_epochs::BootEpochs;
+use crate::command_line::DEFAULT_NAMESPACES;
 use crate::serve::epochs_of;
 use cf_broker::{Broker, Naming, Passes, Words};
 use cf_link::pair;
@@ -78,12 +79,12 @@ impl Gate for AllFour {
 
 // A client's end of a connection.
 #[derive(Drop)]
-struct Peer<S> {
+pub(super) struct Peer<S> {
     stream: S,
     bytes: Vec<u8>,
 }
 
-fn connect<N: Net>(rt: &N, alloc: Global, address: SocketAddr) -> Result<Peer<N::Stream>, Fail> {
+pub(super) fn connect<N: Net>(rt: &N, alloc: Global, address: SocketAddr) -> Result<Peer<N::Stream>, Fail> {
     let mut peer = Peer {
         stream: TcpStream::connect(rt, address)?,
         bytes: Vec::new(alloc),
@@ -111,7 +112,7 @@ impl<S: Read + Write> Peer<S> {
     }
 
     // Sends a text of less than 126 bytes.
-    fn say(&mut self, text: &str) -> Result<(), Fail> {
+    pub(super) fn say(&mut self, text: &str) -> Result<(), Fail> {
         let head = [0x81, 0x80 | (text.len() % 126) as u8, 0, 0, 0, 0];
         self.stream.write_all(&head)?;
         self.stream.write_all(text.as_bytes())?;
@@ -119,7 +120,7 @@ impl<S: Read + Write> Peer<S> {
     }
 
     // The next text, of less than 126 bytes.
-    fn hear(&mut self, alloc: Global) -> Result<String, Fail> {
+    pub(super) fn hear(&mut self, alloc: Global) -> Result<String, Fail> {
         self.bytes.clear();
         for _ in 0..1000 {
             let size = self.bytes.get(1).copied().unwrap_or(126) as usize;
@@ -136,7 +137,7 @@ impl<S: Read + Write> Peer<S> {
     }
 }
 
-fn listen(rt: &impl Net) -> Result<(TcpListener, SocketAddr), Fail> {
+pub(super) fn listen(rt: &impl Net) -> Result<(TcpListener, SocketAddr), Fail> {
     let listener = TcpListener::bind(rt, SocketAddr::from((Ipv4Addr::LOCALHOST, 0)))?;
     let address = listener.local_addr()?;
     Ok((listener, address))
@@ -248,7 +249,7 @@ where
 // Each of the four workers waits inside its first turn for the other three; then a publish reaches a client on each node.
 #[test]
 fn gate_two_nodes(rt: HostRuntime) -> Result<(), Fail> {
-    let namespaces = read_namespaces(rt.alloc(), "=100,300,phs")?;
+    let namespaces = read_namespaces(rt.alloc(), DEFAULT_NAMESPACES)?;
     let tokens = read_tokens(rt.alloc(), "")?;
     two_nodes::<Brand, HostRuntime>(&rt, Words::new(rt.alloc())?, &namespaces, &tokens)
 }
