@@ -1,3 +1,4 @@
 pub mod Playing
 pub mod Turns
 pub mod Waiting
+mod Giving

@@ -1,5 +1,8 @@
 //! The epochs that a conversation's streams are given, in order.
-ghost use Rattle.std.specs.Prelude.{◌≡◌};
+ghost use Rattle.std.specs.Prelude.{◌≡◌, ◌↔◌, IfOk, OnOk, IsErrOf, IsTrue};
+ghost use Rattle.std.specs.List.{list_any};
+ghost use Rattle.std.specs.Str.{bytes_eq};
+ghost use Rattle.cf_speak.specs.Drawing.{words_of, AreGiven, CanFollow};
 
 use cf_protocol::{Epoch, ReadFault};
 use cf_stream::Epochs;
@@ -33,19 +36,36 @@ impl Epochs for GivenEpochs {
 
 impl GivenEpochs {
     /// Reads epochs parted by `,`: 1 to 32 ASCII letters or digits each, none twice.
-    pub fn read(alloc: Global, text: &str) -> Result<GivenEpochs, ReadFault> {
+    ///
+    /// # Errors
+    ///
+    /// `Bad` is any other text, the empty one among them; `Memory` where memory is refused.
+    pub fn read(alloc: Global, text: &str) -> Result<GivenEpochs, ReadFault>
+        ensures found { IfOk result (λ epochs. epochs ≡ words_of text.now) }
+        ensures given { OnOk result (AreGiven (words_of text.now)) }
+        ensures bad { IsErrOf result ReadFault.Bad → AreGiven (words_of text.now) → ⊥ }
+    {
         let mut left = VecDeque::new(alloc);
         for word in text.split(',') {
-            let epoch = Epoch::from_text(word);
-            if epoch.is_empty() || is_among(&left, &epoch) {
+            if !can_follow(&left, word) {
                 return Err(ReadFault::Bad);
             }
-            left.push_back(epoch)?;
+            left.push_back(Epoch::from_text(word))?;
         }
         Ok(GivenEpochs { left })
     }
 }
 
-fn is_among(epochs: &VecDeque<Epoch>, epoch: &Epoch) -> bool {
-    epochs.iter().any(|one| one == epoch)
+/// Whether a word is an epoch that isn't given yet.
+fn can_follow(epochs: &VecDeque<Epoch>, word: &str) -> bool
+    ensures { IsTrue result ↔ CanFollow epochs.now.items word.now }
+{
+    let epoch = Epoch::from_text(word);
+    !epoch.is_empty() && !is_among(epochs, &epoch)
+}
+
+fn is_among(epochs: &VecDeque<Epoch>, epoch: &Epoch) -> bool
+    ensures { result ≡ list_any (bytes_eq epoch.now) epochs.now.items }
+{
+    epochs.iter().any(|one| epoch == one)
 }
