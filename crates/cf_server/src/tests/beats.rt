@@ -132,9 +132,7 @@ fn publish<N: Naming, R: Wait>(
     let body = String::from_str(stage.alloc, body)?;
     let shard = shard_of(channel);
     let mut pass = passes.take(stage.broker, shard);
-    let published = stage
-        .broker
-        .publish(rt, &mut pass, channel, body, None, 0);
+    let published = stage.broker.publish(rt, &mut pass, channel, body, None, 0);
     passes.put(shard, pass);
     match published {
         Ok(_) => Ok(()),

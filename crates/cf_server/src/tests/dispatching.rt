@@ -23,12 +23,12 @@ impl Post for Lane {
     ghost use Rattle.cf_hub.specs.Hub.{Delivers};
 
     ghost receives = { λ old came new.
-      (came ≡ slice_get old.coming.items 0) × (new.coming.items ≡ drop 1 old.coming.items)
-      × (new.hub ≡ old.hub) × (new.woken ≡ old.woken) };
+        (came ≡ slice_get old.coming.items 0) × (new.coming.items ≡ drop 1 old.coming.items)
+        × (new.hub ≡ old.hub) × (new.woken ≡ old.woken) };
 
     ghost brings = { λ old d _ new.
-      Delivers d.channel d.epoch d.publication old.hub new.hub
-      × (new.coming ≡ old.coming) × (new.woken ≡ old.woken) };
+        Delivers d.channel d.epoch d.publication old.hub new.hub
+        × (new.coming ≡ old.coming) × (new.woken ≡ old.woken) };
 
     ghost wakes = { λ old new. new ≡ record old { woken = true } };
 

@@ -84,7 +84,11 @@ pub(super) struct Peer<S> {
     bytes: Vec<u8>,
 }
 
-pub(super) fn connect<N: Net>(rt: &N, alloc: Global, address: SocketAddr) -> Result<Peer<N::Stream>, Fail> {
+pub(super) fn connect<N: Net>(
+    rt: &N,
+    alloc: Global,
+    address: SocketAddr,
+) -> Result<Peer<N::Stream>, Fail> {
     let mut peer = Peer {
         stream: TcpStream::connect(rt, address)?,
         bytes: Vec::new(alloc),
