@@ -28,8 +28,12 @@ const DEFAULTS: Options<'static> = Options {
 };
 
 fn config_of(alloc: Global, options: Options<'_>) -> Result<Config, Fail> {
+    let nodes = options.nodes;
+    if nodes < 1 || nodes > 8 {
+        return Err(Fail::from("a run has 1 to 8 nodes"));
+    }
     Ok(Config {
-        nodes: options.nodes,
+        nodes,
         namespaces: read_namespaces(alloc, options.namespaces)?,
     })
 }
