@@ -210,42 +210,55 @@ fn position_check(rt: HostRuntime) -> Result<(), Fail> {
     )
 }
 
-// A push of 1,048,576 bytes may wait for a client, and nothing beside it; one of a byte more can't.
+const TWO_IN_C: &str =
+    "epoch aaaa / connect ann 0 / connect bob 0 / ask ann c / read ann c / finish ann c / take ann / ask bob c / read bob c / finish bob c / take bob";
+
+// A text with so many letters between these.
+fn with_letters(alloc: Global, front: &str, count: usize) -> Result<String, Fail> {
+    let letters = "x".repeat(alloc, count)?;
+    Ok(format!(in alloc; "{front}\"{letters}\"")?)
+}
+
+// A push of 1,048,576 bytes may wait for a client, and nothing beside it.
 #[test]
 fn slow_consumer(rt: HostRuntime) -> Result<(), Fail> {
     let alloc = rt.alloc();
-    let both =
-        "epoch aaaa / connect ann 0 / connect bob 0 / ask ann c / read ann c / finish ann c / take ann / ask bob c / read bob c / finish bob c / take bob";
-    let in_c = "ann c sub aaaa 0 fresh / bob c sub aaaa 0 fresh";
-    let letters = "x".repeat(alloc, 1_048_523)?;
-    let letters = letters.as_str();
-    let most = format!(in alloc; "publish c \"{letters}\"")?;
-    let by_bob = format!(in alloc; "bob c pub aaaa 1 \"{letters}\"")?;
-    let by_ann = format!(in alloc; "ann c pub aaaa 1 \"{letters}\"")?;
+    let most = with_letters(alloc, "publish c ", 1_048_523)?;
+    let by_bob = with_letters(alloc, "bob c pub aaaa 1 ", 1_048_523)?;
+    let by_ann = with_letters(alloc, "ann c pub aaaa 1 ", 1_048_523)?;
     prints(
         &rt,
         alloc,
         DEFAULTS,
         &[
-            both,
+            TWO_IN_C,
             most.as_str(),
             "deliver 0 1 / take bob / publish c 0 / deliver 0 2 / take bob / take ann / take ann",
         ],
         &[
-            in_c,
+            "ann c sub aaaa 0 fresh / bob c sub aaaa 0 fresh",
             by_bob.as_str(),
             "bob c pub aaaa 2 0",
             by_ann.as_str(),
             "ann closed 3008",
         ],
-    )?;
-    let more = format!(in alloc; "publish c \"{letters}x\"")?;
+    )
+}
+
+// A push of a byte more can't wait.
+#[test]
+fn slower_consumer(rt: HostRuntime) -> Result<(), Fail> {
+    let alloc = rt.alloc();
+    let more = with_letters(alloc, "publish c ", 1_048_524)?;
     prints(
         &rt,
         alloc,
         DEFAULTS,
-        &[both, more.as_str(), "deliver 0 1 / take ann / take bob"],
-        &[in_c, "ann closed 3008 / bob closed 3008"],
+        &[TWO_IN_C, more.as_str(), "deliver 0 1 / take ann / take bob"],
+        &[
+            "ann c sub aaaa 0 fresh / bob c sub aaaa 0 fresh",
+            "ann closed 3008 / bob closed 3008",
+        ],
     )
 }
 
