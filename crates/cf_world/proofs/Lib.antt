@@ -31,7 +31,6 @@ pub mod Takes
 pub mod Connecting
 pub mod SentOwn
 pub mod Answering
-pub mod Allowing
 pub mod OneCommand
 pub mod Saying
 pub mod Passing

@@ -8,7 +8,7 @@ ghost use Rattle.cf_hub.specs.Hub.{Node, attached_at, is_open, sub_at};
 ghost use Rattle.cf_hub.specs.Rows.{sub_in};
 ghost use Rattle.cf_hub.specs.SessionState.{is_unfinished};
 ghost use Rattle.cf_queue.specs.Meaning.{meaning};
-ghost use Rattle.cf_world.specs.HubCalls.{Answered, Asks, AtHub, Attaches, Checked, Closed, Delivered, Finished, Gone, Left, LeftTold, Renewed, Taken, Told, WasRead, error_text, reply_text, who_in};
+ghost use Rattle.cf_world.specs.HubCalls.{Answered, Asks, AtHub, Attaches, Checked, Closed, Delivered, Finished, Gone, LeftTold, Renewed, Taken, Told, WasRead, error_text, reply_text, who_in};
 ghost use Rattle.cf_world.specs.NodesTie.{seated};
 
 use crate::broker::{Accepted, NOW};
@@ -63,20 +63,6 @@ pub(crate) fn check_in(
         return Ok(());
     };
     let _checked = hub.check(seat.session, channel, top);
-    if hub.short() {
-        return Err(Short);
-    }
-    Ok(())
-}
-
-/// A text is queued.
-pub(crate) fn say_in(hubs: &mut Vec<Hub>, seat: Seat, text: String) -> Result<(), Short>
-    ensures { OnOk result (AtHub seat.node (Told seat.session (string_bytes text)) (slice_get hubs.old.items) (slice_get hubs.new.items)) }
-{
-    let Some(hub) = hubs.get_mut(seat.node as usize) else {
-        return Ok(());
-    };
-    let _said = hub.say(seat.session, text);
     if hub.short() {
         return Err(Short);
     }
@@ -248,15 +234,6 @@ pub(crate) fn read_in(hubs: &mut Vec<Hub>, seat: Seat, channel: &str, recovery: 
 {
     if let Some(hub) = hubs.get_mut(seat.node as usize) {
         let _done = hub.read_done(seat.session, channel, recovery);
-    }
-}
-
-/// A channel is left.
-pub(crate) fn leave_in(hubs: &mut Vec<Hub>, seat: Seat, channel: &str)
-    ensures { AtHub seat.node (Left seat.session channel.now) (slice_get hubs.old.items) (slice_get hubs.new.items) }
-{
-    if let Some(hub) = hubs.get_mut(seat.node as usize) {
-        let _had = hub.leave(seat.session, channel);
     }
 }
 
