@@ -17,6 +17,7 @@ ghost use Rattle.cf_world.specs.declared.peers.Peer.{Peer as AnyPeer};
 use crate::broker::{Broker, Published};
 use crate::errand::Errand;
 use crate::hubs::{answer_in, info_in, refuse_in};
+use crate::judging::LONGEST_TEXT;
 use crate::peers::{Peer, Seat};
 use crate::short::Short;
 use cf_hub::Hub;
@@ -24,9 +25,6 @@ use cf_protocol::{Command, Data, ErrorCode, Namespaces, Outcome, Request, write_
 use cf_session::refusal_of;
 use std::alloc::Global;
 use std::collections::BTreeMap;
-
-/// The longest text of a command, in bytes.
-const LONGEST_TEXT: usize = 65_536;
 
 /// Whether a client's command would pass its checks, and open a stream while no epoch waits.
 pub(crate) fn lacks_epoch(

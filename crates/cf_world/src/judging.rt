@@ -11,7 +11,7 @@ use cf_session::refusal_of;
 use std::alloc::Global;
 
 /// The longest text of a command, in bytes.
-const LONGEST_TEXT: usize = 65_536;
+pub(crate) const LONGEST_TEXT: usize = 65_536;
 
 /// What is made of a text.
 #[derive(Drop)]
