@@ -3,8 +3,10 @@
 use crate::Stopped;
 use crate::gather::publication;
 use cf_hub::Hub;
-use cf_protocol::{Epoch, Namespaces, Position, Tokens, read_namespaces, read_tokens};
-use cf_session::Session;
+use cf_protocol::{
+    Data, Epoch, Namespaces, Position, Request, Tokens, read_namespaces, read_tokens,
+};
+use cf_session::{Session, refusal_of};
 use cf_stream::Recovery;
 use cf_subs::SubTable;
 use std::alloc::{AllocError, Global};
@@ -84,8 +86,8 @@ fn look_calls<R: Print>(rt: &R, table: &SubTable) -> Result<(), Stopped> {
     Ok(())
 }
 
-// A session that follows `news`.
-fn subscribed(alloc: Global, hub: &mut Hub) -> Result<u32, Stopped> {
+/// A session of ann that follows `news`.
+pub fn subscribed(alloc: Global, hub: &mut Hub) -> Result<u32, Stopped> {
     let Ok(session) = hub.attach(String::from_str(alloc, "ann")?, 0) else {
         return Err(Stopped::Memory);
     };
@@ -139,7 +141,7 @@ fn tables(alloc: Global) -> Result<(Namespaces, Tokens), Stopped> {
     Ok((namespaces, tokens))
 }
 
-// `short` of a session.
+// `short` of a session, and `refusal_of`.
 fn session_calls<R: Print + AllocGlobal>(rt: &R) -> Result<(), Stopped> {
     let (namespaces, tokens) = tables(rt.alloc())?;
     let mut session = Session::new(rt.alloc(), &namespaces, &tokens);
@@ -150,5 +152,18 @@ fn session_calls<R: Print + AllocGlobal>(rt: &R) -> Result<(), Stopped> {
     let short = session.short();
     println!(rt; ".")?;
     println!(rt; "short {short}")?;
+    check_calls(rt, &namespaces)
+}
+
+// `refusal_of` a publish.
+fn check_calls<R: Print + AllocGlobal>(rt: &R, namespaces: &Namespaces) -> Result<(), Stopped> {
+    let request = Request::Publish {
+        channel: String::from_str(rt.alloc(), "news")?,
+        body: Data::Body(String::from_str(rt.alloc(), "1")?),
+    };
+    println!(rt; "cf_session::refusal_of")?;
+    let passes = refusal_of(namespaces, &request).is_none();
+    println!(rt; ".")?;
+    println!(rt; "passes {passes}")?;
     Ok(())
 }

@@ -32,9 +32,20 @@ fn filled(alloc: Global) -> Result<Stream, Stopped> {
     Ok(stream)
 }
 
-/// `position`, `trim` and `tick` of a stream.
+// `resize` of a stream.
+fn resize_call<R: Print>(rt: &R, stream: &mut Stream) -> Result<(), Stopped> {
+    println!(rt; "Stream::resize")?;
+    stream.resize(8);
+    println!(rt; ".")?;
+    let held = stream.held();
+    println!(rt; "held {held}")?;
+    Ok(())
+}
+
+/// `position`, `resize`, `trim` and `tick` of a stream.
 pub fn stream_calls<R: Print + AllocGlobal>(rt: &R) -> Result<(), Stopped> {
     let mut stream = filled(rt.alloc())?;
+    resize_call(rt, &mut stream)?;
     println!(rt; "Stream::position")?;
     let position = stream.position();
     println!(rt; ".")?;
@@ -95,9 +106,29 @@ fn due_count(streams: &Streams, now: u64) -> u64 {
     count
 }
 
-/// `position`, `last`, `trim`, `due`, `tick` and `forget` of the streams of all channels.
+// `held` of the streams of all channels.
+fn held_call<R: Print>(rt: &R, streams: &Streams) -> Result<(), Stopped> {
+    println!(rt; "Streams::held")?;
+    let held = streams.held("c7");
+    println!(rt; ".")?;
+    println!(rt; "held {held}")?;
+    Ok(())
+}
+
+// `forget_all` of the streams of all channels.
+fn end_call<R: Print>(rt: &R, streams: &mut Streams) -> Result<(), Stopped> {
+    println!(rt; "Streams::forget_all")?;
+    streams.forget_all();
+    println!(rt; ".")?;
+    let is_gone = streams.position("c60").is_none();
+    println!(rt; "gone {is_gone}")?;
+    Ok(())
+}
+
+/// `position`, `last`, `held`, `trim`, `due`, `tick`, `forget` and `forget_all` of the streams of all channels.
 pub fn streams_calls<R: Print + AllocGlobal>(rt: &R) -> Result<(), Stopped> {
     let mut streams = filled_all(rt.alloc())?;
+    held_call(rt, &streams)?;
     println!(rt; "Streams::position")?;
     let stands = streams.position("c7").is_some();
     println!(rt; ".")?;
@@ -121,5 +152,5 @@ pub fn streams_calls<R: Print + AllocGlobal>(rt: &R) -> Result<(), Stopped> {
     println!(rt; ".")?;
     let is_gone = streams.position("c77").is_none();
     println!(rt; "stands {stands}, holds {holds}, due {due}, gone {is_gone}")?;
-    Ok(())
+    end_call(rt, &mut streams)
 }

@@ -2,10 +2,15 @@
 //! C library is asked for between them is counted by `.ci/no-memory`.
 #![tactic(auto)]
 
+mod ask;
+mod begin;
 mod follow;
 mod gather;
 mod hold;
 mod log;
+mod number;
+mod present;
+mod rows;
 mod wait;
 
 use cf_stream::StreamRefusal;
@@ -47,6 +52,15 @@ fn control<R: Print + AllocGlobal>(rt: &R) -> Result<(), Stopped> {
     Ok(())
 }
 
+// What a node's sessions stand on.
+fn session_calls<R: Print + AllocGlobal>(rt: &R) -> Result<(), Stopped> {
+    begin::calls(rt)?;
+    rows::calls(rt)?;
+    ask::calls(rt)?;
+    present::calls(rt)?;
+    number::calls(rt)
+}
+
 fn calls<R: Print + AllocGlobal>(rt: &R) -> Result<(), Stopped> {
     control(rt)?;
     gather::calls(rt)?;
@@ -56,7 +70,7 @@ fn calls<R: Print + AllocGlobal>(rt: &R) -> Result<(), Stopped> {
     follow::table_calls(rt)?;
     follow::hub_calls(rt)?;
     log::calls(rt)?;
-    Ok(())
+    session_calls(rt)
 }
 
 fn main(rt: HostRuntime) -> ExitCode {

@@ -15,9 +15,21 @@ fn filled(alloc: Global) -> Result<OutQueue, AllocError> {
     Ok(queue)
 }
 
-/// `take`, `bytes` and `close` of a queue.
+fn look_calls<R: Print>(rt: &R, queue: &OutQueue) -> Result<(), Stopped> {
+    println!(rt; "OutQueue::is_empty, is_closed, len and front")?;
+    let is_empty = queue.is_empty();
+    let is_closed = queue.is_closed();
+    let len = queue.len();
+    let has_text = queue.front().is_some();
+    println!(rt; ".")?;
+    println!(rt; "empty {is_empty}, closed {is_closed}, len {len}, text {has_text}")?;
+    Ok(())
+}
+
+/// The calls of a queue but those that put texts in.
 pub fn calls<R: Print + AllocGlobal>(rt: &R) -> Result<(), Stopped> {
     let mut queue = filled(rt.alloc())?;
+    look_calls(rt, &queue)?;
     println!(rt; "OutQueue::take")?;
     let front = queue.take();
     println!(rt; ".")?;
