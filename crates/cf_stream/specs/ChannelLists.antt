@@ -3,10 +3,10 @@ use Rattle.std.specs.Prelude.{◌≡◌, ℕ, List, Option, Some, None, Bool, �
 use Rattle.std.specs.Option.{option_map}
 use Rattle.std.specs.Str.{bytes_eq}
 use Rattle.cf_protocol.specs.declared.position.Position.{Position}
-use Rattle.cf_protocol.specs.Datum.{Placed}
+use Rattle.cf_protocol.specs.Datum.{Datum, Placed}
 use Rattle.cf_stream.specs.Stream.{Shown}
 use Rattle.cf_stream.specs.Streams.{Kept, stream_of, size_at}
-use Rattle.cf_stream.specs.PublicationList.{Life, Shows, IsRead, IsListed, opened}
+use Rattle.cf_stream.specs.PublicationList.{Life, Shows, IsRead, IsListed, opened, published}
 
 -- a stream for a list, and none for none
 abbrev pub ShowsAt : ℕ → Option Shown → Option Life → Type 0
@@ -23,6 +23,14 @@ pub record AreShown (k : Kept) (lives : List ℕ → Option Life) : Type 0 where
 abbrev pub life_or : Option Life → List ℕ → Life
 life_or None e = opened e
 life_or (Some l) e = l
+
+-- what a read leaves of a channel's list, which opens in this epoch where there is none
+abbrev pub life_read : List ℕ → Option Life → Option Life
+life_read e l = Some (life_or l e)
+
+-- the same with one publication more, where at most so many are held
+abbrev pub life_with : ℕ → Datum → List ℕ → Option Life → Option Life
+life_with size d e l = Some (published size d (life_or l e))
 
 -- whatever lists stand behind the one streams, behind the others stand the same, but for this change at one channel
 pub record ChangesAt (old new : Kept) (c : List ℕ) (change : Option Life → Option Life) : Type 0 where

@@ -1,8 +1,11 @@
 -- What contracts see of a stream, and what its calls do and answer.
 -- Source: Centrifugo, history and recovery; the limits and the exact rule of recovery are this project's own profile.
-use Rattle.std.specs.Prelude.{◌≡◌, ℕ, ◌+◌, ◌-◌, ◌≤◌, min, max, List, [], ◌∷◌, ◌++◌, length, take, drop, slice_get, Option, Some, None, ℤ, nat_le, if◌then◌else◌, Bool, not, IsTrue, ◌↔◌}
+use Rattle.std.specs.Prelude.{◌≡◌, ℕ, ◌+◌, ◌-◌, ◌≤◌, min, max, List, [], ◌∷◌, ◌++◌, length, take, drop, slice_get, Option, Some, None, ℤ, nat_le, if◌then◌else◌, Bool, not, IsTrue, IsSomeAnd, ◌↔◌}
+use Rattle.std.specs.String.{string_bytes}
+use Rattle.std.specs.declared.string.String.{String}
+use Rattle.std.specs.declared.alloc.Global.{Global}
 use Rattle.cf_protocol.specs.declared.position.Position.{Position}
-use Rattle.cf_protocol.specs.Datum.{Datum, Placed, numbered}
+use Rattle.cf_protocol.specs.Datum.{Datum, Placed, Who, numbered}
 use Rattle.cf_stream.specs.StreamState.{last_offset}
 use Rattle.cf_stream.specs.StreamAnswer.{most_in_reply, allowed_by}
 
@@ -35,9 +38,21 @@ started e size top = record { epoch = e; size = size; top = top; held = []; publ
 abbrev pub in_epoch : List ℕ → Shown → Shown
 in_epoch e s = record s { epoch = e }
 
+-- what is published: a body, and by which client, if by one
+abbrev pub datum_of : String Global → Option Who → Datum
+datum_of body info = record { body = string_bytes body; info = info }
+
 -- after a publication at a moment
 abbrev pub pushed : Shown → Datum → ℕ → Shown
 pushed s d now = record s { top = s.top + 1; held = newest s.size (s.held ++ d ∷ []); published = now; used = now }
+
+-- a stream that opens in this epoch, after its first publication
+abbrev pub first_pushed : List ℕ → ℕ → Datum → ℕ → Shown
+first_pushed e size d now = pushed (started e size 0) d now
+
+-- the stream stands at the last offset
+abbrev pub IsAtLast : Option Shown → Type 0
+IsAtLast o = IsSomeAnd o (λ s. s.top ≡ last_offset)
 
 -- after a use at a moment
 abbrev pub used_at : Shown → ℕ → Shown

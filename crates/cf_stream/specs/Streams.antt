@@ -11,14 +11,14 @@ use Rattle.std.specs.Map.{update}
 use Rattle.std.specs.Str.{bytes_eq}
 use Rattle.std.specs.FinMap as fin
 use Rattle.std.specs.List.{filter_map}
-use Rattle.std.specs.Option.{option_map}
+use Rattle.std.specs.Option.{option_map, option_and_then}
 use Rattle.cf_protocol.specs.declared.position.Position.{Position}
 use Rattle.cf_protocol.specs.declared.settings.Settings.{Settings}
 use Rattle.cf_protocol.specs.Settings.{NamespaceTable, coded_namespaces, settings_of}
-use Rattle.cf_protocol.specs.Datum.{Datum, coded_datum}
+use Rattle.cf_protocol.specs.Datum.{Datum, Placed, coded_datum}
 use Rattle.cf_stream.specs.declared.due.Due.{Due}
 use Rattle.cf_stream.specs.declared.due.Due.TheVariants.{Forget, Empty}
-use Rattle.cf_stream.specs.Stream.{Shown, started, stays, is_over, ticked}
+use Rattle.cf_stream.specs.Stream.{Shown, started, pushed, used_at, newest_of, stays, is_over, ticked}
 
 -- the streams, by the bytes of their channels
 abbrev pub Channels : Type 0
@@ -98,6 +98,22 @@ stood_or o e size = unwrap_or o (started e size 0)
 abbrev pub stood_or_opened : Kept → List ℕ → List ℕ → Shown
 stood_or_opened k c e = stood_or (stream_of k c) e (size_at k.namespaces c)
 
+-- that stream after a publication at a moment
+abbrev pub pushed_at : Kept → List ℕ → List ℕ → Datum → ℕ → Shown
+pushed_at k c e d now = pushed (stood_or_opened k c e) d now
+
+-- the streams with it
+abbrev pub with_pushed : Kept → List ℕ → List ℕ → Datum → ℕ → Kept
+with_pushed k c e d now = put_at k c (Some (pushed_at k c e d now))
+
+-- the streams after a use of that stream at a moment
+abbrev pub with_used : Kept → List ℕ → List ℕ → ℕ → Kept
+with_used k c e now = put_at k c (Some (used_at (stood_or_opened k c e) now))
+
+-- the last publication that a channel holds
+abbrev pub newest_at : Kept → List ℕ → Option Placed
+newest_at k c = option_and_then newest_of (stream_of k c)
+
 -- the position is of another epoch than the channel's stream, or there is none
 abbrev pub IsOfAnother : Option Shown → Option Position → Type 0
 IsOfAnother o None = ⊥
@@ -109,6 +125,10 @@ abbrev pub after_tick : ℕ → ℕ → Option Shown → Option Shown
 after_tick now seconds None = None
 after_tick now seconds (Some s) = if stays now s then Some (ticked now seconds s) else None
 
+-- the same at a channel
+abbrev pub ticked_at : ℕ → Kept → List ℕ → Option Shown
+ticked_at now k c = after_tick now (seconds_at k.namespaces c) (stream_of k c)
+
 -- what a tick would do to a stream, if it would do something
 abbrev pub due_of : ℕ → ℕ → Shown → Option Due
 due_of now seconds s =
@@ -119,6 +139,10 @@ abbrev pub due_at : ℕ → ℕ → Option Shown → Option Due
 due_at now seconds None = None
 due_at now seconds (Some s) = due_of now seconds s
 
+-- what a tick would do to a channel
+abbrev pub due_in : ℕ → Kept → List ℕ → Option Due
+due_in now k c = due_at now (seconds_at k.namespaces c) (stream_of k c)
+
 -- what a list of what is due has for a channel
 abbrev pub due_to : List (List ℕ × Due) → List ℕ → Option Due
 due_to ds q = fin.find (slice_cmp nat_cmp) q ds
@@ -126,3 +150,7 @@ due_to ds q = fin.find (slice_cmp nat_cmp) q ds
 -- the channels, in the order of their bytes, to which a tick would do something
 abbrev pub due_channels : ℕ → NamespaceTable → List (List ℕ × Shown) → List (List ℕ × Due)
 due_channels now t es = filter_map (λ e. option_map (λ d. (e.0, d)) (due_of now (seconds_at t e.0) e.1)) es
+
+-- all that a tick would do
+abbrev pub all_due : ℕ → Kept → List (List ℕ × Due)
+all_due now k = due_channels now k.namespaces (fin.entries k.streams)

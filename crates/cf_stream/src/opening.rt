@@ -2,8 +2,7 @@
 ghost use Rattle.std.specs.Prelude.{◌≡◌, ◌≢◌, ◌≤◌, IfOk, IfErr, OnErr, IfSome, IfNone, Option, Some, None, Err, List, ℕ};
 ghost use Rattle.std.specs.Option.{option_map};
 ghost use Rattle.std.specs.BTreeMap.{get_by_text};
-ghost use Rattle.std.specs.String.{string_bytes};
-ghost use Rattle.cf_stream.specs.Stream.{started, pushed, used_at, in_epoch, newest_of};
+ghost use Rattle.cf_stream.specs.Stream.{datum_of, started, first_pushed, used_at, in_epoch, newest_of};
 ghost use Rattle.cf_stream.specs.Streams.{SetsAt};
 ghost use Rattle.cf_stream.specs.FreshEpochs.{DrawsNone, DrawsEpoch};
 
@@ -45,11 +44,14 @@ pub(crate) fn open_idle<E: Epochs>(
 ) -> Result<Position, StreamRefusal>
     requires absent { get_by_text map.old channel.now ≡ None }
     requires sized { (1 ≤ size) × (size ≤ LARGEST_SIZE) }
-    ensures ok { IfOk result (λ p. SetsAt map.old map.new channel.now (Some (used_at (started p.epoch size 0) now))) }
+    ensures ok { IfOk result (λ p. SetsAt map.old map.new channel.now
+        (Some (used_at (started p.epoch size 0) now))) }
     ensures position { IfOk result (λ p. p.offset ≡ 0) }
     ensures drawn { IfOk result (λ p. DrawsEpoch E.draws p.epoch epochs.old epochs.new) }
-    ensures no_epoch { result ≡ Err StreamRefusal.NoEpoch → DrawsNone E.draws epochs.old epochs.new }
-    ensures memory { IfErr result (λ e. e ≢ StreamRefusal.NoEpoch → (e ≡ StreamRefusal.Memory) × (epochs.new ≡ epochs.old)) }
+    ensures no_epoch { result ≡ Err StreamRefusal.NoEpoch
+        → DrawsNone E.draws epochs.old epochs.new }
+    ensures memory { IfErr result (λ e. e ≢ StreamRefusal.NoEpoch
+        → (e ≡ StreamRefusal.Memory) × (epochs.new ≡ epochs.old)) }
     ensures err { OnErr result ((q : List ℕ) → get_by_text map.new q ≡ get_by_text map.old q) }
 {
     let mut stream = Stream::unnamed(alloc, size)?;
@@ -71,12 +73,17 @@ pub(crate) fn publish_new<E: Epochs>(
 ) -> Result<Position, StreamRefusal>
     requires absent { get_by_text map.old channel.now ≡ None }
     requires sized { (1 ≤ size) × (size ≤ LARGEST_SIZE) }
-    ensures ok { IfOk result (λ p. SetsAt map.old map.new channel.now (Some (pushed (started p.epoch size 0) (record { body = string_bytes body; info = info }) now))) }
+    ensures ok { IfOk result (λ p. SetsAt map.old map.new channel.now
+        (Some (first_pushed p.epoch size (datum_of body info) now))) }
     ensures position { IfOk result (λ p. p.offset ≡ 1) }
-    ensures newest { IfOk result (λ p. newest_of (pushed (started p.epoch size 0) (record { body = string_bytes body; info = info }) now) ≡ Some (record { offset = 1; datum = record { body = string_bytes body; info = info } })) }
+    ensures newest { IfOk result (λ p.
+        newest_of (first_pushed p.epoch size (datum_of body info) now)
+        ≡ Some (record { offset = 1; datum = datum_of body info })) }
     ensures drawn { IfOk result (λ p. DrawsEpoch E.draws p.epoch epochs.old epochs.new) }
-    ensures no_epoch { result ≡ Err StreamRefusal.NoEpoch → DrawsNone E.draws epochs.old epochs.new }
-    ensures memory { IfErr result (λ e. e ≢ StreamRefusal.NoEpoch → (e ≡ StreamRefusal.Memory) × (epochs.new ≡ epochs.old)) }
+    ensures no_epoch { result ≡ Err StreamRefusal.NoEpoch
+        → DrawsNone E.draws epochs.old epochs.new }
+    ensures memory { IfErr result (λ e. e ≢ StreamRefusal.NoEpoch
+        → (e ≡ StreamRefusal.Memory) × (epochs.new ≡ epochs.old)) }
     ensures err { OnErr result ((q : List ℕ) → get_by_text map.new q ≡ get_by_text map.old q) }
 {
     let mut stream = Stream::unnamed(alloc, size)?;
@@ -99,8 +106,10 @@ fn open<E: Epochs>(
     requires { get_by_text map.old channel.now ≡ None }
     ensures drawn { IfOk result (λ e. DrawsEpoch E.draws e epochs.old epochs.new) }
     ensures ok { IfOk result (λ e. SetsAt map.old map.new channel.now (Some (in_epoch e stream))) }
-    ensures no_epoch { result ≡ Err StreamRefusal.NoEpoch → DrawsNone E.draws epochs.old epochs.new }
-    ensures memory { IfErr result (λ e. e ≢ StreamRefusal.NoEpoch → (e ≡ StreamRefusal.Memory) × (epochs.new ≡ epochs.old)) }
+    ensures no_epoch { result ≡ Err StreamRefusal.NoEpoch
+        → DrawsNone E.draws epochs.old epochs.new }
+    ensures memory { IfErr result (λ e. e ≢ StreamRefusal.NoEpoch
+        → (e ≡ StreamRefusal.Memory) × (epochs.new ≡ epochs.old)) }
     ensures err { OnErr result ((q : List ℕ) → get_by_text map.new q ≡ get_by_text map.old q) }
 {
     let key = String::from_str(alloc, channel)?;
@@ -119,7 +128,8 @@ fn open<E: Epochs>(
 
 /// Gives a channel's stream its epoch.
 fn name(map: &mut BTreeMap<String, Stream>, channel: &str, epoch: Epoch)
-    ensures { SetsAt map.old map.new channel.now (option_map (in_epoch epoch) (get_by_text map.old channel.now)) }
+    ensures { SetsAt map.old map.new channel.now
+        (option_map (in_epoch epoch) (get_by_text map.old channel.now)) }
 {
     if let Some(stream) = map.get_mut(channel) {
         stream.set_epoch(epoch);

@@ -1,11 +1,10 @@
 //! One stream.
-ghost use Rattle.std.specs.Prelude.{◌≡◌, ◌≢◌, ◌+◌, ◌-◌, ◌≤◌, ◌↔◌, [], ◌∷◌, ◌++◌, ◌==◌, length, take, IfOk, IfErr, OnOk, OnErr, IsTrue, IsErrOf, IsOkUnless, SomeIff, IsSomeAnd, IfSome, IsNone, option_copied, if◌then◌else◌, List};
-ghost use Rattle.cf_stream.specs.Stream.{started, pushed, used_at, trimmed, resized, ticked, position_of, missed_from, RecoversFrom, run_from, IsWithin, start_of, after, in_epoch, IsRecovery, IsHistory, IsInEpoch, newest_of, stays, is_over};
+ghost use Rattle.std.specs.Prelude.{◌≡◌, ◌≢◌, ◌+◌, ◌-◌, ◌≤◌, ◌↔◌, [], ◌∷◌, ◌++◌, ◌==◌, length, take, IfOk, IfErr, OnOk, OnErr, IsErrOf, IsOkUnless, SomeIff, IsSomeAnd, IfSome, IsNone, option_copied, if◌then◌else◌, List};
+ghost use Rattle.cf_stream.specs.Stream.{datum_of, started, pushed, used_at, trimmed, resized, ticked, position_of, missed_from, RecoversFrom, IsWithin, start_of, after, in_epoch, IsRecovery, IsHistory, IsInEpoch, newest_of, stays, is_over};
 ghost use Rattle.cf_stream.specs.PublicationList.{Shows, GoesOn, AnswersRead, AnswersHistory, opened, published, kept_newest, same};
 ghost use Rattle.cf_protocol.specs.Datum.{Datum};
 ghost use Rattle.cf_stream.specs.StreamAnswer.{allowed_by};
 ghost use Rattle.cf_stream.specs.Streams.{due_of};
-ghost use Rattle.std.specs.String.{string_bytes};
 
 use crate::answer::{History, Recovery};
 use crate::due::Due;
@@ -81,7 +80,8 @@ impl Stream {
         requires sized { (1 ≤ size) × (size ≤ LARGEST_SIZE) }
         requires top_fits { top ≤ LAST_OFFSET }
         ensures started { IfOk result (λ s. s ≡ started epoch size top) }
-        ensures list { IfOk result (λ s. (ds : List Datum) → length ds ≡ top → Shows s (record { epoch = epoch; list = ds; held = 0 })) }
+        ensures list { IfOk result (λ s. (ds : List Datum) → length ds ≡ top
+            → Shows s (record { epoch = epoch; list = ds; held = 0 })) }
     {
         after_top(alloc, epoch, size, top)
     }
@@ -132,14 +132,17 @@ impl Stream {
         info: Option<Info>,
         now: u64,
     ) -> Result<Position, StreamRefusal>
-        ensures ok { OnOk result (self.new ≡ pushed self.old (record { body = string_bytes body; info = info }) now) }
+        ensures ok { OnOk result (self.new ≡ pushed self.old (datum_of body info) now) }
         ensures position { IfOk result (λ p. p ≡ position_of self.new) }
         ensures last { IsErrOf result StreamRefusal.AtLastOffset ↔ (self.old.top ≡ LAST_OFFSET) }
-        ensures refusals { IfErr result (λ e. e ≢ StreamRefusal.AtLastOffset → e ≡ StreamRefusal.Memory) }
+        ensures refusals { IfErr result (λ e.
+            e ≢ StreamRefusal.AtLastOffset → e ≡ StreamRefusal.Memory) }
         ensures err { OnErr result (self.new ≡ self.old) }
         ensures within { IsWithin self.new }
-        ensures newest { IfOk result (λ p. newest_of self.new ≡ Some (record { offset = p.offset; datum = record { body = string_bytes body; info = info } })) }
-        ensures list { OnOk result (GoesOn self.old self.new (published self.old.size (record { body = string_bytes body; info = info }))) }
+        ensures newest { IfOk result (λ p. newest_of self.new
+            ≡ Some (record { offset = p.offset; datum = datum_of body info })) }
+        ensures list { OnOk result (GoesOn self.old self.new
+            (published self.old.size (datum_of body info))) }
     {
         if self.top == LAST_OFFSET {
             return Err(StreamRefusal::AtLastOffset);
@@ -159,10 +162,12 @@ impl Stream {
     /// The publications after a position, where all of them are held and there are at most 300.
     pub fn recover(&mut self, since: Option<Position>, now: u64) -> Result<Recovery, StreamRefusal>
         ensures ok { OnOk result (self.new ≡ used_at self.old now) }
-        ensures answer { IfOk result (λ r. IsRecovery self.old since r.position r.recovered r.publications.items) }
+        ensures answer { IfOk result (λ r.
+            IsRecovery self.old since r.position r.recovered r.publications.items) }
         ensures refusals { IsOkUnless result StreamRefusal.Memory }
         ensures err { OnErr result (self.new ≡ self.old) }
-        ensures list { IfOk result (λ r. AnswersRead self.old since r.position r.recovered r.publications.items) }
+        ensures list { IfOk result (λ r.
+            AnswersRead self.old since r.position r.recovered r.publications.items) }
         ensures same_list { OnOk result (GoesOn self.old self.new same) }
     {
         let position = self.position();
@@ -197,7 +202,8 @@ impl Stream {
         ensures other { IsNone result ↔ IsSomeAnd since (λ p. p.epoch ≢ self.now.epoch) }
         ensures within { IfSome result (λ n. n ≤ length self.now.held) }
         ensures in_epoch { IfSome result (λ _. IsInEpoch self.now since) }
-        ensures newer { IfSome result (λ n. after self.now (self.now.top - n) ≡ after self.now (start_of self.now since)) }
+        ensures newer { IfSome result (λ n.
+            after self.now (self.now.top - n) ≡ after self.now (start_of self.now since)) }
     {
         let held = self.ring.len();
         match since {
@@ -233,11 +239,15 @@ impl Stream {
         now: u64,
     ) -> Result<History, StreamRefusal>
         ensures ok { OnOk result (self.new ≡ used_at self.old now) }
-        ensures answer { IfOk result (λ h. IsHistory self.old since limit h.position h.publications.items) }
-        ensures wrong_epoch { IsErrOf result StreamRefusal.WrongEpoch ↔ IsSomeAnd since (λ p. p.epoch ≢ self.old.epoch) }
-        ensures refusals { IfErr result (λ e. e ≢ StreamRefusal.WrongEpoch → e ≡ StreamRefusal.Memory) }
+        ensures answer { IfOk result (λ h.
+            IsHistory self.old since limit h.position h.publications.items) }
+        ensures wrong_epoch { IsErrOf result StreamRefusal.WrongEpoch
+            ↔ IsSomeAnd since (λ p. p.epoch ≢ self.old.epoch) }
+        ensures refusals { IfErr result (λ e.
+            e ≢ StreamRefusal.WrongEpoch → e ≡ StreamRefusal.Memory) }
         ensures err { OnErr result (self.new ≡ self.old) }
-        ensures list { IfOk result (λ h. AnswersHistory self.old since limit h.position h.publications.items) }
+        ensures list { IfOk result (λ h.
+            AnswersHistory self.old since limit h.position h.publications.items) }
         ensures same_list { OnOk result (GoesOn self.old self.new same) }
     {
         let position = self.position();
@@ -275,7 +285,8 @@ impl Stream {
     pub fn tick(&mut self, now: u64, seconds: u64) -> Fate
         ensures fate { (result ≡ Fate.Forgotten) ↔ (self.old.used + UNUSED_SECONDS ≤ now) }
         ensures ticked { self.new ≡ ticked now seconds self.old }
-        ensures list { GoesOn self.old self.new (if is_over self.old.published seconds now then kept_newest 0 else same) }
+        ensures list { GoesOn self.old self.new
+            (if is_over self.old.published seconds now then kept_newest 0 else same) }
     {
         if has_passed(self.published, seconds, now) {
             self.ring.clear();

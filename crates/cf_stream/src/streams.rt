@@ -1,23 +1,23 @@
 //! The streams of all channels.
-ghost use Rattle.std.specs.Prelude.{◌≡◌, ◌≢◌, ◌≤◌, ◌↔◌, IfOk, IfErr, OnErr, IsErrOf, IsSomeAnd, IsTrue, option_copied, Some, None, List, [], ◌∷◌, ℕ, unwrap_or, map, filter, option_and_then, IsSome};
+ghost use Rattle.std.specs.Prelude.{◌≡◌, ◌≢◌, ◌≤◌, ◌↔◌, IfOk, IfErr, OnErr, IsErrOf, IsSomeAnd, IsTrue, option_copied, Some, None, List, [], ◌∷◌, ℕ, map, filter, IsSome};
 ghost use Rattle.std.specs.Option.{option_map};
 ghost use Rattle.std.specs.BTreeMap.{get_by_text, IsOrdered};
 ghost use Rattle.std.specs.FinMap as fin;
 ghost use Rattle.std.specs.String.{string_bytes, string_cmp};
 ghost use Rattle.cf_protocol.specs.Settings.{settings_of};
-ghost use Rattle.cf_stream.specs.Stream.{pushed, used_at, trimmed, position_of, IsRecovery, IsHistory, stays, ticked, newest_of};
-ghost use Rattle.cf_stream.specs.Streams.{stream_of, held_at, put_at, stood_or, stood_or_opened, IsOfAnother, SetsAt, after_tick, due_at, due_to, due_channels, IsSetUp, size_at, seconds_at};
-ghost use Rattle.cf_stream.specs.PublicationList.{published, kept_newest};
-ghost use Rattle.cf_stream.specs.ChannelLists.{AreShown, ChangesAt, ReadsAt, ListsAt, StandsAt, life_or};
+ghost use Rattle.cf_stream.specs.Stream.{datum_of, pushed, used_at, trimmed, position_of, IsAtLast, IsRecovery, IsHistory, stays, ticked, newest_of};
+ghost use Rattle.cf_stream.specs.Streams.{stream_of, held_at, newest_at, put_at, stood_or, stood_or_opened, pushed_at, with_pushed, with_used, ticked_at, IsOfAnother, SetsAt, due_in, due_to, all_due, IsSetUp, size_at, seconds_at};
+ghost use Rattle.cf_stream.specs.PublicationList.{kept_newest};
+ghost use Rattle.cf_stream.specs.ChannelLists.{AreShown, ChangesAt, ReadsAt, ListsAt, StandsAt, life_read, life_with};
 ghost use Rattle.cf_stream.specs.LogState.{IsState, Adds, opening, if_stands, ending, due_entries};
 ghost use Rattle.cf_protocol.specs.LogEntry.Entry.{Publish, Trim, Forget};
-ghost use Rattle.cf_stream.specs.FreshEpochs.{DrawsNone, Draws};
+ghost use Rattle.cf_stream.specs.FreshEpochs.{LacksEpoch, Draws};
 
 use crate::answer::{History, Recovery};
 use crate::due::DueWalk;
 use crate::opening::{Epochs, open_idle, publish_new};
 use crate::refusal::StreamRefusal;
-use crate::stream::{LARGEST_SIZE, LAST_OFFSET, Stream};
+use crate::stream::{LARGEST_SIZE, Stream};
 use cf_protocol::{Epoch, Info, Namespaces, Position, Publication};
 use std::alloc::{AllocError, Global};
 use std::collections::BTreeMap;
@@ -44,7 +44,8 @@ impl Model for Streams {
 impl Streams {
     /// No streams, over these namespaces.
     pub fn new(alloc: Global, namespaces: &Namespaces) -> Result<Streams, AllocError>
-        ensures empty { IfOk result (λ s. s ≡ record { namespaces = namespaces.now; streams = fin.empty }) }
+        ensures empty { IfOk result (λ s.
+            s ≡ record { namespaces = namespaces.now; streams = fin.empty }) }
         ensures log { IfOk result (λ s. IsState s []) }
         ensures lists { IfOk result (λ s. AreShown s (λ _. None)) }
     {
@@ -72,18 +73,28 @@ impl Streams {
         now: u64,
     ) -> Result<Position, StreamRefusal>
         requires { IsSetUp self.old channel.now }
-        ensures ok { IfOk result (λ p. self.new ≡ put_at self.old channel.now (Some (pushed (stood_or_opened self.old channel.now p.epoch) (record { body = string_bytes body; info = info }) now))) }
-        ensures position { IfOk result (λ p. p ≡ position_of (pushed (stood_or_opened self.old channel.now p.epoch) (record { body = string_bytes body; info = info }) now)) }
-        ensures drawn { IfOk result (λ p. Draws E.draws (stream_of self.old channel.now) p.epoch epochs.old epochs.new) }
-        ensures last { IsErrOf result StreamRefusal.AtLastOffset ↔ IsSomeAnd (stream_of self.old channel.now) (λ s. s.top ≡ LAST_OFFSET) }
-        ensures no_epoch { IsErrOf result StreamRefusal.NoEpoch → (stream_of self.old channel.now ≡ None) × DrawsNone E.draws epochs.old epochs.new }
-        ensures refusals { IfErr result (λ e. e ≢ StreamRefusal.WrongEpoch × (e ≢ StreamRefusal.NoEpoch → epochs.new ≡ epochs.old)) }
+        ensures ok { IfOk result (λ p. self.new
+            ≡ with_pushed self.old channel.now p.epoch (datum_of body info) now) }
+        ensures position { IfOk result (λ p. p
+            ≡ position_of (pushed_at self.old channel.now p.epoch (datum_of body info) now)) }
+        ensures drawn { IfOk result (λ p.
+            Draws E.draws (stream_of self.old channel.now) p.epoch epochs.old epochs.new) }
+        ensures last { IsErrOf result StreamRefusal.AtLastOffset
+            ↔ IsAtLast (stream_of self.old channel.now) }
+        ensures no_epoch { IsErrOf result StreamRefusal.NoEpoch
+            → LacksEpoch E.draws (stream_of self.old channel.now) epochs.old epochs.new }
+        ensures refusals { IfErr result (λ e. e ≢ StreamRefusal.WrongEpoch
+            × (e ≢ StreamRefusal.NoEpoch → epochs.new ≡ epochs.old)) }
         ensures err { OnErr result (self.new ≡ self.old) }
         ensures namespaces { self.new.namespaces ≡ self.old.namespaces }
-        ensures log { IfOk result (λ p. Adds self.old self.new (opening (stream_of self.old channel.now) channel.now p.epoch (Publish channel.now (record { body = string_bytes body; info = info }) ∷ []))) }
-        ensures newest { IfOk result (λ p. option_and_then newest_of (stream_of self.new channel.now) ≡ Some (record { offset = p.offset; datum = record { body = string_bytes body; info = info } })) }
+        ensures log { IfOk result (λ p. Adds self.old self.new
+            (opening (stream_of self.old channel.now) channel.now p.epoch
+            (Publish channel.now (datum_of body info) ∷ []))) }
+        ensures newest { IfOk result (λ p. newest_at self.new channel.now
+            ≡ Some (record { offset = p.offset; datum = datum_of body info })) }
         ensures list_answer { IfOk result (λ p. StandsAt self.new channel.now (Some p)) }
-        ensures lists { IfOk result (λ p. ChangesAt self.old self.new channel.now (λ l. Some (published (size_at self.old.namespaces channel.now) (record { body = string_bytes body; info = info }) (life_or l p.epoch)))) }
+        ensures lists { IfOk result (λ p. ChangesAt self.old self.new channel.now
+            (life_with (size_at self.old.namespaces channel.now) (datum_of body info) p.epoch)) }
     {
         let size = size_for(&self.namespaces, channel);
         publish_in(
@@ -107,16 +118,25 @@ impl Streams {
         now: u64,
     ) -> Result<Recovery, StreamRefusal>
         requires { IsSetUp self.old channel.now }
-        ensures ok { IfOk result (λ r. self.new ≡ put_at self.old channel.now (Some (used_at (stood_or_opened self.old channel.now r.position.epoch) now))) }
-        ensures answer { IfOk result (λ r. IsRecovery (stood_or_opened self.old channel.now r.position.epoch) since r.position r.recovered r.publications.items) }
-        ensures drawn { IfOk result (λ r. Draws E.draws (stream_of self.old channel.now) r.position.epoch epochs.old epochs.new) }
-        ensures no_epoch { IsErrOf result StreamRefusal.NoEpoch → (stream_of self.old channel.now ≡ None) × DrawsNone E.draws epochs.old epochs.new }
-        ensures refusals { IfErr result (λ e. e ≢ StreamRefusal.NoEpoch → (e ≡ StreamRefusal.Memory) × (epochs.new ≡ epochs.old)) }
+        ensures ok { IfOk result (λ r.
+            self.new ≡ with_used self.old channel.now r.position.epoch now) }
+        ensures answer { IfOk result (λ r.
+            IsRecovery (stood_or_opened self.old channel.now r.position.epoch)
+            since r.position r.recovered r.publications.items) }
+        ensures drawn { IfOk result (λ r.
+            Draws E.draws (stream_of self.old channel.now) r.position.epoch epochs.old epochs.new) }
+        ensures no_epoch { IsErrOf result StreamRefusal.NoEpoch
+            → LacksEpoch E.draws (stream_of self.old channel.now) epochs.old epochs.new }
+        ensures refusals { IfErr result (λ e. e ≢ StreamRefusal.NoEpoch
+            → (e ≡ StreamRefusal.Memory) × (epochs.new ≡ epochs.old)) }
         ensures err { OnErr result (self.new ≡ self.old) }
         ensures namespaces { self.new.namespaces ≡ self.old.namespaces }
-        ensures list_answer { IfOk result (λ r. ReadsAt self.old channel.now since r.position r.recovered r.publications.items) }
-        ensures log { IfOk result (λ r. Adds self.old self.new (opening (stream_of self.old channel.now) channel.now r.position.epoch [])) }
-        ensures lists { IfOk result (λ r. ChangesAt self.old self.new channel.now (λ l. Some (life_or l r.position.epoch))) }
+        ensures list_answer { IfOk result (λ r. ReadsAt self.old channel.now
+            since r.position r.recovered r.publications.items) }
+        ensures log { IfOk result (λ r. Adds self.old self.new
+            (opening (stream_of self.old channel.now) channel.now r.position.epoch [])) }
+        ensures lists { IfOk result (λ r.
+            ChangesAt self.old self.new channel.now (life_read r.position.epoch)) }
     {
         let size = size_for(&self.namespaces, channel);
         read_in(&mut self.map, epochs, self.alloc, size, channel, since, now)
@@ -132,17 +152,27 @@ impl Streams {
         now: u64,
     ) -> Result<History, StreamRefusal>
         requires { IsSetUp self.old channel.now }
-        ensures ok { IfOk result (λ h. self.new ≡ put_at self.old channel.now (Some (used_at (stood_or_opened self.old channel.now h.position.epoch) now))) }
-        ensures answer { IfOk result (λ h. IsHistory (stood_or_opened self.old channel.now h.position.epoch) since limit h.position h.publications.items) }
-        ensures drawn { IfOk result (λ h. Draws E.draws (stream_of self.old channel.now) h.position.epoch epochs.old epochs.new) }
-        ensures wrong_epoch { IsErrOf result StreamRefusal.WrongEpoch ↔ IsOfAnother (stream_of self.old channel.now) since }
-        ensures no_epoch { IsErrOf result StreamRefusal.NoEpoch → (stream_of self.old channel.now ≡ None) × DrawsNone E.draws epochs.old epochs.new }
-        ensures refusals { IfErr result (λ e. e ≢ StreamRefusal.AtLastOffset × (e ≢ StreamRefusal.NoEpoch → epochs.new ≡ epochs.old)) }
+        ensures ok { IfOk result (λ h.
+            self.new ≡ with_used self.old channel.now h.position.epoch now) }
+        ensures answer { IfOk result (λ h.
+            IsHistory (stood_or_opened self.old channel.now h.position.epoch)
+            since limit h.position h.publications.items) }
+        ensures drawn { IfOk result (λ h.
+            Draws E.draws (stream_of self.old channel.now) h.position.epoch epochs.old epochs.new) }
+        ensures wrong_epoch { IsErrOf result StreamRefusal.WrongEpoch
+            ↔ IsOfAnother (stream_of self.old channel.now) since }
+        ensures no_epoch { IsErrOf result StreamRefusal.NoEpoch
+            → LacksEpoch E.draws (stream_of self.old channel.now) epochs.old epochs.new }
+        ensures refusals { IfErr result (λ e. e ≢ StreamRefusal.AtLastOffset
+            × (e ≢ StreamRefusal.NoEpoch → epochs.new ≡ epochs.old)) }
         ensures err { OnErr result (self.new ≡ self.old) }
         ensures namespaces { self.new.namespaces ≡ self.old.namespaces }
-        ensures list_answer { IfOk result (λ h. ListsAt self.old channel.now since limit h.position h.publications.items) }
-        ensures log { IfOk result (λ h. Adds self.old self.new (opening (stream_of self.old channel.now) channel.now h.position.epoch [])) }
-        ensures lists { IfOk result (λ h. ChangesAt self.old self.new channel.now (λ l. Some (life_or l h.position.epoch))) }
+        ensures list_answer { IfOk result (λ h. ListsAt self.old channel.now
+            since limit h.position h.publications.items) }
+        ensures log { IfOk result (λ h. Adds self.old self.new
+            (opening (stream_of self.old channel.now) channel.now h.position.epoch [])) }
+        ensures lists { IfOk result (λ h.
+            ChangesAt self.old self.new channel.now (life_read h.position.epoch)) }
     {
         let size = size_for(&self.namespaces, channel);
         history_in(
@@ -159,8 +189,10 @@ impl Streams {
 
     /// Keeps at most the newest publications of a channel. It takes no memory.
     pub fn trim(&mut self, channel: &str, count: usize)
-        ensures trimmed { self.new ≡ put_at self.old channel.now (option_map (trimmed count) (stream_of self.old channel.now)) }
-        ensures log { Adds self.old self.new (if_stands (stream_of self.old channel.now) (Trim channel.now count)) }
+        ensures trimmed { self.new ≡ put_at self.old channel.now
+            (option_map (trimmed count) (stream_of self.old channel.now)) }
+        ensures log { Adds self.old self.new
+            (if_stands (stream_of self.old channel.now) (Trim channel.now count)) }
         ensures lists { ChangesAt self.old self.new channel.now (option_map (kept_newest count)) }
     {
         trim_at(&mut self.map, channel, count);
@@ -169,7 +201,8 @@ impl Streams {
     /// Ends a channel's stream. It takes no memory.
     pub fn forget(&mut self, channel: &str)
         ensures forgotten { self.new ≡ put_at self.old channel.now None }
-        ensures log { Adds self.old self.new (if_stands (stream_of self.old channel.now) (Forget channel.now)) }
+        ensures log { Adds self.old self.new
+            (if_stands (stream_of self.old channel.now) (Forget channel.now)) }
         ensures lists { ChangesAt self.old self.new channel.now (λ _. None) }
     {
         self.map.remove(channel);
@@ -188,17 +221,18 @@ impl Streams {
     /// Empties the histories whose time is over, and ends the streams that were not used for long. It takes no memory.
     pub fn tick(&mut self, now: u64)
         ensures namespaces { self.new.namespaces ≡ self.old.namespaces }
-        ensures streams { (q : List ℕ) → stream_of self.new q ≡ after_tick now (seconds_at self.old.namespaces q) (stream_of self.old q) }
-        ensures log { Adds self.old self.new (due_entries (due_channels now self.old.namespaces (fin.entries self.old.streams))) }
-        ensures due { (q : List ℕ) → (due_at now (seconds_at self.old.namespaces q) (stream_of self.old q) ≡ None) ↔ (stream_of self.new q ≡ stream_of self.old q) }
+        ensures streams { (q : List ℕ) → stream_of self.new q ≡ ticked_at now self.old q }
+        ensures log { Adds self.old self.new (due_entries (all_due now self.old)) }
+        ensures due { (q : List ℕ) → (due_in now self.old q ≡ None)
+            ↔ (stream_of self.new q ≡ stream_of self.old q) }
     {
         tick_in(&mut self.map, &self.namespaces, now);
     }
 
     /// The channels to which `tick` would do something, in the order of their bytes. It takes no memory.
     pub fn due(&self, now: u64) -> DueWalk<'_>
-        ensures walk { result ≡ due_channels now self.now.namespaces (fin.entries self.now.streams) }
-        ensures exact { (q : List ℕ) → due_to result q ≡ due_at now (seconds_at self.now.namespaces q) (stream_of self.now q) }
+        ensures walk { result ≡ all_due now self.now }
+        ensures exact { (q : List ℕ) → due_to result q ≡ due_in now self.now q }
     {
         DueWalk {
             rest: self.map.iter(),
@@ -220,7 +254,7 @@ impl Streams {
 
     /// The newest publication that a channel holds. It takes no memory and opens nothing.
     pub fn last(&self, channel: &str) -> Option<&Publication>
-        ensures { option_copied result ≡ option_and_then newest_of (stream_of self.now channel.now) }
+        ensures { option_copied result ≡ newest_at self.now channel.now }
     {
         match self.map.get(channel) {
             None => None,
@@ -274,13 +308,23 @@ fn publish_in<E: Epochs>(
     now: u64,
 ) -> Result<Position, StreamRefusal>
     requires { (1 ≤ size) × (size ≤ LARGEST_SIZE) }
-    ensures ok { IfOk result (λ p. SetsAt map.old map.new channel.now (Some (pushed (stood_or (get_by_text map.old channel.now) p.epoch size) (record { body = string_bytes body; info = info }) now))) }
-    ensures position { IfOk result (λ p. p ≡ position_of (pushed (stood_or (get_by_text map.old channel.now) p.epoch size) (record { body = string_bytes body; info = info }) now)) }
-    ensures newest { IfOk result (λ p. newest_of (pushed (stood_or (get_by_text map.old channel.now) p.epoch size) (record { body = string_bytes body; info = info }) now) ≡ Some (record { offset = p.offset; datum = record { body = string_bytes body; info = info } })) }
-    ensures drawn { IfOk result (λ p. Draws E.draws (get_by_text map.old channel.now) p.epoch epochs.old epochs.new) }
-    ensures last { IsErrOf result StreamRefusal.AtLastOffset ↔ IsSomeAnd (get_by_text map.old channel.now) (λ s. s.top ≡ LAST_OFFSET) }
-    ensures no_epoch { IsErrOf result StreamRefusal.NoEpoch → (get_by_text map.old channel.now ≡ None) × DrawsNone E.draws epochs.old epochs.new }
-    ensures refusals { IfErr result (λ e. e ≢ StreamRefusal.WrongEpoch × (e ≢ StreamRefusal.NoEpoch → epochs.new ≡ epochs.old)) }
+    ensures ok { IfOk result (λ p. SetsAt map.old map.new channel.now
+        (Some (pushed (stood_or (get_by_text map.old channel.now) p.epoch size)
+        (datum_of body info) now))) }
+    ensures position { IfOk result (λ p. p ≡ position_of
+        (pushed (stood_or (get_by_text map.old channel.now) p.epoch size)
+        (datum_of body info) now)) }
+    ensures newest { IfOk result (λ p. newest_of
+        (pushed (stood_or (get_by_text map.old channel.now) p.epoch size) (datum_of body info) now)
+        ≡ Some (record { offset = p.offset; datum = datum_of body info })) }
+    ensures drawn { IfOk result (λ p.
+        Draws E.draws (get_by_text map.old channel.now) p.epoch epochs.old epochs.new) }
+    ensures last { IsErrOf result StreamRefusal.AtLastOffset
+        ↔ IsAtLast (get_by_text map.old channel.now) }
+    ensures no_epoch { IsErrOf result StreamRefusal.NoEpoch
+        → LacksEpoch E.draws (get_by_text map.old channel.now) epochs.old epochs.new }
+    ensures refusals { IfErr result (λ e. e ≢ StreamRefusal.WrongEpoch
+        × (e ≢ StreamRefusal.NoEpoch → epochs.new ≡ epochs.old)) }
     ensures err { OnErr result ((q : List ℕ) → get_by_text map.new q ≡ get_by_text map.old q) }
 {
     match map.get_mut(channel) {
@@ -301,11 +345,17 @@ fn read_in<E: Epochs>(
     now: u64,
 ) -> Result<Recovery, StreamRefusal>
     requires { (1 ≤ size) × (size ≤ LARGEST_SIZE) }
-    ensures ok { IfOk result (λ r. SetsAt map.old map.new channel.now (Some (used_at (stood_or (get_by_text map.old channel.now) r.position.epoch size) now))) }
-    ensures answer { IfOk result (λ r. IsRecovery (stood_or (get_by_text map.old channel.now) r.position.epoch size) since r.position r.recovered r.publications.items) }
-    ensures drawn { IfOk result (λ r. Draws E.draws (get_by_text map.old channel.now) r.position.epoch epochs.old epochs.new) }
-    ensures no_epoch { IsErrOf result StreamRefusal.NoEpoch → (get_by_text map.old channel.now ≡ None) × DrawsNone E.draws epochs.old epochs.new }
-    ensures refusals { IfErr result (λ e. e ≢ StreamRefusal.NoEpoch → (e ≡ StreamRefusal.Memory) × (epochs.new ≡ epochs.old)) }
+    ensures ok { IfOk result (λ r. SetsAt map.old map.new channel.now
+        (Some (used_at (stood_or (get_by_text map.old channel.now) r.position.epoch size) now))) }
+    ensures answer { IfOk result (λ r.
+        IsRecovery (stood_or (get_by_text map.old channel.now) r.position.epoch size)
+        since r.position r.recovered r.publications.items) }
+    ensures drawn { IfOk result (λ r.
+        Draws E.draws (get_by_text map.old channel.now) r.position.epoch epochs.old epochs.new) }
+    ensures no_epoch { IsErrOf result StreamRefusal.NoEpoch
+        → LacksEpoch E.draws (get_by_text map.old channel.now) epochs.old epochs.new }
+    ensures refusals { IfErr result (λ e. e ≢ StreamRefusal.NoEpoch
+        → (e ≡ StreamRefusal.Memory) × (epochs.new ≡ epochs.old)) }
     ensures err { OnErr result ((q : List ℕ) → get_by_text map.new q ≡ get_by_text map.old q) }
 {
     match map.get_mut(channel) {
@@ -344,12 +394,19 @@ fn history_in<E: Epochs>(
     now: u64,
 ) -> Result<History, StreamRefusal>
     requires { (1 ≤ size) × (size ≤ LARGEST_SIZE) }
-    ensures ok { IfOk result (λ h. SetsAt map.old map.new channel.now (Some (used_at (stood_or (get_by_text map.old channel.now) h.position.epoch size) now))) }
-    ensures answer { IfOk result (λ h. IsHistory (stood_or (get_by_text map.old channel.now) h.position.epoch size) since limit h.position h.publications.items) }
-    ensures drawn { IfOk result (λ h. Draws E.draws (get_by_text map.old channel.now) h.position.epoch epochs.old epochs.new) }
-    ensures wrong_epoch { IsErrOf result StreamRefusal.WrongEpoch ↔ IsOfAnother (get_by_text map.old channel.now) since }
-    ensures no_epoch { IsErrOf result StreamRefusal.NoEpoch → (get_by_text map.old channel.now ≡ None) × DrawsNone E.draws epochs.old epochs.new }
-    ensures refusals { IfErr result (λ e. e ≢ StreamRefusal.AtLastOffset × (e ≢ StreamRefusal.NoEpoch → epochs.new ≡ epochs.old)) }
+    ensures ok { IfOk result (λ h. SetsAt map.old map.new channel.now
+        (Some (used_at (stood_or (get_by_text map.old channel.now) h.position.epoch size) now))) }
+    ensures answer { IfOk result (λ h.
+        IsHistory (stood_or (get_by_text map.old channel.now) h.position.epoch size)
+        since limit h.position h.publications.items) }
+    ensures drawn { IfOk result (λ h.
+        Draws E.draws (get_by_text map.old channel.now) h.position.epoch epochs.old epochs.new) }
+    ensures wrong_epoch { IsErrOf result StreamRefusal.WrongEpoch
+        ↔ IsOfAnother (get_by_text map.old channel.now) since }
+    ensures no_epoch { IsErrOf result StreamRefusal.NoEpoch
+        → LacksEpoch E.draws (get_by_text map.old channel.now) epochs.old epochs.new }
+    ensures refusals { IfErr result (λ e. e ≢ StreamRefusal.AtLastOffset
+        × (e ≢ StreamRefusal.NoEpoch → epochs.new ≡ epochs.old)) }
     ensures err { OnErr result ((q : List ℕ) → get_by_text map.new q ≡ get_by_text map.old q) }
 {
     match map.get_mut(channel) {
@@ -368,7 +425,8 @@ fn history_in<E: Epochs>(
 }
 
 fn trim_at(map: &mut BTreeMap<String, Stream>, channel: &str, count: usize)
-    ensures { SetsAt map.old map.new channel.now (option_map (trimmed count) (get_by_text map.old channel.now)) }
+    ensures { SetsAt map.old map.new channel.now
+        (option_map (trimmed count) (get_by_text map.old channel.now)) }
 {
     if let Some(stream) = map.get_mut(channel) {
         stream.trim(count);
@@ -377,7 +435,9 @@ fn trim_at(map: &mut BTreeMap<String, Stream>, channel: &str, count: usize)
 
 fn tick_in(streams: &mut BTreeMap<String, Stream>, namespaces: &Namespaces, now: u64)
     ensures ordered { IsOrdered string_cmp streams.old }
-    ensures entries { streams.new.entries ≡ map (λ e. (e.0, ticked now (seconds_at namespaces.now (string_bytes e.0)) e.1)) (filter (λ e. stays now e.1) streams.old.entries) }
+    ensures entries { streams.new.entries
+        ≡ map (λ e. (e.0, ticked now (seconds_at namespaces.now (string_bytes e.0)) e.1))
+        (filter (λ e. stays now e.1) streams.old.entries) }
 {
     streams.retain(|channel, stream| { stream.outlasts(now, seconds_for(namespaces, channel)) });
 }
