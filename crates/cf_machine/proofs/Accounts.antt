@@ -1,7 +1,7 @@
 -- The befell_from that a trace gives is what befell: the entries of each event are those that it wrote.
-use Rattle.std.proofs.Common.{◌≡◌, ℕ, suc, ◌+◌, ◌≤◌, ◌<◌, ◌==◌, Bool, true, false, List, [], ◌∷◌, ◌++◌, length, refl, sym, ap, subst, arith, append_assoc, ◌≢◌, if◌then◌else◌}
+use Rattle.std.proofs.Common.{◌≡◌, ℕ, suc, ◌+◌, ◌≤◌, ◌<◌, ◌==◌, Bool, true, false, List, [], ◌∷◌, ◌++◌, length, refl, sym, ap, subst, arith, append_assoc, if◌then◌else◌}
 use Rattle.std.proofs.lemmas.List.{append-nil}
-use Rattle.std.proofs.lemmas.Bool.Decides.{nat_tests}
+use Rattle.std.proofs.lemmas.Bool.{eq-eqb, ne_eqb}
 use Rattle.cf_machine.specs.Config.{Config}
 use Rattle.cf_machine.specs.Event.{Event, Take}
 use Rattle.cf_machine.specs.World.{World, start}
@@ -27,23 +27,17 @@ abbrev AreFrom : ℕ → List Entry → Type 0
 AreFrom n [] = Unit {0}
 AreFrom n (e ∷ es) = (n ≤ e.at) × AreFrom n es
 
-differs : (m n : ℕ) → m ≢ n → (m == n) ≡ false
-differs m n h = grind (arith, nat_tests)
-
-same : (m n : ℕ) → m ≡ n → (m == n) ≡ true
-same m n h = grind (arith, nat_tests)
-
 none-below : (n : ℕ) (es : List Entry) → AreBelow n es → numbered n es ≡ []
 none-below n [] h = refl
-none-below n (e ∷ es) h = rw (differs e.at n (λ i. absurd (omega (arith, h.0)))) (none-below n es h.1)
+none-below n (e ∷ es) h = rw (ne_eqb e.at n (λ i. absurd (omega (arith, h.0)))) (none-below n es h.1)
 
 none-from : (n : ℕ) (es : List Entry) → AreFrom (suc n) es → numbered n es ≡ []
 none-from n [] h = refl
-none-from n (e ∷ es) h = rw (differs e.at n (λ i. absurd (omega (arith, h.0)))) (none-from n es h.1)
+none-from n (e ∷ es) h = rw (ne_eqb e.at n (λ i. absurd (omega (arith, h.0)))) (none-from n es h.1)
 
 all-at : (n : ℕ) (es : List Entry) → AreAt n es → numbered n es ≡ es
 all-at n [] h = refl
-all-at n (e ∷ es) h = rw (same e.at n h.0) (ap (λ (x : List Entry). e ∷ x) (all-at n es h.1))
+all-at n (e ∷ es) h = rw (eq-eqb e.at n h.0) (ap (λ (x : List Entry). e ∷ x) (all-at n es h.1))
 
 numbered-append : (n : ℕ) (xs ys : List Entry) → numbered n (xs ++ ys) ≡ numbered n xs ++ numbered n ys
 numbered-append n [] ys = refl

@@ -1,6 +1,7 @@
 -- What each event makes of the broker keeps it steady, and lists only grow.
 use Rattle.std.proofs.Common.{◌≡◌, ℕ, zero, suc, ◌+◌, ◌≤◌, ◌==◌, ◌&&◌, ◌||◌, not, min, is_some, Bool, true, false, Option, Some, None, List, [], ◌∷◌, ◌++◌, length, refl, sym, subst, arith, ◌≢◌, ◌⊎◌, inl, inr, nat_lt, slice_get, length-append}
 use Rattle.std.proofs.Math.Nat.{le_refl}
+use Rattle.std.proofs.lemmas.Bool.{both_ways, false_from_ne_true, or_parts}
 use Rattle.std.proofs.lemmas.Bool.Decides.{nat_tests}
 use Rattle.cf_protocol.specs.Names.{with, is_among, and_also}
 use Rattle.cf_protocol.specs.Position.{Position}
@@ -113,21 +114,8 @@ AreDistinct-more [] x h k = (refl, tt)
 AreDistinct-more (y ∷ xs) x h k =
     (not_among-more xs x y (λ e. not_among-head y x xs k (sym e)) h.0, AreDistinct-more xs x h.1 (not_among-tail y x xs k))
 
-not_true : (b : Bool) → (b ≡ true → ⊥) → b ≡ false
-not_true true k = absurd (k refl)
-not_true false k = refl
-
-false-true : (b : Bool) → b ≡ true → b ≡ false → ⊥
-false-true b h k = cc
-
-or_left : (a b : Bool) → (a || b) ≡ false → a ≡ false
-or_left a b h = grind arith
-
 not_empty : (e : List ℕ) → (length e == 0) ≡ false → e ≢ []
-not_empty e h i = absurd (false-true (length e == 0) (rw i refl) h)
-
-or_right : (a b : Bool) → (a || b) ≡ false → b ≡ false
-or_right a b h = grind arith
+not_empty e h i = absurd (both_ways (length e == 0) h (rw i refl))
 
 apart-tail : (e : List ℕ) (es : List (List ℕ)) (s : Option StreamState) → IsApart (e ∷ es) s → IsApart es s
 apart-tail e es None h = tt
@@ -136,7 +124,7 @@ apart-tail e es (Some s) h = not_among-tail e s.epoch es h
 apart-more : (e : List ℕ) (es came : List (List ℕ)) (s : Option StreamState) → is_among e came ≡ false → IsAmong came s → IsApart es s → IsApart (es ++ e ∷ []) s
 apart-more e es came None n a h = tt
 apart-more e es came (Some s) n a h =
-    not_among-more es e s.epoch (λ i. false-true (is_among s.epoch came) a (subst (λ v. is_among v came ≡ false) i n)) h
+    not_among-more es e s.epoch (λ i. both_ways (is_among s.epoch came) (subst (λ v. is_among v came ≡ false) i n) a) h
 
 among-cons : (e : List ℕ) (came : List (List ℕ)) (s : Option StreamState) → IsAmong came s → IsAmong (e ∷ came) s
 among-cons e came None h = tt
@@ -146,7 +134,7 @@ among-cons e came (Some s) h = is_among-tail e s.epoch came h
 pub steady-epoch : (e : List ℕ) (b : Broker) → IsSteady b → IsSteady (epoch_comes e b)
 steady-epoch e b g =
     by_test IsSteady ((length e == 0) || is_among e b.came) _ _ (λ h. g)
-    (λ i'. let h : is_among e b.came ≡ false = or_right (length e == 0) (is_among e b.came) i' in record {
+    (λ i'. let h : is_among e b.came ≡ false = (or_parts (length e == 0) (is_among e b.came) i').1 in record {
       top = g.top;
       held = g.held;
       unused = λ i k c. elim (is_among-more b.waiting e i k) [ inl j ↦ subst (λ v. tops b.lists c v ≡ 0) j (g.unseen e h c) | inr j ↦ g.unused i j c ];
@@ -155,8 +143,8 @@ steady-epoch e b g =
         | inl j ↦ subst (λ v. is_among v (e ∷ b.came) ≡ true) j (is_among-head e b.came)
         | inr j ↦ is_among-tail e i b.came (g.waiting_came i j)
       ];
-      distinct = AreDistinct-more b.waiting e g.distinct (not_true _ (λ k. false-true (is_among e b.came) (g.waiting_came e k) h));
-      named = not_among-cons e [] b.came (not_empty e (or_left (length e == 0) (is_among e b.came) i')) g.named;
+      distinct = AreDistinct-more b.waiting e g.distinct (false_from_ne_true _ (λ k. both_ways (is_among e b.came) h (g.waiting_came e k)));
+      named = not_among-cons e [] b.came (not_empty e ((or_parts (length e == 0) (is_among e b.came) i').0)) g.named;
       apart = λ c. apart-more e b.waiting b.came (b.streams c) h (g.among c) (g.apart c);
       among = λ c. among-cons e b.came (b.streams c) (g.among c);
       within = g.within;
@@ -215,9 +203,9 @@ steady-add_at size c d (Some s) b g e =
       top = with-both (λ d (f : List ℕ → List Datum) t. HasTop (λ i. length (f i)) t) b.lists b.streams c more _ risen (λ d ne. g.top d);
       held = with-all (λ d s. HoldsWithin s) b.streams c _ (min-more s.held s.top size holds) (λ d ne. g.held d);
       unused = λ i k x. lengths-with (λ x i n. is_among i b.waiting ≡ true → n ≡ 0) b.lists c s.epoch d
-          (λ j. absurd (false-true _ j apart)) (λ x i j. g.unused i j x) x i k;
+          (λ j. absurd (both_ways _ apart j)) (λ x i j. g.unused i j x) x i k;
       unseen = λ i k x. lengths-with (λ x i n. is_among i b.came ≡ false → n ≡ 0) b.lists c s.epoch d
-          (λ j. absurd (false-true _ among j)) (λ x i j. g.unseen i j x) x i k;
+          (λ j. absurd (both_ways _ j among)) (λ x i j. g.unseen i j x) x i k;
       waiting_came = g.waiting_came;
       distinct = g.distinct;
       named = g.named;
@@ -286,7 +274,7 @@ also-more : (e i : List ℕ) (xs : List (List ℕ)) → is_among i xs ≡ true �
 also-more e i xs k = by_test (λ v. is_among i v ≡ true) (is_among e xs) _ _ (λ h. k) (λ h. is_among-tail e i xs k)
 
 also-less : (e i : List ℕ) (xs : List (List ℕ)) → is_among i (and_also e xs) ≡ false → is_among i xs ≡ false
-also-less e i xs k = not_true (is_among i xs) (λ j. false-true (is_among i (and_also e xs)) (also-more e i xs j) k)
+also-less e i xs k = false_from_ne_true (is_among i xs) (λ j. both_ways (is_among i (and_also e xs)) k (also-more e i xs j))
 
 also-not : (e i : List ℕ) (xs : List (List ℕ)) → e ≢ i → is_among i xs ≡ false → is_among i (and_also e xs) ≡ false
 also-not e i xs ne k = by_test (λ v. is_among i v ≡ false) (is_among e xs) _ _ (λ h. k) (λ h. not_among-cons e i xs ne k)

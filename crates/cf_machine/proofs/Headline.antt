@@ -1,5 +1,6 @@
 -- Stream safety of every run of the interval machine, and of every loose run.
-use Rattle.std.proofs.Common.{◌≡◌, ℕ, Bool, true, false, Option, Some, None, List, [], ◌∷◌, length, refl, sym, subst, arith, inl, inr}
+use Rattle.std.proofs.Common.{◌≡◌, ℕ, true, Option, Some, None, List, [], ◌∷◌, length, refl, sym, subst, arith, inl, inr}
+use Rattle.std.proofs.lemmas.Bool.{both_ways}
 use Rattle.cf_protocol.specs.Names.{is_among}
 use Rattle.cf_protocol.specs.Datum.{Datum}
 use Rattle.cf_protocol.specs.Position.{Position}
@@ -117,9 +118,6 @@ streams_stand cfg hs c =
     stands_over ((loose_run cfg start hs).broker.lists c) ((loose_run cfg start hs).broker.streams c) (g.top c) (g.held c)
 
 -- FRESH EPOCHS
-false-true : (b : Bool) → b ≡ true → b ≡ false → ⊥
-false-true b h k = cc
-
 no_data : (l : List Datum) → length l ≡ 0 → l ≡ []
 no_data [] h = refl
 no_data (d ∷ l) h = absurd (omega arith)
@@ -127,8 +125,8 @@ no_data (d ∷ l) h = absurd (omega arith)
 fresh-broker : (b : Broker) → IsSteady b → AreFresh b
 fresh-broker b g = (
   (λ e h. (
-    (λ i. false-true (is_among [] b.came) (subst (λ x. is_among x b.came ≡ true) i (g.waiting_came e h)) g.named),
-    (λ c s i j. false-true (is_among s.epoch b.waiting) (subst (λ x. is_among x b.waiting ≡ true) (sym j) h) (subst (IsApart b.waiting) i (g.apart c))),
+    (λ i. both_ways (is_among [] b.came) g.named (subst (λ x. is_among x b.came ≡ true) i (g.waiting_came e h))),
+    (λ c s i j. both_ways (is_among s.epoch b.waiting) (subst (IsApart b.waiting) i (g.apart c)) (subst (λ x. is_among x b.waiting ≡ true) (sym j) h)),
     (λ c. no_data (b.lists c e) (g.unused e h c)),
   )),
   g.distinct,

@@ -1,5 +1,6 @@
 -- Each move of a link keeps its invariant.
 use Rattle.std.proofs.Common.{◌≡◌, ℕ, zero, suc, ◌+◌, ◌≤◌, ◌==◌, ◌&&◌, Bool, true, false, Option, None, List, [], ◌∷◌, ◌++◌, refl, sym, subst, arith, append_assoc, ◌≢◌, nat_le, sum_by}
+use Rattle.std.proofs.lemmas.Bool.{false_from_ne_true}
 use Rattle.std.proofs.lemmas.Bool.Decides.{nat_tests}
 use Rattle.std.specs.Str.{bytes_eq}
 use Rattle.cf_protocol.specs.Position.{Position}
@@ -51,11 +52,7 @@ IsSome_sub (On p mark) = Unit {0}
 
 -- a link that has a subscription is not closed
 pub still_open : (found : List ℕ → Option StreamState) (l : ClientLink) (c : List ℕ) → IsGood found l → IsSome_sub (l.session.subs c) → l.session.closed ≡ false
-still_open found l c g h = not_true l.session.closed (λ e. subst (λ s. IsSome_sub s) (g.shut e c) h)
-  where
-    not_true : (b : Bool) → (b ≡ true → ⊥) → b ≡ false
-    not_true true k = absurd (k refl)
-    not_true false k = refl
+still_open found l c g h = false_from_ne_true l.session.closed (λ e. subst (λ s. IsSome_sub s) (g.shut e c) h)
 
 -- the place that is passed is the next one
 is-next : (p q : Position) → (bytes_eq q.epoch p.epoch && (q.offset == p.offset + 1)) ≡ true → q ≡ next p

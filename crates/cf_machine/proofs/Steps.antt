@@ -1,6 +1,7 @@
 -- One step of the world: what each happening does keeps its invariant, and what it tells is safe.
 use Rattle.std.proofs.Common.{◌≡◌, ℕ, ◌≤◌, ◌∙◌, ◌&&◌, not, Bool, true, false, Option, Some, None, List, [], ◌∷◌, ◌++◌, length, refl, sym, ap, subst, arith, ◌⊎◌, inl, inr, if◌then◌else◌, is_some}
 use Rattle.std.proofs.Math.Nat.{le_refl}
+use Rattle.std.proofs.lemmas.Bool.{and_parts}
 use Rattle.std.specs.Str.{bytes_eq}
 use Rattle.cf_protocol.specs.Names.{with}
 use Rattle.cf_protocol.specs.Position.{Position}
@@ -335,9 +336,6 @@ exchange-step cfg y e seen w ms can a =
     nothing-is [] h = refl
     nothing-is (u ∷ us) h = absurd (cc)
 
-second : (a b : Bool) → (a && b) ≡ true → b ≡ true
-second a b h = grind arith
-
 -- each line's effect
 module _ (cfg : Config) (seen : List ℕ → List ℕ → Seen) (w : World) (f : IsFine seen w) where
   last_within : (x c : List ℕ) → LastWithin (tops w.broker.lists c) (last_of ((w.links x).client.modes c))
@@ -346,9 +344,9 @@ module _ (cfg : Config) (seen : List ℕ → List ℕ → Seen) (w : World) (f :
   effect-step : (e : Event) → allows cfg w e ≡ true → IsStep seen (effect cfg w e) (λ x c. step_marks x c w e)
   effect-step (Epoch e) can = broker-step seen w f (epoch_comes e w.broker) (steady-epoch e w.broker f.steady) (same-tops w.broker.lists (epoch_comes e w.broker).lists (lists-epoch e w.broker))
   effect-step (Connect x n) can = connect-step seen w f x n
-  effect-step (Ask x c) can = exchange-step cfg x (Subscribe c None) seen w _ (second (idle_at x c w) _ can) (ask-step seen w f x c false None refl tt)
+  effect-step (Ask x c) can = exchange-step cfg x (Subscribe c None) seen w _ ((and_parts (idle_at x c w) _ can).1) (ask-step seen w f x c false None refl tt)
   effect-step (AskFrom x c) can =
-      exchange-step cfg x (Subscribe c (last_of ((w.links x).client.modes c))) seen w _ (second (idle_at x c w) _ can) (ask-step seen w f x c true (last_of ((w.links x).client.modes c)) refl (last_within x c))
+      exchange-step cfg x (Subscribe c (last_of ((w.links x).client.modes c))) seen w _ ((and_parts (idle_at x c w) _ can).1) (ask-step seen w f x c true (last_of ((w.links x).client.modes c)) refl (last_within x c))
   effect-step (Read x c) can = read-step seen w f x c ((w.links x).session.subs c) refl
   effect-step (Finish x c) can =
       session-step seen w f x (finishes (wording w.broker.lists) c (w.links x).session)
@@ -365,7 +363,7 @@ module _ (cfg : Config) (seen : List ℕ → List ℕ → Seen) (w : World) (f :
       (bounded-holds (tops w.broker.lists) w.broker.lists (w.links x) (f.bounded x))
       (client-hold_first (w.links x).session.notes (w.links x)) refl
   effect-step (Break x) can = break-step seen w f x
-  effect-step (Leave x c) can = exchange-step cfg x (Unsubscribe c) seen w _ (second (not (idle_at x c w)) _ can) (leave-step seen w f x c)
+  effect-step (Leave x c) can = exchange-step cfg x (Unsubscribe c) seen w _ ((and_parts (not (idle_at x c w)) _ can).1) (leave-step seen w f x c)
   effect-step (Trim c k) can = broker-step seen w f (trim c k w.broker) (steady-trim c k w.broker f.steady) (same-tops w.broker.lists (trim c k w.broker).lists (lists-trim c k w.broker))
   effect-step (Forget c) can = broker-step seen w f (forget c w.broker) (steady-forget c w.broker f.steady) (λ d i. le_refl _)
   effect-step BrokerRestart can = broker-step seen w f (forget_all w.broker) (steady-forget_all w.broker f.steady) (λ d i. le_refl _)

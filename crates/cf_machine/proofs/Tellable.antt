@@ -1,11 +1,10 @@
 -- What waits at a node is tellable: each move of a session keeps it, and so does each event.
-use Rattle.std.proofs.Common.{◌≡◌, ℕ, ℤ, zero, suc, ◌+◌, ◌-◌, ◌≤◌, ◌<◌, ◌&&◌, ◌||◌, not, min, max, Bool, true, false, if◌then◌else◌, Option, Some, None, List, [], ◌∷◌, ◌++◌, drop, length, refl, sym, subst, arith, nat_le, nat_lt, sum_by}
+use Rattle.std.proofs.Common.{◌≡◌, ℕ, ℤ, zero, suc, ◌+◌, ◌≤◌, ◌<◌, ◌&&◌, ◌||◌, not, Bool, true, false, if◌then◌else◌, Option, Some, None, List, [], ◌∷◌, ◌++◌, drop, length, refl, arith, nat_le, nat_lt, sum_by}
 use Rattle.std.proofs.Math.Nat.{le_refl}
 use Rattle.std.specs.List.{All}
 use Rattle.std.proofs.lemmas.List.Elements.{All-cons, All-nil}
 use Rattle.std.proofs.lemmas.Bool.Decides.{nat_tests}
 use Rattle.std.specs.Str.{bytes_eq}
-use Rattle.cf_protocol.specs.Names.{with}
 use Rattle.cf_protocol.specs.Position.{Position}
 use Rattle.cf_protocol.specs.Note.{Lists, Reading, Note, Reply, Pub, End, Fails, Put as PutDone, Left, Listed, PingDue, Close}
 use Rattle.cf_stream.specs.StreamState.{StreamState}
@@ -14,10 +13,10 @@ use Rattle.cf_recovery.specs.Arrivals.{arrives}
 use Rattle.cf_recovery.specs.Release.{run_length, falls_short}
 use Rattle.cf_recovery.specs.Verdict.{next}
 use Rattle.cf_hub.specs.PositionCheck.{Checked, Fine, Behind, Ended, position_check}
-use Rattle.cf_hub.specs.SessionState.{Off, Asked, Ready, On, by_check, check_at, checks, closes, closes_now, come_at, comes, finish_at, finish_notes, finished, finishes, most_waiting, opens, push, put_sub, read_at as session_read_at, says}
+use Rattle.cf_hub.specs.SessionState.{Off, Asked, Ready, On, by_check, check_at, closes, closes_now, come_at, finish_at, finish_notes, finished, most_waiting, opens, push, put_sub, read_at as session_read_at, says}
 use Rattle.cf_hub.specs.Spoken.{pushes}
 use Rattle.cf_client.specs.ClientState.{last_of, read_to}
-use Rattle.cf_machine.specs.ClientLink.{ClientLink, hears_subscribe, hears_request, hears, is_waiting, errs, says as link_says, breaks, gets, hold_first, holds, receive_first, receives, sends}
+use Rattle.cf_machine.specs.ClientLink.{ClientLink, hears_subscribe, hears_request, hears, is_waiting, errs, breaks, gets, hold_first, holds, receive_first, sends}
 use Rattle.cf_machine.specs.ClientRequest.{ClientRequest, SentCommand, Subscribe, Unsubscribe, Publish as PublishRequest, History, channel_of}
 use Rattle.cf_machine.specs.Config.{Config}
 use Rattle.cf_machine.specs.Event.{Event, Epoch, Connect, Ask, AskFrom, Read, Finish, Publish, PublishBy, Deliver, Take, Break, Leave, Trim, Forget, BrokerRestart, Restart, Check, ListHistory}
@@ -30,13 +29,13 @@ use Rattle.cf_machine.specs.Tellable.{IsReadingOf, IsTellable}
 use Rattle.cf_machine.specs.Weights.{wording}
 use Rattle.cf_machine.specs.World.{World, broker_with, link_with, on_node, start}
 use Rattle.cf_machine.proofs.Automaton.{Seen, nothing_seen}
-use Rattle.cf_machine.proofs.Brokering.{lists-opened, steady-opened}
+use Rattle.cf_machine.proofs.Brokering.{steady-opened}
 use Rattle.cf_machine.proofs.Keeping.{by_verdict_lem}
 use Rattle.cf_machine.proofs.Names.{by_test, with-all}
 use Rattle.cf_machine.proofs.Stepping.{IsFine, steady-broker_by}
 use Rattle.cf_machine.proofs.Steps.{fine-start, step}
 use Rattle.cf_machine.proofs.Tracing.{GoesOn, on-broker_by, on-effect, on-opened}
-use Rattle.cf_machine.proofs.Within.{HasTop, HoldsWithin, IsSteady}
+use Rattle.cf_machine.proofs.Within.{HasTop, IsSteady}
 
 abbrev AreTellable : Lists → List Note → Type 0
 AreTellable lists [] = Unit {0}
