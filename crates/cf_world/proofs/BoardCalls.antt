@@ -3,6 +3,7 @@ use Rattle.std.proofs.Common.{◌≡◌, ◌≤◌, ℕ, ℤ, ◌-◌, ◌==◌,
 use Rattle.std.specs.List.{All, AllZip}
 use Rattle.std.specs.Str.{bytes_eq}
 use Rattle.std.proofs.lemmas.List.Elements.{All-append}
+use Rattle.std.proofs.lemmas.Option.{same_Some}
 use Rattle.cf_protocol.specs.Epoch.{IsEpoch}
 use Rattle.std.specs.BTreeSet.{contains_text}
 use Rattle.cf_protocol.specs.Names.{with}
@@ -25,7 +26,7 @@ use Rattle.cf_world.specs.declared.broker.Broker.{Broker as Code}
 use Rattle.cf_world.specs.declared.epochs.WaitingEpochs.{WaitingEpochs}
 use Rattle.cf_world.proofs.Boards.{shown-changed, life_of, takes_front, Opened, draws_opened}
 use Rattle.cf_world.proofs.Named.{all-one}
-use Rattle.cf_world.proofs.Names.{with-all, with-same, with-other}
+use Rattle.cf_machine.proofs.Names.{with-all, with-same, with-other}
 
 -- ---- other streams over the same lists
 
@@ -164,9 +165,6 @@ read_shows table b new m c since r h fresh drawn ns ch reads accepted =
 
 -- ---- a history
 
-some-is : {A : Type 0} (x y : A) → Some x ≡ Some y → x ≡ y
-some-is x y h = cc
-
 pub history_shows : (table : NamespaceTable) (b new : Code) (m : Broker) (c : List ℕ) (limit : ℤ) (h : History)
     → ShowsBroker table b m → AreFresh m → Draws takes_front (stream_of b.streams c) h.position.epoch b.epochs new.epochs
     → new.streams.namespaces ≡ b.streams.namespaces → ChangesAt b.streams new.streams c (λ l. Some (life_or l h.position.epoch))
@@ -183,7 +181,7 @@ history_shows table b new m c limit h shows fresh drawn ns ch lists accepted =
     subst (λ (l : Life). IsListed l None limit h.position h.publications.items) o.life (lists.off (life_at m) shows.streams) in
     let state : state_of (life_of (m1.lists c) s) ≡ s = ap (λ (n : ℕ). record { epoch = s.epoch; top = n; held = s.held }) (sym top) in
     let listing : listed_above 0 limit s ≡ found.listing =
-    ap (listed_above 0 limit) (sym state) ∙ some-is _ _ found.is in
+    ap (listed_above 0 limit) (sym state) ∙ same_Some _ _ found.is in
     let run : h.publications.items ≡ placed_from list (listed_above 0 limit s).low (listed_above 0 limit s).count =
     found.run ∙ ap (λ (l : Listing). placed_from list l.low l.count) (sym listing) in
     record {

@@ -10,7 +10,7 @@ use Rattle.cf_world.specs.BrokerTie.{IsAccepted, Stands}
 use Rattle.cf_hub.specs.InNotes.{Grown}
 use Rattle.cf_machine.specs.PublicationList.{Place, Broker, list_with, publication}
 use Rattle.cf_world.specs.declared.broker.Accepted.{Accepted}
-use Rattle.cf_world.proofs.Names.{itself, with-two}
+use Rattle.cf_machine.proofs.Names.{itself, with-two}
 
 pub grown-refl : (lists : Lists) → Grown lists lists
 grown-refl lists = record { later = λ c e. ([], sym (append-nil (lists c e))) }

@@ -31,7 +31,7 @@ use Rattle.cf_world.proofs.BoardLists.{grown-list_with, listed_here, all-accepte
 use Rattle.cf_world.proofs.Boards.{shown-changed, life_of, takes_front, Opened, draws_opened, shows_here}
 use Rattle.cf_world.proofs.BoardCalls.{shows-same}
 use Rattle.cf_world.proofs.Named.{all-one}
-use Rattle.cf_world.proofs.Names.{itself, with-both, with-same, with-other, with-two}
+use Rattle.cf_machine.proofs.Names.{itself, with-both, with-same, with-other, with-two}
 
 -- what is said of a stream over its channel's lists
 abbrev Stood : (List ℕ → List Datum) → StreamState → Type 0

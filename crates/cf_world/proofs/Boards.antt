@@ -19,7 +19,7 @@ use Rattle.cf_machine.specs.FreshEpochs.{AreFresh}
 use Rattle.cf_machine.specs.PublicationList.{Broker, open_at, opened, is_full, stands_or_opens, can_open}
 use Rattle.cf_world.specs.declared.broker.Broker.{Broker as Code}
 use Rattle.cf_world.specs.declared.epochs.WaitingEpochs.{WaitingEpochs}
-use Rattle.cf_world.proofs.Names.{text_tells, itself, with-all, with-same, with-other}
+use Rattle.cf_machine.proofs.Names.{text_tells, itself, with-all, with-same, with-other}
 
 -- the streams show lists that are the same at each channel
 pub shown-as : (k : Kept) (f g : List ℕ → Option Life) → AreShown k f → ((q : List ℕ) → f q ≡ g q) → AreShown k g

@@ -21,7 +21,7 @@ use Rattle.cf_world.specs.declared.broker.Broker.{Broker as Code}
 use Rattle.cf_world.specs.declared.peers.Peer.{Peer}
 use Rattle.cf_world.specs.declared.peers.Seat.{Seat}
 use Rattle.cf_world.proofs.Breaking.{none-own, seats-with}
-use Rattle.cf_world.proofs.Names.{with-both}
+use Rattle.cf_machine.proofs.Names.{with-both}
 use Rattle.cf_world.proofs.NodesTie.{attach_goes, away_shows, still_goes}
 use Rattle.cf_world.proofs.Served.{rests}
 use Rattle.cf_world.proofs.Rooms.{has_room, is_seated, no_room, nowhere}

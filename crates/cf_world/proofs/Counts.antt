@@ -3,7 +3,10 @@ use Rattle.std.proofs.Common.{◌≡◌, ◌↔◌, ℕ, suc, ◌+◌, ◌<◌, 
 use Rattle.std.specs.Prelude.{sum_by}
 use Rattle.std.specs.Str.{bytes_eq}
 use Rattle.std.specs.Cmp.Lexicographic.{bytes_decides}
+use Rattle.std.proofs.Math.Bool.{or-true}
+use Rattle.std.proofs.lemmas.Bool.{eq-eqb}
 use Rattle.std.proofs.lemmas.Bool.Decides.{nat_tests}
+use Rattle.std.proofs.lemmas.Option.{same_Some}
 use Rattle.std.proofs.lemmas.List.Sums.{sum_by-cons}
 use Rattle.cf_protocol.specs.Names.{is_among}
 use Rattle.cf_followers.specs.Follows.{AreFollows, channels_of, follows}
@@ -16,6 +19,7 @@ use Rattle.cf_machine.specs.ClientLink.{ClientLink}
 use Rattle.cf_machine.specs.FreshEpochs.{AreDistinct}
 use Rattle.cf_machine.specs.Session.{Sub}
 use Rattle.cf_machine.specs.World.{any_unfinished, on_node, rows, rows_of, sessions_of}
+use Rattle.cf_machine.proofs.Names.{itself}
 
 -- where the clients of node n sit
 pub record Seats (n : ℕ) (h : Node) (links : List ℕ → ClientLink) (clients : List (List ℕ)) (seat : List ℕ → Option ℕ) : Type 0 where
@@ -31,12 +35,6 @@ pub record Seats (n : ℕ) (h : Node) (links : List ℕ → ClientLink) (clients
   pub follows : AreFollows h.rows
   pub bounded : IsBounded (attached_at h)
 
-number_own : (k : ℕ) → (k == k) ≡ true
-number_own k = grind (arith, nat_tests)
-
-name_own : (x : List ℕ) → bytes_eq x x ≡ true
-name_own x = (bytes_decides x x).1 refl
-
 module _ (seat : List ℕ → Option ℕ) where
   abbrev add : Option ℕ → List ℕ → List ℕ
   add None ks = ks
@@ -47,9 +45,6 @@ module _ (seat : List ℕ → Option ℕ) where
   numbers [] = []
   numbers (x ∷ xs) = add (seat x) (numbers xs)
 
-  some_is : (j k : ℕ) → ◌≡◌ {A = Option ℕ} (Some j) (Some k) → j ≡ k
-  some_is j k h = cc
-
   in_numbers : (xs : List (List ℕ)) (x : List ℕ) (k : ℕ) → is_among x xs ≡ true → seat x ≡ Some k → is_in k (numbers xs) ≡ true
   in_numbers [] x k h e = absurd (cc)
   in_numbers (y ∷ xs) x k h e = by_value (bytes_eq y x) ((bytes_decides y x).0) h (seat y) refl (in_numbers xs x k)
@@ -57,31 +52,23 @@ module _ (seat : List ℕ → Option ℕ) where
       by_value : (t : Bool) → (t ≡ true → y ≡ x) → (t || is_among x xs) ≡ true → (o : Option ℕ) → seat y ≡ o → (is_among x xs ≡ true → seat x ≡ Some k → is_in k (numbers xs) ≡ true) → is_in k (add o (numbers xs)) ≡ true
       by_value true is g None f more = absurd (let no : ◌≡◌ {A = Option ℕ} None (Some k) = sym f ∙ ap seat (is refl) ∙ e in cc)
       by_value true is g (Some j) f more =
-          let same : j ≡ k = some_is j k (sym f ∙ ap seat (is refl) ∙ e) in
-          ap (λ (b : Bool). b || is_in k (numbers xs)) (ap (λ (i : ℕ). i == k) same ∙ number_own k)
+          let same : j ≡ k = same_Some j k (sym f ∙ ap seat (is refl) ∙ e) in
+          ap (λ (b : Bool). b || is_in k (numbers xs)) (ap (λ (i : ℕ). i == k) same ∙ eq-eqb k k refl)
       by_value false is g None f more = more g e
-      by_value false is g (Some j) f more = ap (λ (b : Bool). (j == k) || b) (more g e) ∙ or_true (j == k)
-        where
-          or_true : (a : Bool) → (a || true) ≡ true
-          or_true true = refl
-          or_true false = refl
+      by_value false is g (Some j) f more = ap (λ (b : Bool). (j == k) || b) (more g e) ∙ or-true (j == k)
 
   of_numbers : (xs : List (List ℕ)) (k : ℕ) → is_in k (numbers xs) ≡ true → (x : List ℕ) × (is_among x xs ≡ true) × (seat x ≡ Some k)
   of_numbers [] k h = absurd (cc)
   of_numbers (y ∷ xs) k h = by_value (seat y) refl h (of_numbers xs k)
     where
       later : (x : List ℕ) × (is_among x xs ≡ true) × (seat x ≡ Some k) → (x : List ℕ) × (is_among x (y ∷ xs) ≡ true) × (seat x ≡ Some k)
-      later r = (r.0, ap (λ (b : Bool). bytes_eq y r.0 || b) r.1 ∙ or_true (bytes_eq y r.0), r.2)
-        where
-          or_true : (a : Bool) → (a || true) ≡ true
-          or_true true = refl
-          or_true false = refl
+      later r = (r.0, ap (λ (b : Bool). bytes_eq y r.0 || b) r.1 ∙ or-true (bytes_eq y r.0), r.2)
 
       pick : (j : ℕ) (t : Bool) → (j == k) ≡ t → seat y ≡ Some j → (t || is_in k (numbers xs)) ≡ true
           → (is_in k (numbers xs) ≡ true → (x : List ℕ) × (is_among x xs ≡ true) × (seat x ≡ Some k)) → (x : List ℕ) × (is_among x (y ∷ xs) ≡ true) × (seat x ≡ Some k)
       pick j true e f g more =
           let same : j ≡ k = grind (arith, nat_tests, e) in
-          (y, ap (λ (b : Bool). b || is_among y xs) (name_own y), f ∙ ap Some same)
+          (y, ap (λ (b : Bool). b || is_among y xs) (itself y), f ∙ ap Some same)
       pick j false e f g more = later (more g)
 
       by_value : (o : Option ℕ) → seat y ≡ o → is_in k (add o (numbers xs)) ≡ true

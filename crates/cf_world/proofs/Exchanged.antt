@@ -17,7 +17,7 @@ use Rattle.cf_machine.specs.Refusals.{Judgement, Unheard, TooLong, Refused, Acce
 use Rattle.cf_machine.specs.Session.{Session, Sub}
 use Rattle.cf_machine.specs.Weights.{wording}
 use Rattle.cf_machine.specs.World.{World, any_unfinished, is_ready}
-use Rattle.cf_world.proofs.Names.{with-same}
+use Rattle.cf_machine.proofs.Names.{with-same}
 
 -- the link of a client that sent command k, once its node heard it and judged it so
 abbrev pub met : Lists → Broker → SentCommand → Judgement → ClientLink → ClientLink
@@ -35,7 +35,7 @@ twice f x a b = λ i y. (by_value y (bytes_eq y x)) i
     by_value y false = refl
 
 -- AN EXCHANGE: the broker is that of the judgement, the link is met, and all else stays.
-pub exchange_is : (cfg : Config) (x : List ℕ) (e : ClientRequest) (w : World)
+exchange_is : (cfg : Config) (x : List ℕ) (e : ClientRequest) (w : World)
     → exchange cfg x e w ≡ record w {
       broker = broker_by cfg (w.links x) e (judgement cfg x e w) w.broker;
       links = with w.links x (met w.broker.lists (broker_by cfg (w.links x) e (judgement cfg x e w) w.broker) (command_by x e w) (judgement cfg x e w) (w.links x));
@@ -51,6 +51,16 @@ exchange_is cfg x e w =
     ∙ ap (λ (g : List ℕ → ClientLink). answered x k j (world (broker_by cfg l e j w.broker) g)) (twice f x l (heard l))
     ∙ ap (λ (v : ClientLink). world (broker_by cfg l e j w.broker) (with (with f x (heard l)) x (answer_by (wording (broker_by cfg l e j w.broker).lists) (broker_by cfg l e j w.broker) k j v))) (with-same f x (heard l))
     ∙ ap (λ (g : List ℕ → ClientLink). world (broker_by cfg l e j w.broker) g) (twice f x (heard l) (answer_by (wording (broker_by cfg l e j w.broker).lists) (broker_by cfg l e j w.broker) k j (heard l)))
+
+-- the same by a judgement that is known
+pub exchange_as : (cfg : Config) (x : List ℕ) (e : ClientRequest) (w : World) (j : Judgement) → judgement cfg x e w ≡ j
+    → exchange cfg x e w ≡ record w {
+      broker = broker_by cfg (w.links x) e j w.broker;
+      links = with w.links x (met w.broker.lists (broker_by cfg (w.links x) e j w.broker) (command_by x e w) j (w.links x));
+    }
+exchange_as cfg x e w j is =
+    exchange_is cfg x e w
+    ∙ ap (λ (v : Judgement). record w { broker = broker_by cfg (w.links x) e v w.broker; links = with w.links x (met w.broker.lists (broker_by cfg (w.links x) e v w.broker) (command_by x e w) v (w.links x)) }) is
 
 -- ---- what the link is met with, by the request and the judgement
 

@@ -1,5 +1,6 @@
 -- A command that passed its checks is carried out: the event has happened.
-use Rattle.std.proofs.Common.{◌≡◌, ◌∙◌, ℕ, ℤ, not, Bool, true, false, Option, Some, None, IsSome, List, refl, sym, ap, subst}
+use Rattle.std.proofs.Common.{◌≡◌, ◌∙◌, ℕ, ℤ, false, Option, IsSome, List, refl, sym, ap, subst}
+use Rattle.std.proofs.lemmas.Bool.{not-false}
 use Rattle.cf_protocol.specs.Note.{Lists as PublicationLists}
 use Rattle.cf_protocol.specs.Position.{Position}
 use Rattle.cf_protocol.specs.Regular.{IsBody, IsInfo}
@@ -18,7 +19,7 @@ use Rattle.cf_machine.specs.World.{World}
 use Rattle.cf_world.specs.BrokerTie.{ShowsBroker}
 use Rattle.cf_world.specs.ClientTie.{Becomes, request_by, sent_state}
 use Rattle.cf_world.specs.Errands.{event_by}
-use Rattle.cf_world.specs.Exchange.{AreSame, IsGranted, Lists, Puts, asks_too_much}
+use Rattle.cf_world.specs.Exchange.{IsGranted, Lists, Puts, asks_too_much}
 use Rattle.cf_world.specs.HubCalls.{Asks, AtHub, Hubs, LeftTold, who_in}
 use Rattle.cf_world.specs.NodesTie.{seated}
 use Rattle.cf_world.specs.Sending.{IsSent}
@@ -31,10 +32,6 @@ use Rattle.cf_world.proofs.Going.{Stays}
 use Rattle.cf_world.proofs.Granting.{ask_granted, info_regular, leave_granted, list_granted, put_granted}
 use Rattle.cf_world.proofs.Passing.{list-set-up}
 use Rattle.cf_world.proofs.Reading.{Missing}
-
-is_open : (b : Bool) → not b ≡ false → b ≡ true
-is_open true h = refl
-is_open false h = absurd (cc)
 
 module _ {cfg : Config} {table : NamespaceTable} {b : Code} {hubs : ℕ → Option Node} {peers : List ℕ → Option Peer} {m : World}
     (t : AreTied cfg table b hubs peers m) (x : List ℕ) (e : Errand) (mid : ℕ → Option Node) (peers' : List ℕ → Option Peer)
@@ -97,7 +94,7 @@ module _ {cfg : Config} {table : NamespaceTable} {b : Code} {hubs : ℕ → Opti
       let info : IsInfo (who_in (seated hubs g.seat)) = info_regular t x g.seat p sent.found sent.sits c body peers' (becomes q is) stays calls moves (granted q is) in
       let here : IsInfo (who_in (seated mid g.seat)) = subst (λ (f : Hubs). IsInfo (who_in (seated f g.seat))) (λ i j. sym (sent.same j) i) info in
       happened q is new hubs'
-      (put_granted t x g.seat p sent.found sent.sits c body peers' (becomes q is) stays calls moves (granted q is) n refl (is_open (can_open c m.broker) (opens q is)) new hubs'
+      (put_granted t x g.seat p sent.found sent.sits c body peers' (becomes q is) stays calls moves (granted q is) n refl (not-false (can_open c m.broker) (opens q is)) new hubs'
       (as_before (λ (f : Hubs). Puts cfg.namespaces m.broker g.seat c body n new f hubs') (did n c body (command q is) cfg.namespaces m.broker fresh is_body here t.broker)))
 
   pub list_done : (c : List ℕ) (limit : ℤ) → asked ≡ History c limit → AreFresh m.broker → Missing → (new : Code) (hubs' : ℕ → Option Node)
@@ -108,5 +105,5 @@ module _ {cfg : Config} {table : NamespaceTable} {b : Code} {hubs : ℕ → Opti
       let q : ClientRequest = History c limit in
       let n : ℕ = (m.links x).client.fresh in
       happened q is new hubs'
-      (list_granted t x g.seat p sent.found sent.sits c limit peers' (becomes q is) stays missing calls moves (granted q is) n refl (is_open (can_open c m.broker) (opens q is)) new hubs'
+      (list_granted t x g.seat p sent.found sent.sits c limit peers' (becomes q is) stays missing calls moves (granted q is) n refl (not-false (can_open c m.broker) (opens q is)) new hubs'
       (as_before (λ (f : Hubs). Lists cfg.namespaces m.broker g.seat c limit n new f hubs') (did n c limit (command q is) cfg.namespaces m.broker fresh (list-set-up cfg.namespaces c limit (granted q is).checked) t.broker)))

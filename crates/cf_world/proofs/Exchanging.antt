@@ -23,7 +23,7 @@ use Rattle.cf_world.specs.declared.peers.Seat.{Seat}
 use Rattle.cf_world.proofs.Breaking.{seats-with}
 use Rattle.cf_world.proofs.Exchanged.{after}
 use Rattle.cf_world.proofs.Going.{Stays}
-use Rattle.cf_world.proofs.Names.{with-both, text_tells}
+use Rattle.cf_machine.proofs.Names.{with-both, text_tells}
 use Rattle.cf_world.proofs.NodesTie.{LinkGoes, lists_grow, session_goes}
 use Rattle.cf_world.proofs.Sitting.{client_here, seat_here}
 

@@ -16,7 +16,7 @@ use Rattle.cf_world.specs.Tie.{AreTied}
 use Rattle.cf_world.specs.declared.broker.Broker.{Broker as Code}
 use Rattle.cf_world.specs.declared.peers.Peer.{Peer}
 use Rattle.cf_world.proofs.BoardLists.{grown-list_with, grown-refl, grown-trans}
-use Rattle.cf_world.proofs.Names.{by_test}
+use Rattle.cf_machine.proofs.Names.{by_test}
 use Rattle.cf_world.proofs.NodesTie.{lists_grow}
 
 -- what is said stays when lists grow

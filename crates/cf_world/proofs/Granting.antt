@@ -1,6 +1,8 @@
 -- A command that passed its checks is carried out, and the world goes on with the machine.
 use Rattle.std.proofs.Common.{◌≡◌, ◌≤◌, ◌+◌, inl, inr, ℕ, ℤ, not, Bool, true, false, if◌then◌else◌, is_some, Option, Some, None, option_map, List, [], length, arith, refl, sym, ap, ◌∙◌, subst}
+use Rattle.std.proofs.lemmas.Bool.{both_ways}
 use Rattle.std.proofs.lemmas.Bool.Decides.{nat_tests}
+use Rattle.std.proofs.lemmas.Option.{none-some, same_Some}
 use Rattle.cf_protocol.specs.Checks.{Refusal, Already, Full, AtLastOffset, refusal_code}
 use Rattle.cf_protocol.specs.Codes.{code_of}
 use Rattle.cf_protocol.specs.Datum.{Datum, Who}
@@ -21,7 +23,7 @@ use Rattle.cf_hub.specs.Hub.{Node, attached_at, is_open}
 use Rattle.cf_hub.specs.InNotes.{IsSaid, SaysAt}
 use Rattle.cf_hub.specs.Rows.{sub_in}
 use Rattle.cf_hub.specs.Session.{Attached}
-use Rattle.cf_hub.specs.SessionState.{Off, Asked, Ready, On, begins, is_off, is_unfinished, leaves, push}
+use Rattle.cf_hub.specs.SessionState.{begins, is_off, is_unfinished, leaves, push}
 use Rattle.cf_hub.specs.Spoken.{spoken}
 use Rattle.cf_hub.specs.Wordings.{plain}
 use Rattle.cf_stream.specs.StreamAnswer.{Listing, listed_above}
@@ -33,8 +35,9 @@ use Rattle.cf_machine.specs.Config.{Config}
 use Rattle.cf_machine.specs.IntervalMachine.{broker_by, command_by, datum_by, exchange, judgement, size_of}
 use Rattle.cf_machine.specs.PublicationList.{Broker, can_open, opened, publish}
 use Rattle.cf_machine.specs.Refusals.{Accepted, Judgement, Refused, TooLong, Unheard, has_no_room, refusal_of, refused_with, subscribe_refusal}
-use Rattle.cf_machine.specs.Session.{Session, Sub}
+use Rattle.cf_machine.specs.Session.{Session}
 use Rattle.cf_machine.specs.World.{World}
+use Rattle.cf_machine.proofs.Brokering.{lists-opened}
 use Rattle.cf_world.specs.BrokerTie.{Histories, IsStanding, Publishes, ShowsBroker}
 use Rattle.cf_world.specs.ClientTie.{Becomes, IsOwn, ShowsPeer, sent_state}
 use Rattle.cf_world.specs.Exchange.{IsGranted, Lists, Puts, PutAnswered, ListAnswered}
@@ -49,14 +52,13 @@ use Rattle.cf_world.specs.declared.peers.Seat.{Seat}
 use Rattle.cf_world.proofs.Answering.{answer_goes, begin_goes}
 use Rattle.cf_world.proofs.BoardLists.{grown-refl}
 use Rattle.cf_world.proofs.Ends.{Keeps, leaves_keeps, push_keeps}
-use Rattle.cf_world.proofs.Exchanged.{after, exchange_is, met, met_ask, met_history, met_refused}
+use Rattle.cf_world.proofs.Exchanged.{after, exchange_as, met, met_ask, met_history, met_refused}
 use Rattle.cf_world.proofs.Exchanging.{exchange_goes, sat}
 use Rattle.cf_world.proofs.Going.{Stays, grown-opened, grown-publish}
-use Rattle.cf_world.proofs.Looking.{off_at, open_at}
+use Rattle.cf_world.proofs.Looking.{off_at, off_is, open_at}
 use Rattle.cf_world.proofs.NodesTie.{link_goes, met_name, one_name, seat_shows}
 use Rattle.cf_world.proofs.Owned.{push-own}
 use Rattle.cf_world.proofs.Passing.{publish-set-up}
-use Rattle.cf_world.proofs.ReadGoes.{lists-opened}
 use Rattle.cf_world.proofs.Reading.{Missing, regular-placed}
 use Rattle.cf_world.proofs.Rooms.{row_full, row_room}
 use Rattle.cf_world.proofs.Saying.{says_fails, says_left, says_listed, says_put}
@@ -65,29 +67,14 @@ use Rattle.cf_world.proofs.Sitting.{client_here, hub_there}
 
 -- ---- words
 
-some_is : {X : Type 0} (x y : X) → Some x ≡ Some y → x ≡ y
-some_is x y h = cc
-
-none_of : {X Y : Type 0} (x : X) → None ≡ Some x → Y
-none_of x h = absurd (cc)
-
-no : (b : Bool) {X : Type 0} → b ≡ true → b ≡ false → X
-no b h k = absurd (let e : true ≡ false = sym h ∙ k in cc)
-
-off_is : (u : Sub) → is_off u ≡ true → u ≡ Off
-off_is Off h = refl
-off_is (Asked id since a) h = absurd (cc)
-off_is (Ready id was r a) h = absurd (cc)
-off_is (On p mark) h = absurd (cc)
-
 -- what is so of a node is so of it by its number
 pub at_hub : {n : ℕ} {P : Node → Node → Type 0} {old new : Hubs} {h : Node} → old n ≡ Some h → OneHub n P old new h → AtHub n P old new
-at_hub {n = n} {P = P} {old = old} {new = new} {h = h} was one = λ g e. subst (λ (z : Node). OneHub n P old new z) (some_is h g (sym was ∙ e)) one
+at_hub {n = n} {P = P} {old = old} {new = new} {h = h} was one = λ g e. subst (λ (z : Node). OneHub n P old new z) (same_Some h g (sym was ∙ e)) one
 
 -- the session's client names itself
 who_is : (o : Option Attached) (name : List ℕ) → name_of o ≡ Some name → who_in o ≡ Some (record { user = []; client = name })
-who_is None name h = none_of name h
-who_is (Some a) name h = ap (λ (n : List ℕ). Some (record { user = []; client = n })) (some_is a.badge.client name h)
+who_is None name h = absurd (none-some name h)
+who_is (Some a) name h = ap (λ (n : List ℕ). Some (record { user = []; client = n })) (same_Some a.badge.client name h)
 
 abbrev judged_so : Bool → Bool → Option ErrorCode → Option Refusal → Judgement
 judged_so closed long first r =
@@ -139,9 +126,7 @@ module _ {cfg : Config} {table : NamespaceTable} {b : Code} {hubs : ℕ → Opti
         → AreTied cfg table new hubs' peers' (record m { broker = broker_by cfg l e j m.broker; links = with m.links x (met m.broker.lists (broker_by cfg l e j m.broker) k j l) })
         → AreTied cfg table new hubs' peers' (exchange cfg x e m)
     ends j is tied =
-        subst (λ (w : World). AreTied cfg table new hubs' peers' w) (sym (exchange_is cfg x e m))
-        (subst (λ (i : Judgement). AreTied cfg table new hubs' peers' (record m { broker = broker_by cfg l e i m.broker; links = with m.links x (met m.broker.lists (broker_by cfg l e i m.broker) k i l) }))
-        (sym is) tied)
+        subst (λ (w : World). AreTied cfg table new hubs' peers' w) (sym (exchange_as cfg x e m j is)) tied
 
   -- the link, by what it is met with
   meets : (new : Code) (hubs' : ℕ → Option Node) (broker : Broker) (l1 l2 : ClientLink) → l1 ≡ l2
@@ -295,8 +280,8 @@ module _ {cfg : Config} {table : NamespaceTable} {b : Code} {hubs : ℕ → Opti
   by_result new hubs' can outcome.AtLastOffset y at =
       errs t x s p found sits puts peers' becomes stays calls moves g new hubs' y.2 AtLastOffset (ap (λ (full : Bool). if full then Some AtLastOffset else None) y.1) at (omega arith, omega arith)
       (met_refused m.broker.lists m.broker (m.links x).client.fresh (m.links x) puts (code_of error.LimitExceeded) (g.quiet c))
-  by_result new hubs' can outcome.NoEpoch y at = no (can_open c m.broker) can y.0
-  by_result new hubs' can outcome.NotSetUp y at = no (is_some (settings_of cfg.namespaces c)) (publish-set-up cfg.namespaces c body g.checked) (ap is_some y.0)
+  by_result new hubs' can outcome.NoEpoch y at = absurd (both_ways (can_open c m.broker) y.0 can)
+  by_result new hubs' can outcome.NotSetUp y at = absurd (both_ways (is_some (settings_of cfg.namespaces c)) (ap is_some y.0) (publish-set-up cfg.namespaces c body g.checked))
 
   -- A CLIENT PUBLISHES
   pub put_granted : (id : ℕ) → id ≡ (m.links x).client.fresh → can_open c m.broker ≡ true → (new : Code) (hubs' : ℕ → Option Node) → Puts cfg.namespaces m.broker s c body id new hubs hubs' → AreTied cfg table new hubs' peers' (exchange cfg x puts m)
@@ -342,7 +327,7 @@ module _ {cfg : Config} {table : NamespaceTable} {b : Code} {hubs : ℕ → Opti
       (subst (λ (i : ℕ). IsOwn (sent_state lists_it (state_of p.client)) (Listed c i list.at list.low list.count)) (same_id t x s p found sits lists_it peers' becomes stays calls moves g)
       (own_listed (state_of p.client) lists_it list.at list.low list.count (old_of p.client g.apart)))
       hubs' at))
-  by_found new hubs' can None f at = no (can_open c m.broker) can f.none
+  by_found new hubs' can None f at = absurd (both_ways (can_open c m.broker) f.none can)
 
   -- A CLIENT LISTS A CHANNEL'S HISTORY
   pub list_granted : (id : ℕ) → id ≡ (m.links x).client.fresh → can_open c m.broker ≡ true → (new : Code) (hubs' : ℕ → Option Node) → Lists cfg.namespaces m.broker s c limit id new hubs hubs' → AreTied cfg table new hubs' peers' (exchange cfg x lists_it m)

@@ -1,12 +1,12 @@
 -- A client sends a command, and its node hears it and does what speaks against it: the world goes on with the machine.
-use Rattle.std.proofs.Common.{◌≡◌, ◌≢◌, ◌∙◌, ℕ, nat_lt, Bool, true, false, not, if◌then◌else◌, Option, Some, None, List, [], ◌∷◌, ◌++◌, inl, inr, refl, sym, ap, subst}
+use Rattle.std.proofs.Common.{◌≡◌, ◌∙◌, ℕ, nat_lt, Bool, true, false, if◌then◌else◌, Option, Some, None, List, [], ◌∷◌, inl, inr, refl, sym, ap, subst}
 use Rattle.std.specs.List.{All}
+use Rattle.std.proofs.lemmas.Bool.{true_from_ne_false}
 use Rattle.std.proofs.lemmas.List.Elements.{All-append}
 use Rattle.cf_protocol.specs.Checks.{checks, first_failed, is_bad_channel, longest_text}
 use Rattle.cf_protocol.specs.Codes.{code_of}
 use Rattle.cf_protocol.specs.Names.{with}
 use Rattle.cf_protocol.specs.Note.{Note, Close, Fails}
-use Rattle.cf_protocol.specs.Request as request
 use Rattle.cf_protocol.specs.Settings.{NamespaceTable}
 use Rattle.cf_protocol.specs.declared.codes.ErrorCode.{ErrorCode}
 use Rattle.cf_protocol.specs.declared.codes.ErrorCode.TheVariants as error
@@ -15,15 +15,15 @@ use Rattle.cf_client.specs.ClientView.{state_of}
 use Rattle.cf_hub.specs.AlikeMoves.{CallsAreAlike, MovesAreAlike}
 use Rattle.cf_hub.specs.Hub.{Node}
 use Rattle.cf_hub.specs.InNotes.{IsSaid}
-use Rattle.cf_hub.specs.SessionState.{Off, Asked, Ready, On, closes, closes_now, is_off, is_unfinished, leaves, push}
+use Rattle.cf_hub.specs.SessionState.{Off, closes, closes_now, is_off, is_unfinished, leaves, push}
 use Rattle.cf_hub.specs.Spoken.{spoken}
 use Rattle.cf_machine.specs.ClientLink.{ClientLink}
 use Rattle.cf_machine.specs.ClientRequest.{ClientRequest, SentCommand, Subscribe, Unsubscribe, Publish, History, channel_of, command_of, request_of}
 use Rattle.cf_machine.specs.Config.{Config}
-use Rattle.cf_machine.specs.IntervalMachine.{broker_by, command_by, exchange, judgement}
+use Rattle.cf_machine.specs.IntervalMachine.{command_by, exchange}
 use Rattle.cf_machine.specs.PublicationList.{Broker}
-use Rattle.cf_machine.specs.Refusals.{Judgement, Unheard, TooLong, Refused, bad_message}
-use Rattle.cf_machine.specs.Session.{Session, Sub}
+use Rattle.cf_machine.specs.Refusals.{Unheard, TooLong, Refused, bad_message}
+use Rattle.cf_machine.specs.Session.{Session}
 use Rattle.cf_machine.specs.Weights.{command_length}
 use Rattle.cf_machine.specs.World.{World}
 use Rattle.cf_world.specs.ClientTie.{Becomes, IsOwn, sent_state}
@@ -37,22 +37,17 @@ use Rattle.cf_world.specs.declared.peers.Seat.{Seat}
 use Rattle.cf_world.proofs.Answering.{answer_goes, close_goes, goes_by, judged_by_checks, judged_too_long, judged_unheard}
 use Rattle.cf_world.proofs.BoardLists.{grown-refl}
 use Rattle.cf_world.proofs.Ends.{stays_keeps}
-use Rattle.cf_world.proofs.Exchanged.{after, exchange_is, met, met_refused, met_too_long, met_unheard, passed_over}
+use Rattle.cf_world.proofs.Exchanged.{after, exchange_as, met, met_refused, met_too_long, met_unheard, passed_over}
 use Rattle.cf_world.proofs.Exchanging.{exchange_goes, sat}
 use Rattle.cf_world.proofs.Going.{Stays}
+use Rattle.cf_world.proofs.Looking.{off_is}
 use Rattle.cf_world.proofs.Named.{all-one}
-use Rattle.cf_world.proofs.Names.{text_tells}
+use Rattle.cf_machine.proofs.Names.{text_tells}
 use Rattle.cf_world.proofs.NodesTie.{seat_shows}
 use Rattle.cf_world.proofs.SentOwn.{own_sent}
 use Rattle.cf_world.proofs.Sitting.{client_here, hub_there}
 
 -- ---- a session that is left, and had no such channel
-
-off_is : (v : Sub) → is_off v ≡ true → v ≡ Off
-off_is Off h = refl
-off_is (Asked id since b) h = absurd (cc)
-off_is (Ready id was r b) h = absurd (cc)
-off_is (On p mark) h = absurd (cc)
 
 left_same : (c : List ℕ) (d : Session) → is_off (d.subs c) ≡ true → leaves c d ≡ d
 left_same c d h = λ i. record d { subs = λ y. by_name y i }
@@ -95,10 +90,6 @@ bad_name : (bad : Bool) (e : ErrorCode) → (if bad then Some error.BadRequest e
 bad_name true e h = refl
 bad_name false e h = absurd (cc)
 
-off_or_not : (t : Bool) → (t ≡ false → ⊥) → t ≡ true
-off_or_not true h = refl
-off_or_not false h = absurd (h refl)
-
 module _ {cfg : Config} {table : NamespaceTable} {b : Code} {hubs : ℕ → Option Node} {peers : List ℕ → Option Peer} {m : World}
     (t : AreTied cfg table b hubs peers m) (x : List ℕ) (s : Seat) (p : Peer) (found : peers x ≡ Some p) (sits : p.seat ≡ Some s)
     (e : ClientRequest) (peers' : List ℕ → Option Peer) (becomes : Becomes x p (sent_state e (state_of p.client)) peers peers')
@@ -116,13 +107,6 @@ module _ {cfg : Config} {table : NamespaceTable} {b : Code} {hubs : ℕ → Opti
   -- the world after it, with this broker and this session
   abbrev turned : Broker → Session → World
   turned broker d = record m { broker = broker; links = with m.links x (after k d (m.links x).channels (m.links x)) }
-
-  -- an exchange by its judgement
-  exchange_as : (j : Judgement) → judgement cfg x e m ≡ j
-      → exchange cfg x e m ≡ record m { broker = broker_by cfg (m.links x) e j m.broker; links = with m.links x (met m.broker.lists (broker_by cfg (m.links x) e j m.broker) k j (m.links x)) }
-  exchange_as j is =
-      exchange_is cfg x e m
-      ∙ ap (λ (v : Judgement). record m { broker = broker_by cfg (m.links x) e v m.broker; links = with m.links x (met m.broker.lists (broker_by cfg (m.links x) e v m.broker) k v (m.links x)) }) is
 
   with_link : (l l' : ClientLink) → l ≡ l' → ◌≡◌ {A = World} (record m { links = with m.links x l }) (record m { links = with m.links x l' })
   with_link l l' is = ap (λ (v : ClientLink). record m { links = with m.links x v }) is
@@ -151,7 +135,7 @@ module _ {cfg : Config} {table : NamespaceTable} {b : Code} {hubs : ℕ → Opti
       let is = met_unheard m.broker.lists m.broker k.id l e (quiet (channel_of e))
       ∙ ap (λ (d : Session). after k d l.channels l) (passed_same e l.session (shut_off e closed)) in
       subst (λ (w : World). AreTied cfg table b hubs' peers' w)
-      (sym (exchange_as Unheard (judged_unheard cfg m l k closed) ∙ with_link (met m.broker.lists m.broker k Unheard l) (after k l.session l.channels l) is))
+      (sym (exchange_as cfg x e m Unheard (judged_unheard cfg m l k closed) ∙ with_link (met m.broker.lists m.broker k Unheard l) (after k l.session l.channels l) is))
       (rests hubs' same)
 
   module _ (opened : (m.links x).session.closed ≡ false) where
@@ -162,14 +146,14 @@ module _ {cfg : Config} {table : NamespaceTable} {b : Code} {hubs : ℕ → Opti
         let is = met_too_long m.broker.lists m.broker k.id l e (quiet (channel_of e))
         ∙ ap (λ (d : Session). after k d l.channels l) (closes_same (Close bad_message) e l.session opened) in
         subst (λ (w : World). AreTied cfg table b hubs' peers' w)
-        (sym (exchange_as TooLong (judged_too_long cfg m l k opened long) ∙ with_link (met m.broker.lists m.broker k TooLong l) (after k (closes_now (Close bad_message) l.session) l.channels l) is))
+        (sym (exchange_as cfg x e m TooLong (judged_too_long cfg m l k opened long) ∙ with_link (met m.broker.lists m.broker k TooLong l) (after k (closes_now (Close bad_message) l.session) l.channels l) is))
         (close_goes t x s p found sits k peers' becomes stays b m.broker (grown-refl m.broker.lists) t.broker calls moves bad_message
         (closes_own (sent_state e (state_of p.client)) (Close bad_message) l.session tt own) hubs' at)
 
     -- A CHECK FAILED
     no_channel : (e : ClientRequest) (code : ErrorCode) → first_failed (checks cfg.namespaces (request_of e)) ≡ Some code → HasNoChannel e (m.links x).session
     no_channel (Subscribe c from) code h = tt
-    no_channel (Unsubscribe c) code h = off_or_not (is_off ((m.links x).session.subs c)) (λ on. let served = seat.served c on in let bad = bad_name (is_bad_channel c) code h in not_both (is_bad_channel c) _ bad served)
+    no_channel (Unsubscribe c) code h = true_from_ne_false (is_off ((m.links x).session.subs c)) (λ on. let served = seat.served c on in let bad = bad_name (is_bad_channel c) code h in not_both (is_bad_channel c) _ bad served)
       where
         not_both : (bad : Bool) (rest : Option ErrorCode) → bad ≡ true → (if bad then Some error.BadRequest else rest) ≡ None → ⊥
         not_both true rest h k = absurd (cc)
@@ -186,5 +170,5 @@ module _ {cfg : Config} {table : NamespaceTable} {b : Code} {hubs : ℕ → Opti
         let is = met_refused m.broker.lists m.broker k.id l e (code_of code) (quiet (channel_of e))
         ∙ ap (λ (d : Session). after k (push (spoken m.broker.lists) n d) l.channels l) (passed_same e l.session (no_channel e code failed)) in
         subst (λ (w : World). AreTied cfg table b hubs' peers' w)
-        (sym (exchange_as (Refused (code_of code)) (judged_by_checks cfg m l k code opened fits failed) ∙ with_link (met m.broker.lists m.broker k (Refused (code_of code)) l) (after k (push (spoken m.broker.lists) n l.session) l.channels l) is))
+        (sym (exchange_as cfg x e m (Refused (code_of code)) (judged_by_checks cfg m l k code opened fits failed) ∙ with_link (met m.broker.lists m.broker k (Refused (code_of code)) l) (after k (push (spoken m.broker.lists) n l.session) l.channels l) is))
         (answer_goes t x s p found sits k peers' becomes stays b m.broker (grown-refl m.broker.lists) t.broker calls moves text n said mine hubs' at)

@@ -1,4 +1,3 @@
-pub mod Names
 pub mod Boards
 pub mod BoardLists
 pub mod BoardCalls

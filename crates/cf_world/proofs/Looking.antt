@@ -1,6 +1,7 @@
 -- What is asked of a session that says another one is answered as of that one.
-use Rattle.std.proofs.Common.{◌≡◌, ℕ, not, Option, Some, None, List, [], ◌∷◌, refl, sym, ap, ◌∙◌, subst, slice_get, option_and_then}
+use Rattle.std.proofs.Common.{◌≡◌, ℕ, not, true, Option, Some, None, List, [], ◌∷◌, refl, sym, ap, ◌∙◌, subst, slice_get, option_and_then}
 use Rattle.std.specs.List.{AllZip}
+use Rattle.std.proofs.lemmas.Option.{same_Some}
 use Rattle.cf_protocol.specs.Note.{Lists, Note}
 use Rattle.cf_protocol.specs.Note as note
 use Rattle.cf_protocol.specs.Position.{Position}
@@ -15,6 +16,12 @@ use Rattle.cf_hub.specs.SessionState.{Subscription, Off, Asked, Ready, On, is_as
 use Rattle.cf_hub.specs.declared.asking.Asked.{Asked as Answer}
 use Rattle.cf_hub.specs.Wordings.{Held}
 use Rattle.cf_machine.specs.Session.{Session, Sub}
+
+pub off_is : (s : Sub) → is_off s ≡ true → s ≡ Off
+off_is Off h = refl
+off_is (Asked id since k) h = absurd (cc)
+off_is (Ready id was x k) h = absurd (cc)
+off_is (On p mark) h = absurd (cc)
 
 module _ (lists : Lists) (c : List ℕ) where
   off_same : (s : Subscription Held) (s' : Sub) → AlikeSub (IsKept lists c) s s' → is_off s ≡ is_off s'
@@ -155,13 +162,10 @@ module _ (lists : Lists) where
   no_front [] (n ∷ ns) h e = absurd h
   no_front (i ∷ is) ns h e = absurd (cc)
 
-  some_is : (i j : Item) → ◌≡◌ {A = Option Item} (Some i) (Some j) → i ≡ j
-  some_is i j h = cc
-
   front_says : (i : Item) (is : List Item) (ns : List Note) → AllZip (SaysNote lists) is ns → Some i ≡ slice_get is 0 → (n : Note) × (rest : List Note) × (ns ≡ n ∷ rest) × SaysNote lists i n
   front_says i [] ns h e = absurd (cc)
   front_says i (j ∷ is) [] h e = absurd h
-  front_says i (j ∷ is) (n ∷ ns) h e = (n, ns, refl, subst (λ (z : Item). SaysNote lists z n) (sym (some_is i j e)) h.0)
+  front_says i (j ∷ is) (n ∷ ns) h e = (n, ns, refl, subst (λ (z : Item). SaysNote lists z n) (sym (same_Some i j e)) h.0)
 
   pub none_waits : (o : Option Attached) (b : Session) → SaysAt lists o b → None ≡ front o → b.notes ≡ []
   none_waits None b h e = absurd h

@@ -1,7 +1,8 @@
 -- The clients by name, of which one changes.
-use Rattle.std.proofs.Common.{◌≡◌, ◌≢◌, ◌∙◌, ℕ, Bool, true, false, Option, Some, None, Ok, Err, List, [], ◌∷◌, refl, sym, ap, if◌then◌else◌}
+use Rattle.std.proofs.Common.{◌≡◌, ◌≢◌, ◌∙◌, ℕ, Bool, Option, Some, None, Ok, Err, List, [], ◌∷◌, refl, sym, ap, if◌then◌else◌}
 use Rattle.std.specs.List.{All}
 use Rattle.std.specs.Map.{update}
+use Rattle.std.proofs.lemmas.Bool.Decides.{Decides-like, same_from_decides}
 use Rattle.std.proofs.lemmas.List.Elements.{All-from_recursion}
 use Rattle.std.specs.Str.{bytes_eq}
 use Rattle.std.specs.Cmp.Lexicographic.{bytes_decides}
@@ -11,16 +12,8 @@ use Rattle.cf_client.specs.declared.fault.ClientFault.{ClientFault}
 use Rattle.cf_client.specs.declared.fault.ClientFault.TheVariants.{Memory}
 use Rattle.cf_world.specs.declared.peers.Peer.{Peer}
 
-pub some-peer : (p q : Peer) → Some p ≡ Some q → p ≡ q
-some-peer p q h = cc
-
 turned : (a b : List ℕ) → bytes_eq a b ≡ bytes_eq b a
-turned a b = by_value (bytes_eq a b) (bytes_eq b a) (bytes_decides a b) (bytes_decides b a)
-  where
-    by_value : (v w : Bool) → (v ≡ true → a ≡ b) × (a ≡ b → v ≡ true) → (w ≡ true → b ≡ a) × (b ≡ a → w ≡ true) → v ≡ w
-    by_value true w h k = sym (k.1 (sym (h.0 refl)))
-    by_value false true h k = let e = h.1 (sym (k.0 refl)) in absurd (cc)
-    by_value false false h k = refl
+turned a b = same_from_decides (bytes_eq a b) (bytes_eq b a) (bytes_decides a b) (Decides-like (bytes_eq b a) sym sym (bytes_decides b a))
 
 pub sets-peer : (old new : List ℕ → Option Peer) (x : List ℕ) (v : Option Peer) → ((y : List ℕ) → new y ≡ update bytes_eq old x v y) → (y : List ℕ) → new y ≡ with old x v y
 sets-peer old new x v h y = h y ∙ ap (λ (b : Bool). if b then v else old y) (turned x y)

@@ -1,8 +1,10 @@
 -- What a node and its clients' sessions do goes on beside the machine.
-use Rattle.std.proofs.Common.{◌≡◌, ◌≢◌, ◌⊎◌, inl, inr, ℕ, ◌+◌, ◌≤◌, ◌==◌, ◌||◌, nat_lt, Bool, true, false, if◌then◌else◌, is_some, Option, Some, None, option_map, List, [], ◌∷◌, ◌++◌, length, length-append, decimal, arith, refl, sym, ap, ◌∙◌, subst}
+use Rattle.std.proofs.Common.{◌≡◌, ◌≢◌, inl, inr, ℕ, ◌+◌, ◌≤◌, ◌==◌, ◌||◌, nat_lt, Bool, true, false, if◌then◌else◌, is_some, Option, Some, None, option_map, List, [], ◌∷◌, ◌++◌, length, length-append, decimal, arith, refl, sym, ap, ◌∙◌, subst}
 use Rattle.std.specs.Str.{bytes_eq}
-use Rattle.std.proofs.lemmas.Bool.{cases_lt}
-use Rattle.std.proofs.lemmas.Bool.Decides.{nat_tests}
+use Rattle.std.proofs.Math.Bool.{or-true}
+use Rattle.std.proofs.lemmas.Bool.{cases_lt, eq-eqb, ne_eqb}
+use Rattle.std.proofs.lemmas.Bool.Decides.{eqb_tells}
+use Rattle.std.proofs.lemmas.Option.{none-some, same_Some}
 use Rattle.cf_protocol.specs.Datum.{Placed}
 use Rattle.cf_protocol.specs.Names.{with, is_among, and_also}
 use Rattle.cf_protocol.specs.Note.{Lists}
@@ -26,25 +28,13 @@ use Rattle.cf_machine.specs.IntervalMachine.{client_id as machine_id, connects, 
 use Rattle.cf_machine.specs.PublicationList.{Broker}
 use Rattle.cf_machine.specs.Session.{Session, Sub, Words}
 use Rattle.cf_machine.specs.World.{World, broker_with, link_with, on_node, with_at}
+use Rattle.cf_world.specs.ClientTie.{leave_node}
 use Rattle.cf_world.specs.NodesTie.{IsAway, IsNode, IsSeated, IsShutOff, MayAsk, ShowsLink, ShowsNodes, name_of, seated, session_in}
 use Rattle.cf_world.specs.declared.peers.Seat.{Seat}
 use Rattle.cf_world.proofs.Counts.{Seats}
 use Rattle.cf_world.proofs.Ends.{Keeps, comes_keeps}
 use Rattle.cf_world.proofs.Looking.{attached, off_at}
-use Rattle.cf_world.proofs.Names.{itself, text_tells, with-all, with-both, with-other, with-same}
-
-num_tells : (j n : ℕ) → (((j == n) ≡ true) × (j ≡ n)) ⊎ (((j == n) ≡ false) × (j ≢ n))
-num_tells j n = by_value (j == n) refl
-  where
-    by_value : (t : Bool) → (j == n) ≡ t → ((t ≡ true) × (j ≡ n)) ⊎ ((t ≡ false) × (j ≢ n))
-    by_value true e = inl (refl, grind (arith, nat_tests, e))
-    by_value false e = inr (refl, λ f. let yes : (j == n) ≡ true = grind (arith, nat_tests, f) in cc)
-
-some_is : {X : Type 0} (x y : X) → Some x ≡ Some y → x ≡ y
-some_is x y h = cc
-
-not_none : {X Y : Type 0} (x : X) → None ≡ Some x → Y
-not_none x h = absurd (cc)
+use Rattle.cf_machine.proofs.Names.{itself, text_tells, with-all, with-both, with-other, with-same}
 
 -- a client id is no empty text
 id_there : (n boot counter : ℕ) → 1 ≤ length (machine_id n boot counter)
@@ -64,20 +54,11 @@ last_but u v w e f ne = elim (cases_lt u w) [
   | inr g ↦ absurd (ne (omega (arith, f, g)))
 ]
 
-same_number : (n : ℕ) → (n == n) ≡ true
-same_number n = grind (arith, nat_tests)
-
-not_equal : (j n : ℕ) → j ≢ n → (j == n) ≡ false
-not_equal j n ne = elim (num_tells j n) [
-  | inl e ↦ absurd (ne e.1)
-  | inr e ↦ e.0
-]
-
 with_at_here : (f : ℕ → ℕ) (n v : ℕ) → with_at f n v n ≡ v
-with_at_here f n v = ap (λ (b : Bool). if b then v else f n) (same_number n)
+with_at_here f n v = ap (λ (b : Bool). if b then v else f n) (eq-eqb n n refl)
 
 with_at_other : (f : ℕ → ℕ) (n v j : ℕ) → j ≢ n → with_at f n v j ≡ f j
-with_at_other f n v j ne = ap (λ (b : Bool). if b then v else f j) (not_equal j n ne)
+with_at_other f n v j ne = ap (λ (b : Bool). if b then v else f j) (ne_eqb j n ne)
 
 also_there : (x : List ℕ) (xs : List (List ℕ)) → is_among x (and_also x xs) ≡ true
 also_there x xs = by_value (is_among x xs) refl
@@ -89,13 +70,9 @@ also_there x xs = by_value (is_among x xs) refl
 also_more : (x : List ℕ) (xs : List (List ℕ)) (y : List ℕ) → is_among y xs ≡ true → is_among y (and_also x xs) ≡ true
 also_more x xs y h = by_value (is_among x xs)
   where
-    or_true : (a : Bool) → (a || true) ≡ true
-    or_true true = refl
-    or_true false = refl
-
     by_value : (b : Bool) → is_among y (if b then xs else x ∷ xs) ≡ true
     by_value true = h
-    by_value false = ap (λ (c : Bool). bytes_eq x y || c) h ∙ or_true (bytes_eq x y)
+    by_value false = ap (λ (c : Bool). bytes_eq x y || c) h ∙ or-true (bytes_eq x y)
 
 also_distinct : (x : List ℕ) (xs : List (List ℕ)) → AreDistinct xs → AreDistinct (and_also x xs)
 also_distinct x xs h = by_value (is_among x xs) refl
@@ -107,20 +84,16 @@ also_distinct x xs h = by_value (is_among x xs) refl
 nobody : (lists : Lists) (o : Option Attached) → o ≡ None → (b : Session) → SaysAt lists o b → ⊥
 nobody lists o e b h = subst (λ (v : Option Attached). SaysAt lists v b) e h
 
--- where a client of node n sits, by number; and where it sits when the node is left
+-- where a client of node n sits, by number
 abbrev pub number_at : ℕ → Option Seat → Option ℕ
 number_at n None = None
 number_at n (Some s) = if s.node == n then Some s.session else None
 
-abbrev pub leave_node : ℕ → Option Seat → Option Seat
-leave_node n None = None
-leave_node n (Some s) = if s.node == n then None else Some s
-
 number_is : (n : ℕ) (v : Option Seat) (k : ℕ) → number_at n v ≡ Some k → v ≡ Some (record { node = n; session = k })
-number_is n None k e = not_none k e
-number_is n (Some s) k e = elim (num_tells s.node n) [
-  | inl p ↦ ap Some (seats_are s (record { node = n; session = k }) p.1 (some_is s.session k (sym (ap (λ (b : Bool). if b then Some s.session else None) p.0) ∙ e)))
-  | inr p ↦ not_none k (sym (ap (λ (b : Bool). if b then Some s.session else None) p.0) ∙ e)
+number_is n None k e = absurd (none-some k e)
+number_is n (Some s) k e = elim (eqb_tells s.node n) [
+  | inl p ↦ ap Some (seats_are s (record { node = n; session = k }) p.1 (same_Some s.session k (sym (ap (λ (b : Bool). if b then Some s.session else None) p.0) ∙ e)))
+  | inr p ↦ absurd (none-some k (sym (ap (λ (b : Bool). if b then Some s.session else None) p.0) ∙ e))
 ]
 
 -- ---- calls of one hub leave names, and who is there
@@ -133,7 +106,7 @@ module _ {k : ℕ} {old new : Node} where
       same None = refl
       same (Some a) = refl
 
-both_name : (R : Texts → Texts → Type 0) (x y : Option Attached) → Both (InState R) x y → name_of y ≡ name_of x
+pub both_name : (R : Texts → Texts → Type 0) (x y : Option Attached) → Both (InState R) x y → name_of y ≡ name_of x
 both_name R None None h = refl
 both_name R None (Some b) h = absurd h
 both_name R (Some a) None h = absurd h
@@ -153,7 +126,7 @@ delivered_name {c = c} {e = e} {p = p} {old = old} {new = new} d k = both_name (
 
 -- the same names everywhere
 pub names_by : (k : ℕ) (old new : Node) → name_of (attached_at new k) ≡ name_of (attached_at old k) → OthersStay k old new → (j : ℕ) → name_of (attached_at new j) ≡ name_of (attached_at old j)
-names_by k old new h others j = elim (num_tells j k) [
+names_by k old new h others j = elim (eqb_tells j k) [
   | inl e ↦ subst (λ (i : ℕ). name_of (attached_at new i) ≡ name_of (attached_at old i)) (sym e.1) h
   | inr e ↦ ap name_of (others j e.1)
 ]
@@ -301,7 +274,7 @@ module _ {cfg : Config} {hubs : ℕ → Option Node} {seats : List ℕ → Optio
 
   module _ (n : ℕ) (h h' : Node) (was : hubs n ≡ Some h) (hubs' : ℕ → Option Node) (now : hubs' n ≡ Some h') (others : (j : ℕ) → j ≢ n → hubs' j ≡ hubs j) where
     hub_by : (P : ℕ → Option Node → Type 0) → P n (Some h') → ((j : ℕ) → j ≢ n → P j (hubs j)) → (j : ℕ) → P j (hubs' j)
-    hub_by P here there j = elim (num_tells j n) [
+    hub_by P here there j = elim (eqb_tells j n) [
       | inl e ↦ subst (λ (i : ℕ). P i (hubs' i)) (sym e.1) (subst (λ (o : Option Node). P n o) (sym now) here)
       | inr e ↦ subst (λ (o : Option Node). P j o) (sym (others j e.1)) (there j e.1)
     ]
@@ -312,7 +285,7 @@ module _ {cfg : Config} {hubs : ℕ → Option Node} {seats : List ℕ → Optio
     same_hubs : (m' : World) → IsNode n h' m' → ((j : ℕ) → j ≢ n → m'.boots j ≡ m.boots j) → ((j : ℕ) → j ≢ n → m'.counters j ≡ m.counters j) → (j : ℕ) (g : Node) → hubs' j ≡ Some g → IsNode j g m'
     same_hubs m' is boots counters j =
         hub_by (λ i o. (g : Node) → o ≡ Some g → IsNode i g m')
-        (λ g e. subst (λ (z : Node). IsNode n z m') (some_is h' g e) is)
+        (λ g e. subst (λ (z : Node). IsNode n z m') (same_Some h' g e) is)
         (λ i ne g e. let old = t.hub i g e in record { node = old.node; boot = old.boot ∙ sym (boots i ne); used = old.used ∙ sym (counters i ne); few = old.few; refused = old.refused }) j
 
     -- where a session of hub n is there it was there
@@ -356,7 +329,7 @@ module _ {cfg : Config} {hubs : ℕ → Option Node} {seats : List ℕ → Optio
         where
           by_seat : (o : Option Seat) (l : ClientLink) → ShowsLink cfg.namespaces m.broker.lists hubs o l → ShowsLink cfg.namespaces m.broker.lists hubs' o l
           by_seat None l g = g
-          by_seat (Some s) l g = elim (num_tells s.node n) [
+          by_seat (Some s) l g = elim (eqb_tells s.node n) [
             | inl is ↦ seated_stays (seat_now s is.1 ∙ stay s.session ∙ sym (seat_was s is.1)) g
             | inr is ↦ seated_stays (elsewhere s is.1) g
           ]
@@ -377,7 +350,7 @@ module _ {cfg : Config} {hubs : ℕ → Option Node} {seats : List ℕ → Optio
           by_seat : (x : List ℕ) (o : Option Seat) (l : ClientLink) → ShowsLink cfg.namespaces m.broker.lists hubs o l
               → ShowsLink cfg.namespaces m.broker.lists hubs' o (if on_node n l.node then with_session (comes (spoken m.broker.lists) c (at_offset e p) l.session) l else l)
           by_seat x None l g = subst (λ (b : Bool). IsAway (if b then with_session (comes (spoken m.broker.lists) c (at_offset e p) l.session) l else l)) (sym (ap (on_node n) g.node)) g
-          by_seat x (Some s) l g = elim (num_tells s.node n) [
+          by_seat x (Some s) l g = elim (eqb_tells s.node n) [
             | inl is ↦
                 subst (λ (b : Bool). IsSeated cfg.namespaces m.broker.lists (seated hubs' s) s.node (if b then with_session (comes (spoken m.broker.lists) c (at_offset e p) l.session) l else l)) (sym (ap (on_node n) g.at ∙ is.0)) (here s l g is.1)
             | inr is ↦
@@ -406,7 +379,7 @@ module _ {cfg : Config} {hubs : ℕ → Option Node} {seats : List ℕ → Optio
 
         yours : (y : List ℕ) → y ≢ x → (o : Option Seat) → seats y ≡ o → ShowsLink cfg.namespaces m.broker.lists hubs o (m.links y) → ShowsLink cfg.namespaces m.broker.lists hubs' o (m.links y)
         yours y ne None e g = g
-        yours y ne (Some o) e g = elim (num_tells o.node n) [
+        yours y ne (Some o) e g = elim (eqb_tells o.node n) [
           | inl f ↦ seated_stays (seat_now o f.1 ∙ stay o.session (apart y o ne e f.1) ∙ sym (seat_was o f.1)) g
           | inr f ↦ seated_stays (elsewhere o f.1) g
         ]
@@ -433,7 +406,7 @@ module _ {cfg : Config} {hubs : ℕ → Option Node} {seats : List ℕ → Optio
           old = t.hub n h was
 
           other_count : (j : ℕ) → j ≢ n → with_at m.counters n (m.counters n + 1) j ≡ m.counters j
-          other_count j ne = elim (num_tells j n) [
+          other_count j ne = elim (eqb_tells j n) [
             | inl e ↦ absurd (ne e.1)
             | inr e ↦ ap (λ (b : Bool). if b then m.counters n + 1 else m.counters j) e.0
           ]
@@ -442,7 +415,7 @@ module _ {cfg : Config} {hubs : ℕ → Option Node} {seats : List ℕ → Optio
           is = record {
             node = o.node ∙ old.node;
             boot = o.boot ∙ old.boot;
-            used = o.used ∙ ap (λ (i : ℕ). i + 1) old.used ∙ sym (ap (λ (b : Bool). if b then m.counters n + 1 else m.counters n) (same_number n));
+            used = o.used ∙ ap (λ (i : ℕ). i + 1) old.used ∙ sym (ap (λ (b : Bool). if b then m.counters n + 1 else m.counters n) (eq-eqb n n refl));
             few = last_but h.used h'.used largest o.used old.few not_last;
             refused = o.refused ∙ old.refused;
           }
@@ -454,7 +427,7 @@ module _ {cfg : Config} {hubs : ℕ → Option Node} {seats : List ℕ → Optio
 
           yours : (y : List ℕ) (v : Option Seat) → seats y ≡ v → ShowsLink cfg.namespaces m.broker.lists hubs v (m.links y) → ShowsLink cfg.namespaces m.broker.lists hubs' v (m.links y)
           yours y None e g = g
-          yours y (Some s) e g = elim (num_tells s.node n) [
+          yours y (Some s) e g = elim (eqb_tells s.node n) [
             | inl f ↦ seated_stays (seat_now s f.1 ∙ o.others s.session (there y s e f.1) ∙ sym (seat_was s f.1)) g
             | inr f ↦ seated_stays (elsewhere s f.1) g
           ]
@@ -494,21 +467,21 @@ module _ {cfg : Config} {hubs : ℕ → Option Node} {seats : List ℕ → Optio
               | inl q ↦ p.1 ∙ sym q.1
               | inr q ↦
                   absurd (fresh_seat z s (sym (with-other seats x (Some (seat_of n k)) z q.1) ∙ f)
-                  (sym (some_is (seat_of n k) s (sym (ap (λ (b : Bool). if b then Some (seat_of n k) else seats y) p.0) ∙ e))))
+                  (sym (same_Some (seat_of n k) s (sym (ap (λ (b : Bool). if b then Some (seat_of n k) else seats y) p.0) ∙ e))))
             ]
             | inr p ↦ elim (text_tells z x) [
               | inl q ↦
                   absurd (fresh_seat y s (sym (with-other seats x (Some (seat_of n k)) y p.1) ∙ e)
-                  (sym (some_is (seat_of n k) s (sym (ap (λ (b : Bool). if b then Some (seat_of n k) else seats z) q.0) ∙ f))))
+                  (sym (same_Some (seat_of n k) s (sym (ap (λ (b : Bool). if b then Some (seat_of n k) else seats z) q.0) ∙ f))))
               | inr q ↦ t.apart y z s (sym (with-other seats x (Some (seat_of n k)) y p.1) ∙ e) (sym (with-other seats x (Some (seat_of n k)) z q.1) ∙ f)
             ]
           ]
 
           still : (j i : ℕ) → (r : (y : List ℕ) × (seats y ≡ Some (record { node = j; session = i }))) → (y : List ℕ) × (seats' y ≡ Some (record { node = j; session = i }))
-          still j i r = (r.0, sits r.0 ∙ with-other seats x (Some (seat_of n k)) r.0 (λ e. not_none (record { node = j; session = i }) (sym none ∙ ap seats (sym e) ∙ r.1)) ∙ r.1)
+          still j i r = (r.0, sits r.0 ∙ with-other seats x (Some (seat_of n k)) r.0 (λ e. none-some (record { node = j; session = i }) (sym none ∙ ap seats (sym e) ∙ r.1)) ∙ r.1)
 
           at_new : (i : ℕ) → is_some (attached_at h' i) ≡ true → (y : List ℕ) × (seats' y ≡ Some (record { node = n; session = i }))
-          at_new i e = elim (num_tells i k) [
+          at_new i e = elim (eqb_tells i k) [
             | inl p ↦ (x, sits x ∙ with-same seats x (Some (seat_of n k)) ∙ ap Some (seats_are (seat_of n k) (record { node = n; session = i }) refl (sym p.1)))
             | inr p ↦ still n i (t.onto n i (ap (λ (v : Option Node). is_some (session_in v i)) was ∙ ap is_some (sym (o.others i p.1)) ∙ e))
           ]
@@ -542,7 +515,7 @@ module _ {cfg : Config} {hubs : ℕ → Option Node} {seats : List ℕ → Optio
 
           before : (y : List ℕ) (o : Seat) → with seats x None y ≡ Some o → seats y ≡ Some o
           before y o e = elim (text_tells y x) [
-            | inl p ↦ not_none o (sym (ap (λ (b : Bool). if b then None else seats y) p.0) ∙ e)
+            | inl p ↦ absurd (none-some o (sym (ap (λ (b : Bool). if b then None else seats y) p.0) ∙ e))
             | inr p ↦ sym (with-other seats x None y p.1) ∙ e
           ]
 
@@ -551,7 +524,7 @@ module _ {cfg : Config} {hubs : ℕ → Option Node} {seats : List ℕ → Optio
 
           yours : (y : List ℕ) → y ≢ x → (v : Option Seat) → seats y ≡ v → ShowsLink cfg.namespaces m.broker.lists hubs v (m.links y) → ShowsLink cfg.namespaces m.broker.lists hubs' v (m.links y)
           yours y ne None e g = g
-          yours y ne (Some o) e g = elim (num_tells o.node n) [
+          yours y ne (Some o) e g = elim (eqb_tells o.node n) [
             | inl f ↦ seated_stays (seat_now o f.1 ∙ stay o.session (other y o ne e f.1) ∙ sym (seat_was o f.1)) g
             | inr f ↦ seated_stays (elsewhere o f.1) g
           ]
@@ -560,7 +533,7 @@ module _ {cfg : Config} {hubs : ℕ → Option Node} {seats : List ℕ → Optio
           shows y = with-both (λ z v k. ShowsLink cfg.namespaces m.broker.lists hubs' v k) seats m.links x None l away (λ z ne. yours z ne (seats z) refl (t.links z)) y
 
           at_new : (i : ℕ) → is_some (attached_at h' i) ≡ true → (y : List ℕ) × (seats' y ≡ Some (record { node = n; session = i }))
-          at_new i e = elim (num_tells i s.session) [
+          at_new i e = elim (eqb_tells i s.session) [
             | inl p ↦ absurd (let none : false ≡ true = sym (ap is_some (ap (attached_at h') p.1 ∙ gone)) ∙ e in cc)
             | inr p ↦ still n i (λ a f. p.1 f) (t.onto n i (ap (λ (v : Option Node). is_some (session_in v i)) was ∙ ap is_some (sym (stay i p.1)) ∙ e))
           ]
@@ -569,7 +542,7 @@ module _ {cfg : Config} {hubs : ℕ → Option Node} {seats : List ℕ → Optio
               still j i apart r = (
                 r.0,
                 sits r.0 ∙ with-other seats x None r.0 (λ f.
-                    let same : s ≡ record { node = j; session = i } = some_is s (record { node = j; session = i }) (sym sat ∙ ap seats (sym f) ∙ r.1) in
+                    let same : s ≡ record { node = j; session = i } = same_Some s (record { node = j; session = i }) (sym sat ∙ ap seats (sym f) ∙ r.1) in
                     apart (sym (ap (λ (z : Seat). z.node) same) ∙ at) (sym (ap (λ (z : Seat). z.session) same))) ∙ r.1,
               )
 
@@ -577,7 +550,7 @@ module _ {cfg : Config} {hubs : ℕ → Option Node} {seats : List ℕ → Optio
           elsewhere_still j i ne r = (
             r.0,
             sits r.0 ∙ with-other seats x None r.0 (λ f.
-                let same : s ≡ record { node = j; session = i } = some_is s (record { node = j; session = i }) (sym sat ∙ ap seats (sym f) ∙ r.1) in
+                let same : s ≡ record { node = j; session = i } = same_Some s (record { node = j; session = i }) (sym sat ∙ ap seats (sym f) ∙ r.1) in
                 ne (sym (ap (λ (z : Seat). z.node) same) ∙ at)) ∙ r.1,
           )
 
@@ -611,12 +584,12 @@ module _ {cfg : Config} {hubs : ℕ → Option Node} {seats : List ℕ → Optio
         before (Some o) s e = by_value (o.node == n) e
           where
             by_value : (b : Bool) → (if b then None else Some o) ≡ Some s → Some o ≡ Some s
-            by_value true f = not_none s f
+            by_value true f = absurd (none-some s f)
             by_value false f = f
 
         by_seat : (v : Option Seat) (l : ClientLink) → ShowsLink cfg.namespaces m.broker.lists hubs v l → ShowsLink cfg.namespaces m.broker.lists hubs' (leave_node n v) (if on_node n l.node then breaks l else l)
         by_seat None l g = subst (λ (b : Bool). IsAway (if b then breaks l else l)) (sym (ap (on_node n) g.node)) g
-        by_seat (Some s) l g = elim (num_tells s.node n) [
+        by_seat (Some s) l g = elim (eqb_tells s.node n) [
           | inl p ↦
               subst (λ (b : Bool). ShowsLink cfg.namespaces m.broker.lists hubs' (if b then None else Some s) (if on_node n l.node then breaks l else l)) (sym p.0)
               (subst (λ (b : Bool). IsAway (if b then breaks l else l)) (sym (ap (on_node n) g.at ∙ p.0)) (record { node = refl; session = refl; channels = refl; way = refl; up = refl }))
@@ -633,7 +606,7 @@ module _ {cfg : Config} {hubs : ℕ → Option Node} {seats : List ℕ → Optio
             hub_by (λ a v. (i : ℕ) → is_some (session_in v i) ≡ true → (y : List ℕ) × (seats' y ≡ Some (record { node = a; session = i }))) at_new
             (λ a ne i e.
             let r = t.onto a i e in
-            (r.0, sits r.0 ∙ ap (leave_node n) r.1 ∙ ap (λ (b : Bool). if b then None else Some (record { node = a; session = i })) (not_equal a n ne)))
+            (r.0, sits r.0 ∙ ap (leave_node n) r.1 ∙ ap (λ (b : Bool). if b then None else Some (record { node = a; session = i })) (ne_eqb a n ne)))
             j
 
   -- ---- the clients of one node, for counting
@@ -645,7 +618,7 @@ module _ {cfg : Config} {hubs : ℕ → Option Node} {seats : List ℕ → Optio
     apart = λ x y k e f. t.apart x y (record { node = n; session = k }) (number_is n (seats x) k e) (number_is n (seats y) k f);
     onto = λ k e.
         let r = t.onto n k (ap (λ (v : Option Node). is_some (session_in v k)) was ∙ e) in
-        (r.0, ap (number_at n) r.1 ∙ ap (λ (b : Bool). if b then Some k else None) (same_number n));
+        (r.0, ap (number_at n) r.1 ∙ ap (λ (b : Bool). if b then Some k else None) (eq-eqb n n refl));
     among = λ x k e. t.among x (record { node = n; session = k }) (number_is n (seats x) k e);
     distinct = t.distinct;
     channels = λ x. once_by (seats x) (m.links x) (t.links x);

@@ -1,5 +1,7 @@
 -- What a command has that passes its checks, and whether it would open a stream while no epoch waits.
 use Rattle.std.proofs.Common.{◌≡◌, ℕ, ℤ, ◌&&◌, not, nat_lt, Bool, true, false, if◌then◌else◌, is_some, IsSome, Option, Some, None, option_map, List, [], ◌∷◌, refl, sym, ap, ◌∙◌, length}
+use Rattle.std.proofs.Math.Bool.{and-false, and-true}
+use Rattle.std.proofs.lemmas.Bool.{and_right, not-false, not-true}
 use Rattle.cf_protocol.specs.Checks.{Check, Refusal, AtLastOffset, checks, first_failed, is_bad_channel, longest_text, refusal_code, set_up, well_named}
 use Rattle.cf_protocol.specs.Request as request
 use Rattle.cf_protocol.specs.Request.{Command}
@@ -36,16 +38,12 @@ first-passes false e rest h = (refl, h)
 passed : (c : Check) (cs : List Check) → (if c.0 then Some c.1 else first_failed cs) ≡ None → (c.0 ≡ false) × (first_failed cs ≡ None)
 passed c cs h = first-passes c.0 c.1 (first_failed cs) h
 
-isn't-none : (b : Bool) → not b ≡ false → b ≡ true
-isn't-none true h = refl
-isn't-none false h = absurd (cc)
-
 module _ (table : NamespaceTable) (c : List ℕ) where
   pub well-named : MayAsk table c → is_bad_channel c ≡ false
   well-named h = (passed (well_named table c) (set_up table c ∷ []) h).0
 
   pub set-up : MayAsk table c → IsSome (settings_of table c)
-  set-up h = isn't-none (is_some (settings_of table c)) (passed (set_up table c) [] (passed (well_named table c) (set_up table c ∷ []) h).1).0
+  set-up h = not-false (is_some (settings_of table c)) (passed (set_up table c) [] (passed (well_named table c) (set_up table c ∷ []) h).1).0
 
 asks-too : (a b : Bool) (e f : ErrorCode) (rest : Option ErrorCode) → (if a then Some e else if b then Some f else rest) ≡ None → (if a then Some e else if b then Some f else None) ≡ None
 asks-too true b e f rest h = absurd (cc)
@@ -66,10 +64,6 @@ unopened : (o : Option StreamState) (es : List (List ℕ)) → stands_or_opens o
 unopened None es h = refl
 unopened (Some s) es h = absurd (cc)
 
-not-true : (b : Bool) → not b ≡ true → b ≡ false
-not-true true h = absurd (cc)
-not-true false h = refl
-
 module _ (l : ClientLink) (w : World) where
   -- hub and broker refuse no such command
   unrefused : (e : ClientRequest) → asks_too_much e w.broker ≡ true → refusal_of e l w ≡ None
@@ -83,19 +77,6 @@ accepted-lacks (Subscribe c from) b = refl
 accepted-lacks (Unsubscribe c) b = refl
 accepted-lacks (Publish c body) b = refl
 accepted-lacks (History c limit) b = refl
-
-and-false : (a : Bool) → (a && false) ≡ false
-and-false true = refl
-and-false false = refl
-
-and-true : (a : Bool) → (a && true) ≡ a
-and-true true = refl
-and-true false = refl
-
-and-none : (a b : Bool) → (a && (b && false)) ≡ false
-and-none true true = refl
-and-none true false = refl
-and-none false b = refl
 
 module _ (e : ClientRequest) (b : Broker) where
   by_checks : (first : Option ErrorCode) (mine : Option Refusal) → (asks_too_much e b ≡ true → mine ≡ None)
@@ -112,7 +93,7 @@ module _ (e : ClientRequest) (b : Broker) where
       → lacks_epoch (if closed then Unheard else if long then TooLong else refused_with first (refused_with (option_map refusal_code mine) Accepted)) e b
       ≡ ((asks_too_much e b && (not (is_some first) && not long)) && not closed)
   by_judgement true long first mine h = sym (and-false (asks_too_much e b && (not (is_some first) && not long)))
-  by_judgement false true first mine h = sym (and-true (asks_too_much e b && (not (is_some first) && false)) ∙ and-none (asks_too_much e b) (not (is_some first)))
+  by_judgement false true first mine h = sym (and-true (asks_too_much e b && (not (is_some first) && false)) ∙ and_right (asks_too_much e b) (not (is_some first) && false) (and-false (not (is_some first))))
   by_judgement false false first mine h = by_checks first mine h ∙ sym (and-true (asks_too_much e b && (not (is_some first) && true)))
 
 -- what is found before anything is sent is what the machine says

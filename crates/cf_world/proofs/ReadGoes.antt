@@ -22,6 +22,7 @@ use Rattle.cf_machine.specs.IntervalMachine.{allows, at_session, happens, read_a
 use Rattle.cf_machine.specs.PublicationList.{Broker, can_open, open_at, opened, stands_or_opens}
 use Rattle.cf_machine.specs.Session.{Session, Sub}
 use Rattle.cf_machine.specs.World.{World, broker_with}
+use Rattle.cf_machine.proofs.Brokering.{lists-opened}
 use Rattle.cf_world.specs.BrokerTie.{Finds, FindsNone}
 use Rattle.cf_world.specs.HubCalls.{AtHub, WasRead}
 use Rattle.cf_world.specs.NodesTie.{seated, session_in}
@@ -38,14 +39,6 @@ use Rattle.cf_world.proofs.Reading.{Missing, are-missed, reading-is}
 use Rattle.cf_world.proofs.Passing.{set-up}
 use Rattle.cf_world.proofs.Served.{opens-away, rests}
 use Rattle.cf_world.proofs.Sitting.{hub_there, session-goes}
-
-lists-open_at : (c : List ℕ) (o : Option StreamState) (es : List (List ℕ)) (b : Broker) → (open_at c o es b).lists ≡ b.lists
-lists-open_at c (Some s) es b = refl
-lists-open_at c None [] b = refl
-lists-open_at c None (e ∷ es) b = refl
-
-pub lists-opened : (c : List ℕ) (b : Broker) → (opened c b).lists ≡ b.lists
-lists-opened c b = lists-open_at c (b.streams c) b.waiting b
 
 can_by : (c : List ℕ) (b : Broker) (st : StreamState) (o : Option StreamState) (es : List (List ℕ)) → b.streams c ≡ o → (open_at c o es b).streams c ≡ Some st → stands_or_opens o es ≡ true
 can_by c b st (Some s) es e h = refl

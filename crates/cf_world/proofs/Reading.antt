@@ -3,7 +3,8 @@ use Rattle.std.proofs.Common.{◌≡◌, ◌≤◌, ℕ, zero, suc, ◌+◌, ◌
 use Rattle.std.specs.List.{All}
 use Rattle.std.specs.Str.{bytes_eq}
 use Rattle.std.proofs.lemmas.Bool.Decides.{nat_tests}
-use Rattle.std.proofs.lemmas.List.Elements.{All-tail, recursion_from_All}
+use Rattle.std.proofs.lemmas.List.{length-drop, length-take-le}
+use Rattle.std.proofs.lemmas.List.Elements.{All-drop, All-tail, recursion_from_All}
 use Rattle.cf_protocol.specs.Epoch.{IsEpoch}
 use Rattle.cf_protocol.specs.Datum.{Datum, Placed, numbered}
 use Rattle.cf_protocol.specs.Note.{Lists, Reading, placed_from}
@@ -18,34 +19,19 @@ use Rattle.cf_hub.specs.Subscriptions.{reading_of}
 use Rattle.cf_machine.specs.PublicationList.{Broker, opened}
 use Rattle.cf_world.specs.BrokerTie.{Brings, Finds, IsDatum, IsStanding}
 use Rattle.cf_world.specs.declared.broker.Broker.{Broker as Code}
-use Rattle.cf_world.proofs.Names.{by_test}
+use Rattle.cf_machine.proofs.Names.{by_test}
 
 length-numbered : (o : ℕ) (xs : List Datum) → length (numbered o xs) ≡ length xs
 length-numbered o [] = refl
 length-numbered o (x ∷ xs) = ap suc (length-numbered (o + 1) xs)
 
-length-drop : {A : Type 0} (k : ℕ) (xs : List A) → length (drop k xs) ≡ length xs - k
-length-drop zero xs = omega arith
-length-drop (suc k) [] = omega arith
-length-drop (suc k) (x ∷ xs) = length-drop k xs ∙ omega arith
-
-length-take : {A : Type 0} (k : ℕ) (xs : List A) → k ≤ length xs → length (take k xs) ≡ k
-length-take zero xs h = refl
-length-take (suc k) [] h = absurd (omega arith)
-length-take (suc k) (x ∷ xs) h = ap suc (length-take k xs (omega arith))
-
 -- so many as lie between
 pub length-placed : (ds : List Datum) (low top : ℕ) → low ≤ top → top ≤ length ds → length (placed_from ds low (top - low)) ≡ top - low
 length-placed ds low top h k =
     length-numbered low (take (top - low) (drop low ds))
-    ∙ length-take (top - low) (drop low ds) (let all = length-drop low ds in omega arith)
+    ∙ length-take-le (top - low) (drop low ds) (let all = length-drop low ds in omega arith)
 
 -- ---- all that is listed can be read back
-
-all-drop : (P : Datum → Type 0) (k : ℕ) (xs : List Datum) → All P xs → All P (drop k xs)
-all-drop P zero xs h = h
-all-drop P (suc k) [] h = h
-all-drop P (suc k) (x ∷ xs) h = all-drop P k xs (All-tail P x xs h)
 
 regular-take : (k o : ℕ) (xs : List Datum) → o + length xs ≤ last_offset → All IsDatum xs → ArePlaced IsBody (numbered o (take k xs))
 regular-take zero o xs h a = tt
@@ -55,7 +41,7 @@ regular-take (suc k) o (x ∷ xs) h a =
     (record { body = here.0; info = here.1; offset = omega arith }, regular-take k (o + 1) xs (omega arith) (All-tail IsDatum x xs a))
 
 pub regular-placed : (ds : List Datum) (low count : ℕ) → low ≤ length ds → length ds ≤ last_offset → All IsDatum ds → ArePlaced IsBody (placed_from ds low count)
-regular-placed ds low count h k a = regular-take count low (drop low ds) (let all = length-drop low ds in omega arith) (all-drop IsDatum low ds a)
+regular-placed ds low count h k a = regular-take count low (drop low ds) (let all = length-drop low ds in omega arith) (All-drop IsDatum low ds a)
 
 -- ---- what a read finds
 

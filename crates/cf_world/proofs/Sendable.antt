@@ -1,7 +1,7 @@
 -- Whether a client can carry out an errand, by its own fault, by its session, and by the machine's condition.
 use Rattle.std.proofs.Common.{◌≡◌, ◌≢◌, ◌⊎◌, inl, inr, ◌∙◌, ◌&&◌, ◌||◌, ℕ, not, Bool, true, false, if◌then◌else◌, Option, Some, None, is_some, List, [], ◌∷◌, nat_le, refl, sym, ap, subst}
+use Rattle.std.proofs.lemmas.Bool.{and_left, and_right}
 use Rattle.cf_protocol.specs.Names.{is_among}
-use Rattle.cf_protocol.specs.Settings.{NamespaceTable}
 use Rattle.cf_client.specs.ClientCalls.{State, call_fault, last_id}
 use Rattle.cf_client.specs.ClientState.{Client, is_idle}
 use Rattle.cf_client.specs.declared.fault.ClientFault.{ClientFault}
@@ -18,7 +18,7 @@ use Rattle.cf_world.specs.Errands.{event_by}
 use Rattle.cf_world.specs.declared.errand.Errand.{Errand}
 use Rattle.cf_world.specs.declared.errand.Errand.TheVariants as errand
 use Rattle.cf_world.proofs.Exchanged.{cannot_by_epoch, cannot_by_id}
-use Rattle.cf_world.proofs.Names.{text_tells}
+use Rattle.cf_machine.proofs.Names.{text_tells}
 
 -- whether the channel's mode is one in which the errand can be carried out
 abbrev pub fits : Errand → Client → Bool
@@ -50,7 +50,7 @@ some_by : (mode : Bool) (rest : Option ClientFault) → fault_by mode rest ≢ N
 some_by true rest h = inr h
 some_by false rest h = inl refl
 
-left-of : (connected left : Bool) → (if not connected then Some NotNow else if left then None else Some AtLastId) ≡ None → left ≡ true
+pub left-of : (connected left : Bool) → (if not connected then Some NotNow else if left then None else Some AtLastId) ≡ None → left ≡ true
 left-of true true h = refl
 left-of true false h = absurd (cc)
 left-of false left h = absurd (cc)
@@ -59,14 +59,6 @@ lacks-of : (connected left : Bool) → connected ≡ true → (if not connected 
 lacks-of true true c h = absurd (h refl)
 lacks-of true false c h = refl
 lacks-of false left c h = absurd (cc)
-
-and-false : (a b : Bool) → b ≡ false → (a && b) ≡ false
-and-false true b h = h
-and-false false b h = refl
-
-and-left : (a b : Bool) → a ≡ false → (a && b) ≡ false
-and-left true b h = absurd (cc)
-and-left false b h = refl
 
 -- ---- the machine's event of an errand
 
@@ -93,8 +85,8 @@ module _ (cfg : Config) (m : World) (x : List ℕ) (e : Errand) where
 
   -- the command can't be sent, or its mode doesn't fit
   pub nothing_happens : (fits e (m.links x).client ≡ false) ⊎ (can_command cfg x asked m ≡ false) → happens cfg m (event_by e x) ≡ m
-  nothing_happens (inl h) = ap (λ (v : Bool). if v then effect cfg m (event_by e x) else m) (allows_is ∙ and-left (fits e (m.links x).client) (can_command cfg x asked m) h)
-  nothing_happens (inr h) = ap (λ (v : Bool). if v then effect cfg m (event_by e x) else m) (allows_is ∙ and-false (fits e (m.links x).client) (can_command cfg x asked m) h)
+  nothing_happens (inl h) = ap (λ (v : Bool). if v then effect cfg m (event_by e x) else m) (allows_is ∙ and_left (fits e (m.links x).client) (can_command cfg x asked m) h)
+  nothing_happens (inr h) = ap (λ (v : Bool). if v then effect cfg m (event_by e x) else m) (allows_is ∙ and_right (fits e (m.links x).client) (can_command cfg x asked m) h)
 
   pub exchange_happens : fits e (m.links x).client ≡ true → can_command cfg x asked m ≡ true → happens cfg m (event_by e x) ≡ exchange cfg x asked m
   exchange_happens f g =

@@ -1,5 +1,6 @@
 -- What becomes of an errand, up to where hub and broker are asked: it is as the machine has it.
-use Rattle.std.proofs.Common.{◌≡◌, ◌≢◌, ◌↔◌, ◌≤◌, ◌∙◌, ◌&&◌, ◌++◌, ℕ, nat_le, nat_lt, not, Bool, true, false, if◌then◌else◌, Option, Some, None, is_some, List, [], ◌∷◌, length, inl, inr, arith, refl, sym, ap, subst}
+use Rattle.std.proofs.Common.{◌≡◌, ◌↔◌, ◌∙◌, ◌&&◌, ℕ, nat_le, nat_lt, not, Bool, true, false, Option, Some, None, is_some, List, [], ◌∷◌, length, inr, arith, refl, sym, ap, subst}
+use Rattle.std.proofs.Math.Bool.{not-not}
 use Rattle.std.proofs.lemmas.Bool.Decides.{nat_tests}
 use Rattle.std.specs.Prelude.{IsTrue}
 use Rattle.std.specs.List.{All}
@@ -19,8 +20,6 @@ use Rattle.cf_protocol.specs.declared.codes.ErrorCode.TheVariants as error
 use Rattle.cf_client.specs.ClientCalls.{State, call_fault, last_id}
 use Rattle.cf_client.specs.ClientState.{Client}
 use Rattle.cf_client.specs.ClientView.{ClientView, state_of}
-use Rattle.cf_client.specs.declared.fault.ClientFault.{ClientFault}
-use Rattle.cf_client.specs.declared.fault.ClientFault.TheVariants.{NotNow, AtLastId}
 use Rattle.cf_hub.specs.AlikeMoves.{CallsAreAlike, MovesAreAlike}
 use Rattle.cf_hub.specs.Hub.{Node, is_open}
 use Rattle.cf_hub.specs.Rows.{sub_in}
@@ -52,23 +51,14 @@ use Rattle.cf_world.proofs.Exchanging.{same-seats}
 use Rattle.cf_world.proofs.Going.{Stays}
 use Rattle.cf_world.proofs.Hearing.{refused_goes, too_long_goes, unheard_goes}
 use Rattle.cf_world.proofs.Looking.{open_at, waits_at}
-use Rattle.cf_world.proofs.Names.{with-all}
+use Rattle.cf_machine.proofs.Names.{with-all}
 use Rattle.cf_world.proofs.NodesTie.{seat_shows}
 use Rattle.cf_world.proofs.Passing.{lacks_is, length_is}
 use Rattle.cf_world.proofs.Saying.{says_fails}
-use Rattle.cf_world.proofs.Sendable.{can_be_sent, fits, exchange_happens, is_settled, isn't_settled, not_opened, not_sent, nothing_happens}
+use Rattle.cf_world.proofs.Sendable.{can_be_sent, fits, exchange_happens, is_settled, isn't_settled, left-of, not_opened, not_sent, nothing_happens}
 use Rattle.cf_world.proofs.SentOwn.{calls-new, new-less, old_of}
 use Rattle.cf_world.proofs.Served.{opens-away}
 use Rattle.cf_world.proofs.Sitting.{client_here, seat_here}
-
-twice-not : (b : Bool) → not (not b) ≡ b
-twice-not true = refl
-twice-not false = refl
-
-left-of : (connected left : Bool) → (if not connected then Some NotNow else if left then None else Some AtLastId) ≡ None → left ≡ true
-left-of true true h = refl
-left-of true false h = absurd (cc)
-left-of false left h = absurd (cc)
 
 is_code : (code : ErrorCode) → IsCode (code_of code)
 is_code error.Internal = (omega arith, omega arith)
@@ -156,7 +146,7 @@ module _ {cfg : Config} {table : NamespaceTable} {b : Code} {hubs : ℕ → Opti
         by_both false h k = absurd (cc)
 
     closed_here : not (is_open (seated hubs s)) ≡ l.session.closed
-    closed_here = ap not (open_at m.broker.lists (seated hubs s) l.session seat.says) ∙ twice-not l.session.closed
+    closed_here = ap not (open_at m.broker.lists (seated hubs s) l.session seat.says) ∙ not-not l.session.closed
 
     module _ (p : Peer) (found : peers x ≡ Some p) (sits : p.seat ≡ Some s) where
       here : ShowsPeer p l

@@ -1,7 +1,9 @@
 -- A client sends a command: the answers that wait stay its own, and so is the answer to this one.
 use Rattle.std.proofs.Common.{◌≡◌, ◌⊎◌, inl, inr, ℕ, suc, ◌<◌, ◌==◌, ◌||◌, Bool, true, false, if◌then◌else◌, Some, List, [], ◌∷◌, ◌++◌, map, refl, sym, subst, arith}
 use mathlib.Core.List.{reverse_aux}
+use Rattle.std.proofs.lemmas.Bool.{or_left}
 use Rattle.std.proofs.lemmas.Bool.Decides.{eqb_tells}
+use Rattle.std.proofs.lemmas.Option.{same_Some}
 use Rattle.std.specs.List.{All}
 use Rattle.cf_protocol.specs.Note.{Note, Reply, Pub, End, Fails, Put as PutDone, Left, Listed, PingDue, Close}
 use Rattle.cf_protocol.specs.Position.{Position}
@@ -36,19 +38,12 @@ over i (x ∷ xs) ys h = over i xs (x ∷ ys) (turned (x == i) (is_out i xs) (is
     turned false true d h = refl
     turned false false d h = h
 
-or-false : (a : Bool) → a ≡ true → (a || false) ≡ true
-or-false true h = refl
-or-false false h = absurd (cc)
-
 pub old_of : (k : ClientView) → AreApart (state_of k).client → AreOld (state_of k)
-old_of k apart i c e = apart.calls_older i (over i (map (λ (k : Call). k.id) k.calls) [] (or-false (is_out i (map (λ (k : Call). k.id) k.calls)) (call_out i c k.calls e)))
-
-some_is : (a b : List ℕ) → Some a ≡ Some b → a ≡ b
-some_is a b e = cc
+old_of k apart i c e = apart.calls_older i (over i (map (λ (k : Call). k.id) k.calls) [] (or_left (is_out i (map (λ (k : Call). k.id) k.calls)) false (call_out i c k.calls e)))
 
 calls-more : (i : ℕ) (c : List ℕ) (ks : List Call) (x : Call) → channel_under i (ks ++ x ∷ []) ≡ Some c → (channel_under i ks ≡ Some c) ⊎ ((x.id ≡ i) × (x.channel ≡ c))
 calls-more i c [] x h = elim (eqb_tells x.id i) [
-  | inl e ↦ inr (e.1, some_is x.channel c (rw e.0 at h))
+  | inl e ↦ inr (e.1, same_Some x.channel c (rw e.0 at h))
   | inr e ↦ inl (rw e.0 at h)
 ]
 calls-more i c (k ∷ ks) x h = elim (eqb_tells k.id i) [

@@ -1,18 +1,16 @@
 -- What a node serves goes on with the machine.
-use Rattle.std.proofs.Common.{◌≡◌, ◌≢◌, ◌⊎◌, inl, inr, ℕ, ◌==◌, Bool, true, false, Option, Some, None, List, is_some, refl, sym, ap, ◌∙◌, subst, if◌then◌else◌, arith}
-use Rattle.std.proofs.lemmas.Bool.Decides.{nat_tests}
+use Rattle.std.proofs.Common.{◌≡◌, inl, inr, ℕ, Bool, true, false, Option, Some, None, List, is_some, refl, sym, ap, ◌∙◌, subst, if◌then◌else◌}
+use Rattle.std.proofs.lemmas.Bool.Decides.{eqb_tells}
 use Rattle.std.specs.String.{string_bytes}
 use Rattle.cf_protocol.specs.Datum.{Placed}
 use Rattle.cf_protocol.specs.Note.{placed_at}
 use Rattle.cf_protocol.specs.Position.{Position}
 use Rattle.cf_protocol.specs.Settings.{NamespaceTable}
-use Rattle.cf_hub.specs.AlikeMoves.{CallsAreAlike, MovesAreAlike, Texts}
-use Rattle.cf_hub.specs.Hub.{InState, Node, attached_at}
+use Rattle.cf_hub.specs.AlikeMoves.{CallsAreAlike, MovesAreAlike}
+use Rattle.cf_hub.specs.Hub.{Node, attached_at}
 use Rattle.cf_hub.specs.InNotes.{IsListed}
-use Rattle.cf_hub.specs.Session.{Attached}
 use Rattle.cf_hub.specs.SessionState.{checks, comes, finishes, is_ready}
 use Rattle.cf_hub.specs.Spoken.{spoken}
-use Rattle.cf_hub.specs.WantOfMemory.{Both}
 use Rattle.cf_hub.specs.Wordings.{at_offset, plain}
 use Rattle.cf_machine.specs.ClientLink.{ClientLink, with_session}
 use Rattle.cf_machine.specs.Config.{Config}
@@ -24,7 +22,7 @@ use Rattle.cf_machine.specs.World.{World, on_node}
 use Rattle.cf_world.specs.BrokerTie.{Stands}
 use Rattle.cf_world.specs.ClientTie.{ShowsClient}
 use Rattle.cf_world.specs.HubCalls.{AtHub, Checked, Delivered, Finished}
-use Rattle.cf_world.specs.NodesTie.{IsAway, ShowsNodes, name_of}
+use Rattle.cf_world.specs.NodesTie.{IsAway, ShowsNodes}
 use Rattle.cf_world.specs.Tie.{AreTied, seats_of}
 use Rattle.cf_world.specs.declared.broker.Accepted.{Accepted}
 use Rattle.cf_world.specs.declared.broker.Broker.{Broker as Code}
@@ -32,22 +30,9 @@ use Rattle.cf_world.specs.declared.peers.Peer.{Peer}
 use Rattle.cf_world.specs.declared.peers.Seat.{Seat}
 use Rattle.cf_client.specs.ClientView.{state_of}
 use Rattle.cf_world.proofs.Ends.{checks_keeps, finishes_keeps}
-use Rattle.cf_world.proofs.NodesTie.{away_shows, deliver_goes, met_name, nodes_same, seat_shows}
+use Rattle.cf_world.proofs.NodesTie.{away_shows, both_name, deliver_goes, met_name, nodes_same, seat_shows}
 use Rattle.cf_world.proofs.Owned.{check-rest, checks-own, comes-own, finish-rest, finishes-own}
 use Rattle.cf_world.proofs.Sitting.{hub_there, session-may-go}
-
-which : (j n : ℕ) → (((j == n) ≡ true) × (j ≡ n)) ⊎ (((j == n) ≡ false) × (j ≢ n))
-which j n = by_value (j == n) refl
-  where
-    by_value : (t : Bool) → (j == n) ≡ t → ((t ≡ true) × (j ≡ n)) ⊎ ((t ≡ false) × (j ≢ n))
-    by_value true e = inl (refl, grind (arith, nat_tests, e))
-    by_value false e = inr (refl, λ f. let yes : (j == n) ≡ true = grind (arith, nat_tests, f) in cc)
-
-both_name : (R : Texts → Texts → Type 0) (x y : Option Attached) → Both (InState R) x y → name_of y ≡ name_of x
-both_name R None None h = refl
-both_name R None (Some b) h = absurd h
-both_name R (Some a) None h = absurd h
-both_name R (Some a) (Some b) h = ap (λ z. Some z.client) h.1
 
 module _ {cfg : Config} {table : NamespaceTable} {b : Code} {hubs : ℕ → Option Node} {peers : List ℕ → Option Peer} {m : World}
     (t : AreTied cfg table b hubs peers m) where
@@ -114,7 +99,7 @@ module _ {cfg : Config} {table : NamespaceTable} {b : Code} {hubs : ℕ → Opti
     where
       by_seat : (o : Option Seat) → seats_of peers x ≡ o → on_node n (m.links x).node ≡ false
       by_seat None e = ap (on_node n) (away_shows t.nodes x e).node
-      by_seat (Some s) e = elim (which s.node n) [
+      by_seat (Some s) e = elim (eqb_tells s.node n) [
         | inl is ↦ let there = hub_there t x s e in absurd (let no' : None ≡ Some there.0 = sym none ∙ ap hubs (sym is.1) ∙ there.1 in cc)
         | inr is ↦ ap (on_node n) (seat_shows t.nodes x s e).at ∙ is.0
       ]

@@ -19,7 +19,7 @@ use Rattle.cf_world.specs.declared.broker.Broker.{Broker as Code}
 use Rattle.cf_world.specs.declared.peers.Peer.{Peer}
 use Rattle.cf_world.specs.declared.peers.Seat.{Seat}
 use Rattle.cf_world.proofs.Ends.{Keeps}
-use Rattle.cf_world.proofs.Names.{with-all}
+use Rattle.cf_machine.proofs.Names.{with-all}
 use Rattle.cf_world.proofs.NodesTie.{nodes_same, seat_shows, session_goes, session_moves}
 
 -- ---- the client of a name

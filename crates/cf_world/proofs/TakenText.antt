@@ -41,7 +41,7 @@ use Rattle.cf_world.proofs.BoardLists.{grown-refl}
 use Rattle.cf_world.proofs.Breaking.{seats-with}
 use Rattle.cf_world.proofs.Ends.{takes_keeps}
 use Rattle.cf_world.proofs.Exchanging.{same-seats}
-use Rattle.cf_world.proofs.Names.{with-both}
+use Rattle.cf_machine.proofs.Names.{with-both}
 use Rattle.cf_world.proofs.NodesTie.{LinkGoes, link_goes, one_name, seat_shows, session_goes}
 use Rattle.cf_world.proofs.Sitting.{client_here, hub_there, seat_here}
 use Rattle.cf_world.proofs.TakeKeeps.{Kept, own_kept, takes_kept}

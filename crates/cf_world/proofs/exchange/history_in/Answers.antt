@@ -1,7 +1,7 @@
 use Rattle.std.proofs.Common.{rules, ◌≡◌, ◌∙◌, ℕ, ℤ, w32, of_z, to_z, Bool, false, Option, None, IsSome, List, string_bytes, slice_get, sym, ap, subst}
 use Rattle.std.proofs.lemmas.Int.{to_z-of_z}
 use Rattle.cf_protocol.specs.Position.{Position}
-use Rattle.cf_protocol.specs.Request.{Command, Request, History}
+use Rattle.cf_protocol.specs.Request.{Command, History}
 use Rattle.cf_protocol.specs.Settings.{settings_of}
 use Rattle.cf_protocol.specs.Shown.{shown_request}
 use Rattle.cf_world.specs.Exchange.{Lists}

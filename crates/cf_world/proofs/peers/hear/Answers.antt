@@ -5,7 +5,8 @@ use Rattle.cf_client.specs.ClientView.{state_of}
 use Rattle.cf_client.specs.Shown.{shown_item}
 use Rattle.cf_world.specs.ClientTie.{Heard}
 use Rattle.cf_world.specs.declared.peers.Peer.{Peer}
-use Rattle.cf_world.proofs.Named.{sets-peer, some-peer}
+use Rattle.std.proofs.lemmas.Option.{same_Some}
+use Rattle.cf_world.proofs.Named.{sets-peer}
 use Rattle.cf_world.proofs.peers.hear.Goals as goal
 
 pub returns-in-Ok : goal.returns-in-Ok
@@ -15,7 +16,7 @@ returns-in-Ok c = λ p there.
     let old = c.args.peers.now in
     let new = c.get_mut.follows.lender v in
     let at : get_by_text old c.args.name.now ≡ Some k = search rules in
-    let is : k ≡ p = some-peer k p (sym at ∙ there) in
+    let is : k ≡ p = same_Some k p (sym at ∙ there) in
     let some : IsSome (get_by_text old c.args.name.now) = search rules in
     subst (λ (z : Peer). Heard c.args.name.now c.args.text.now z (get_by_text old) (get_by_text new) (map shown_item c.in-Ok.events.items)) is
     (record {

@@ -5,7 +5,8 @@ use Rattle.cf_protocol.specs.Names.{with}
 use Rattle.cf_client.specs.ClientView.{state_of}
 use Rattle.cf_world.specs.ClientTie.{Joins}
 use Rattle.cf_world.specs.declared.peers.Peer.{Peer}
-use Rattle.cf_world.proofs.Named.{sets-peer, some-peer}
+use Rattle.std.proofs.lemmas.Option.{same_Some}
+use Rattle.cf_world.proofs.Named.{sets-peer}
 use Rattle.cf_world.proofs.peers.rejoin.Goals as goal
 
 pub returns : goal.returns
@@ -16,7 +17,7 @@ returns c = λ p there.
     let old = c.args.peers.now in
     let new = c.get_mut.follows.lender v in
     let at : get_by_text old x ≡ Some k = search rules in
-    let is : k ≡ p = some-peer k p (sym at ∙ there) in
+    let is : k ≡ p = same_Some k p (sym at ∙ there) in
     let some : IsSome (get_by_text old x) = search rules in
     let sits : v ≡ record { client = v.client; seat = Some c.args.seat } = ap (λ s. record v { seat = s }) c.in_ok-join.ensures.seat in
     let now : (y : List ℕ) → get_by_text new y ≡ with (get_by_text old) x (Some (record { client = v.client; seat = Some c.args.seat })) y =

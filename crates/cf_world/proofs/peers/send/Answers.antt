@@ -8,7 +8,8 @@ use Rattle.cf_client.specs.declared.fault.ClientFault.{ClientFault}
 use Rattle.cf_client.specs.declared.fault.ClientFault.TheVariants.{NotNow, AtLastId}
 use Rattle.cf_world.specs.ClientTie.{NotSent, Sent, send_fault}
 use Rattle.cf_world.specs.declared.peers.Peer.{Peer}
-use Rattle.cf_world.proofs.Named.{refused-some, same-seat, sent-none, sets-peer, some-peer}
+use Rattle.std.proofs.lemmas.Option.{same_Some}
+use Rattle.cf_world.proofs.Named.{refused-some, same-seat, sent-none, sets-peer}
 use Rattle.cf_world.proofs.peers.send.Goals as goal
 
 pub returns-in-Ok : goal.returns-in-Ok
@@ -19,7 +20,7 @@ returns-in-Ok c = λ p there.
     let old = c.args.peers.now in
     let new = c.get_mut.follows.lender v in
     let at : get_by_text old x ≡ Some k = search rules in
-    let is : k ≡ p = some-peer k p (sym at ∙ there) in
+    let is : k ≡ p = same_Some k p (sym at ∙ there) in
     let some : IsSome (get_by_text old x) = search rules in
     let now : (y : List ℕ) → get_by_text new y ≡ with (get_by_text old) x (Some (record k { client = v.client })) y =
     subst (λ (z : Peer). (y : List ℕ) → get_by_text new y ≡ with (get_by_text old) x (Some z) y) (same-seat k v c.send.ensures.seat)
@@ -43,7 +44,7 @@ returns-in-Err-NotNow c = λ p there.
     let old = c.args.peers.now in
     let new = c.get_mut.follows.lender v in
     let at : get_by_text old x ≡ Some k = search rules in
-    let is : k ≡ p = some-peer k p (sym at ∙ there) in
+    let is : k ≡ p = same_Some k p (sym at ∙ there) in
     let some : IsSome (get_by_text old x) = search rules in
     let now : (y : List ℕ) → get_by_text new y ≡ with (get_by_text old) x (Some (record k { client = v.client })) y =
     subst (λ (z : Peer). (y : List ℕ) → get_by_text new y ≡ with (get_by_text old) x (Some z) y) (same-seat k v c.send.ensures.seat)
@@ -64,7 +65,7 @@ returns-in-Err-AtLastId c = λ p there.
     let old = c.args.peers.now in
     let new = c.get_mut.follows.lender v in
     let at : get_by_text old x ≡ Some k = search rules in
-    let is : k ≡ p = some-peer k p (sym at ∙ there) in
+    let is : k ≡ p = same_Some k p (sym at ∙ there) in
     let some : IsSome (get_by_text old x) = search rules in
     let now : (y : List ℕ) → get_by_text new y ≡ with (get_by_text old) x (Some (record k { client = v.client })) y =
     subst (λ (z : Peer). (y : List ℕ) → get_by_text new y ≡ with (get_by_text old) x (Some z) y) (same-seat k v c.send.ensures.seat)

@@ -4,7 +4,8 @@ use Rattle.std.specs.BTreeMap.{get_by_text}
 use Rattle.cf_protocol.specs.Names.{with}
 use Rattle.cf_world.specs.ClientTie.{Unseats}
 use Rattle.cf_world.specs.declared.peers.Peer.{Peer}
-use Rattle.cf_world.proofs.Named.{sets-peer, some-peer}
+use Rattle.std.proofs.lemmas.Option.{same_Some}
+use Rattle.cf_world.proofs.Named.{sets-peer}
 use Rattle.cf_world.proofs.peers.unseat.Goals as goal
 
 pub returns-in-Some : goal.returns-in-Some
@@ -15,7 +16,7 @@ returns-in-Some c = λ p there.
     let old = c.args.peers.now in
     let new = c.get_mut.follows.lender v in
     let at : get_by_text old x ≡ Some k = search rules in
-    let is : k ≡ p = some-peer k p (sym at ∙ there) in
+    let is : k ≡ p = same_Some k p (sym at ∙ there) in
     let some : IsSome (get_by_text old x) = search rules in
     let free : v ≡ record { client = v.client; seat = None } = ap (λ s. record v { seat = s }) c.break_off.ensures.seat in
     let now : (y : List ℕ) → get_by_text new y ≡ with (get_by_text old) x (Some (record { client = v.client; seat = None })) y =

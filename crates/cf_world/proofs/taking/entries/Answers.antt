@@ -1,4 +1,4 @@
-use Rattle.std.proofs.Common.{rules, ◌≡◌, ◌∙◌, [], ◌∷◌, ◌++◌, map, string_bytes, ap}
+use Rattle.std.proofs.Common.{rules, ◌≡◌, ◌∙◌, [], ◌∷◌, ◌++◌, map, ap}
 use Rattle.std.proofs.lemmas.List.{map-append}
 use Rattle.cf_world.specs.Entries.{shown_entry}
 use Rattle.cf_world.specs.declared.entry.Entry.{Entry}

@@ -1,4 +1,4 @@
-use Rattle.std.proofs.Common.{◌≡◌, sym, subst}
+use Rattle.std.proofs.Common.{sym, subst}
 use Rattle.cf_client.specs.ClientView.{state_of}
 use Rattle.cf_world.specs.ClientTie.{AsksFrom, request_by}
 use Rattle.cf_world.specs.declared.errand.Errand.{Errand}

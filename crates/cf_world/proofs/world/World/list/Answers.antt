@@ -1,4 +1,4 @@
-use Rattle.std.proofs.Common.{rules, ◌≡◌, ℕ, ℤ, pos, negsuc, w32, of_z, to_z, FitsSigned, arith, List, Option, Some, None, refl, slice_get, subst}
+use Rattle.std.proofs.Common.{rules, ◌≡◌, ℤ, pos, negsuc, w32, of_z, to_z, FitsSigned, arith, Option, Some, None, refl, slice_get, subst}
 use Rattle.std.proofs.lemmas.Bool.Decides.{nat_tests}
 use Rattle.std.proofs.lemmas.Int.{to_z-of_z}
 use Rattle.std.specs.BTreeMap.{get_by_text}

@@ -1,4 +1,4 @@
-use Rattle.std.proofs.Common.{rules, ◌≡◌, List, Option, Some, None, refl, slice_get, subst}
+use Rattle.std.proofs.Common.{rules, ◌≡◌, Option, Some, None, refl, slice_get, subst}
 use Rattle.std.specs.BTreeMap.{get_by_text}
 use Rattle.cf_machine.specs.IntervalMachine.{run}
 use Rattle.cf_machine.specs.World.{World, start}
