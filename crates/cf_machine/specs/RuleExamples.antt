@@ -8,6 +8,7 @@ use Rattle.cf_stream.specs.StreamState as stream
 use Rattle.cf_hub.specs.SessionState.{Off, On}
 use Rattle.cf_machine.specs.Config.{Config}
 use Rattle.cf_machine.specs.Event.{Event, Epoch, Connect, Ask, AskFrom, Read, Finish, Publish, PublishBy, Deliver, Take, Break, Leave, Trim, Forget, BrokerRestart, Restart, Check, ListHistory}
+use Rattle.cf_machine.specs.IntervalMachine.{run}
 use Rattle.cf_machine.specs.PublicationList.{new_broker}
 use Rattle.cf_machine.specs.ClientLink.{no_link}
 use Rattle.cf_machine.specs.World.{World, start}
@@ -120,6 +121,10 @@ fresh_again = first_publication ++ publishes "2" ∷ Break ann ∷ Connect ann 0
 abbrev pub no_such_publication : List Event
 no_such_publication = opening ++ publishes "1" ∷ Deliver 0 0 ∷ Deliver 0 2 ∷ take ∷ []
 
+-- the id of ann's next command, after these events
+abbrev pub next_id : List Event → ℕ
+next_id es = ((run plain start es).links ann).client.fresh
+
 -- nothing is published where the namespace isn't set up, and that uses no epoch
 abbrev pub publish_elsewhere : List Event
 publish_elsewhere = Publish (codes "chat:x") (codes "1") ∷ Epoch (codes "aaaa") ∷ Publish (codes "chat:x") (codes "1") ∷ publishes "2" ∷ Connect ann 0 ∷ ListHistory ann news (negsuc 0) ∷ take ∷ []
@@ -177,6 +182,13 @@ channel_129 = Epoch (codes "aaaa") ∷ Ask ann news ∷ Read ann news ∷ take �
 -- 107: the name is empty, or longer than 255 bytes, which is looked at first
 abbrev pub bad_channel : List Event
 bad_channel = Connect ann 0 ∷ Ask ann [] ∷ take ∷ PublishBy ann (ones 256) (codes "1") ∷ take ∷ Ask ann (ones 255 ++ codes ":") ∷ take ∷ []
+
+-- what is printed for it: a line for each name
+abbrev pub refused_names : List ℕ
+refused_names =
+    (codes "ann  refused 107" ++ 10 ∷ [])
+    ++ ((codes "ann " ++ (ones 256 ++ (codes " refused 107" ++ 10 ∷ [])))
+    ++ (codes "ann " ++ (ones 255 ++ (codes ": refused 107" ++ 10 ∷ []))))
 
 -- 3501: the text of a command has 65,537 bytes, and not where it has 65,536
 abbrev pub long_text : List Event
