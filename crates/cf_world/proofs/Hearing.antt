@@ -27,8 +27,7 @@ use Rattle.cf_machine.specs.Session.{Session}
 use Rattle.cf_machine.specs.Weights.{command_length}
 use Rattle.cf_machine.specs.World.{World}
 use Rattle.cf_world.specs.ClientTie.{Becomes, IsOwn, sent_state}
-use Rattle.cf_world.specs.Exchange.{AreSame}
-use Rattle.cf_world.specs.HubCalls.{AtHub, Closed, Told}
+use Rattle.cf_world.specs.HubCalls.{AreSame, AtHub, Closed, Told}
 use Rattle.cf_world.specs.NodesTie.{IsSeated, seated}
 use Rattle.cf_world.specs.Tie.{AreTied}
 use Rattle.cf_world.specs.declared.broker.Broker.{Broker as Code}

@@ -1,5 +1,5 @@
 -- What is asked of a session that says another one is answered as of that one.
-use Rattle.std.proofs.Common.{◌≡◌, ℕ, not, true, Option, Some, None, List, [], ◌∷◌, refl, sym, ap, ◌∙◌, subst, slice_get, option_and_then}
+use Rattle.std.proofs.Common.{◌≡◌, ℕ, not, true, Option, Some, None, List, [], ◌∷◌, refl, sym, ap, ◌∙◌, subst, slice_get}
 use Rattle.std.specs.List.{AllZip}
 use Rattle.std.proofs.lemmas.Option.{same_Some}
 use Rattle.cf_protocol.specs.Note.{Lists, Note}
@@ -16,6 +16,7 @@ use Rattle.cf_hub.specs.SessionState.{Subscription, Off, Asked, Ready, On, is_as
 use Rattle.cf_hub.specs.declared.asking.Asked.{Asked as Answer}
 use Rattle.cf_hub.specs.Wordings.{Held}
 use Rattle.cf_machine.specs.Session.{Session, Sub}
+use Rattle.cf_world.specs.HubCalls.{front}
 
 pub off_is : (s : Sub) → is_off s ≡ true → s ≡ Off
 off_is Off h = refl
@@ -146,9 +147,6 @@ module _ (lists : Lists) where
   attached (Some a) b h = (a, refl, h)
 
   -- ---- what waits for the client
-
-  abbrev front : Option Attached → Option Item
-  front o = option_and_then (λ (a : Attached). slice_get a.state.notes 0) o
 
   -- nothing does, or a text that says the front note, or the close
   pub record TextFront (t : List ℕ) (ns : List Note) : Type 0 where

@@ -19,7 +19,7 @@ use Rattle.cf_machine.specs.Weights.{command_length}
 use Rattle.cf_machine.specs.World.{World}
 use Rattle.cf_world.specs.BrokerTie.{Histories, Publishes}
 use Rattle.cf_world.specs.ClientTie.{request_by}
-use Rattle.cf_world.specs.HubCalls.{Answered, Hubs, who_in}
+use Rattle.cf_world.specs.HubCalls.{Answered, AreSame, Hubs, who_in}
 use Rattle.cf_world.specs.NodesTie.{seated}
 use Rattle.cf_world.specs.declared.broker.Broker.{Broker as Code}
 use Rattle.cf_world.specs.declared.broker.Published.{Published}
@@ -58,10 +58,6 @@ pub record IsGranted (cfg : Config) (m : World) (x : List ℕ) (p : Peer) (e : C
   pub checked : first_failed (checks cfg.namespaces (request_of e)) ≡ None
 
 -- ---- once it passed its checks
-
--- the nodes are as they were
-abbrev pub AreSame : Hubs → Hubs → Type 0
-AreSame old new = (j : ℕ) → new j ≡ old j
 
 -- what is said to a publish
 abbrev pub PutAnswered : Published → Seat → ℕ → Hubs → Hubs → Type 0

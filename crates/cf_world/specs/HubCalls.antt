@@ -1,5 +1,6 @@
 -- What the calls of one node's hub make of all nodes.
-use Rattle.std.specs.Prelude.{◌≡◌, ◌≢◌, ◌⊎◌, ◌+◌, ℕ, suc, true, false, Option, Some, List, [], ◌∷◌}
+use Rattle.std.specs.Prelude.{◌≡◌, ◌≢◌, ◌⊎◌, ◌+◌, ℕ, suc, true, false, Option, Some, List, [], ◌∷◌, Vec, option_and_then, slice_get}
+use Rattle.std.specs.declared.alloc.Global.{Global}
 use Rattle.cf_protocol.specs.Codes.{code_of}
 use Rattle.cf_protocol.specs.Datum.{Placed}
 use Rattle.cf_protocol.specs.Outgoing.{Answer, Failed, Outcome, Unsubscribed}
@@ -7,13 +8,13 @@ use Rattle.cf_protocol.specs.Position.{Position}
 use Rattle.cf_protocol.specs.Written.{outgoing_text}
 use Rattle.cf_protocol.specs.declared.codes.ErrorCode.{ErrorCode}
 use Rattle.cf_protocol.specs.declared.codes.ErrorCode.TheVariants as error
-use Rattle.cf_queue.specs.OutQueue.{Close, Text}
+use Rattle.cf_queue.specs.OutQueue.{Item, Close, Text}
 use Rattle.cf_hub.specs.Finish.{FinishesAt}
 use Rattle.cf_hub.specs.Hub.{Begins, Delivers, Meets, Node, One, OthersStay, SameNode, SameRest, attached_at, empty, is_open, sub_at, IsBounded, IsFull, NoRoom, Opens}
 use Rattle.cf_followers.specs.Follows.{AreFollows}
-use Rattle.cf_hub.specs.Rows.{Agrees}
+use Rattle.cf_hub.specs.Rows.{Agrees, sub_in}
 use Rattle.cf_hub.specs.Session.{Attached}
-use Rattle.cf_hub.specs.SessionState.{checks, closes_now, is_off, leaves, push, reads, takes_front}
+use Rattle.cf_hub.specs.SessionState.{checks, closes_now, is_off, is_unfinished, leaves, push, reads, takes_front}
 use Rattle.cf_hub.specs.Subscriptions.{reading_of}
 use Rattle.cf_hub.specs.WantOfMemory.{OrCloses}
 use Rattle.cf_hub.specs.Wordings.{plain, reading}
@@ -33,6 +34,26 @@ pub record OneHub (n : ℕ) (P : Node → Node → Type 0) (old new : Hubs) (h :
 
 abbrev pub AtHub : ℕ → (Node → Node → Type 0) → Hubs → Hubs → Type 0
 AtHub n P old new = (h : Node) → old n ≡ Some h → OneHub n P old new h
+
+-- the hubs of a vector, by their nodes' numbers
+abbrev pub hub_at : Vec Node Global → Hubs
+hub_at hubs = slice_get hubs.items
+
+-- of the hubs of a vector, that of node n changes so
+abbrev pub AtNode : ℕ → (Node → Node → Type 0) → Vec Node Global → Vec Node Global → Type 0
+AtNode n P old new = AtHub n P (hub_at old) (hub_at new)
+
+-- all hubs are as they were
+abbrev pub AreSame : Hubs → Hubs → Type 0
+AreSame old new = (j : ℕ) → new j ≡ old j
+
+-- no subscription of a session waits for its reply
+abbrev pub IsSettled : Option Attached → Type 0
+IsSettled o = (c : List ℕ) → is_unfinished (sub_in o c) ≡ false
+
+-- what a session's client takes next
+abbrev pub front : Option Attached → Option Item
+front o = option_and_then (λ (a : Attached). slice_get a.state.notes 0) o
 
 -- no request for memory was refused
 pub record Unrefused (P : Node → Node → Type 0) (h g : Node) : Type 0 where

@@ -13,8 +13,8 @@ use Rattle.cf_machine.specs.Refusals.{bad_message}
 use Rattle.cf_machine.specs.World.{World}
 use Rattle.cf_world.specs.ClientTie.{Becomes, request_by, sent_state}
 use Rattle.cf_world.specs.Errands.{event_by}
-use Rattle.cf_world.specs.Exchange.{AreSame, IsGranted, asks_too_much}
-use Rattle.cf_world.specs.HubCalls.{Answered, AtHub, Closed, Hubs}
+use Rattle.cf_world.specs.Exchange.{IsGranted, asks_too_much}
+use Rattle.cf_world.specs.HubCalls.{AreSame, Answered, AtHub, Closed, Hubs}
 use Rattle.cf_world.specs.Judging.{Judges}
 use Rattle.cf_world.specs.NodesTie.{seated}
 use Rattle.cf_world.specs.Tie.{AreTied}

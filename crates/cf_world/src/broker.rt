@@ -53,7 +53,8 @@ impl Accepted {
     ) -> Result<Accepted, AllocError>
         ensures channel { IfOk result (λ a. string_bytes a.channel ≡ channel.now) }
         ensures epoch { IfOk result (λ a. a.epoch ≡ position.epoch) }
-        ensures publication { IfOk result (λ a. a.publication ≡ record { offset = position.offset; datum = record { body = body.now; info = info } }) }
+        ensures publication { IfOk result (λ a. a.publication
+            ≡ record { offset = position.offset; datum = record { body = body.now; info = info } }) }
     {
         Ok(Accepted {
             channel: String::from_str(alloc, channel)?,
@@ -82,7 +83,8 @@ impl Broker {
 
     /// An epoch waits, behind the others.
     pub(crate) fn epoch(&mut self, epoch: Epoch) -> Result<(), AllocError>
-        ensures { OnOk result ((table : NamespaceTable) (m : Shared) → ShowsBroker table self.old m → ShowsBroker table self.new (epoch_comes epoch m)) }
+        ensures { OnOk result ((table : NamespaceTable) (m : Shared) → ShowsBroker table self.old m
+            → ShowsBroker table self.new (epoch_comes epoch m)) }
     {
         let _letters = epoch.as_str();
         self.epochs.add(epoch)?;
@@ -91,7 +93,8 @@ impl Broker {
 
     /// Whether a channel has a stream, or can have one.
     pub(crate) fn can_open(&self, channel: &str) -> bool
-        ensures { (table : NamespaceTable) (m : Shared) → ShowsBroker table self.now m → result ≡ can_open channel.now m }
+        ensures { (table : NamespaceTable) (m : Shared) → ShowsBroker table self.now m
+            → result ≡ can_open channel.now m }
     {
         if self.streams.position(channel).is_some() {
             return true;
@@ -106,7 +109,9 @@ impl Broker {
         body: &str,
         info: Option<Info>,
     ) -> Result<Published, Short>
-        ensures { IfOk result (λ r. (table : NamespaceTable) (m : Shared) → AreFresh m → IsDatum (record { body = body.now; info = info }) → ShowsBroker table self.old m → Publishes table m channel.now (record { body = body.now; info = info }) self.new r) }
+        ensures { IfOk result (λ r. (table : NamespaceTable) (m : Shared) → AreFresh m
+            → IsDatum (record { body = body.now; info = info }) → ShowsBroker table self.old m
+            → Publishes table m channel.now (record { body = body.now; info = info }) self.new r) }
     {
         if !self.streams.is_set_up(channel) {
             return Ok(Published::NotSetUp);
@@ -134,7 +139,9 @@ impl Broker {
         channel: &str,
         since: Option<Position>,
     ) -> Result<Option<Recovery>, Short>
-        ensures { IfOk result (λ r. (table : NamespaceTable) (m : Shared) → AreFresh m → IsSome (settings_of table channel.now) → ShowsBroker table self.old m → Reads table m channel.now since self.new r) }
+        ensures { IfOk result (λ r. (table : NamespaceTable) (m : Shared) → AreFresh m
+            → IsSome (settings_of table channel.now) → ShowsBroker table self.old m
+            → Reads table m channel.now since self.new r) }
     {
         if !self.streams.is_set_up(channel) {
             return Ok(None);
@@ -148,7 +155,9 @@ impl Broker {
 
     /// The history of a channel's stream. None as for a read.
     pub(crate) fn history(&mut self, channel: &str, limit: i32) -> Result<Option<History>, Short>
-        ensures { IfOk result (λ r. (table : NamespaceTable) (m : Shared) → AreFresh m → IsSome (settings_of table channel.now) → ShowsBroker table self.old m → Histories table m channel.now limit self.new r) }
+        ensures { IfOk result (λ r. (table : NamespaceTable) (m : Shared) → AreFresh m
+            → IsSome (settings_of table channel.now) → ShowsBroker table self.old m
+            → Histories table m channel.now limit self.new r) }
     {
         if !self.streams.is_set_up(channel) {
             return Ok(None);
@@ -165,7 +174,8 @@ impl Broker {
 
     /// Where a channel's stream stands, if it has one.
     pub(crate) fn top(&self, channel: &str) -> Option<Position>
-        ensures { (table : NamespaceTable) (m : Shared) → ShowsBroker table self.now m → result ≡ stands_at (m.streams channel.now) }
+        ensures { (table : NamespaceTable) (m : Shared) → ShowsBroker table self.now m
+            → result ≡ stands_at (m.streams channel.now) }
     {
         self.streams.position(channel)
     }
@@ -173,7 +183,8 @@ impl Broker {
     /// Keeps at most the newest publications of a channel. It takes no memory.
     #[tactic(auto, using(crate::proofs::BoardCalls::trim_shows))]
     pub(crate) fn trim(&mut self, channel: &str, count: usize)
-        ensures { (table : NamespaceTable) (m : Shared) → ShowsBroker table self.old m → ShowsBroker table self.new (trim channel.now count m) }
+        ensures { (table : NamespaceTable) (m : Shared) → ShowsBroker table self.old m
+            → ShowsBroker table self.new (trim channel.now count m) }
     {
         self.streams.trim(channel, count);
     }
@@ -181,7 +192,9 @@ impl Broker {
     /// Ends a channel's stream. It takes no memory.
     #[tactic(auto, using(crate::proofs::BoardCalls::forget_shows))]
     pub(crate) fn forget(&mut self, channel: &str)
-        ensures { (table : NamespaceTable) (m : Shared) → ShowsBroker table self.old m → ShowsBroker table self.new (if is_some (m.streams channel.now) then forget channel.now m else m) }
+        ensures { (table : NamespaceTable) (m : Shared) → ShowsBroker table self.old m
+            → ShowsBroker table self.new
+            (if is_some (m.streams channel.now) then forget channel.now m else m) }
     {
         self.streams.forget(channel);
     }
@@ -189,14 +202,16 @@ impl Broker {
     /// Ends all streams. It takes no memory.
     #[tactic(auto, using(crate::proofs::BoardCalls::restart_shows))]
     pub(crate) fn forget_all(&mut self)
-        ensures { (table : NamespaceTable) (m : Shared) → ShowsBroker table self.old m → ShowsBroker table self.new (forget_all m) }
+        ensures { (table : NamespaceTable) (m : Shared) → ShowsBroker table self.old m
+            → ShowsBroker table self.new (forget_all m) }
     {
         self.streams.forget_all();
     }
 
     /// The publication of this number, from 1, among all that were accepted.
     pub(crate) fn accepted(&self, number: u64) -> Option<&Accepted>
-        ensures { (table : NamespaceTable) (m : Shared) → ShowsBroker table self.now m → Stands m.lists (option_copied result) (publication number m) }
+        ensures { (table : NamespaceTable) (m : Shared) → ShowsBroker table self.now m
+            → Stands m.lists (option_copied result) (publication number m) }
     {
         let index = number.checked_sub(1)?;
         self.accepted.get(index as usize)

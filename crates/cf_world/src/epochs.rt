@@ -42,7 +42,8 @@ impl WaitingEpochs {
             then self.old.waiting.items else self.old.waiting.items ++ epoch ∷ [])) }
         ensures came { OnOk result ((e : List ℕ) → contains_text self.new.came e ≡
             (if (length epoch == 0) || contains_text self.old.came epoch
-            then contains_text self.old.came e else bytes_eq epoch e || contains_text self.old.came e)) }
+            then contains_text self.old.came e
+            else bytes_eq epoch e || contains_text self.old.came e)) }
     {
         if epoch.is_empty() || self.came.contains(epoch.as_str()) {
             return Ok(());
@@ -56,7 +57,8 @@ impl WaitingEpochs {
 // An epoch came.
 #[tactic(auto, using(std::proofs::lemmas::Map::Text::text_keys))]
 fn mark(alloc: Global, came: &mut BTreeSet<String>, epoch: &str) -> Result<(), AllocError>
-    ensures { OnOk result ((e : List ℕ) → contains_text came.new e ≡ (bytes_eq epoch.now e || contains_text came.old e)) }
+    ensures { OnOk result ((e : List ℕ)
+        → contains_text came.new e ≡ (bytes_eq epoch.now e || contains_text came.old e)) }
 {
     let key = String::from_str(alloc, epoch)?;
     came.insert(key)?;

@@ -1,5 +1,5 @@
 //! Commands that clients send: each is heard by its node, and answered.
-ghost use Rattle.std.specs.Prelude.{◌≡◌, ℕ, ℤ, List, Option, OnOk, IsSome, slice_get};
+ghost use Rattle.std.specs.Prelude.{◌≡◌, ℕ, ℤ, List, Option, OnOk, IsSome};
 ghost use Rattle.cf_protocol.specs.Position.{Position as Place};
 ghost use Rattle.cf_protocol.specs.Regular.{IsBody, IsInfo};
 ghost use Rattle.cf_protocol.specs.Settings.{NamespaceTable, settings_of};
@@ -11,7 +11,7 @@ ghost use Rattle.cf_machine.specs.FreshEpochs.{AreFresh};
 ghost use Rattle.cf_machine.specs.PublicationList.{Broker as Shared};
 ghost use Rattle.cf_world.specs.BrokerTie.{ShowsBroker};
 ghost use Rattle.cf_world.specs.Exchange.{Lists, Puts};
-ghost use Rattle.cf_world.specs.HubCalls.{Asks, AtHub, LeftTold, who_in};
+ghost use Rattle.cf_world.specs.HubCalls.{Asks, AtNode, LeftTold, hub_at, who_in};
 ghost use Rattle.cf_world.specs.NodesTie.{seated};
 ghost use Rattle.cf_world.specs.Tie.{GoesOn};
 
@@ -106,7 +106,8 @@ impl World {
     /// A client publishes a datum to a channel.
     pub fn put(&mut self, name: &str, channel: &str, body: &str) -> Result<(), Short>
         requires { IsBody body.now }
-        ensures { OnOk result (GoesOn (said.PublishBy name.now channel.now body.now) self.old self.new) }
+        ensures { OnOk result
+            (GoesOn (said.PublishBy name.now channel.now body.now) self.old self.new) }
     {
         calls_are_alike();
         moves_are_alike();
@@ -131,7 +132,8 @@ impl World {
 
     /// A client asks for the history of a channel: for at most so many publications, or for all where the limit is below 0.
     pub fn list(&mut self, name: &str, channel: &str, limit: i32) -> Result<(), Short>
-        ensures { OnOk result (GoesOn (said.ListHistory name.now channel.now limit) self.old self.new) }
+        ensures { OnOk result
+            (GoesOn (said.ListHistory name.now channel.now limit) self.old self.new) }
     {
         calls_are_alike();
         moves_are_alike();
@@ -158,8 +160,9 @@ impl World {
 // The command is a subscribe: the subscription is begun, or the ask refused.
 fn subscribe_in(hubs: &mut Vec<Hub>, alloc: Global, granted: Granted) -> Result<(), Short>
     ensures { OnOk result ((id : ℕ) (channel : List ℕ) (since : Option Place)
-        → shown_command granted.command ≡ command_of (record { id = id; request = request.Subscribe channel since })
-        → AtHub granted.seat.node (Asks granted.seat.session channel id since) (slice_get hubs.old.items) (slice_get hubs.new.items)) }
+        → shown_command granted.command
+        ≡ command_of (record { id = id; request = request.Subscribe channel since })
+        → AtNode granted.seat.node (Asks granted.seat.session channel id since) hubs.old hubs.new) }
 {
     let Granted { seat, command } = granted;
     let Command { id, request } = command;
@@ -175,8 +178,9 @@ fn subscribe_in(hubs: &mut Vec<Hub>, alloc: Global, granted: Granted) -> Result<
 // The command is an unsubscribe: the channel is left.
 fn unsubscribe_in(hubs: &mut Vec<Hub>, alloc: Global, granted: Granted) -> Result<(), Short>
     ensures { OnOk result ((id : ℕ) (channel : List ℕ)
-        → shown_command granted.command ≡ command_of (record { id = id; request = request.Unsubscribe channel })
-        → AtHub granted.seat.node (LeftTold granted.seat.session channel id) (slice_get hubs.old.items) (slice_get hubs.new.items)) }
+        → shown_command granted.command
+        ≡ command_of (record { id = id; request = request.Unsubscribe channel })
+        → AtNode granted.seat.node (LeftTold granted.seat.session channel id) hubs.old hubs.new) }
 {
     let Granted { seat, command } = granted;
     let Command { id, request } = command;
@@ -197,9 +201,13 @@ fn publish_in(
     granted: Granted,
 ) -> Result<(), Short>
     ensures { OnOk result ((id : ℕ) (channel body : List ℕ)
-        → shown_command granted.command ≡ command_of (record { id = id; request = request.Publish channel body })
-        → (table : NamespaceTable) (m : Shared) → AreFresh m → IsBody body → IsInfo (who_in (seated (slice_get hubs.old.items) granted.seat)) → ShowsBroker table broker.old m
-        → Puts table m granted.seat channel body id broker.new (slice_get hubs.old.items) (slice_get hubs.new.items)) }
+        → shown_command granted.command
+        ≡ command_of (record { id = id; request = request.Publish channel body })
+        → (table : NamespaceTable) (m : Shared) → AreFresh m → IsBody body
+        → IsInfo (who_in (seated (hub_at hubs.old) granted.seat))
+        → ShowsBroker table broker.old m
+        → Puts table m granted.seat channel body id broker.new (hub_at hubs.old)
+        (hub_at hubs.new)) }
 {
     let Granted { seat, command } = granted;
     let Command { id, request } = command;
@@ -231,9 +239,12 @@ fn history_in(
     granted: Granted,
 ) -> Result<(), Short>
     ensures { OnOk result ((id : ℕ) (channel : List ℕ) (limit : ℤ)
-        → shown_command granted.command ≡ command_of (record { id = id; request = request.History channel limit })
-        → (table : NamespaceTable) (m : Shared) → AreFresh m → IsSome (settings_of table channel) → ShowsBroker table broker.old m
-        → Lists table m granted.seat channel limit id broker.new (slice_get hubs.old.items) (slice_get hubs.new.items)) }
+        → shown_command granted.command
+        ≡ command_of (record { id = id; request = request.History channel limit })
+        → (table : NamespaceTable) (m : Shared) → AreFresh m → IsSome (settings_of table channel)
+        → ShowsBroker table broker.old m
+        → Lists table m granted.seat channel limit id broker.new (hub_at hubs.old)
+        (hub_at hubs.new)) }
 {
     let Granted { seat, command } = granted;
     let Command { id, request } = command;

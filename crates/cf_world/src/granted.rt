@@ -1,5 +1,5 @@
 //! What a command comes to at the broker, and what its session is told of it.
-ghost use Rattle.std.specs.Prelude.{◌≡◌, None, Some, IfOk, IsSome, OnOk, slice_get};
+ghost use Rattle.std.specs.Prelude.{◌≡◌, None, Some, IfOk, IsSome, OnOk};
 ghost use Rattle.std.specs.BTreeMap.{get_by_text};
 ghost use Rattle.cf_protocol.specs.Regular.{IsBody, IsInfo};
 ghost use Rattle.cf_protocol.specs.Settings.{NamespaceTable, settings_of};
@@ -10,7 +10,7 @@ ghost use Rattle.cf_machine.specs.FreshEpochs.{AreFresh};
 ghost use Rattle.cf_machine.specs.PublicationList.{Broker as Shared};
 ghost use Rattle.cf_world.specs.BrokerTie.{ShowsBroker};
 ghost use Rattle.cf_world.specs.Exchange.{Lists, Puts, lacks_by, passes, sent_by};
-ghost use Rattle.cf_world.specs.HubCalls.{who_in};
+ghost use Rattle.cf_world.specs.HubCalls.{hub_at, who_in};
 ghost use Rattle.cf_world.specs.NodesTie.{seated};
 ghost use Rattle.cf_world.specs.declared.peers.Peer.{Peer as AnyPeer};
 
@@ -35,7 +35,10 @@ pub(crate) fn lacks_epoch(
     name: &str,
     errand: &Errand<'_>,
 ) -> Result<bool, Short>
-    ensures { IfOk result (λ lacks. (table : NamespaceTable) (m : Shared) (p : AnyPeer) → ShowsBroker table broker.now m → get_by_text peers.now name.now ≡ Some p → call_fault (state_of p.client) ≡ None → lacks ≡ lacks_by namespaces.now (sent_by errand.now p) m) }
+    ensures { IfOk result (λ lacks. (table : NamespaceTable) (m : Shared) (p : AnyPeer)
+        → ShowsBroker table broker.now m → get_by_text peers.now name.now ≡ Some p
+        → call_fault (state_of p.client) ≡ None
+        → lacks ≡ lacks_by namespaces.now (sent_by errand.now p) m) }
 {
     match errand {
         Errand::Put { channel, body } => {
@@ -76,7 +79,10 @@ fn would_pass(
     name: &str,
     request: Request,
 ) -> Result<bool, Short>
-    ensures { IfOk result (λ pass. (p : AnyPeer) → get_by_text peers.now name.now ≡ Some p → call_fault (state_of p.client) ≡ None → pass ≡ passes namespaces.now (record { id = (state_of p.client).client.fresh; request = shown_request request })) }
+    ensures { IfOk result (λ pass. (p : AnyPeer) → get_by_text peers.now name.now ≡ Some p
+        → call_fault (state_of p.client) ≡ None
+        → pass ≡ passes namespaces.now
+        (record { id = (state_of p.client).client.fresh; request = shown_request request })) }
 {
     let Some(peer) = peers.get(name) else {
         return Ok(false);
@@ -108,7 +114,10 @@ pub(crate) fn put_in(
     channel: &str,
     body: &str,
 ) -> Result<(), Short>
-    ensures { OnOk result ((table : NamespaceTable) (m : Shared) → AreFresh m → IsBody body.now → IsInfo (who_in (seated (slice_get hubs.old.items) seat)) → ShowsBroker table broker.old m → Puts table m seat channel.now body.now id broker.new (slice_get hubs.old.items) (slice_get hubs.new.items)) }
+    ensures { OnOk result ((table : NamespaceTable) (m : Shared) → AreFresh m → IsBody body.now
+        → IsInfo (who_in (seated (hub_at hubs.old) seat)) → ShowsBroker table broker.old m
+        → Puts table m seat channel.now body.now id broker.new (hub_at hubs.old)
+        (hub_at hubs.new)) }
 {
     let info = info_in(hubs, alloc, seat)?;
     match broker.publish(channel, body, info)? {
@@ -129,7 +138,9 @@ pub(crate) fn list_in(
     channel: &str,
     limit: i32,
 ) -> Result<(), Short>
-    ensures { OnOk result ((table : NamespaceTable) (m : Shared) → AreFresh m → IsSome (settings_of table channel.now) → ShowsBroker table broker.old m → Lists table m seat channel.now limit id broker.new (slice_get hubs.old.items) (slice_get hubs.new.items)) }
+    ensures { OnOk result ((table : NamespaceTable) (m : Shared) → AreFresh m
+        → IsSome (settings_of table channel.now) → ShowsBroker table broker.old m
+        → Lists table m seat channel.now limit id broker.new (hub_at hubs.old) (hub_at hubs.new)) }
 {
     let Some(history) = broker.history(channel, limit)? else {
         return Ok(());

@@ -1,14 +1,12 @@
 //! Calls of one node's hub, among all.
-ghost use Rattle.std.specs.Prelude.{◌≡◌, ◌↔◌, ℕ, List, Some, None, not, false, IsTrue, OnOk, IfOk, option_and_then, option_map, slice_get, string_bytes};
+ghost use Rattle.std.specs.Prelude.{◌≡◌, ◌↔◌, Some, None, not, IsTrue, OnOk, IfOk, option_map, string_bytes};
 ghost use Rattle.cf_protocol.specs.Codes.{close_code_of, code_of};
 ghost use Rattle.cf_protocol.specs.Outgoing as sent;
 ghost use Rattle.cf_protocol.specs.Shown.{shown_outcome};
 ghost use Rattle.cf_hub.specs.Asking.{asked_of};
 ghost use Rattle.cf_hub.specs.Hub.{Node, attached_at, is_open, sub_at};
-ghost use Rattle.cf_hub.specs.Rows.{sub_in};
-ghost use Rattle.cf_hub.specs.SessionState.{is_unfinished};
 ghost use Rattle.cf_queue.specs.Meaning.{meaning};
-ghost use Rattle.cf_world.specs.HubCalls.{Answered, Asks, AtHub, Attaches, Checked, Closed, Delivered, Finished, Gone, LeftTold, Renewed, Taken, Told, WasRead, error_text, reply_text, who_in};
+ghost use Rattle.cf_world.specs.HubCalls.{Answered, AreSame, Asks, AtNode, Attaches, Checked, Closed, Delivered, Finished, Gone, IsSettled, LeftTold, Renewed, Taken, Told, WasRead, error_text, front, hub_at, reply_text, who_in};
 ghost use Rattle.cf_world.specs.NodesTie.{seated};
 
 use crate::broker::{Accepted, NOW};
@@ -22,7 +20,7 @@ use std::alloc::Global;
 
 /// A subscription is finished.
 pub(crate) fn finish_in(hubs: &mut Vec<Hub>, seat: Seat, channel: &str) -> Result<(), Short>
-    ensures { OnOk result (AtHub seat.node (Finished seat.session channel.now) (slice_get hubs.old.items) (slice_get hubs.new.items)) }
+    ensures { OnOk result (AtNode seat.node (Finished seat.session channel.now) hubs.old hubs.new) }
 {
     let Some(hub) = hubs.get_mut(seat.node as usize) else {
         return Ok(());
@@ -36,8 +34,11 @@ pub(crate) fn finish_in(hubs: &mut Vec<Hub>, seat: Seat, channel: &str) -> Resul
 
 /// A publication is delivered.
 pub(crate) fn deliver_in(hubs: &mut Vec<Hub>, node: u8, accepted: &Accepted) -> Result<(), Short>
-    ensures there { OnOk result (AtHub node (Delivered (string_bytes accepted.now.channel) accepted.now.epoch accepted.now.publication) (slice_get hubs.old.items) (slice_get hubs.new.items)) }
-    ensures none { OnOk result (slice_get hubs.old.items node ≡ None → (j : ℕ) → slice_get hubs.new.items j ≡ slice_get hubs.old.items j) }
+    ensures there { OnOk result (AtNode node
+        (Delivered (string_bytes accepted.now.channel) accepted.now.epoch accepted.now.publication)
+        hubs.old hubs.new) }
+    ensures none { OnOk result (hub_at hubs.old node ≡ None
+        → AreSame (hub_at hubs.old) (hub_at hubs.new)) }
 {
     let Some(hub) = hubs.get_mut(node as usize) else {
         return Ok(());
@@ -57,7 +58,8 @@ pub(crate) fn check_in(
     channel: &str,
     top: Option<Position>,
 ) -> Result<(), Short>
-    ensures { OnOk result (AtHub seat.node (Checked seat.session channel.now top) (slice_get hubs.old.items) (slice_get hubs.new.items)) }
+    ensures { OnOk result (AtNode seat.node (Checked seat.session channel.now top)
+        hubs.old hubs.new) }
 {
     let Some(hub) = hubs.get_mut(seat.node as usize) else {
         return Ok(());
@@ -103,7 +105,8 @@ pub(crate) fn answer_in(
     id: u32,
     outcome: Outcome,
 ) -> Result<(), Short>
-    ensures { OnOk result (Answered seat id (shown_outcome outcome) (slice_get hubs.old.items) (slice_get hubs.new.items)) }
+    ensures { OnOk result (Answered seat id (shown_outcome outcome)
+        (hub_at hubs.old) (hub_at hubs.new)) }
 {
     let Some(hub) = hubs.get_mut(seat.node as usize) else {
         return Ok(());
@@ -120,7 +123,8 @@ pub(crate) fn refuse_in(
     id: u32,
     code: ErrorCode,
 ) -> Result<(), Short>
-    ensures { OnOk result (Answered seat id (sent.Failed (code_of code)) (slice_get hubs.old.items) (slice_get hubs.new.items)) }
+    ensures { OnOk result (Answered seat id (sent.Failed (code_of code))
+        (hub_at hubs.old) (hub_at hubs.new)) }
 {
     let Some(hub) = hubs.get_mut(seat.node as usize) else {
         return Ok(());
@@ -138,7 +142,8 @@ pub(crate) fn ask_in(
     channel: &str,
     since: Option<Position>,
 ) -> Result<(), Short>
-    ensures { OnOk result (AtHub seat.node (Asks seat.session channel.now id since) (slice_get hubs.old.items) (slice_get hubs.new.items)) }
+    ensures { OnOk result (AtNode seat.node (Asks seat.session channel.now id since)
+        hubs.old hubs.new) }
 {
     let Some(hub) = hubs.get_mut(seat.node as usize) else {
         return Ok(());
@@ -177,7 +182,8 @@ pub(crate) fn lose_in(
     id: u32,
     channel: &str,
 ) -> Result<(), Short>
-    ensures { OnOk result (AtHub seat.node (LeftTold seat.session channel.now id) (slice_get hubs.old.items) (slice_get hubs.new.items)) }
+    ensures { OnOk result (AtNode seat.node (LeftTold seat.session channel.now id)
+        hubs.old hubs.new) }
 {
     let Some(hub) = hubs.get_mut(seat.node as usize) else {
         return Ok(());
@@ -195,7 +201,7 @@ fn lose(hub: &mut Hub, alloc: Global, session: u32, id: u32, channel: &str) -> R
 
 /// Whether a session is closed.
 pub(crate) fn is_closed_in(hubs: &Vec<Hub>, seat: Seat) -> bool
-    ensures { result ≡ not (is_open (seated (slice_get hubs.now.items) seat)) }
+    ensures { result ≡ not (is_open (seated (hub_at hubs.now) seat)) }
 {
     match hubs.get(seat.node as usize) {
         None => true,
@@ -205,7 +211,7 @@ pub(crate) fn is_closed_in(hubs: &Vec<Hub>, seat: Seat) -> bool
 
 /// Whether a session waits for no reply to a subscribe.
 pub(crate) fn is_settled_in(hubs: &Vec<Hub>, seat: Seat) -> bool
-    ensures { IsTrue result ↔ ((c : List ℕ) → is_unfinished (sub_in (seated (slice_get hubs.now.items) seat) c) ≡ false) }
+    ensures { IsTrue result ↔ IsSettled (seated (hub_at hubs.now) seat) }
 {
     match hubs.get(seat.node as usize) {
         None => true,
@@ -215,7 +221,7 @@ pub(crate) fn is_settled_in(hubs: &Vec<Hub>, seat: Seat) -> bool
 
 /// Who a session's client is. All clients connect as the empty user.
 pub(crate) fn info_in(hubs: &Vec<Hub>, alloc: Global, seat: Seat) -> Result<Option<Info>, Short>
-    ensures { IfOk result (λ who. who ≡ who_in (seated (slice_get hubs.now.items) seat)) }
+    ensures { IfOk result (λ who. who ≡ who_in (seated (hub_at hubs.now) seat)) }
 {
     let Some(hub) = hubs.get(seat.node as usize) else {
         return Ok(None);
@@ -230,7 +236,7 @@ pub(crate) fn info_in(hubs: &Vec<Hub>, alloc: Global, seat: Seat) -> Result<Opti
 
 /// A read of a stream is handed over.
 pub(crate) fn read_in(hubs: &mut Vec<Hub>, seat: Seat, channel: &str, recovery: Recovery)
-    ensures { AtHub seat.node (WasRead seat.session channel.now recovery) (slice_get hubs.old.items) (slice_get hubs.new.items) }
+    ensures { AtNode seat.node (WasRead seat.session channel.now recovery) hubs.old hubs.new }
 {
     if let Some(hub) = hubs.get_mut(seat.node as usize) {
         let _done = hub.read_done(seat.session, channel, recovery);
@@ -239,7 +245,7 @@ pub(crate) fn read_in(hubs: &mut Vec<Hub>, seat: Seat, channel: &str, recovery: 
 
 /// A session is closed.
 pub(crate) fn close_in(hubs: &mut Vec<Hub>, seat: Seat, code: CloseCode)
-    ensures { AtHub seat.node (Closed seat.session (close_code_of code)) (slice_get hubs.old.items) (slice_get hubs.new.items) }
+    ensures { AtNode seat.node (Closed seat.session (close_code_of code)) hubs.old hubs.new }
 {
     if let Some(hub) = hubs.get_mut(seat.node as usize) {
         hub.close(seat.session, code.code());
@@ -248,7 +254,7 @@ pub(crate) fn close_in(hubs: &mut Vec<Hub>, seat: Seat, code: CloseCode)
 
 /// A session goes.
 pub(crate) fn detach_in(hubs: &mut Vec<Hub>, seat: Seat)
-    ensures { AtHub seat.node (Gone seat.session) (slice_get hubs.old.items) (slice_get hubs.new.items) }
+    ensures { AtNode seat.node (Gone seat.session) hubs.old hubs.new }
 {
     if let Some(hub) = hubs.get_mut(seat.node as usize) {
         let _gone = hub.detach(seat.session);
@@ -257,7 +263,8 @@ pub(crate) fn detach_in(hubs: &mut Vec<Hub>, seat: Seat)
 
 /// The subscription of a session to a channel, while the stream was not read for it.
 pub(crate) fn asked_in(hubs: &Vec<Hub>, seat: Seat, channel: &str) -> Option<Asked>
-    ensures { (h : Node) → slice_get hubs.now.items seat.node ≡ Some h → result ≡ asked_of (sub_at h seat.session channel.now) }
+    ensures { (h : Node) → hub_at hubs.now seat.node ≡ Some h
+        → result ≡ asked_of (sub_at h seat.session channel.now) }
 {
     match hubs.get(seat.node as usize) {
         None => None,
@@ -267,7 +274,7 @@ pub(crate) fn asked_in(hubs: &Vec<Hub>, seat: Seat, channel: &str) -> Option<Ask
 
 /// A node restarts: its sessions are gone, and its boot number grows.
 pub(crate) fn renew_in(hubs: &mut Vec<Hub>, alloc: Global, node: u8) -> Result<(), Short>
-    ensures { OnOk result (AtHub node (Renewed node) (slice_get hubs.old.items) (slice_get hubs.new.items)) }
+    ensures { OnOk result (AtNode node (Renewed node) hubs.old hubs.new) }
 {
     let Some(hub) = hubs.get_mut(node as usize) else {
         return Ok(());
@@ -281,8 +288,9 @@ pub(crate) fn renew_in(hubs: &mut Vec<Hub>, alloc: Global, node: u8) -> Result<(
 
 /// Takes what is next for a session's client.
 pub(crate) fn take_in(hubs: &mut Vec<Hub>, seat: Seat) -> Option<Out>
-    ensures front { (h : Node) → slice_get hubs.old.items seat.node ≡ Some h → option_map meaning result ≡ option_and_then (λ a. slice_get a.state.notes 0) (attached_at h seat.session) }
-    ensures taken { AtHub seat.node (Taken seat.session) (slice_get hubs.old.items) (slice_get hubs.new.items) }
+    ensures front { (h : Node) → hub_at hubs.old seat.node ≡ Some h
+        → option_map meaning result ≡ front (attached_at h seat.session) }
+    ensures taken { AtNode seat.node (Taken seat.session) hubs.old hubs.new }
 {
     match hubs.get_mut(seat.node as usize) {
         None => None,
@@ -292,7 +300,7 @@ pub(crate) fn take_in(hubs: &mut Vec<Hub>, seat: Seat) -> Option<Out>
 
 /// A new session. None where the node isn't there, or has no room.
 pub(crate) fn attach_in(hubs: &mut Vec<Hub>, alloc: Global, node: u8) -> Result<Option<u32>, Short>
-    ensures { IfOk result (λ k. Attaches node k (slice_get hubs.old.items) (slice_get hubs.new.items)) }
+    ensures { IfOk result (λ k. Attaches node k (hub_at hubs.old) (hub_at hubs.new)) }
 {
     let Some(hub) = hubs.get_mut(node as usize) else {
         return Ok(None);

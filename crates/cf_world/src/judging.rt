@@ -30,8 +30,10 @@ pub(crate) enum Judged {
 
 /// The one command of a text. None where the text is none of one command.
 fn command_of(alloc: Global, text: &str) -> Result<Option<Command>, Short>
-    ensures found { IfOk result (λ found. IfSome found (λ command. IsCommands text.now (shown_command command ∷ []))) }
-    ensures none { IfOk result (λ found. IfNone found ((k : request.Command) → IsCommands text.now (k ∷ []) → ⊥)) }
+    ensures found { IfOk result
+        (λ found. IfSome found (λ command. IsCommands text.now (shown_command command ∷ []))) }
+    ensures none { IfOk result (λ found. IfNone found ((k : request.Command)
+        → IsCommands text.now (k ∷ []) → ⊥)) }
 {
     let mut commands = match read_commands(alloc, text) {
         Ok(commands) => commands,

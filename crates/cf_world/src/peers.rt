@@ -51,7 +51,9 @@ pub(crate) fn join(
     name: &str,
     seat: Seat,
 ) -> Result<(), Short>
-    ensures { OnOk result (Joins name.now seat (state_before (get_by_text peers.old name.now)) (get_by_text peers.old) (get_by_text peers.new)) }
+    ensures { OnOk result
+        (Joins name.now seat (state_before (get_by_text peers.old name.now)) (get_by_text peers.old)
+        (get_by_text peers.new)) }
 {
     if is_known(peers, name) {
         rejoin(peers, name, seat)?;
@@ -63,7 +65,8 @@ pub(crate) fn join(
 
 /// A client that was seen before connects, and sits here.
 fn rejoin(peers: &mut BTreeMap<String, Peer>, name: &str, seat: Seat) -> Result<(), Short>
-    ensures { OnOk result ((p : AnyPeer) → get_by_text peers.old name.now ≡ Some p → Joins name.now seat (state_of p.client) (get_by_text peers.old) (get_by_text peers.new)) }
+    ensures { OnOk result ((p : AnyPeer) → get_by_text peers.old name.now ≡ Some p
+        → Joins name.now seat (state_of p.client) (get_by_text peers.old) (get_by_text peers.new)) }
 {
     let Some(peer) = peers.get_mut(name) else {
         return Ok(());
@@ -79,7 +82,8 @@ fn add(
     name: &str,
     seat: Seat,
 ) -> Result<(), Short>
-    ensures { OnOk result (Joins name.now seat new_state (get_by_text peers.old) (get_by_text peers.new)) }
+    ensures { OnOk result
+        (Joins name.now seat new_state (get_by_text peers.old) (get_by_text peers.new)) }
 {
     let client = Client::new(alloc);
     let mut peer = Peer { client, seat: None };
@@ -91,7 +95,8 @@ fn add(
 
 /// The connection of a client is gone.
 pub(crate) fn unseat(peers: &mut BTreeMap<String, Peer>, name: &str)
-    ensures { (p : AnyPeer) → get_by_text peers.old name.now ≡ Some p → Unseats name.now p (get_by_text peers.old) (get_by_text peers.new) }
+    ensures { (p : AnyPeer) → get_by_text peers.old name.now ≡ Some p
+        → Unseats name.now p (get_by_text peers.old) (get_by_text peers.new) }
 {
     if let Some(peer) = peers.get_mut(name) {
         peer.break_off();
@@ -114,7 +119,8 @@ pub(crate) fn send(
     name: &str,
     errand: &Errand<'_>,
 ) -> Result<Option<String>, Short>
-    ensures { IfOk result (λ text. (p : AnyPeer) → get_by_text peers.old name.now ≡ Some p → Sends errand.now name.now p (get_by_text peers.old) (get_by_text peers.new) text) }
+    ensures { IfOk result (λ text. (p : AnyPeer) → get_by_text peers.old name.now ≡ Some p
+        → Sends errand.now name.now p (get_by_text peers.old) (get_by_text peers.new) text) }
 {
     let Some(peer) = peers.get_mut(name) else {
         return Ok(None);
@@ -134,7 +140,9 @@ pub(crate) fn hear(
     name: &str,
     text: &str,
 ) -> Result<Vec<AppEvent>, Short>
-    ensures { IfOk result (λ told. (p : AnyPeer) → get_by_text peers.old name.now ≡ Some p → Heard name.now text.now p (get_by_text peers.old) (get_by_text peers.new) (map shown_item told.items)) }
+    ensures { IfOk result (λ told. (p : AnyPeer) → get_by_text peers.old name.now ≡ Some p
+        → Heard name.now text.now p (get_by_text peers.old) (get_by_text peers.new)
+        (map shown_item told.items)) }
 {
     let Some(peer) = peers.get_mut(name) else {
         return Ok(Vec::new(alloc));
@@ -152,7 +160,9 @@ impl Peer {
     ghost use Rattle.cf_client.specs.ClientView.{state_of};
     ghost use Rattle.cf_client.specs.OneAnswer.{AreApart};
     ghost use Rattle.cf_machine.specs.ClientRequest.{command_of};
-    ghost use Rattle.cf_world.specs.ClientTie.{AsksFrom, LeavesAs, is_at, request_by, send_fault, sent_state};
+    ghost use Rattle.cf_world.specs.ClientTie.{AsksFrom, LeavesAs, is_at, request_by, send_fault};
+    ghost use Rattle.cf_world.specs.ClientTie.{sent_state};
+    ghost use Rattle.cf_world.specs.Exchange.{sent_by};
 
     fn break_off(&mut self)
         ensures state { state_of self.new.client ≡ reconnected (state_of self.old.client) }
@@ -180,7 +190,8 @@ impl Peer {
     }
 
     fn join(&mut self, seat: Seat) -> Result<(), Short>
-        ensures state { OnOk result (state_of self.new.client ≡ connected (state_of self.old.client)) }
+        ensures state { OnOk result (state_of self.new.client
+            ≡ connected (state_of self.old.client)) }
         ensures seat { OnOk result (self.new.seat ≡ Some seat) }
     {
         match self.client.connect("") {
@@ -193,8 +204,11 @@ impl Peer {
     }
 
     fn send(&mut self, errand: &Errand<'_>) -> Result<String, ClientFault>
-        ensures text { IfOk result (λ t. string_bytes t ≡ command_text (command_of (record { id = (state_of self.old.client).client.fresh; request = request_by errand.now (state_of self.old.client).client }))) }
-        ensures ok { OnOk result (state_of self.new.client ≡ sent_state (request_by errand.now (state_of self.old.client).client) (state_of self.old.client)) }
+        ensures text { IfOk result (λ t. string_bytes t
+            ≡ command_text (command_of (sent_by errand.now self.old))) }
+        ensures ok { OnOk result (state_of self.new.client
+            ≡ sent_state (request_by errand.now (state_of self.old.client).client)
+            (state_of self.old.client)) }
         ensures refused { RefusedBy (send_fault errand.now (state_of self.old.client)) result }
         ensures err { OnErr result (state_of self.new.client ≡ state_of self.old.client) }
         ensures seat { self.new.seat ≡ self.old.seat }

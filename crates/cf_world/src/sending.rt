@@ -1,9 +1,10 @@
 //! A client sends a command, and its node hears it.
-ghost use Rattle.std.specs.Prelude.{IfOk, slice_get};
+ghost use Rattle.std.specs.Prelude.{IfOk};
 ghost use Rattle.std.specs.BTreeMap.{get_by_text};
 ghost use Rattle.cf_machine.specs.Config.{Config};
 ghost use Rattle.cf_machine.specs.World.{World as Machine};
 ghost use Rattle.cf_world.specs.Errands.{IsReadBack};
+ghost use Rattle.cf_world.specs.HubCalls.{hub_at};
 ghost use Rattle.cf_world.specs.Sending.{Hears, SendsAs};
 ghost use Rattle.cf_world.specs.Tie.{AreTied};
 
@@ -36,7 +37,8 @@ fn hear_in(
     seat: Seat,
     text: &str,
 ) -> Result<Judged, Short>
-    ensures { IfOk result (λ judged. Hears namespaces.now seat text.now (slice_get hubs.old.items) (slice_get hubs.new.items) judged) }
+    ensures { IfOk result
+        (λ judged. Hears namespaces.now seat text.now (hub_at hubs.old) (hub_at hubs.new) judged) }
 {
     let is_closed = is_closed_in(hubs, seat);
     match judge(alloc, namespaces, is_closed, text)? {
@@ -66,8 +68,9 @@ pub(crate) fn send_in(
     errand: &Errand<'_>,
 ) -> Result<Option<Granted>, Short>
     ensures { IfOk result (λ granted. (cfg : Config) (m : Machine) → IsReadBack errand.now
-        → AreTied cfg namespaces.now broker.now (slice_get hubs.old.items) (get_by_text peers.old) m
-        → SendsAs cfg m name.now errand.now (slice_get hubs.old.items) (slice_get hubs.new.items) (get_by_text peers.old) (get_by_text peers.new) namespaces.now broker.now granted) }
+        → AreTied cfg namespaces.now broker.now (hub_at hubs.old) (get_by_text peers.old) m
+        → SendsAs cfg m name.now errand.now (hub_at hubs.old) (hub_at hubs.new)
+        (get_by_text peers.old) (get_by_text peers.new) namespaces.now broker.now granted) }
 {
     calls_are_alike();
     moves_are_alike();

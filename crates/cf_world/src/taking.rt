@@ -61,7 +61,8 @@ fn entries(
     name: &str,
     told: Vec<AppEvent>,
 ) -> Result<Vec<Entry>, AllocError>
-    ensures { IfOk result (λ es. map shown_entry es.items ≡ entries_of at name.now (flat_map told_of (map shown_item told.items))) }
+    ensures { IfOk result (λ es. map shown_entry es.items
+        ≡ entries_of at name.now (flat_map told_of (map shown_item told.items))) }
 {
     let mut entries = Vec::new(alloc);
     for event in told {
@@ -86,7 +87,8 @@ fn item_of(event: AppEvent) -> Option<Item>
 
 // A close, as an entry of event number `at`.
 fn closed(alloc: Global, at: usize, name: &str, code: u16) -> Result<Vec<Entry>, AllocError>
-    ensures { IfOk result (λ es. map shown_entry es.items ≡ entries_of at name.now (item.Closed code ∷ [])) }
+    ensures { IfOk result (λ es. map shown_entry es.items
+        ≡ entries_of at name.now (item.Closed code ∷ [])) }
 {
     let mut entries = Vec::new(alloc);
     let client = String::from_str(alloc, name)?;

@@ -34,7 +34,8 @@ pub struct World {
 impl World {
     /// A world in which nothing has happened, with so many nodes.
     pub fn new(alloc: Global, nodes: u8, namespaces: &Namespaces) -> Result<World, Short>
-        ensures { IfOk result (λ w. Tied (record { nodes = nodes; namespaces = namespaces.now }) w start) }
+        ensures { IfOk result
+            (λ w. Tied (record { nodes = nodes; namespaces = namespaces.now }) w start) }
     {
         let hubs = new_hubs(alloc, nodes)?;
         let namespaces_kept = namespaces.copied()?;
