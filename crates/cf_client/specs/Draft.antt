@@ -2,12 +2,14 @@
 use Rattle.std.specs.Prelude.{ℕ, suc, ◌==◌, not, Option, Some, None, List, [], ◌∷◌, filter}
 use Rattle.std.specs.BTreeMap.{get_by_text}
 use Rattle.std.specs.Option.{option_map}
+use Rattle.cf_client.specs.AppItem.{AppItem}
 use Rattle.cf_client.specs.ClientState.{Mode}
 use Rattle.cf_client.specs.ClientCalls.{Call, State}
 use Rattle.cf_client.specs.ClientView.{ids_of}
-use Rattle.cf_client.specs.Shown.{Channels, mode_or_idle, calls_of}
+use Rattle.cf_client.specs.Shown.{Channels, mode_or_idle, calls_of, TellsAlso}
 use Rattle.cf_client.specs.declared.channels.Mode.{Mode as CodeMode}
 use Rattle.cf_client.specs.declared.draft.Draft.{Draft as CodeDraft}
+use Rattle.cf_client.specs.declared.event.AppEvent.{AppEvent}
 use Rattle.cf_client.specs.declared.known.Known.{Known as CodeKnown}
 
 -- what was changed, or else what was there
@@ -34,3 +36,7 @@ drafted k d = record {
   client = record { fresh = suc k.last_id; modes = drafted_mode k.channels d.changed; calls = ids_of (drafted_calls d.answered.items (calls_of k.calls.items)) };
   out = drafted_calls d.answered.items (calls_of k.calls.items);
 }
+
+-- a draft takes this step, and the application is told what the step says
+abbrev pub Drafts : CodeKnown → (State → State → List AppItem → Type 0) → CodeDraft → CodeDraft → List AppEvent → List AppEvent → Type 0
+Drafts k step old new before after = TellsAlso (step (drafted k old) (drafted k new)) before after

@@ -2,10 +2,10 @@
 ghost use Rattle.std.specs.Prelude.{◌≡◌, ◌++◌, List, ℕ, Some, None, false, true, IsSome, map, option_map, IfOk, IfSome, IfNone, OnOk, string_bytes, length};
 ghost use Rattle.cf_protocol.specs.Outgoing as sent;
 ghost use Rattle.cf_protocol.specs.Shown.{shown_outgoing, shown_outcome, shown_pushed};
-ghost use Rattle.cf_client.specs.ClientCalls.{answered, asks_under, channel_under, moves, AnswersCall, TakesAll, Takes, TakesAnswer, TakesPublication, TakesEnd};
+ghost use Rattle.cf_client.specs.ClientCalls.{answered, asks_under, channel_under, moves, AnswersCall, TakesAll, Takes, TakesAnswer, TakesPush};
 ghost use Rattle.cf_client.specs.AppItem as item;
-ghost use Rattle.cf_client.specs.Draft.{drafted, drafted_code, drafted_mode};
-ghost use Rattle.cf_client.specs.Shown.{shown_item, shown_mode, known_state, TellsAlso};
+ghost use Rattle.cf_client.specs.Draft.{Drafts, drafted, drafted_code, drafted_mode};
+ghost use Rattle.cf_client.specs.Shown.{shown_item, shown_mode, known_state};
 ghost use Rattle.cf_client.specs.declared.known.Known.{Known as CodeKnown};
 ghost use Rattle.std.specs.BTreeMap.{get_by_text};
 
@@ -34,7 +34,8 @@ pub(crate) fn draft_of(
     known: &Known,
     outgoings: Vec<Outgoing>,
 ) -> Result<(Draft, Vec<AppEvent>), AllocError>
-    ensures { IfOk result (λ r. TakesAll (map shown_outgoing outgoings.items) (known_state known.now) (drafted known.now r.0) (map shown_item r.1.items)) }
+    ensures { IfOk result (λ r. TakesAll (map shown_outgoing outgoings.items)
+        (known_state known.now) (drafted known.now r.0) (map shown_item r.1.items)) }
 {
     let mut draft = Draft::new(alloc);
     let mut events = Vec::new(alloc);
@@ -86,8 +87,10 @@ impl Draft {
 
     /// The channel that then waits for the answer to the command of this id.
     fn channel_asking(&self, known: &Known, id: u32) -> Result<Option<String>, AllocError>
-        ensures some { IfOk result (λ found. IfSome found (λ s. asks_under id (drafted_mode known.now.channels self.now.changed (string_bytes s)) ≡ true)) }
-        ensures none { IfOk result (λ found. IfNone found ((c : List ℕ) → asks_under id (drafted_mode known.now.channels self.now.changed c) ≡ false)) }
+        ensures some { IfOk result (λ found. IfSome found (λ s. asks_under id
+            (drafted_mode known.now.channels self.now.changed (string_bytes s)) ≡ true)) }
+        ensures none { IfOk result (λ found. IfNone found ((c : List ℕ)
+            → asks_under id (drafted_mode known.now.channels self.now.changed c) ≡ false)) }
     {
         for (channel, _mode) in &known.channels {
             let mode = self.mode_at(known, channel.as_str());
@@ -101,7 +104,8 @@ impl Draft {
 
     /// Changes the mode of a channel.
     fn put(&mut self, channel: &str, mode: Mode) -> Result<(), AllocError>
-        ensures { OnOk result ((k : CodeKnown) → IsSome (get_by_text k.channels channel.now) → drafted k self.new ≡ moves channel.now (shown_mode mode) (drafted k self.old)) }
+        ensures { OnOk result ((k : CodeKnown) → IsSome (get_by_text k.channels channel.now)
+            → drafted k self.new ≡ moves channel.now (shown_mode mode) (drafted k self.old)) }
     {
         let key = String::from_str(self.alloc, channel)?;
         self.changed.insert(key, mode)?;
@@ -110,8 +114,10 @@ impl Draft {
 
     /// The call of this id is no longer out. Gives its channel.
     fn answer_call(&mut self, known: &Known, id: u32) -> Result<Option<String>, AllocError>
-        ensures found { IfOk result (λ found. option_map string_bytes found ≡ channel_under id (drafted known.now self.old).out) }
-        ensures answered { OnOk result (drafted known.now self.new ≡ answered id (drafted known.now self.old)) }
+        ensures found { IfOk result (λ found. option_map string_bytes found
+            ≡ channel_under id (drafted known.now self.old).out) }
+        ensures answered { OnOk result (drafted known.now self.new
+            ≡ answered id (drafted known.now self.old)) }
     {
         let found = if self.answered.contains(&id) {
             None
@@ -128,7 +134,8 @@ impl Draft {
         outgoing: Outgoing,
         events: &mut Vec<AppEvent>,
     ) -> Result<(), AllocError>
-        ensures { OnOk result (TellsAlso (Takes (shown_outgoing outgoing) (drafted known.now self.old) (drafted known.now self.new)) events.old.items events.new.items) }
+        ensures { OnOk result (Drafts known.now (Takes (shown_outgoing outgoing))
+            self.old self.new events.old.items events.new.items) }
     {
         match outgoing {
             Outgoing::Ping => {
@@ -155,7 +162,8 @@ impl Draft {
         outcome: Outcome,
         events: &mut Vec<AppEvent>,
     ) -> Result<(), AllocError>
-        ensures { OnOk result (TellsAlso (TakesAnswer id (shown_outcome outcome) (drafted known.now self.old) (drafted known.now self.new)) events.old.items events.new.items) }
+        ensures { OnOk result (Drafts known.now (TakesAnswer id (shown_outcome outcome))
+            self.old self.new events.old.items events.new.items) }
     {
         match outcome {
             Outcome::Subscribed {
@@ -200,7 +208,10 @@ impl Draft {
         was_recovering: bool,
         events: &mut Vec<AppEvent>,
     ) -> Result<(), AllocError>
-        ensures { OnOk result (TellsAlso (TakesAnswer id (sent.Subscribed position.now publications.items recovered was_recovering) (drafted known.now self.old) (drafted known.now self.new)) events.old.items events.new.items) }
+        ensures { OnOk result (Drafts known.now
+            (TakesAnswer id
+            (sent.Subscribed position.now publications.items recovered was_recovering))
+            self.old self.new events.old.items events.new.items) }
     {
         let Some(channel) = self.channel_asking(known, id)? else {
             return Ok(());
@@ -220,7 +231,8 @@ impl Draft {
         code: u32,
         events: &mut Vec<AppEvent>,
     ) -> Result<(), AllocError>
-        ensures { OnOk result (TellsAlso (TakesAnswer id (sent.Failed code) (drafted known.now self.old) (drafted known.now self.new)) events.old.items events.new.items) }
+        ensures { OnOk result (Drafts known.now (TakesAnswer id (sent.Failed code))
+            self.old self.new events.old.items events.new.items) }
     {
         let Some(channel) = self.channel_asking(known, id)? else {
             return self.call_failed(known, id, code, events);
@@ -238,7 +250,8 @@ impl Draft {
         code: u32,
         events: &mut Vec<AppEvent>,
     ) -> Result<(), AllocError>
-        ensures { OnOk result (TellsAlso (AnswersCall id (λ c. item.Refused c code) (drafted known.now self.old) (drafted known.now self.new)) events.old.items events.new.items) }
+        ensures { OnOk result (Drafts known.now (AnswersCall id (λ c. item.Refused c code))
+            self.old self.new events.old.items events.new.items) }
     {
         let Some(channel) = self.answer_call(known, id)? else {
             return Ok(());
@@ -256,7 +269,9 @@ impl Draft {
         count: usize,
         events: &mut Vec<AppEvent>,
     ) -> Result<(), AllocError>
-        ensures { OnOk result (TellsAlso (AnswersCall id (λ c. item.Listed c position.now count) (drafted known.now self.old) (drafted known.now self.new)) events.old.items events.new.items) }
+        ensures { OnOk result (Drafts known.now
+            (AnswersCall id (λ c. item.Listed c position.now count))
+            self.old self.new events.old.items events.new.items) }
     {
         let Some(channel) = self.answer_call(known, id)? else {
             return Ok(());
@@ -277,7 +292,9 @@ impl Draft {
         publication: Publication,
         events: &mut Vec<AppEvent>,
     ) -> Result<(), AllocError>
-        ensures { OnOk result (TellsAlso (TakesPublication (string_bytes channel) publication ((drafted known.now self.old).client.modes (string_bytes channel)) (drafted known.now self.old) (drafted known.now self.new)) events.old.items events.new.items) }
+        ensures { OnOk result (Drafts known.now
+            (TakesPush (string_bytes channel) (sent.Publication publication))
+            self.old self.new events.old.items events.new.items) }
     {
         let Mode::Live { at } = self.mode_at(known, channel.as_str()) else {
             return Ok(());
@@ -299,7 +316,9 @@ impl Draft {
         code: u32,
         events: &mut Vec<AppEvent>,
     ) -> Result<(), AllocError>
-        ensures { OnOk result (TellsAlso (TakesEnd (string_bytes channel) code ((drafted known.now self.old).client.modes (string_bytes channel)) (drafted known.now self.old) (drafted known.now self.new)) events.old.items events.new.items) }
+        ensures { OnOk result (Drafts known.now
+            (TakesPush (string_bytes channel) (sent.Unsubscribe code))
+            self.old self.new events.old.items events.new.items) }
     {
         let Mode::Live { at } = self.mode_at(known, channel.as_str()) else {
             return Ok(());
