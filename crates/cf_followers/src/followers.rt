@@ -5,6 +5,7 @@ ghost use Rattle.cf_followers.specs.Follows.{AreFollows, after_in, channels_of, 
 use crate::named_rows::{add_first_row, add_row, remove_row};
 use crate::names::Names;
 use crate::refusal::FollowRefusal;
+use crate::walk::FollowerWalk;
 use cf_subs::SubTable;
 use std::alloc::Global;
 use std::marker::Model;
@@ -117,6 +118,18 @@ impl Followers {
             remove_row(&mut self.names, &mut self.rows, number, session);
         }
         count - self.rows.len()
+    }
+
+    /// The sessions that follow a channel, in order of adding. It takes no memory, and costs one look-up of the name.
+    pub fn walk(&self, channel: &str) -> FollowerWalk<'_>
+        ensures sessions { result ≡ sessions_of self.now channel.now }
+        ensures rows { AreFollows self.now }
+    {
+        let Some(number) = self.names.number(channel) else {
+            return FollowerWalk { rest: None };
+        };
+        let rest = self.rows.walk(number);
+        FollowerWalk { rest: Some(rest) }
     }
 
     /// The first session that follows a channel. It takes no memory.

@@ -7,6 +7,8 @@ mod followers;
 mod named_rows;
 mod names;
 mod refusal;
+mod walk;
 
 pub use followers::{Followers, MOST_ROWS};
 pub use refusal::FollowRefusal;
+pub use walk::FollowerWalk;
