@@ -1,46 +1,43 @@
 -- A delivery on its way along the sessions of its channel.
-use Rattle.std.proofs.Common.{◌≡◌, ◌≢◌, inl, inr, ℕ, ◌+◌, ◌==◌, ◌≤◌, ◌<◌, not, Bool, true, false, if◌then◌else◌, Option, Some, None, List, [], ◌∷◌, ◌++◌, length, arith, refl, sym, ap, ◌∙◌, subst, slice_get}
+use Rattle.std.proofs.Common.{◌≡◌, ◌≢◌, ◌⊎◌, inl, inr, ℕ, ◌+◌, ◌==◌, ◌≤◌, ◌<◌, not, Bool, true, false, if◌then◌else◌, Option, Some, None, List, [], ◌∷◌, ◌++◌, length, arith, refl, sym, ap, ◌∙◌, subst, is_some}
 use Rattle.std.proofs.lemmas.Bool.Decides.{Decides-eqb, nat_tests}
 use Rattle.std.proofs.lemmas.List.{length-append}
 use Rattle.cf_protocol.specs.Datum.{Placed}
 use Rattle.cf_protocol.specs.Position.{Position}
-use Rattle.cf_followers.specs.Follows.{Follow, sessions_of, after_in, AreFollows, most_rows}
+use Rattle.cf_followers.specs.Follows.{AreFollows, follows, sessions_of}
 use Rattle.cf_queue.specs.OutQueue.{Item}
 use Rattle.cf_hub.specs.declared.delivered.Fate.{Fate}
 use Rattle.cf_hub.specs.declared.delivered.Fate.TheVariants as fate
 use Rattle.cf_hub.specs.declared.delivered.Delivered.{Delivered}
 use Rattle.cf_hub.specs.Delivery.{fate_at, none, one_more, tally, total}
-use Rattle.cf_hub.specs.Hub.{Node, BringStep, Brings, Delivers, attached_at, counted, is_in, one_if}
-use Rattle.cf_hub.specs.Rows.{Agrees, sub_in, rows_after}
+use Rattle.cf_hub.specs.Hub.{AreNumbered, Node, Brings, Delivers, attached_at, counted, is_in, largest, one_if}
+use Rattle.cf_hub.specs.Rows.{AgreedBefore, Agrees, off_after, rows_after, sub_in}
 use Rattle.cf_hub.specs.Session.{Attached}
 use Rattle.cf_hub.specs.SessionState.{Subscription, Off, Asked, Ready, On, SessionState, come_at, is_off}
 use Rattle.cf_hub.specs.Turns.{Turns, get_turns, gets_turn}
 use Rattle.cf_hub.specs.WantOfMemory.{Both}
 use Rattle.cf_hub.specs.Wordings.{Held, at_offset, delivering}
-use Rattle.cf_hub.proofs.Rows.{has, without, Once, follows_has, once_sessions, few_sessions, sessions_without_follow, sessions_without_session}
-use Rattle.cf_hub.proofs.Walks.{once_rest, once_before, after_split, without_split, tally_snoc, tally_same, total_more}
+use Rattle.cf_hub.proofs.Rows.{has, Once, follows_has, once_sessions, few_sessions}
+use Rattle.cf_hub.proofs.Walks.{has_append, middle, off_at, once_before, still_agrees, tally_snoc, tally_same, total_more, twice}
 use Rattle.cf_hub.proofs.Hubs.{counted_both}
 
--- the sessions before this point were served, each once, and those behind it are as they were
-pub record IsOnItsWay (p : Placed) (c e : List ℕ) (old now : Node) (next : Option ℕ) (counts : Delivered) : Type 0 where
+abbrev Sessions : Type 0
+Sessions = ℕ → Option Attached
+
+-- the sessions that were passed were served, each once, and all others are as they were; the rows stay, and while nothing ended
+-- they agree
+pub record IsOnItsWay (p : Placed) (c e : List ℕ) (old : Node) (now : Sessions) (refused : ℕ) (listed : Turns) (counts : Delivered) (done todo : List ℕ) : Type 0 where
   pub hit : List ℕ
   pub requests : ℕ
   pub few_hit : length hit ≤ requests
-  pub count : now.refused ≡ counted requests old.refused
-  pub done : List ℕ
-  pub stay : List ℕ
-  pub todo : List ℕ
+  pub count : refused ≡ counted requests old.refused
   pub all : sessions_of old.rows c ≡ done ++ todo
-  pub left : sessions_of now.rows c ≡ stay ++ todo
-  pub first : next ≡ slice_get todo 0
-  pub once : Once (sessions_of old.rows c)
-  pub few : length (sessions_of old.rows c) ≤ most_rows
-  pub untouched : (k : ℕ) → has k todo ≡ true → attached_at now k ≡ attached_at old k
-  pub served : (k : ℕ) → has k todo ≡ false → Both (Brings (is_in k hit) c e p) (attached_at old k) (attached_at now k)
-  pub counted : counts ≡ tally (λ k. fate_at c (at_offset e p) (attached_at old k) (attached_at now k)) done none
+  pub untouched : (k : ℕ) → has k done ≡ false → now k ≡ attached_at old k
+  pub served : (k : ℕ) → has k done ≡ true → Both (Brings (is_in k hit) c e p) (attached_at old k) (now k)
+  pub counted : counts ≡ tally (λ k. fate_at c (at_offset e p) (attached_at old k) (now k)) done none
   pub so_many : total counts ≡ length done
-  pub turns : now.turns ≡ get_turns done old.turns
-  pub agrees : Agrees (attached_at now) now.rows
+  pub turns : listed ≡ get_turns done old.turns
+  pub quiet : counts.ended + counts.closed ≡ 0 → Agrees now old.rows
 
 -- ---- at first
 
@@ -62,27 +59,21 @@ un_not false h = absurd (cc)
 within : (n : ℕ) → n ≤ 18446744073709551615 → n ≡ counted 0 n
 within n h = omega (arith, h)
 
-pub starts : (p : Placed) (c e : List ℕ) (h : Node) → AreFollows h.rows → Agrees (attached_at h) h.rows → h.refused ≤ 18446744073709551615 → IsOnItsWay p c e h h (slice_get (sessions_of h.rows c) 0) none
-starts p c e h rows agrees small =
+pub starts : (p : Placed) (c e : List ℕ) (old : Node) (now : Sessions) (refused : ℕ) (listed : Turns)
+    → attached_at old ≡ now → refused ≡ old.refused → listed ≡ old.turns → Agrees now old.rows → refused ≤ largest → IsOnItsWay p c e old now refused listed none [] (sessions_of old.rows c)
+starts p c e old now refused listed is was had agrees small =
     record {
       hit = [];
       requests = 0;
       few_hit = omega arith;
-      count = within h.refused small;
-      done = [];
-      stay = [];
-      todo = sessions_of h.rows c;
+      count = within refused small ∙ ap (counted 0) was;
       all = refl;
-      left = refl;
-      first = refl;
-      once = once_sessions h.rows c rows.once;
-      few = few_sessions h.rows c rows.few;
-      untouched = λ k m. refl;
-      served = λ k m. no_subscriber false p c e (attached_at h k) (un_not (is_off (sub_in (attached_at h k) c)) (sym (agrees c k) ∙ follows_has h.rows c k ∙ m));
+      untouched = λ k m. ap (λ (g : Sessions). g k) (sym is);
+      served = λ k m. absurd (cc);
       counted = refl;
       so_many = refl;
-      turns = refl;
-      agrees = agrees;
+      turns = had;
+      quiet = λ _. agrees;
     }
 
 -- ---- one step
@@ -114,129 +105,144 @@ wider p c e s t w (Some a) None h = absurd h
 wider p c e s t w (Some a) (Some b) (inl h, g) = (inl h, g)
 wider p c e s t w (Some a) (Some b) (inr h, g) = (inr (w h.0, h.1), g)
 
-middle : (k : ℕ) (xs ys : List ℕ) → (xs ++ k ∷ []) ++ ys ≡ xs ++ k ∷ ys
-middle k [] ys = refl
-middle k (x ∷ xs) ys = ap (λ zs. x ∷ zs) (middle k xs ys)
+-- whether nothing ended so far
+quiet_before : (f : Fate) (d : Delivered) → (one_more f d).ended + (one_more f d).closed ≡ 0 → (d.ended + d.closed ≡ 0) × ((f ≡ fate.Passed) ⊎ ((f ≡ fate.Kept) ⊎ (f ≡ fate.Dropped)))
+quiet_before fate.Passed d h = (h, inl refl)
+quiet_before fate.Kept d h = (h, inr (inl refl))
+quiet_before fate.Dropped d h = (h, inr (inr refl))
+quiet_before fate.Ended d h = absurd (omega (arith, h))
+quiet_before fate.Closed d h = absurd (omega (arith, h))
 
--- what is left of the channel's sessions behind the one that was met
-left_of : (f : Fate) (c : List ℕ) (k : ℕ) (rows : List Follow) (stay rest : List ℕ) → sessions_of rows c ≡ stay ++ k ∷ rest → has k stay ≡ false → has k rest ≡ false
-    → (more : List ℕ) × (sessions_of (rows_after f c k rows) c ≡ more ++ rest)
-left_of fate.Passed c k rows stay rest e h g = (stay ++ k ∷ [], e ∙ sym (middle k stay rest))
-left_of fate.Kept c k rows stay rest e h g = (stay ++ k ∷ [], e ∙ sym (middle k stay rest))
-left_of fate.Dropped c k rows stay rest e h g = (stay ++ k ∷ [], e ∙ sym (middle k stay rest))
-left_of fate.Ended c k rows stay rest e h g = (stay, sessions_without_follow rows c k ∙ ap (without k) e ∙ without_split k stay rest h g)
-left_of fate.Closed c k rows stay rest e h g = (stay, sessions_without_session rows c k ∙ ap (without k) e ∙ without_split k stay rest h g)
+in_more : (j k : ℕ) (ks : List ℕ) → (j == k) ≡ false → has j (ks ++ k ∷ []) ≡ has j ks
+in_more j k ks e = let joined = has_append j ks (k ∷ []) in grind (arith, nat_tests, joined, e)
 
-some_is : (k j : ℕ) → ◌≡◌ {A = Option ℕ} (Some k) (Some j) → k ≡ j
-some_is k j e = cc
+not_last : (j k : ℕ) (ks : List ℕ) → has j (ks ++ k ∷ []) ≡ false → (j == k) ≡ false
+not_last j k ks h = let joined = has_append j ks (k ∷ []) in grind (arith, nat_tests, joined, h)
 
-module _ (p : Placed) (c e : List ℕ) (old now new : Node) (k : ℕ) (counts : Delivered) (f : Fate) (rows : AreFollows now.rows) (s : BringStep c e p k f now new) where
+apart : (j k : ℕ) (ks : List ℕ) → has j ks ≡ true → has k ks ≡ false → (j == k) ≡ false
+apart j k ks h g = by_value (j == k) (Decides-eqb j k)
+  where
+    by_value : (t : Bool) → (t ≡ true → j ≡ k) × (j ≡ k → t ≡ true) → t ≡ false
+    by_value true e = absurd (let no = subst (λ l. has l ks ≡ true) (e.0 refl) h in cc)
+    by_value false e = refl
+
+snoc_length : (j : ℕ) (ks : List ℕ) → length (ks ++ j ∷ []) ≡ length ks + 1
+snoc_length j ks = omega (arith, length-append ks (j ∷ []))
+
+module _ (p : Placed) (c e : List ℕ) (old : Node) (now new : Sessions) (k : ℕ) (hit : Bool) (f : Fate) (here : Both (Brings hit c e p) (now k) (new k)) (others : (j : ℕ) → j ≢ k → new j ≡ now j) (fate_is : f ≡ fate_at c (at_offset e p) (now k) (new k)) where
   other : (j : ℕ) → (j == k) ≡ false → j ≢ k
   other j h g = let i = (Decides-eqb j k).1 g in absurd (cc)
 
-  stepped : (w : IsOnItsWay p c e old now (Some k) counts) (rest : List ℕ) → w.todo ≡ k ∷ rest → IsOnItsWay p c e old new (after_in k (sessions_of now.rows c)) (one_more f counts)
-  stepped w rest is =
-      let left : sessions_of now.rows c ≡ w.stay ++ k ∷ rest = w.left ∙ ap (λ ks. w.stay ++ ks) is in
-      let all : sessions_of old.rows c ≡ w.done ++ k ∷ rest = w.all ∙ ap (λ ks. w.done ++ ks) is in
-      let once_now : Once (w.stay ++ k ∷ rest) = subst Once left (once_sessions now.rows c rows.once) in
-      let once_old : Once (w.done ++ k ∷ rest) = subst Once all w.once in
-      let gone : has k rest ≡ false = (once_rest w.done (k ∷ rest) once_old).0 in
-      let passed : has k w.done ≡ false = once_before k w.done rest once_old in
-      let ahead : has k w.stay ≡ false = once_before k w.stay rest once_now in
-      let was : attached_at now k ≡ attached_at old k = w.untouched k (subst (λ ks. has k ks ≡ true) (sym is) (head k rest)) in
-      let more = left_of f c k now.rows w.stay rest left ahead gone in
+  still_quiet : Agrees now old.rows → (g : Fate) → f ≡ g → Agrees new (rows_after g c k old.rows)
+  still_quiet agrees g is = subst (λ i. Agrees new (rows_after i c k old.rows)) (sym fate_is ∙ is) (still_agrees c e k hit p now new old.rows agrees here others)
+
+  stays_quiet : Agrees now old.rows → ((f ≡ fate.Passed) ⊎ ((f ≡ fate.Kept) ⊎ (f ≡ fate.Dropped))) → Agrees new old.rows
+  stays_quiet agrees (inl is) = still_quiet agrees fate.Passed is
+  stays_quiet agrees (inr (inl is)) = still_quiet agrees fate.Kept is
+  stays_quiet agrees (inr (inr is)) = still_quiet agrees fate.Dropped is
+
+  pub steps : {refused more : ℕ} {listed turned : Turns} (counts : Delivered) (done rest : List ℕ) → AreFollows old.rows → IsOnItsWay p c e old now refused listed counts done (k ∷ rest)
+      → more ≡ counted (one_if hit) refused → turned ≡ gets_turn k listed → IsOnItsWay p c e old new more turned (one_more f counts) (done ++ k ∷ []) rest
+  steps {refused} {more} {listed} {turned} counts done rest rows w count turns =
+      let once : Once (done ++ k ∷ rest) = subst Once w.all (once_sessions old.rows c rows.once) in
+      let passed : has k done ≡ false = once_before k done rest once in
+      let was : now k ≡ attached_at old k = w.untouched k passed in
       record {
-        hit = hit_more s.hit k w.hit;
-        requests = w.requests + one_if s.hit;
-        few_hit = hit_few s.hit k w.hit w.requests w.few_hit;
-        count = s.count ∙ ap (counted (one_if s.hit)) w.count ∙ counted_both w.requests (one_if s.hit) old.refused;
-        done = w.done ++ k ∷ [];
-        stay = more.0;
-        todo = rest;
-        all = all ∙ sym (middle k w.done rest);
-        left = ap (λ rs. sessions_of rs c) s.rows ∙ more.1;
-        first = ap (after_in k) left ∙ after_split k w.stay rest ahead;
-        once = w.once;
-        few = w.few;
-        untouched = λ j m. s.others j (other j (apart j k rest m gone)) ∙ w.untouched j (subst (λ ks. has j ks ≡ true) (sym is) (later j k rest m));
-        served = λ j m. serve w rest is was j m (j == k) refl;
-        counted = sym (tally_snoc (λ j. fate_at c (at_offset e p) (attached_at old j) (attached_at new j)) w.done k none ∙ ap (λ g. one_more g (tally (λ j. fate_at c (at_offset e p) (attached_at old j) (attached_at new j)) w.done none)) (sym (s.fate ∙ ap (λ o. fate_at c (at_offset e p) o (attached_at new k)) was)) ∙ ap (one_more f) (sym (w.counted ∙ tally_same (λ j. fate_at c (at_offset e p) (attached_at old j) (attached_at now j)) (λ j. fate_at c (at_offset e p) (attached_at old j) (attached_at new j)) w.done none (λ j m. ap (fate_at c (at_offset e p) (attached_at old j)) (sym (s.others j (other j (apart j k w.done m passed))))))));
-        so_many = total_more f counts ∙ ap (λ n. n + 1) w.so_many ∙ sym (snoc_length k w.done);
-        turns = s.turns ∙ ap (gets_turn k) w.turns ∙ sym (turns_snoc k w.done old.turns);
-        agrees = s.agrees;
+        hit = hit_more hit k w.hit;
+        requests = w.requests + one_if hit;
+        few_hit = hit_few hit k w.hit w.requests w.few_hit;
+        count = count ∙ ap (counted (one_if hit)) w.count ∙ counted_both w.requests (one_if hit) old.refused;
+        all = w.all ∙ sym (middle k done rest);
+        untouched = λ j m. let apart_from = not_last j k done m in others j (other j apart_from) ∙ w.untouched j (sym (in_more j k done apart_from) ∙ m);
+        served = λ j m. serve w was j m (j == k) refl;
+        counted = sym (tally_snoc (λ j. fate_at c (at_offset e p) (attached_at old j) (new j)) done k none ∙ ap (λ g. one_more g (tally (λ j. fate_at c (at_offset e p) (attached_at old j) (new j)) done none)) (sym (fate_is ∙ ap (λ o. fate_at c (at_offset e p) o (new k)) was)) ∙ ap (one_more f) (sym (w.counted ∙ tally_same (λ j. fate_at c (at_offset e p) (attached_at old j) (now j)) (λ j. fate_at c (at_offset e p) (attached_at old j) (new j)) done none (λ j m. ap (fate_at c (at_offset e p) (attached_at old j)) (sym (others j (other j (apart j k done m passed))))))));
+        so_many = total_more f counts ∙ ap (λ n. n + 1) w.so_many ∙ sym (snoc_length k done);
+        turns = turns ∙ ap (gets_turn k) w.turns ∙ sym (turns_snoc k done old.turns);
+        quiet = λ h. let q = quiet_before f counts h in stays_quiet (w.quiet q.0) q.1;
       }
     where
-      head : (j : ℕ) (ks : List ℕ) → has j (j ∷ ks) ≡ true
-      head j ks = grind (arith, nat_tests)
+      serve : (w : IsOnItsWay p c e old now refused listed counts done (k ∷ rest)) → now k ≡ attached_at old k → (j : ℕ) → has j (done ++ k ∷ []) ≡ true → (t : Bool) → (j == k) ≡ t → Both (Brings (is_in j (hit_more hit k w.hit)) c e p) (attached_at old j) (new j)
+      serve w was j m true same =
+          subst (λ i. Both (Brings (is_in i (hit_more hit k w.hit)) c e p) (attached_at old i) (new i)) (sym ((Decides-eqb j k).0 same))
+          (subst (λ o. Both (Brings (is_in k (hit_more hit k w.hit)) c e p) o (new k)) was (wider p c e hit (is_in k (hit_more hit k w.hit)) (hit_here hit k w.hit) (now k) (new k) here))
+      serve w was j m false same =
+          subst (λ o. Both (Brings (is_in j (hit_more hit k w.hit)) c e p) (attached_at old j) o) (sym (others j (other j same)))
+          (wider p c e (is_in j w.hit) (is_in j (hit_more hit k w.hit)) (hit_still hit k j w.hit) (attached_at old j) (now j) (w.served j (sym (in_more j k done same) ∙ m)))
 
-      later : (j i : ℕ) (ks : List ℕ) → has j ks ≡ true → has j (i ∷ ks) ≡ true
-      later j i ks h = grind (arith)
-
-      snoc_length : (j : ℕ) (ks : List ℕ) → length (ks ++ j ∷ []) ≡ length ks + 1
-      snoc_length j ks = omega (arith, length-append ks (j ∷ []))
-
-      apart : (j i : ℕ) (ks : List ℕ) → has j ks ≡ true → has i ks ≡ false → (j == i) ≡ false
-      apart j i ks h g = by_value (j == i) (Decides-eqb j i)
-        where
-          by_value : (t : Bool) → (t ≡ true → j ≡ i) × (j ≡ i → t ≡ true) → t ≡ false
-          by_value true e = absurd (let no = subst (λ l. has l ks ≡ true) (e.0 refl) h in cc)
-          by_value false e = refl
-
-      neither : (j i : ℕ) (ks : List ℕ) → (j == i) ≡ false → has j ks ≡ false → has j (i ∷ ks) ≡ false
-      neither j i ks e h = grind (arith, nat_tests)
-
-      serve : (w : IsOnItsWay p c e old now (Some k) counts) (rest : List ℕ) → w.todo ≡ k ∷ rest → attached_at now k ≡ attached_at old k → (j : ℕ) → has j rest ≡ false → (t : Bool) → (j == k) ≡ t
-          → Both (Brings (is_in j (hit_more s.hit k w.hit)) c e p) (attached_at old j) (attached_at new j)
-      serve w rest is was j m true same =
-          subst (λ i. Both (Brings (is_in i (hit_more s.hit k w.hit)) c e p) (attached_at old i) (attached_at new i)) (sym ((Decides-eqb j k).0 same))
-          (subst (λ o. Both (Brings (is_in k (hit_more s.hit k w.hit)) c e p) o (attached_at new k)) was (wider p c e s.hit (is_in k (hit_more s.hit k w.hit)) (hit_here s.hit k w.hit) (attached_at now k) (attached_at new k) s.here))
-      serve w rest is was j m false same =
-          subst (λ o. Both (Brings (is_in j (hit_more s.hit k w.hit)) c e p) (attached_at old j) o) (sym (s.others j (other j same)))
-          (wider p c e (is_in j w.hit) (is_in j (hit_more s.hit k w.hit)) (hit_still s.hit k j w.hit) (attached_at old j) (attached_at now j) (w.served j (subst (λ ks. has j ks ≡ false) (sym is) (neither j k rest same m))))
-
-  steps_by : (w : IsOnItsWay p c e old now (Some k) counts) (ks : List ℕ) → w.todo ≡ ks → Some k ≡ slice_get ks 0 → IsOnItsWay p c e old new (after_in k (sessions_of now.rows c)) (one_more f counts)
-  steps_by w [] is e = absurd (cc)
-  steps_by w (j ∷ rest) is e = stepped w rest (is ∙ ap (λ i. i ∷ rest) (sym (some_is k j e)))
-
-  pub steps : IsOnItsWay p c e old now (Some k) counts → IsOnItsWay p c e old new (after_in k (sessions_of now.rows c)) (one_more f counts)
-  steps w = steps_by w w.todo refl w.first
+pub goes_on : (p : Placed) (c e : List ℕ) (old : Node) (now : Sessions) (refused : ℕ) (listed : Turns) (counts : Delivered) (done : List ℕ) (k : ℕ) (rest : List ℕ) → AreFollows old.rows → IsOnItsWay p c e old now refused listed counts done (k ∷ rest) → total counts < 65536
+goes_on p c e old now refused listed counts done k rest rows w =
+    let few = few_sessions old.rows c rows.few in let all = ap length w.all in let so_many = w.so_many in omega (arith, few, all, so_many, length-append done (k ∷ rest))
 
 -- ---- the end
-
-nothing_left : (ks : List ℕ) → None ≡ slice_get ks 0 → ks ≡ []
-nothing_left [] e = refl
-nothing_left (k ∷ ks) e = absurd (cc)
 
 all_done : (ks : List ℕ) → ks ++ [] ≡ ks
 all_done [] = refl
 all_done (k ∷ ks) = ap (λ js. k ∷ js) (all_done ks)
 
-pub ends_all : (p : Placed) (c e : List ℕ) (old now : Node) (counts : Delivered) (w : IsOnItsWay p c e old now None counts) → sessions_of old.rows c ≡ w.done
-ends_all p c e old now counts w = w.all ∙ ap (λ ks. w.done ++ ks) (nothing_left w.todo w.first) ∙ all_done w.done
+module _ (p : Placed) (c e : List ℕ) (old : Node) (now : Sessions) (refused : ℕ) (listed : Turns) (counts : Delivered) (done : List ℕ) (agrees : Agrees (attached_at old) old.rows) (w : IsOnItsWay p c e old now refused listed counts done []) where
+  ends_all : sessions_of old.rows c ≡ done
+  ends_all = w.all ∙ all_done done
 
-pub ends_served : (p : Placed) (c e : List ℕ) (old now : Node) (counts : Delivered) → IsOnItsWay p c e old now None counts → Delivers c e p old now
-ends_served p c e old now counts w =
-    record { hit = w.hit; each = λ k. w.served k (ap (has k) (nothing_left w.todo w.first)); requests = w.requests; few_hit = w.few_hit; count = w.count }
+  follows_done : (k : ℕ) → follows old.rows c k ≡ has k done
+  follows_done k = follows_has old.rows c k ∙ ap (has k) ends_all
 
-pub ends_counted : (p : Placed) (c e : List ℕ) (old now : Node) (counts : Delivered) (w : IsOnItsWay p c e old now None counts) → counts ≡ tally (λ k. fate_at c (at_offset e p) (attached_at old k) (attached_at now k)) (sessions_of old.rows c) none
-ends_counted p c e old now counts w = w.counted ∙ ap (λ ks. tally (λ k. fate_at c (at_offset e p) (attached_at old k) (attached_at now k)) ks none) (sym (ends_all p c e old now counts w))
+  served_each : (k : ℕ) → (t : Bool) → has k done ≡ t → Both (Brings (is_in k w.hit) c e p) (attached_at old k) (now k)
+  served_each k true m = w.served k m
+  served_each k false m =
+      subst (λ o. Both (Brings (is_in k w.hit) c e p) (attached_at old k) o) (sym (w.untouched k m)) (no_subscriber (is_in k w.hit) p c e (attached_at old k) (un_not (is_off (sub_in (attached_at old k) c)) (sym (agrees c k) ∙ follows_done k ∙ m)))
 
-pub ends_so_many : (p : Placed) (c e : List ℕ) (old now : Node) (counts : Delivered) (w : IsOnItsWay p c e old now None counts) → total counts ≡ length (sessions_of old.rows c)
-ends_so_many p c e old now counts w = w.so_many ∙ ap length (sym (ends_all p c e old now counts w))
+  pub ends_served : (new : Node) → attached_at new ≡ now → new.refused ≡ refused → Delivers c e p old new
+  ends_served new is count =
+      record {
+        hit = w.hit;
+        each = λ k. subst (λ (g : Sessions). Both (Brings (is_in k w.hit) c e p) (attached_at old k) (g k)) (sym is) (served_each k (has k done) refl);
+        requests = w.requests;
+        few_hit = w.few_hit;
+        count = count ∙ w.count;
+      }
 
-pub ends_turns : (p : Placed) (c e : List ℕ) (old now : Node) (counts : Delivered) → IsOnItsWay p c e old now None counts → now.turns ≡ get_turns (sessions_of old.rows c) old.turns
-ends_turns p c e old now counts w = w.turns ∙ ap (λ ks. get_turns ks old.turns) (sym (ends_all p c e old now counts w))
+  pub ends_counted : (new : Sessions) → new ≡ now → counts ≡ tally (λ k. fate_at c (at_offset e p) (attached_at old k) (new k)) (sessions_of old.rows c) none
+  ends_counted new is =
+      w.counted ∙ ap (λ ks. tally (λ k. fate_at c (at_offset e p) (attached_at old k) (now k)) ks none) (sym ends_all)
+      ∙ ap (λ (g : Sessions). tally (λ k. fate_at c (at_offset e p) (attached_at old k) (g k)) (sessions_of old.rows c) none) (sym is)
 
--- ---- while it goes on
+  pub ends_so_many : total counts ≡ length (sessions_of old.rows c)
+  ends_so_many = w.so_many ∙ ap length (sym ends_all)
 
-before_end : (done todo : List ℕ) (k n : ℕ) → Some k ≡ slice_get todo 0 → n ≡ length (done ++ todo) → length done < n
-before_end done [] k n e h = absurd (cc)
-before_end done (j ∷ todo) k n e h = omega (arith, length-append done (j ∷ todo), h)
+  pub ends_turns : listed ≡ get_turns (sessions_of old.rows c) old.turns
+  ends_turns = w.turns ∙ ap (λ ks. get_turns ks old.turns) (sym ends_all)
 
-pub goes_on : (p : Placed) (c e : List ℕ) (old now : Node) (k : ℕ) (counts : Delivered) (w : IsOnItsWay p c e old now (Some k) counts) → total counts < length (sessions_of old.rows c)
-goes_on p c e old now k counts w =
-    let before = before_end w.done w.todo k (length (sessions_of old.rows c)) w.first (ap length w.all) in
-    subst (λ n. n < length (sessions_of old.rows c)) (sym w.so_many) before
+  -- whose rows may have to go
+  pub ends_before : AgreedBefore c now old.rows
+  ends_before =
+      record {
+        met = λ k on. (
+          fate_at c (at_offset e p) (attached_at old k) (now k),
+          λ d. off_at c d e (is_in k w.hit) p (attached_at old k) (now k) (served_each k (has k done) refl) ∙ ap (off_after (fate_at c (at_offset e p) (attached_at old k) (now k)) c d) (twice (is_off (sub_in (attached_at old k) d)) ∙ ap not (sym (agrees d k))),
+        );
+        others = λ k off d. agrees d k ∙ ap (λ o. not (is_off (sub_in o d))) (sym (w.untouched k (sym (follows_done k) ∙ off)));
+      }
+
+  -- each number has a session where it had one
+  pub ends_numbered : (from : ℕ) → AreNumbered from (attached_at old) → AreNumbered from now
+  ends_numbered from few =
+      record {
+        below = λ k h. still_none (now k) (same k ∙ ap is_some (few.below k h));
+        taken = λ k h. same k ∙ few.taken k h;
+      }
+    where
+      both : (R : Attached → Attached → Type 0) (o q : Option Attached) → Both R o q → is_some q ≡ is_some o
+      both R None None h = refl
+      both R None (Some a) h = absurd h
+      both R (Some a) None h = absurd h
+      both R (Some a) (Some b) h = refl
+
+      same : (k : ℕ) → is_some (now k) ≡ is_some (attached_at old k)
+      same k = both (Brings (is_in k w.hit) c e p) (attached_at old k) (now k) (served_each k (has k done) refl)
+
+      still_none : (o : Option Attached) → is_some o ≡ false → o ≡ None
+      still_none None h = refl
+      still_none (Some a) h = absurd (cc)
 
 -- a refused request before the first session
 pub noted : (p : Placed) (c e : List ℕ) (n : ℕ) (old mid new : Node) → mid ≡ record old { refused = counted n old.refused } → Delivers c e p mid new → Delivers c e p old new

@@ -6,7 +6,6 @@ pub mod Walks
 pub mod Hubs
 pub mod Deliveries
 pub mod Ones
-pub mod Steps
 pub mod Runs
 pub mod Bounds
 pub mod Mets
@@ -20,6 +19,7 @@ pub mod Alikes
 pub mod InNotes
 pub mod AlikeMoves
 pub mod Settling
+pub mod Ending
 pub mod Counts
 pub mod Marks
 pub mod Naming

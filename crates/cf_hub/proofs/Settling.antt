@@ -1,10 +1,11 @@
--- Whether all subscriptions of a session are finished.
-use Rattle.std.proofs.Common.{◌≡◌, ◌↔◌, ℕ, Bool, true, false, cond, Option, Some, List, [], ◌∷◌, refl, sym, ap, ◌∙◌, subst, String, Global, string_bytes, not, ◌&&◌, rules}
+-- Whether all subscriptions of a session are finished, and whether it has none.
+use Rattle.std.proofs.Common.{◌≡◌, ◌↔◌, ℕ, Bool, true, false, cond, Option, Some, List, [], ◌∷◌, refl, sym, ap, ◌∙◌, subst, String, Global, string_bytes, not, ◌&&◌, rules, length, ◌==◌, arith}
 use Rattle.std.specs.Prelude.{IsTrue, Box}
 use Rattle.std.specs.BTreeMap.{is_at, IsOrdered}
 use Rattle.std.specs.List.{list_all, IsDistinct}
 use Rattle.std.specs.String.{string_cmp, string_cmp_total}
 use Rattle.std.specs.Cmp.{eq_by_cmp_equiv}
+use Rattle.std.proofs.lemmas.Bool.Decides.{nat_tests}
 use Rattle.std.proofs.lemmas.Map.{lookup-none}
 use Rattle.std.proofs.lemmas.Map.Entries.{none_past_head}
 use Rattle.std.proofs.lemmas.Map.Keys.{IsDistinct-tail, IsDistinct-from_sorted}
@@ -12,7 +13,7 @@ use Rattle.std.specs.Map.{lookup, values_of, keys_of}
 use Rattle.std.specs.Ordering.{nat_cmp, is_eq, eq_by_cmp}
 use Rattle.std.specs.Cmp.Lexicographic.{slice_cmp, bytes_decides}
 use Rattle.std.proofs.lemmas.Map.Text.{is_eq-slice_cmp}
-use Rattle.cf_hub.specs.SessionState.{Subscription, Off, is_unfinished}
+use Rattle.cf_hub.specs.SessionState.{Subscription, Off, is_off, is_unfinished}
 use Rattle.cf_hub.specs.Subscriptions.{Subscriptions, in_box, progress_at, sub_of}
 use Rattle.cf_hub.specs.Wordings.{Held}
 use Rattle.cf_hub.specs.declared.subscription.Progress.{Progress}
@@ -98,3 +99,28 @@ ready m o = (λ t. ready_each m.entries (is-true _ t), λ h. true-is _ (each_rea
 
     true-is : (b : Bool) → b ≡ true → IsTrue b
     true-is b t = search rules
+
+-- ---- there is none
+
+one_on : (s : Progress) → is_off (sub_of (Some s)) ≡ false
+one_on (code.Asked id since waiting) = refl
+one_on (code.Ready id was recovery waiting) = refl
+one_on (code.On at mark) = refl
+
+first_on : (e : String Global × Box Progress Global) (es : Entries) → is_off (in_entries (e ∷ es) (string_bytes e.0)) ≡ false
+first_on e es =
+    let rest = lookup (is_at (λ k. slice_cmp nat_cmp (string_bytes e.0) (string_bytes k))) es in
+    ap (λ o. is_off (sub_of o)) (in_cond (is_eq (slice_cmp nat_cmp (string_bytes e.0) (string_bytes e.0))) (Some e.1) rest)
+    ∙ by_value (is_eq (slice_cmp nat_cmp (string_bytes e.0) (string_bytes e.0))) (is-here (string_bytes e.0)) (in_box rest)
+  where
+    by_value : (t : Bool) → t ≡ true → (o : Option Progress) → is_off (sub_of (cond t (Some e.1.value) o)) ≡ false
+    by_value true h o = one_on e.1.value
+    by_value false h o = absurd (cc)
+
+none_in : (es : Entries) (b : Bool) → b ≡ (length es == 0) → IsTrue b ↔ ((c : List ℕ) → is_off (in_entries es c) ≡ true)
+none_in [] b h = (λ t c. refl, λ g. let e : b ≡ true = grind (arith, nat_tests, h) in subst IsTrue (sym e) refl)
+none_in (e ∷ es) b h =
+    let some : b ≡ false = grind (arith, nat_tests, h) in (λ t. absurd (let no = subst IsTrue some t in cc), λ g. absurd (let no = sym (g (string_bytes e.0)) ∙ first_on e es in cc))
+
+pub has_none : (m : Subscriptions) (b : Bool) → b ≡ (length m.entries == 0) → IsTrue b ↔ ((c : List ℕ) → is_off (sub_of (progress_at m c)) ≡ true)
+has_none m b h = none_in m.entries b h

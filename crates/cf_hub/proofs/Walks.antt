@@ -22,7 +22,7 @@ pub once_rest : (xs ys : List ℕ) → Once (xs ++ ys) → Once ys
 once_rest [] ys h = h
 once_rest (x ∷ xs) ys h = once_rest xs ys h.1
 
-has_append : (k : ℕ) (xs ys : List ℕ) → has k (xs ++ ys) ≡ (has k xs || has k ys)
+pub has_append : (k : ℕ) (xs ys : List ℕ) → has k (xs ++ ys) ≡ (has k xs || has k ys)
 has_append k [] ys = refl
 has_append k (x ∷ xs) ys = grind (arith, has_append k xs ys)
 
@@ -41,6 +41,15 @@ without_none k (x ∷ xs) h = grind (arith, nat_tests, without_none k xs)
 pub without_split : (k : ℕ) (xs ys : List ℕ) → has k xs ≡ false → has k ys ≡ false → without k (xs ++ k ∷ ys) ≡ xs ++ ys
 without_split k [] ys h g = let rest = without_none k ys g in grind (arith, nat_tests, rest)
 without_split k (x ∷ xs) ys h g = grind (arith, nat_tests, without_split k xs ys)
+
+pub middle : (k : ℕ) (xs ys : List ℕ) → (xs ++ k ∷ []) ++ ys ≡ xs ++ k ∷ ys
+middle k [] ys = refl
+middle k (x ∷ xs) ys = ap (λ zs. x ∷ zs) (middle k xs ys)
+
+-- one of them goes
+pub once_drop : (k : ℕ) (xs ys : List ℕ) → Once (xs ++ k ∷ ys) → Once (xs ++ ys)
+once_drop k [] ys h = h.1
+once_drop k (x ∷ xs) ys h = let long = has_append x xs (k ∷ ys) in let short = has_append x xs ys in (grind (arith, long, short, h.0), once_drop k xs ys h.1)
 
 -- ---- counts
 
@@ -67,19 +76,19 @@ total_more fate.Closed d = omega arith
 
 -- ---- rows and lines agree
 
-off_at : (c d e : List ℕ) (refused : Bool) (p : Placed) (a b : Option Attached) → Both (Brings refused c e p) a b
+pub off_at : (c d e : List ℕ) (refused : Bool) (p : Placed) (a b : Option Attached) → Both (Brings refused c e p) a b
     → is_off (sub_in b d) ≡ off_after (fate_at c (at_offset e p) a b) c d (is_off (sub_in a d))
 off_at c d e refused p None None h = refl
 off_at c d e refused p None (Some b) h = absurd h
 off_at c d e refused p (Some a) None h = absurd h
 off_at c d e refused p (Some a) (Some b) h = served_off c d refused (delivering p) (at_offset e p) a.state b.state h.0
 
-twice : (b : Bool) → b ≡ not (not b)
+pub twice : (b : Bool) → b ≡ not (not b)
 twice true = refl
 twice false = refl
 
 -- the rows of the session that was met
-rows_here : (f : Fate) (c : List ℕ) (k : ℕ) (d : List ℕ) (rows : List Follow) → follows (rows_after f c k rows) d k ≡ not (off_after f c d (not (follows rows d k)))
+pub rows_here : (f : Fate) (c : List ℕ) (k : ℕ) (d : List ℕ) (rows : List Follow) → follows (rows_after f c k rows) d k ≡ not (off_after f c d (not (follows rows d k)))
 rows_here fate.Passed c k d rows = twice (follows rows d k)
 rows_here fate.Kept c k d rows = twice (follows rows d k)
 rows_here fate.Dropped c k d rows = twice (follows rows d k)
@@ -87,7 +96,7 @@ rows_here fate.Ended c k d rows = let e = follows_without_follow rows c k d k in
 rows_here fate.Closed c k d rows = let e = follows_without_session rows k d k in grind (arith, nat_tests, e)
 
 -- those of another
-rows_there : (f : Fate) (c : List ℕ) (k : ℕ) (d : List ℕ) (j : ℕ) (rows : List Follow) → (j == k) ≡ false → follows (rows_after f c k rows) d j ≡ follows rows d j
+pub rows_there : (f : Fate) (c : List ℕ) (k : ℕ) (d : List ℕ) (j : ℕ) (rows : List Follow) → (j == k) ≡ false → follows (rows_after f c k rows) d j ≡ follows rows d j
 rows_there fate.Passed c k d j rows h = refl
 rows_there fate.Kept c k d j rows h = refl
 rows_there fate.Dropped c k d j rows h = refl

@@ -1,18 +1,15 @@
 -- A node's sessions by number, and which session follows which channel.
 pub use Rattle.cf_hub.specs.Turns.{is_in}
-use Rattle.std.specs.Prelude.{◌≡◌, ◌≢◌, ◌≤◌, ◌<◌, ◌⊎◌, ◌&&◌, ℕ, ◌+◌, ◌-◌, ◌==◌, min, not, Bool, true, false, if◌then◌else◌, Option, Some, None, option_map, is_some, List, [], length, filter, codes, ◌++◌, ◌∷◌}
+use Rattle.std.specs.Prelude.{◌≡◌, ◌≢◌, ◌≤◌, ◌<◌, ◌⊎◌, ℕ, ◌+◌, min, not, Bool, true, false, if◌then◌else◌, Option, Some, None, option_map, is_some, List, [], length, ◌++◌, ◌∷◌}
 use Rattle.std.specs.BTreeMap.{BTreeMap, get, is_at}
 use Rattle.std.specs.Fmt.{decimal}
-use Rattle.std.specs.List.{list_any}
 use Rattle.std.specs.Map.{lookup}
 use Rattle.std.specs.Ordering.{nat_cmp}
 use Rattle.cf_protocol.specs.Datum.{Placed}
 use Rattle.cf_protocol.specs.Position.{Position}
 use Rattle.cf_queue.specs.OutQueue.{Item}
 use Rattle.cf_followers.specs.Follows.{Follow, channels_of, most_rows, with_follow}
-use Rattle.cf_hub.specs.Delivery.{fate_at}
-use Rattle.cf_hub.specs.Rows.{Agrees, rows_after, sub_in}
-use Rattle.cf_hub.specs.declared.delivered.Fate.{Fate}
+use Rattle.cf_hub.specs.Rows.{Agrees, sub_in}
 use Rattle.cf_hub.specs.Session.{Attached, Shown, attached_shown, attached_of, ticked, ticks}
 use Rattle.cf_hub.specs.SessionState.{SessionState, Subscription, begins, comes, is_off, opens}
 use Rattle.cf_hub.specs.WantOfMemory.{Both, OrCloses, Serves}
@@ -149,17 +146,6 @@ pub record SameRest (old new : Node) : Type 0 where
   pub boot : new.boot ≡ old.boot
   pub used : new.used ≡ old.used
   pub refused : new.refused ≡ old.refused
-
--- one session met a delivery, and its rows went with what ended
-pub record BringStep (c e : List ℕ) (p : Placed) (k : ℕ) (f : Fate) (old new : Node) : Type 0 where
-  pub hit : Bool
-  pub here : Both (Brings hit c e p) (attached_at old k) (attached_at new k)
-  pub others : OthersStay k old new
-  pub fate : f ≡ fate_at c (at_offset e p) (attached_at old k) (attached_at new k)
-  pub rows : new.rows ≡ rows_after f c k old.rows
-  pub count : new.refused ≡ counted (one_if hit) old.refused
-  pub turns : new.turns ≡ gets_turn k old.turns
-  pub agrees : Agrees (attached_at new) new.rows
 
 -- Session k meets a call that may want memory: R says what became of its state, where memory was refused for it or not.
 pub record Meets (k : ℕ) (R : Bool → SessionState Held Item → SessionState Held Item → Type 0) (old new : Node) : Type 0 where

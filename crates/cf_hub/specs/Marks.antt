@@ -1,5 +1,5 @@
 -- How turns are kept: the numbers in order, and by number a mark whether it is among them.
-use Rattle.std.specs.Prelude.{◌≡◌, ◌≤◌, ℕ, suc, Bool, true, false, if◌then◌else◌, List, [], ◌∷◌, length, get_or}
+use Rattle.std.specs.Prelude.{◌≡◌, ◌≤◌, ℕ, suc, Bool, false, if◌then◌else◌, List, [], ◌∷◌, length, get_or}
 use Rattle.cf_hub.specs.Counts.{AreNumbersOnce}
 use Rattle.cf_hub.specs.Turns.{is_in}
 

@@ -1,12 +1,11 @@
 -- A subscription from its read to its reply, as the code has it.
-use Rattle.std.specs.Prelude.{◌≡◌, ◌+◌, ◌||◌, ◌∷◌, ◌++◌, [], if◌then◌else◌, ℕ, is_some, length, map, List, Option, Some, None, Bool, false}
-use Rattle.cf_protocol.specs.Position.{Position}
+use Rattle.std.specs.Prelude.{◌≡◌, ◌+◌, ◌||◌, ◌∷◌, ◌++◌, [], if◌then◌else◌, ℕ, is_some, length, map, List, Option, Some, None}
 use Rattle.cf_queue.specs.OutQueue.{Item, Text}
 use Rattle.cf_recovery.specs.Kept.{Kept, IsRun, ended_at, places}
 use Rattle.cf_recovery.specs.Release.{falls_short}
 use Rattle.cf_stream.specs.declared.answer.Recovery.{Recovery}
-use Rattle.cf_hub.specs.SessionState.{Off, Ready, SessionState, finished, put_sub, is_ready}
-use Rattle.cf_hub.specs.Subscriptions.{Subscriptions, SetsAt, reading_of, sub_of}
+use Rattle.cf_hub.specs.SessionState.{Ready, SessionState, finished, put_sub}
+use Rattle.cf_hub.specs.Subscriptions.{reading_of}
 use Rattle.cf_hub.specs.Wordings.{Held, end_text, held, push_text, releasing, reply_text}
 use Rattle.cf_hub.specs.declared.reply.Answered.{Answered}
 use Rattle.cf_hub.specs.declared.subscription.Progress.{Progress}

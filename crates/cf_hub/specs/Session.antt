@@ -1,5 +1,5 @@
 -- A session as contracts see it: its state, and beside it whose it is and when it was pinged.
-use Rattle.std.specs.Prelude.{◌≡◌, ◌-◌, ◌&&◌, nat_le, ℕ, Bool, true, false, if◌then◌else◌, Option, Some, None, List, map, string_bytes, Box}
+use Rattle.std.specs.Prelude.{◌-◌, ◌&&◌, nat_le, ℕ, Bool, true, false, if◌then◌else◌, List, map, string_bytes, Box}
 use Rattle.std.specs.BTreeMap.{is_at}
 use Rattle.std.specs.Cmp.Lexicographic.{slice_cmp}
 use Rattle.std.specs.Map.{lookup}

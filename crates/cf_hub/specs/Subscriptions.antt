@@ -1,5 +1,5 @@
 -- A session's subscriptions as the code has them, and as the definitions have them.
-use Rattle.std.specs.Prelude.{◌≡◌, ◌-◌, ℕ, List, [], length, Bool, true, Option, Some, None, option_map, Box}
+use Rattle.std.specs.Prelude.{◌≡◌, ◌-◌, ℕ, List, [], length, true, Option, Some, None, option_map, Box}
 use Rattle.std.specs.BTreeMap.{BTreeMap, get_by_text}
 use Rattle.std.specs.Map.{update}
 use Rattle.std.specs.Str.{bytes_eq}
@@ -8,7 +8,7 @@ use Rattle.std.specs.declared.string.String.{String}
 use Rattle.cf_protocol.specs.Datum.{Placed}
 use Rattle.cf_protocol.specs.Note.{Reading}
 use Rattle.cf_protocol.specs.Position.{Position}
-use Rattle.cf_recovery.specs.Kept.{Kept, arrival, given_up, with_arrival}
+use Rattle.cf_recovery.specs.Kept.{arrival, given_up, with_arrival}
 use Rattle.cf_recovery.specs.Verdict.{Verdict, Drop, Pass, Insufficient, verdict}
 use Rattle.cf_recovery.specs.declared.verdict.Verdict.{Verdict as Answer}
 use Rattle.cf_recovery.specs.declared.verdict.Verdict.TheVariants as answer

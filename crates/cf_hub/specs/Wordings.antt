@@ -1,6 +1,6 @@
 -- How the code says and keeps things: texts and closes, and the publications that came.
-use Rattle.std.specs.Prelude.{◌+◌, ◌-◌, ◌||◌, ℕ, true, Bool, List, [], map, length, Option, None}
-use Rattle.cf_protocol.specs.Datum.{Datum, Placed}
+use Rattle.std.specs.Prelude.{◌||◌, ℕ, true, Bool, List, [], map, length, None}
+use Rattle.cf_protocol.specs.Datum.{Placed}
 use Rattle.cf_protocol.specs.Note.{Reading, insufficient}
 use Rattle.cf_protocol.specs.Outgoing.{Ping, Answer, Push, Subscribed, Publication, Unsubscribe}
 use Rattle.cf_protocol.specs.Position.{Position}

@@ -1,10 +1,10 @@
 //! One node's sessions and rows.
 ghost use Rattle.std.specs.Prelude.{◌≡◌, ◌≢◌, ◌≤◌, ◌==◌, ℕ, List, Some, None, true, false, length, IfSome, string_bytes, not, slice_get, option_map, option_and_then};
-ghost use Rattle.cf_followers.specs.Follows.{AreFollows, after_in, channels_of, sessions_of};
+ghost use Rattle.cf_followers.specs.Follows.{channels_of, sessions_of};
 ghost use Rattle.cf_queue.specs.Meaning.{meaning};
 ghost use Rattle.cf_queue.specs.OutQueue.{Close};
 ghost use Rattle.cf_hub.specs.Delivery.{fate_at, none, tally, total};
-ghost use Rattle.cf_hub.specs.Hub.{BringStep, Delivers, One, OthersStay, SameNode, SameRest, attached_at, counted, empty, largest, one_if, sub_at};
+ghost use Rattle.cf_hub.specs.Hub.{Delivers, One, OthersStay, SameNode, SameRest, attached_at, counted, empty, largest, one_if, sub_at};
 ghost use Rattle.cf_hub.specs.Rows.{Agrees};
 ghost use Rattle.cf_hub.specs.SessionState.{closes_now, is_off, leaves, takes_front};
 ghost use Rattle.cf_hub.specs.Turns.{get_turns, gets_turn};
@@ -13,7 +13,9 @@ ghost use Rattle.cf_hub.specs.Wordings.{at_offset, push_text};
 use crate::delivered::{Delivered, Fate};
 use crate::listed::Listed;
 use crate::session::Session;
-use crate::sessions::{bring_one, close_one, count_more, drop_one, leave_one, settle, take_one};
+use crate::sessions::{
+    bring_one, close_one, count_more, drop_one, leave_one, settle_all, take_one,
+};
 use crate::wording::push_text;
 use cf_followers::Followers;
 use cf_protocol::{Epoch, Publication};
@@ -168,59 +170,23 @@ impl Hub {
         ensures agrees { Agrees (attached_at self.new) self.new.rows }
     {
         let mut counts = Delivered::none();
-        let mut next = self.first(channel);
-        while let Some(session) = next {
-            next = self.after(channel, session);
-            let fate = self.bring(session, channel, epoch, publication, written);
-            counts = counts.and(fate);
+        for session in self.rows.walk(channel) {
+            let step = bring_one(
+                &mut self.sessions,
+                self.alloc,
+                session,
+                channel,
+                epoch,
+                publication,
+                written,
+            );
+            self.listed.add(session);
+            self.refused = count_more(self.refused, step.refused);
+            counts = counts.and(step.fate);
+        }
+        if counts.ended > 0 || counts.closed > 0 {
+            settle_all(&mut self.rows, &self.sessions, channel);
         }
         counts
-    }
-
-    fn first(&self, channel: &str) -> Option<u32>
-        ensures first { result ≡ slice_get (sessions_of self.now.rows channel.now) 0 }
-        ensures rows { AreFollows self.now.rows }
-        ensures agrees { Agrees (attached_at self.now) self.now.rows }
-        ensures small { self.now.refused ≤ largest }
-    {
-        let _sessions = &self.sessions;
-        let _refused = self.refused;
-        self.rows.first(channel)
-    }
-
-    fn after(&self, channel: &str, session: u32) -> Option<u32>
-        ensures next { result ≡ after_in session (sessions_of self.now.rows channel.now) }
-        ensures rows { AreFollows self.now.rows }
-        ensures agrees { Agrees (attached_at self.now) self.now.rows }
-    {
-        let _sessions = &self.sessions;
-        self.rows.after(channel, session)
-    }
-
-    fn bring(
-        &mut self,
-        session: u32,
-        channel: &str,
-        epoch: &Epoch,
-        publication: &Publication,
-        written: &Option<String>,
-    ) -> Fate
-        requires { IfSome written.now (λ t. string_bytes t ≡ push_text channel.now publication.now) }
-        ensures step { BringStep channel.now epoch.now publication.now session result self.old self.new }
-        ensures rest { SameNode self.old self.new }
-    {
-        let step = bring_one(
-            &mut self.sessions,
-            self.alloc,
-            session,
-            channel,
-            epoch,
-            publication,
-            written,
-        );
-        self.listed.add(session);
-        settle(&mut self.rows, session, channel, step.fate);
-        self.refused = count_more(self.refused, step.refused);
-        step.fate
     }
 }

@@ -61,7 +61,7 @@ pub(crate) struct Session {
 }
 
 impl Session {
-    ghost use Rattle.std.specs.Prelude.{◌≡◌, ◌⊎◌, ◌||◌, ◌∷◌, [], ℕ, List, Some, None, true, false, IfSome, option_map, is_some, string_bytes, not, slice_get, ◌&&◌, if◌then◌else◌, map};
+    ghost use Rattle.std.specs.Prelude.{◌≡◌, ◌⊎◌, ◌↔◌, IsTrue, ◌||◌, ◌∷◌, [], ℕ, List, Some, None, true, false, IfSome, option_map, is_some, string_bytes, not, slice_get, ◌&&◌, if◌then◌else◌, map};
     ghost use Rattle.cf_queue.specs.Meaning.{meaning};
     ghost use Rattle.cf_queue.specs.OutQueue.{Text, Close};
     ghost use Rattle.cf_hub.specs.Delivery.{fate_of};
@@ -228,6 +228,13 @@ impl Session {
         ensures { result ≡ not (is_off ((state_of self.now).subs channel.now)) }
     {
         self.subscriptions.contains_key(channel)
+    }
+
+    /// Whether it follows no channel, and is asking for none.
+    pub(crate) fn has_none(&self) -> bool
+        ensures { IsTrue result ↔ ((c : List ℕ) → is_off ((state_of self.now).subs c) ≡ true) }
+    {
+        self.subscriptions.is_empty()
     }
 
     /// What a delivery meets here.

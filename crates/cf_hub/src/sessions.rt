@@ -8,7 +8,7 @@ ghost use Rattle.cf_hub.specs.Delivery.{fate_at};
 ghost use Rattle.cf_hub.specs.Hub.{Brings, HasNoneFrom, InState, IsNextFrom, IsNextTurn, Pings, attached_in, counted, is_open, is_waiting, moves, one_if, said_in, waits_in};
 ghost use Rattle.cf_hub.specs.Checked.{check_answer, stand_of};
 ghost use Rattle.cf_hub.specs.Finish.{FinishesAt};
-ghost use Rattle.cf_hub.specs.Rows.{off_after, rows_after, sub_in};
+ghost use Rattle.cf_hub.specs.Rows.{AgreedBefore, Agrees, TellsFate, off_after, rows_after, sub_in};
 ghost use Rattle.cf_hub.specs.Session.{attached_of, badge_ponged};
 ghost use Rattle.cf_hub.specs.SessionState.{begins, checks, closes_now, is_asked, is_off, is_ready, leaves, push, reads, takes_front};
 ghost use Rattle.cf_hub.specs.Subscriptions.{reading_of};
@@ -337,6 +337,34 @@ pub(crate) fn settle(rows: &mut Followers, session: u32, channel: &str, fate: Fa
             let _count = rows.detach(session);
         }
         _ => {}
+    }
+}
+
+/// What a call that met a session with this channel did with it, by what is off now: all subscriptions, this one, or neither.
+fn fate_now(sessions: &BTreeMap<u32, Session>, number: u32, channel: &str) -> Fate
+    ensures { TellsFate result channel.now (attached_in sessions.now number) }
+{
+    let Some(session) = sessions.get(&number) else {
+        return Fate::Closed;
+    };
+    if session.has_none() {
+        Fate::Closed
+    } else if session.has(channel) {
+        Fate::Dropped
+    } else {
+        Fate::Ended
+    }
+}
+
+/// Removes the rows of what ended in a call that met all followers of a channel.
+pub(crate) fn settle_all(rows: &mut Followers, sessions: &BTreeMap<u32, Session>, channel: &str)
+    requires { AgreedBefore channel.now (attached_in sessions.now) rows.old }
+    ensures { Agrees (attached_in sessions.now) rows.new }
+{
+    let mut next = rows.first(channel);
+    while let Some(session) = next {
+        next = rows.after(channel, session);
+        settle(rows, session, channel, fate_now(sessions, session, channel));
     }
 }
 
