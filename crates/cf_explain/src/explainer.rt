@@ -30,6 +30,9 @@ pub struct Explainer {
 }
 
 impl Explainer {
+    ghost use Rattle.std.specs.Prelude.{IfOk};
+    ghost use Rattle.cf_explain.specs.Remarks.{BeginsWith, IsOneLine, heading};
+
     /// Of a schedule of which nothing has happened.
     pub fn new(alloc: Global) -> Explainer {
         Explainer {
@@ -82,16 +85,26 @@ impl Explainer {
         Ok(())
     }
 
-    /// Sees the world after that event, which stands in this line of the schedule, and tells what it did.
+    /// Sees the world after that event, which stands in this line of the schedule, and tells what it did, under the event's
+    /// number and its line.
     pub fn after(
         &mut self,
         world: &World,
         event: &Event,
         number: usize,
         line: &str,
-    ) -> Result<Remarks, AllocError> {
+    ) -> Result<Remarks, AllocError>
+        ensures { IfOk result (λ r. IsOneLine line.now → BeginsWith (heading number line.now) r) }
+    {
+        let told = self.tell(world, event)?;
+        let mut remarks = Remarks::headed(self.alloc, number, line)?;
+        remarks.append(&told)?;
+        Ok(remarks)
+    }
+
+    // Tells what an event did.
+    fn tell(&mut self, world: &World, event: &Event) -> Result<Remarks, AllocError> {
         let mut remarks = Remarks::new(self.alloc);
-        remarks.add(format!(in self.alloc; "{number}: {line}")?.as_str())?;
         let now = Glance::of(world, event);
         let is_epoch = self.tell_epoch(&mut remarks, event)?;
         let is_sent = self.tell_sent(&mut remarks, event, now)?;

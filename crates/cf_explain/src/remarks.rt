@@ -22,17 +22,35 @@ impl Model for Remarks {
 }
 
 impl Remarks {
-    ghost use Rattle.std.specs.Prelude.{◌≡◌, []};
-    ghost use Rattle.cf_explain.specs.Remarks.{AreRemarks};
+    ghost use Rattle.std.specs.Prelude.{◌≡◌, ◌++◌, [], IfOk, OnOk};
+    ghost use Rattle.cf_explain.specs.Remarks.{AreRemarks, IsOneLine, heading, remark};
 
     /// No remark. It takes no memory.
-    pub fn new(alloc: Global) -> Remarks
+    pub(crate) fn new(alloc: Global) -> Remarks
         ensures { result ≡ [] }
     {
         Remarks {
             text: String::new(alloc),
             alloc,
         }
+    }
+
+    /// The remark that stands above those of an event: its number and its line.
+    pub(crate) fn headed(alloc: Global, number: usize, line: &str) -> Result<Remarks, AllocError>
+        ensures { IfOk result (λ r. IsOneLine line.now → r ≡ remark (heading number line.now)) }
+    {
+        let mut remarks = Remarks::new(alloc);
+        let text = format!(in alloc; "{number}: {line}")?;
+        remarks.add_line(text.as_str())?;
+        Ok(remarks)
+    }
+
+    /// Adds others behind these.
+    pub(crate) fn append(&mut self, others: &Remarks) -> Result<(), AllocError>
+        ensures { OnOk result (self.new ≡ self.old ++ others.now) }
+    {
+        self.text.push_str(others.as_str())?;
+        Ok(())
     }
 
     /// The lines. It takes no memory.
@@ -44,7 +62,7 @@ impl Remarks {
     }
 
     /// Adds a text: each of its lines is a remark.
-    pub fn add(&mut self, text: &str) -> Result<(), AllocError> {
+    pub(crate) fn add(&mut self, text: &str) -> Result<(), AllocError> {
         for line in text.split('\n') {
             self.add_line(line)?;
         }
@@ -52,7 +70,9 @@ impl Remarks {
     }
 
     // Adds a line. Where it has a line feed none is added.
-    fn add_line(&mut self, line: &str) -> Result<(), AllocError> {
+    fn add_line(&mut self, line: &str) -> Result<(), AllocError>
+        ensures { OnOk result (IsOneLine line.now → self.new ≡ self.old ++ remark line.now) }
+    {
         if line.contains('\n') {
             return Ok(());
         }
