@@ -1,4 +1,4 @@
-ghost use Rattle.std.specs.Prelude.{◌≡◌, IsSome};
+ghost use Rattle.std.specs.Prelude.{◌≡◌, IsSome, OnOk};
 ghost use Rattle.cf_protocol.specs.Settings.{settings_of};
 ghost use Rattle.cf_broker.specs.Shards.{names, number_of};
 
@@ -76,6 +76,15 @@ fn next_offset(rt: &impl Wait, link: &mut Receiver<Delivery>) -> Option<u64> {
     Some(offset)
 }
 
+/// So many publications come over a link, from the first on, and no more.
+fn brings<R: Wait + Abort>(rt: &R, link: &mut Receiver<Delivery>, most: u64) -> Result<(), Fail> {
+    for offset in 1..=most {
+        assert_eq!(rt; next_offset(rt, link), Some(offset));
+    }
+    assert_eq!(rt; next_offset(rt, link), None);
+    Ok(())
+}
+
 fn info(alloc: Global) -> Result<Info, Fail> {
     Ok(Info {
         user: String::from_str(alloc, "ann")?,
@@ -83,50 +92,127 @@ fn info(alloc: Global) -> Result<Info, Fail> {
     })
 }
 
-/// Publishes three times to `news` and reads, trims, ticks and forgets it.
-fn streams_of_news<N: Naming, R: Wait + Abort>(
+/// Publishes three times.
+fn publishes_thrice<N: Naming, R: Wait + Abort>(
+    rt: &R,
+    alloc: Global,
+    broker: &Broker<N, Same>,
+    pass: &mut Pass,
+    channel: &str,
+) -> Result<(), Fail>
+    requires pass { pass.old.word ≡ N.words (number_of channel.now) }
+    requires set_up { IsSome (settings_of N.namespaces channel.now) }
+    ensures { OnOk result (pass.new.word ≡ pass.old.word) }
+{
+    for (offset, body) in [(1, "1"), (2, "2"), (3, "3")] {
+        let body = String::from_str(alloc, body)?;
+        let position = broker.publish(rt, pass, channel, body, Some(info(alloc)?), 0)?;
+        assert_eq!(rt; position.offset, offset);
+    }
+    let (at, mark) = broker.position(rt, pass, channel);
+    assert_eq!(rt; (at.map(|position| position.offset), mark), (Some(3), 4));
+    Ok(())
+}
+
+/// Reads what follows the first of three publications.
+fn reads_two<N: Naming, R: Wait + Abort>(
+    rt: &R,
+    broker: &Broker<N, Same>,
+    pass: &mut Pass,
+    channel: &str,
+) -> Result<(), Fail>
+    requires pass { pass.old.word ≡ N.words (number_of channel.now) }
+    requires set_up { IsSome (settings_of N.namespaces channel.now) }
+    ensures { pass.new.word ≡ pass.old.word }
+{
+    let since = Position {
+        epoch: Epoch::from_text("aaaa"),
+        offset: 1,
+    };
+    let answer = broker.read(rt, pass, channel, Some(since), 0)?;
+    assert!(rt; answer.recovery.recovered);
+    assert_eq!(rt; (answer.recovery.publications.len(), answer.mark), (2, 4));
+    Ok(())
+}
+
+/// How many publications the history has, at a moment.
+fn held<N: Naming, R: Wait>(
+    rt: &R,
+    broker: &Broker<N, Same>,
+    pass: &mut Pass,
+    channel: &str,
+    limit: i32,
+    now: u64,
+) -> Result<usize, Fail>
+    requires pass { pass.old.word ≡ N.words (number_of channel.now) }
+    requires set_up { IsSome (settings_of N.namespaces channel.now) }
+    ensures { pass.new.word ≡ pass.old.word }
+{
+    let history = broker.history(rt, pass, channel, None, limit, now)?;
+    Ok(history.publications.len())
+}
+
+/// Trims the three publications to one, and waits until that one has gone too.
+fn cuts<N: Naming, R: Wait + Abort>(
+    rt: &R,
+    broker: &Broker<N, Same>,
+    pass: &mut Pass,
+    channel: &str,
+) -> Result<(), Fail>
+    requires pass { pass.old.word ≡ N.words (number_of channel.now) }
+    requires set_up { IsSome (settings_of N.namespaces channel.now) }
+    ensures { pass.new.word ≡ pass.old.word }
+{
+    assert_eq!(rt; held(rt, broker, pass, channel, 1, 0)?, 1);
+    broker.trim(rt, pass, channel, 1)?;
+    assert_eq!(rt; held(rt, broker, pass, channel, -1, 0)?, 1);
+    broker.tick(rt, pass, shard_of(channel), 100)?;
+    assert_eq!(rt; held(rt, broker, pass, channel, -1, 100)?, 0);
+    Ok(())
+}
+
+/// Forgets the stream, after which its epoch is another one's.
+fn forgets<N: Naming, R: Wait + Abort>(
+    rt: &R,
+    broker: &Broker<N, Same>,
+    pass: &mut Pass,
+    channel: &str,
+) -> Result<(), Fail>
+    requires pass { pass.old.word ≡ N.words (number_of channel.now) }
+    requires set_up { IsSome (settings_of N.namespaces channel.now) }
+{
+    broker.forget(rt, pass, channel)?;
+    let (gone, mark) = broker.position(rt, pass, channel);
+    assert_eq!(rt; (gone.is_none(), mark), (true, 7));
+    let since = Position {
+        epoch: Epoch::from_text("aaaa"),
+        offset: 1,
+    };
+    let refused = broker.history(rt, pass, channel, Some(since), -1, 0);
+    assert!(rt; matches!(refused, Err(Refused::WrongEpoch)));
+    assert_eq!(rt; pass.share(), 3);
+    Ok(())
+}
+
+/// Publishes three times to a channel and reads, trims, ticks and forgets it.
+fn streams_of<N: Naming, R: Wait + Abort>(
     rt: &R,
     alloc: Global,
     broker: &Broker<N, Same>,
     namespaces: &Namespaces,
     pass: &mut Pass,
+    channel: &str,
 ) -> Result<(), Fail>
     requires namespaces { namespaces.now ≡ N.namespaces }
-    requires pass { pass.old.word ≡ N.words 13 }
+    requires pass { pass.old.word ≡ N.words (number_of channel.now) }
 {
-    let news = "news";
-    if namespaces.find(news).is_none() || shard_of(news) != 13 {
+    if namespaces.find(channel).is_none() {
         return Ok(());
     }
-    for (offset, body) in [(1, "1"), (2, "2"), (3, "3")] {
-        let body = String::from_str(alloc, body)?;
-        let position = broker.publish(rt, pass, news, body, Some(info(alloc)?), 0)?;
-        assert_eq!(rt; position.offset, offset);
-    }
-    let (at, mark) = broker.position(rt, pass, news);
-    assert_eq!(rt; (at.map(|position| position.offset), mark), (Some(3), 4));
-    let since = Position {
-        epoch: Epoch::from_text("aaaa"),
-        offset: 1,
-    };
-    let answer = broker.read(rt, pass, news, Some(since), 0)?;
-    assert!(rt; answer.recovery.recovered);
-    assert_eq!(rt; (answer.recovery.publications.len(), answer.mark), (2, 4));
-    let first = broker.history(rt, pass, news, None, 1, 0)?;
-    assert_eq!(rt; first.publications.len(), 1);
-    broker.trim(rt, pass, news, 1)?;
-    let held = broker.history(rt, pass, news, None, -1, 0)?;
-    assert_eq!(rt; held.publications.len(), 1);
-    broker.tick(rt, pass, 13, 100)?;
-    let empty = broker.history(rt, pass, news, None, -1, 100)?;
-    assert_eq!(rt; empty.publications.len(), 0);
-    broker.forget(rt, pass, news)?;
-    let (gone, mark) = broker.position(rt, pass, news);
-    assert_eq!(rt; (gone.is_none(), mark), (true, 7));
-    let refused = broker.history(rt, pass, news, Some(since), -1, 0);
-    assert!(rt; matches!(refused, Err(Refused::WrongEpoch)));
-    assert_eq!(rt; pass.share(), 3);
-    Ok(())
+    publishes_thrice(rt, alloc, broker, pass, channel)?;
+    reads_two(rt, broker, pass, channel)?;
+    cuts(rt, broker, pass, channel)?;
+    forgets(rt, broker, pass, channel)
 }
 
 fn streams_called<N: Naming, R: Wait + Abort>(
@@ -142,15 +228,10 @@ fn streams_called<N: Naming, R: Wait + Abort>(
     let (wide, mut whole) = pair(alloc, 8)?;
     let links = Vec::from_array(alloc, [narrow, wide])?;
     let (broker, mut passes) = Broker::<N, Same>::new(alloc, words, namespaces, [Same; 16], links)?;
-    let mut pass = passes.take(&broker, 13);
-    streams_of_news(rt, alloc, &broker, namespaces, &mut pass)?;
-    assert_eq!(rt; next_offset(rt, &mut lossy), Some(1));
-    assert_eq!(rt; next_offset(rt, &mut lossy), None);
-    for offset in 1..4 {
-        assert_eq!(rt; next_offset(rt, &mut whole), Some(offset));
-    }
-    assert_eq!(rt; next_offset(rt, &mut whole), None);
-    Ok(())
+    let mut pass = passes.take(&broker, shard_of("news"));
+    streams_of(rt, alloc, &broker, namespaces, &mut pass, "news")?;
+    brings(rt, &mut lossy, 1)?;
+    brings(rt, &mut whole, 3)
 }
 
 #[test]
@@ -240,6 +321,42 @@ fn publishes<N: Naming, E: Epochs + Drop, R: Wait>(
     is_published(rt, alloc, broker, namespaces, pass, channel).1
 }
 
+/// Epochs of which those of shard 2 and those of the others wait for one another.
+fn epochs_that_meet(flags: &Flags) -> [Meeting<'_>; 16] {
+    let mut epochs = [Meeting {
+        flags,
+        is_first: true,
+    }; 16];
+    epochs[2] = Meeting {
+        flags,
+        is_first: false,
+    };
+    epochs
+}
+
+/// Two threads publish, each with passes of its own, and answers whether both were accepted.
+fn publish_both<N: Naming + Send + Sync, E: Epochs + Drop + Send, R: Threads + Wait + Sync>(
+    rt: &R,
+    alloc: Global,
+    broker: &Broker<N, E>,
+    namespaces: &Namespaces,
+    ours: Passes<N>,
+    theirs: Passes<N>,
+) -> bool
+    requires namespaces { namespaces.now ≡ N.namespaces }
+{
+    let (news, other) = thread::join(
+        rt,
+        || -> bool
+            requires { namespaces.now ≡ N.namespaces }
+        { publishes(rt, alloc, broker, namespaces, ours, "news") },
+        || -> bool
+            requires { namespaces.now ≡ N.namespaces }
+        { publishes(rt, alloc, broker, namespaces, theirs, "b") },
+    );
+    news && other
+}
+
 fn two_publish<N: Naming + Send + Sync, R: Threads + Wait + Abort + Sync>(
     rt: &R,
     alloc: Global,
@@ -253,29 +370,16 @@ fn two_publish<N: Naming + Send + Sync, R: Threads + Wait + Abort + Sync>(
         first: AtomicU64::new(0),
         second: AtomicU64::new(0),
     };
-    let mut epochs = [Meeting {
-        flags: &flags,
-        is_first: true,
-    }; 16];
-    epochs[2] = Meeting {
-        flags: &flags,
-        is_first: false,
-    };
     let links = Vec::new(alloc);
     let (broker, mut ours) = Broker::<N, Meeting<'_>>::new(
-        alloc, words, namespaces, epochs, links,
+        alloc,
+        words,
+        namespaces,
+        epochs_that_meet(&flags),
+        links,
     )?;
     let theirs = ours.lend(alloc, &broker)?;
-    let (news, other) = thread::join(
-        rt,
-        || -> bool
-            requires { namespaces.now ≡ N.namespaces }
-        { publishes(rt, alloc, &broker, namespaces, ours, "news") },
-        || -> bool
-            requires { namespaces.now ≡ N.namespaces }
-        { publishes(rt, alloc, &broker, namespaces, theirs, "b") },
-    );
-    assert!(rt; news && other);
+    assert!(rt; publish_both(rt, alloc, &broker, namespaces, ours, theirs));
     Ok(())
 }
 

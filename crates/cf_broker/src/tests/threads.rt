@@ -86,6 +86,30 @@ fn reads_on<N: Naming, R: Wait + Abort>(
     Ok(())
 }
 
+/// Another thread publishes once with a pass, and hands it back.
+fn publish_elsewhere<N: Naming + Send + Sync, R: Threads + Wait + Sync>(
+    rt: &R,
+    alloc: Global,
+    broker: &Broker<N, Same>,
+    namespaces: &Namespaces,
+    lent: Pass,
+    channel: &str,
+) -> Pass
+    requires namespaces { namespaces.now ≡ N.namespaces }
+    requires pass { lent.word ≡ N.words (number_of channel.now) }
+    ensures { result.word ≡ N.words (number_of channel.now) }
+{
+    let (theirs, ()) = thread::join(
+        rt,
+        || -> Pass
+            requires { (namespaces.now ≡ N.namespaces) × (lent.word ≡ N.words (number_of channel.now)) }
+            ensures { result.word ≡ N.words (number_of channel.entry.now) }
+        { publish_often(rt, alloc, broker, namespaces, lent, channel, 1) },
+        || (),
+    );
+    theirs
+}
+
 fn handed_over<N: Naming + Send + Sync, R: Threads + Wait + Abort + Sync>(
     rt: &R,
     alloc: Global,
@@ -100,14 +124,7 @@ fn handed_over<N: Naming + Send + Sync, R: Threads + Wait + Abort + Sync>(
     let (broker, mut passes) = Broker::<N, Same>::new(alloc, words, namespaces, [Same; 16], links)?;
     let mut ours = passes.take(&broker, shard_of(channel));
     let lent = broker.word(shard_of(channel)).lend(&mut ours);
-    let (mut theirs, ()) = thread::join(
-        rt,
-        || -> Pass
-            requires { (namespaces.now ≡ N.namespaces) × (lent.word ≡ N.words (number_of channel.now)) }
-            ensures { result.word ≡ N.words (number_of channel.entry.now) }
-        { publish_often(rt, alloc, &broker, namespaces, lent, channel, 1) },
-        || (),
-    );
+    let mut theirs = publish_elsewhere(rt, alloc, &broker, namespaces, lent, channel);
     broker.word(shard_of(channel)).meet(&mut ours, &mut theirs);
     reads_on(
         rt,
@@ -128,6 +145,50 @@ fn pass_handed_over(rt: HostRuntime) -> Result<(), Fail> {
     handed_over::<Brand, _>(&rt, rt.alloc(), words, &namespaces)
 }
 
+/// Two threads publish 100 times each, and hand their passes back.
+fn publish_beside<N: Naming + Send + Sync, R: Threads + Wait + Sync>(
+    rt: &R,
+    alloc: Global,
+    broker: &Broker<N, Same>,
+    namespaces: &Namespaces,
+    one: Pass,
+    two: Pass,
+    channel: &str,
+) -> (Pass, Pass)
+    requires namespaces { namespaces.now ≡ N.namespaces }
+    requires one { one.word ≡ N.words (number_of channel.now) }
+    requires two { two.word ≡ N.words (number_of channel.now) }
+    ensures one { result.0.word ≡ N.words (number_of channel.now) }
+    ensures two { result.1.word ≡ N.words (number_of channel.now) }
+{
+    thread::join(
+        rt,
+        || -> Pass
+            requires { (namespaces.now ≡ N.namespaces) × (one.word ≡ N.words (number_of channel.now)) }
+            ensures { result.word ≡ N.words (number_of channel.entry.now) }
+        { publish_often(rt, alloc, broker, namespaces, one, channel, 100) },
+        || -> Pass
+            requires { (namespaces.now ≡ N.namespaces) × (two.word ≡ N.words (number_of channel.now)) }
+            ensures { result.word ≡ N.words (number_of channel.entry.now) }
+        { publish_often(rt, alloc, broker, namespaces, two, channel, 100) },
+    )
+}
+
+/// The passes have 200 publishes of their own, and the channel stands at 200.
+fn stands_at_200<N: Naming, R: Wait + Abort>(
+    rt: &R,
+    broker: &Broker<N, Same>,
+    pass: &mut Pass,
+    channel: &str,
+) -> Result<(), Fail>
+    requires { pass.old.word ≡ N.words (number_of channel.now) }
+{
+    assert_eq!(rt; pass.share(), 200);
+    let (at, _) = broker.position(rt, pass, channel);
+    assert_eq!(rt; at.map(|position| position.offset), Some(200));
+    Ok(())
+}
+
 fn add_up<N: Naming + Send + Sync, R: Threads + Wait + Abort + Sync>(
     rt: &R,
     alloc: Global,
@@ -143,23 +204,10 @@ fn add_up<N: Naming + Send + Sync, R: Threads + Wait + Abort + Sync>(
     let mut pass = passes.take(&broker, shard_of(channel));
     let one = broker.word(shard_of(channel)).lend(&mut pass);
     let two = broker.word(shard_of(channel)).lend(&mut pass);
-    let (one, two) = thread::join(
-        rt,
-        || -> Pass
-            requires { (namespaces.now ≡ N.namespaces) × (one.word ≡ N.words (number_of channel.now)) }
-            ensures { result.word ≡ N.words (number_of channel.entry.now) }
-        { publish_often(rt, alloc, &broker, namespaces, one, channel, 100) },
-        || -> Pass
-            requires { (namespaces.now ≡ N.namespaces) × (two.word ≡ N.words (number_of channel.now)) }
-            ensures { result.word ≡ N.words (number_of channel.entry.now) }
-        { publish_often(rt, alloc, &broker, namespaces, two, channel, 100) },
-    );
+    let (one, two) = publish_beside(rt, alloc, &broker, namespaces, one, two, channel);
     broker.word(shard_of(channel)).join(&mut pass, one);
     broker.word(shard_of(channel)).join(&mut pass, two);
-    assert_eq!(rt; pass.share(), 200);
-    let (at, _) = broker.position(rt, &mut pass, channel);
-    assert_eq!(rt; at.map(|position| position.offset), Some(200));
-    Ok(())
+    stands_at_200(rt, &broker, &mut pass, channel)
 }
 
 /// Two threads publish 100 times each with passes that are lent to them. Joined, they have 200 publishes of their own, and the
