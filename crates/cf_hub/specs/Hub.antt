@@ -8,7 +8,9 @@ use Rattle.std.specs.Ordering.{nat_cmp}
 use Rattle.cf_protocol.specs.Datum.{Placed}
 use Rattle.cf_protocol.specs.Position.{Position}
 use Rattle.cf_queue.specs.OutQueue.{Item}
-use Rattle.cf_followers.specs.Follows.{Follow, channels_of, most_rows, with_follow}
+use Rattle.cf_followers.specs.Follows.{Follow, channels_of, most_rows, sessions_of, with_follow}
+use Rattle.cf_hub.specs.Delivery.{fate_at, none, tally}
+use Rattle.cf_hub.specs.declared.delivered.Delivered.{Delivered}
 use Rattle.cf_hub.specs.Rows.{Agrees, sub_in}
 use Rattle.cf_hub.specs.Session.{Attached, Shown, attached_shown, attached_of, ticked, ticks}
 use Rattle.cf_hub.specs.SessionState.{SessionState, Subscription, begins, comes, is_off, opens}
@@ -133,6 +135,18 @@ pub record Delivers (c e : List ℕ) (p : Placed) (old new : Node) : Type 0 wher
   pub requests : ℕ
   pub few_hit : length hit ≤ requests
   pub count : new.refused ≡ counted requests old.refused
+
+-- how many sessions it met by what it did with them, each follower once
+abbrev pub tallied : List ℕ → List ℕ → Placed → Node → Node → Delivered
+tallied c e p old new = tally (λ k. fate_at c (at_offset e p) (attached_at old k) (attached_at new k)) (sessions_of old.rows c) none
+
+-- each follower gets its turn, in order
+abbrev pub EachGetsTurn : List ℕ → Node → Node → Type 0
+EachGetsTurn c old new = new.turns ≡ get_turns (sessions_of old.rows c) old.turns
+
+-- a request for memory was refused, if so
+abbrev pub met_refusal : Bool → Node → Node
+met_refusal refused h = record h { refused = counted (one_if refused) h.refused }
 
 -- node, boot number and client ids are as they were
 pub record SameNode (old new : Node) : Type 0 where

@@ -11,6 +11,7 @@ pub mod Finish
 pub mod Rows
 pub mod Hub
 pub mod Reply
+pub mod Sessions
 pub mod Spoken
 pub mod Alike
 pub mod InNotes

@@ -1,14 +1,14 @@
 //! One node's sessions and rows.
-ghost use Rattle.std.specs.Prelude.{◌≡◌, ◌≢◌, ◌≤◌, ◌==◌, ℕ, List, Some, None, true, false, length, IfSome, string_bytes, not, slice_get, option_map, option_and_then};
+ghost use Rattle.std.specs.Prelude.{◌≡◌, ◌==◌, None, length, not, slice_get, option_map, option_and_then};
 ghost use Rattle.cf_followers.specs.Follows.{channels_of, sessions_of};
 ghost use Rattle.cf_queue.specs.Meaning.{meaning};
 ghost use Rattle.cf_queue.specs.OutQueue.{Close};
-ghost use Rattle.cf_hub.specs.Delivery.{fate_at, none, tally, total};
-ghost use Rattle.cf_hub.specs.Hub.{Delivers, One, OthersStay, SameNode, SameRest, attached_at, counted, empty, largest, one_if, sub_at};
+ghost use Rattle.cf_hub.specs.Delivery.{total};
+ghost use Rattle.cf_hub.specs.Hub.{Delivers, EachGetsTurn, One, OthersStay, SameNode, SameRest, attached_at, empty, met_refusal, sub_at, tallied};
 ghost use Rattle.cf_hub.specs.Rows.{Agrees};
 ghost use Rattle.cf_hub.specs.SessionState.{closes_now, is_off, leaves, takes_front};
-ghost use Rattle.cf_hub.specs.Turns.{get_turns, gets_turn};
-ghost use Rattle.cf_hub.specs.Wordings.{at_offset, push_text};
+ghost use Rattle.cf_hub.specs.Turns.{gets_turn};
+ghost use Rattle.cf_hub.specs.Wordings.{IsWritten};
 
 use crate::delivered::{Delivered, Fate};
 use crate::listed::Listed;
@@ -82,9 +82,9 @@ impl Hub {
     pub fn deliver(&mut self, channel: &str, epoch: &Epoch, publication: &Publication) -> Delivered
         ensures each { Delivers channel.now epoch.now publication.now self.old self.new }
         ensures rest { SameNode self.old self.new }
-        ensures counts { result ≡ tally (λ k. fate_at channel.now (at_offset epoch.now publication.now) (attached_at self.old k) (attached_at self.new k)) (sessions_of self.old.rows channel.now) none }
+        ensures counts { result ≡ tallied channel.now epoch.now publication.now self.old self.new }
         ensures adds_up { total result ≡ length (sessions_of self.old.rows channel.now) }
-        ensures turns { self.new.turns ≡ get_turns (sessions_of self.old.rows channel.now) self.old.turns }
+        ensures turns { EachGetsTurn channel.now self.old self.new }
         ensures agrees { Agrees (attached_at self.new) self.new.rows }
     {
         let written = push_text(self.alloc, channel, publication);
@@ -149,7 +149,7 @@ impl Hub {
 
     // Memory was refused, if so.
     pub(crate) fn note(&mut self, refused: bool)
-        ensures { self.new ≡ record self.old { refused = counted (one_if refused) self.old.refused } }
+        ensures { self.new ≡ met_refusal refused self.old }
     {
         self.refused = count_more(self.refused, refused);
     }
@@ -161,12 +161,12 @@ impl Hub {
         publication: &Publication,
         written: &Option<String>,
     ) -> Delivered
-        requires { IfSome written.now (λ t. string_bytes t ≡ push_text channel.now publication.now) }
+        requires { IsWritten written.now channel.now publication.now }
         ensures each { Delivers channel.now epoch.now publication.now self.old self.new }
         ensures rest { SameNode self.old self.new }
-        ensures counts { result ≡ tally (λ k. fate_at channel.now (at_offset epoch.now publication.now) (attached_at self.old k) (attached_at self.new k)) (sessions_of self.old.rows channel.now) none }
+        ensures counts { result ≡ tallied channel.now epoch.now publication.now self.old self.new }
         ensures adds_up { total result ≡ length (sessions_of self.old.rows channel.now) }
-        ensures turns { self.new.turns ≡ get_turns (sessions_of self.old.rows channel.now) self.old.turns }
+        ensures turns { EachGetsTurn channel.now self.old self.new }
         ensures agrees { Agrees (attached_at self.new) self.new.rows }
     {
         let mut counts = Delivered::none();

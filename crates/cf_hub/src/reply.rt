@@ -131,14 +131,12 @@ fn answer_at(subscriptions: &mut BTreeMap<String, Box<Progress>>, channel: &str)
 
 impl Session {
     ghost use Rattle.std.specs.Prelude.{◌≡◌, ◌&&◌, not, if◌then◌else◌, OnOk, OnErr, MatchOption, List, ℕ, is_some, true, false};
-    ghost use Rattle.cf_hub.specs.Finish.{FinishesAt, fate_in, refused_in};
-    ghost use Rattle.cf_hub.specs.WantOfMemory.{SaysAll};
-    ghost use Rattle.cf_hub.specs.Reply.{IsAnswered, answer_notes, finish_texts};
-    ghost use Rattle.cf_hub.specs.Rows.{off_after};
+    ghost use Rattle.cf_hub.specs.Finish.{fate_in, refused_in};
+    ghost use Rattle.cf_hub.specs.Reply.{answer_notes, finish_texts};
     ghost use Rattle.cf_hub.specs.Session.{badge_of, state_of};
-    ghost use Rattle.cf_hub.specs.SessionState.{Off, begins, is_asked, is_off, is_ready, put_sub, reads};
-    ghost use Rattle.cf_hub.specs.Subscriptions.{reading_of};
-    ghost use Rattle.cf_hub.specs.Wordings.{plain, reading};
+    ghost use Rattle.cf_hub.specs.SessionState.{begins, is_asked, is_off, is_ready};
+    ghost use Rattle.cf_hub.specs.Sessions.{AnswersTo, EndsAs, FinishesSession, Moves, Tells, closed_or, finish_fate, leaves_if, takes_read};
+    ghost use Rattle.cf_hub.specs.Wordings.{plain};
 
     /// Makes a subscription that the command `id` asked for.
     pub(crate) fn begin(
@@ -149,7 +147,7 @@ impl Session {
         since: Option<Position>,
     ) -> Result<(), AllocError>
         requires { is_off ((state_of self.old).subs channel.now) ≡ true }
-        ensures ok { OnOk result (state_of self.new ≡ begins plain channel.now id since (state_of self.old)) }
+        ensures ok { OnOk result (Moves (begins plain channel.now id since) self.old self.new) }
         ensures err { OnErr result (state_of self.new ≡ state_of self.old) }
         ensures badge { badge_of self.new ≡ badge_of self.old }
     {
@@ -165,7 +163,7 @@ impl Session {
     /// Takes what the read of a channel's stream gave, once. Says whether the channel was asked for.
     pub(crate) fn read_done(&mut self, channel: &str, recovery: Recovery) -> bool
         ensures asked { result ≡ is_asked ((state_of self.old).subs channel.now) }
-        ensures state { state_of self.new ≡ reads (reading recovery.publications.items) channel.now (reading_of recovery) (state_of self.old) }
+        ensures state { Moves (takes_read recovery channel.now) self.old self.new }
         ensures badge { badge_of self.new ≡ badge_of self.old }
     {
         read_at(&mut self.subscriptions, channel, recovery)
@@ -174,7 +172,7 @@ impl Session {
     /// Gives a channel's reply and what follows it, where the stream was read. The subscription then stands behind both, or is
     /// over.
     fn answer(&mut self, channel: &str) -> Option<Answered>
-        ensures answered { MatchOption result ((state_of self.new ≡ state_of self.old) × (is_ready ((state_of self.old).subs channel.now) ≡ false)) (λ a. IsAnswered a channel.now (state_of self.old) (state_of self.new)) }
+        ensures answered { AnswersTo result channel.now self.old self.new }
         ensures badge { badge_of self.new ≡ badge_of self.old }
     {
         match answer_at(&mut self.subscriptions, channel) {
@@ -188,7 +186,7 @@ impl Session {
 
     /// The channel's subscription ends, if so.
     fn leave_if(&mut self, channel: &str, ends: bool)
-        ensures state { state_of self.new ≡ (if ends then put_sub channel.now Off (state_of self.old) else state_of self.old) }
+        ensures state { Moves (leaves_if ends channel.now) self.old self.new }
         ensures badge { badge_of self.new ≡ badge_of self.old }
     {
         if ends {
@@ -200,8 +198,8 @@ impl Session {
     /// there is nothing to finish.
     pub(crate) fn finish(&mut self, alloc: Global, channel: &str) -> Option<Step>
         ensures found { is_some result ≡ is_ready ((state_of self.old).subs channel.now) }
-        ensures state { FinishesAt (refused_in result) channel.now ((state_of self.old).subs channel.now) (state_of self.old) (state_of self.new) }
-        ensures offs { (d : List ℕ) → is_off ((state_of self.new).subs d) ≡ off_after (fate_in result) channel.now d (is_off ((state_of self.old).subs d)) }
+        ensures state { FinishesSession (refused_in result) channel.now self.old self.new }
+        ensures offs { EndsAs (fate_in result) channel.now self.old self.new }
         ensures badge { badge_of self.new ≡ badge_of self.old }
     {
         let was_closed = self.is_closed();
@@ -219,8 +217,8 @@ impl Session {
         was_closed: bool,
         answered: Answered,
     ) -> Step
-        ensures state { SaysAll result.refused plain (finish_texts channel.now answered) (state_of self.old) (state_of self.new) }
-        ensures fate { result.fate ≡ (if not was_closed && (state_of self.new).closed then Fate.Closed else (if answered.released.insufficient then Fate.Ended else Fate.Passed)) }
+        ensures state { Tells result.refused (finish_texts channel.now answered) self.old self.new }
+        ensures fate { result.fate ≡ closed_or was_closed self.new (finish_fate answered) }
         ensures badge { badge_of self.new ≡ badge_of self.old }
     {
         let ends = answered.released.insufficient;
@@ -234,7 +232,7 @@ impl Session {
 
     /// Queues a reply and the run that follows it. Says whether memory was refused.
     fn say_answer(&mut self, alloc: Global, channel: &str, answered: Answered) -> bool
-        ensures state { SaysAll result plain (answer_notes channel.now answered) (state_of self.old) (state_of self.new) }
+        ensures state { Tells result (answer_notes channel.now answered) self.old self.new }
         ensures badge { badge_of self.new ≡ badge_of self.old }
     {
         let Answered {

@@ -64,19 +64,17 @@ impl Session {
     ghost use Rattle.std.specs.Prelude.{◌≡◌, ◌⊎◌, ◌↔◌, IsTrue, ◌||◌, ◌∷◌, [], ℕ, List, Some, None, true, false, IfSome, option_map, is_some, string_bytes, not, slice_get, ◌&&◌, if◌then◌else◌, map};
     ghost use Rattle.cf_queue.specs.Meaning.{meaning};
     ghost use Rattle.cf_queue.specs.OutQueue.{Text, Close};
-    ghost use Rattle.cf_hub.specs.Delivery.{fate_of};
     ghost use Rattle.cf_hub.specs.Hub.{is_waiting};
-    ghost use Rattle.cf_hub.specs.Rows.{off_after};
     ghost use Rattle.cf_hub.specs.Session.{badge_of, state_of};
-    ghost use Rattle.cf_hub.specs.SessionState.{Off, On, closes_now, comes, is_off, no_memory, opens, push, put_sub, takes_front};
+    ghost use Rattle.cf_hub.specs.SessionState.{Off, On, closes_now, is_off, opens, put_sub, takes_front};
+    ghost use Rattle.cf_hub.specs.Sessions.{Acts, EndsAs, IsBrought, Moves, SaysText, Tells, closed_or, fate_brought, new_badge, pushes, says_one};
     ghost use Rattle.cf_hub.specs.Subscriptions.{meeting, progress_at, sub_of};
-    ghost use Rattle.cf_hub.specs.WantOfMemory.{ClosesWith, OrCloses, SaysAll, Serves};
-    ghost use Rattle.cf_hub.specs.Wordings.{at_offset, delivering, plain, push_text};
+    ghost use Rattle.cf_hub.specs.Wordings.{IsWritten, at_offset, push_text};
 
     /// A client's session, with no subscription and nothing that waits.
     pub(crate) fn new(alloc: Global, client: String, user: String, now: u64) -> Session
         ensures state { state_of result ≡ opens }
-        ensures badge { badge_of result ≡ record { client = string_bytes client; user = string_bytes user; pinged = now; awaits_pong = false } }
+        ensures badge { badge_of result ≡ new_badge (string_bytes client) (string_bytes user) now }
     {
         Session {
             client,
@@ -141,7 +139,7 @@ impl Session {
 
     /// Queues a text, or closes the session. Says whether memory was refused, as it was for a text that isn't there.
     pub(crate) fn say(&mut self, text: Option<String>) -> bool
-        ensures state { (t : List ℕ) → IfSome text (λ x. string_bytes x ≡ t) → (state_of self.new ≡ push plain (Text t) (state_of self.old)) ⊎ ((result ≡ true) × ClosesWith (Close no_memory) (state_of self.old) (state_of self.new)) }
+        ensures state { SaysText result text self.old self.new }
         ensures badge { badge_of self.new ≡ badge_of self.old }
     {
         let Some(text) = text else {
@@ -164,8 +162,8 @@ impl Session {
 
     /// Queues a text that is there, and says what that did.
     pub(crate) fn tell(&mut self, text: String) -> Step
-        ensures state { OrCloses result.refused plain (push plain (Text (string_bytes text))) (state_of self.old) (state_of self.new) }
-        ensures offs { (d : List ℕ) → is_off ((state_of self.new).subs d) ≡ off_after result.fate [] d (is_off ((state_of self.old).subs d)) }
+        ensures state { Acts result.refused (says_one (string_bytes text)) self.old self.new }
+        ensures offs { EndsAs result.fate [] self.old self.new }
         ensures badge { badge_of self.new ≡ badge_of self.old }
     {
         let was_closed = self.queue.is_closed();
@@ -175,7 +173,7 @@ impl Session {
 
     /// Queues a copy of a text, or closes the session. Says whether memory was refused.
     fn say_copy(&mut self, text: &str) -> bool
-        ensures state { (state_of self.new ≡ push plain (Text text.now) (state_of self.old)) ⊎ ((result ≡ true) × ClosesWith (Close no_memory) (state_of self.old) (state_of self.new)) }
+        ensures state { Acts result (says_one text.now) self.old self.new }
         ensures badge { badge_of self.new ≡ badge_of self.old }
     {
         match self.queue.push_copy(text) {
@@ -200,8 +198,8 @@ impl Session {
         channel: &str,
         publication: &Publication,
     ) -> bool
-        requires { IfSome written.now (λ t. string_bytes t ≡ push_text channel.now publication.now) }
-        ensures state { (state_of self.new ≡ push plain (Text (push_text channel.now publication.now)) (state_of self.old)) ⊎ ((result ≡ true) × ClosesWith (Close no_memory) (state_of self.old) (state_of self.new)) }
+        requires { IsWritten written.now channel.now publication.now }
+        ensures state { Acts result (says_one (push_text channel.now publication.now)) self.old self.new }
         ensures badge { badge_of self.new ≡ badge_of self.old }
     {
         match written {
@@ -212,7 +210,7 @@ impl Session {
 
     /// Queues the pushes of publications in order, or closes the session amid them. Says whether memory was refused.
     pub(crate) fn pass_on(&mut self, alloc: Global, channel: &str, run: &[Publication]) -> bool
-        ensures state { SaysAll result plain (map (λ x. Text (push_text channel.now x)) run.now) (state_of self.old) (state_of self.new) }
+        ensures state { Tells result (pushes channel.now run.now) self.old self.new }
         ensures badge { badge_of self.new ≡ badge_of self.old }
     {
         let mut refused = false;
@@ -249,7 +247,7 @@ impl Session {
 
     /// What a call did: it closed the session, or else this.
     pub(crate) fn step(&self, was_closed: bool, fate: Fate, refused: bool) -> Step
-        ensures fate { result.fate ≡ (if not was_closed && (state_of self.now).closed then Fate.Closed else fate) }
+        ensures fate { result.fate ≡ closed_or was_closed self.now fate }
         ensures refused { result.refused ≡ refused }
     {
         if !was_closed && self.queue.is_closed() {
@@ -265,7 +263,7 @@ impl Session {
     /// Puts a subscription in place of the one that is there.
     pub(crate) fn put(&mut self, channel: &str, progress: Progress)
         requires { is_some (progress_at self.old.subscriptions channel.now) ≡ true }
-        ensures state { state_of self.new ≡ put_sub channel.now (sub_of (Some progress)) (state_of self.old) }
+        ensures state { Moves (put_sub channel.now (sub_of (Some progress))) self.old self.new }
         ensures badge { badge_of self.new ≡ badge_of self.old }
         ensures queue { self.new.queue ≡ self.old.queue }
     {
@@ -284,7 +282,7 @@ impl Session {
     /// Keeps a publication for a channel whose reply waits. Says whether memory was refused for it.
     fn keep(&mut self, channel: &str, epoch: &Epoch, publication: &Publication) -> bool
         requires { meeting (at_offset epoch.now publication.now) (progress_at self.old.subscriptions channel.now) ≡ Meets.Buffer }
-        ensures state { Serves result (delivering publication.now) channel.now (comes (delivering publication.now) channel.now (at_offset epoch.now publication.now)) (state_of self.old) (state_of self.new) }
+        ensures state { IsBrought result channel.now epoch.now publication.now self.old self.new }
         ensures queue { self.new.queue ≡ self.old.queue }
         ensures badge { badge_of self.new ≡ badge_of self.old }
     {
@@ -300,9 +298,9 @@ impl Session {
         publication: &Publication,
         written: &Option<String>,
     ) -> Step
-        requires { IfSome written.now (λ t. string_bytes t ≡ push_text channel.now publication.now) }
-        ensures state { Serves result.refused (delivering publication.now) channel.now (comes (delivering publication.now) channel.now (at_offset epoch.now publication.now)) (state_of self.old) (state_of self.new) }
-        ensures fate { result.fate ≡ fate_of channel.now (at_offset epoch.now publication.now) (state_of self.old) (state_of self.new) }
+        requires { IsWritten written.now channel.now publication.now }
+        ensures state { IsBrought result.refused channel.now epoch.now publication.now self.old self.new }
+        ensures fate { result.fate ≡ fate_brought channel.now epoch.now publication.now self.old self.new }
         ensures badge { badge_of self.new ≡ badge_of self.old }
     {
         let was_closed = self.queue.is_closed();

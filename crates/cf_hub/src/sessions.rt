@@ -1,19 +1,17 @@
 //! A node's sessions by number: what a call makes of one of them.
-ghost use Rattle.std.specs.Prelude.{◌≡◌, ◌≢◌, ℕ, List, [], true, false, not, is_some, IfNone, IfSome, OnOk, OnErr, Some, None, string_bytes, option_map, option_and_then, slice_get};
+ghost use Rattle.std.specs.Prelude.{◌≡◌, [], true, not, is_some, IfNone, IfSome, OnOk, OnErr, Some, None, string_bytes, option_map, option_and_then, slice_get};
 ghost use Rattle.std.specs.BTreeMap.{get};
 ghost use Rattle.std.specs.Ordering.{nat_cmp};
 ghost use Rattle.cf_queue.specs.Meaning.{meaning};
-ghost use Rattle.cf_queue.specs.OutQueue.{Close, Text};
+ghost use Rattle.cf_queue.specs.OutQueue.{Close};
 ghost use Rattle.cf_hub.specs.Delivery.{fate_at};
-ghost use Rattle.cf_hub.specs.Hub.{Brings, HasNoneFrom, InState, IsNextFrom, IsNextTurn, Pings, attached_in, counted, is_open, is_waiting, moves, one_if, said_in, waits_in};
+ghost use Rattle.cf_hub.specs.Hub.{Brings, HasNoneFrom, IsNextFrom, IsNextTurn, Pings, attached_in, counted, is_open, is_waiting, one_if, said_in, waits_in};
 ghost use Rattle.cf_hub.specs.Checked.{check_answer, stand_of};
-ghost use Rattle.cf_hub.specs.Finish.{FinishesAt};
-ghost use Rattle.cf_hub.specs.Rows.{AgreedBefore, Agrees, TellsFate, off_after, rows_after, sub_in};
+ghost use Rattle.cf_hub.specs.Rows.{AgreedBefore, Agrees, TellsFate, rows_after, sub_in};
 ghost use Rattle.cf_hub.specs.Session.{attached_of, badge_ponged};
-ghost use Rattle.cf_hub.specs.SessionState.{begins, checks, closes_now, is_asked, is_off, is_ready, leaves, push, reads, takes_front};
-ghost use Rattle.cf_hub.specs.Subscriptions.{reading_of};
-ghost use Rattle.cf_hub.specs.WantOfMemory.{Both, OrCloses};
-ghost use Rattle.cf_hub.specs.Wordings.{at_offset, plain, push_text, reading};
+ghost use Rattle.cf_hub.specs.SessionState.{begins, checks, closes_now, is_asked, is_off, is_ready, leaves, takes_front};
+ghost use Rattle.cf_hub.specs.Sessions.{ActsIn, BecomesIn, EndsIn, FinishesIn, MeetsIn, MovesIn, OthersStayIn, says_one, takes_read};
+ghost use Rattle.cf_hub.specs.Wordings.{IsWritten, at_offset, plain};
 
 use crate::checked::Checked;
 use crate::delivered::Fate;
@@ -37,9 +35,9 @@ pub(crate) fn bring_one(
     publication: &Publication,
     written: &Option<String>,
 ) -> Step
-    requires { IfSome written.now (λ t. string_bytes t ≡ push_text channel.now publication.now) }
-    ensures here { Both (Brings result.refused channel.now epoch.now publication.now) (attached_in sessions.old number) (attached_in sessions.new number) }
-    ensures others { (k : ℕ) → k ≢ number → attached_in sessions.new k ≡ attached_in sessions.old k }
+    requires { IsWritten written.now channel.now publication.now }
+    ensures here { MeetsIn number (Brings result.refused channel.now epoch.now publication.now) sessions.old sessions.new }
+    ensures others { OthersStayIn number sessions.old sessions.new }
     ensures fate { result.fate ≡ fate_at channel.now (at_offset epoch.now publication.now) (attached_in sessions.old number) (attached_in sessions.new number) }
 {
     match sessions.get_mut(&number) {
@@ -53,8 +51,8 @@ pub(crate) fn bring_one(
 
 /// One session leaves a channel.
 pub(crate) fn leave_one(sessions: &mut BTreeMap<u32, Session>, number: u32, channel: &str)
-    ensures here { attached_in sessions.new number ≡ option_map (moves (leaves channel.now)) (attached_in sessions.old number) }
-    ensures others { (k : ℕ) → k ≢ number → attached_in sessions.new k ≡ attached_in sessions.old k }
+    ensures here { MovesIn number (leaves channel.now) sessions.old sessions.new }
+    ensures others { OthersStayIn number sessions.old sessions.new }
 {
     if let Some(session) = sessions.get_mut(&number) {
         session.leave(channel);
@@ -63,8 +61,8 @@ pub(crate) fn leave_one(sessions: &mut BTreeMap<u32, Session>, number: u32, chan
 
 /// Closes one session. Says whether it was open.
 pub(crate) fn close_one(sessions: &mut BTreeMap<u32, Session>, number: u32, code: u16) -> bool
-    ensures here { attached_in sessions.new number ≡ option_map (moves (closes_now (Close code))) (attached_in sessions.old number) }
-    ensures others { (k : ℕ) → k ≢ number → attached_in sessions.new k ≡ attached_in sessions.old k }
+    ensures here { MovesIn number (closes_now (Close code)) sessions.old sessions.new }
+    ensures others { OthersStayIn number sessions.old sessions.new }
     ensures open { result ≡ is_open (attached_in sessions.old number) }
 {
     match sessions.get_mut(&number) {
@@ -76,8 +74,8 @@ pub(crate) fn close_one(sessions: &mut BTreeMap<u32, Session>, number: u32, code
 /// Takes what is next for one session's client.
 pub(crate) fn take_one(sessions: &mut BTreeMap<u32, Session>, number: u32) -> Option<Out>
     ensures front { option_map meaning result ≡ option_and_then (λ a. slice_get a.state.notes 0) (attached_in sessions.old number) }
-    ensures here { attached_in sessions.new number ≡ option_map (moves takes_front) (attached_in sessions.old number) }
-    ensures others { (k : ℕ) → k ≢ number → attached_in sessions.new k ≡ attached_in sessions.old k }
+    ensures here { MovesIn number takes_front sessions.old sessions.new }
+    ensures others { OthersStayIn number sessions.old sessions.new }
 {
     match sessions.get_mut(&number) {
         None => None,
@@ -88,7 +86,7 @@ pub(crate) fn take_one(sessions: &mut BTreeMap<u32, Session>, number: u32) -> Op
 /// One session goes.
 pub(crate) fn drop_one(sessions: &mut BTreeMap<u32, Session>, number: u32)
     ensures here { attached_in sessions.new number ≡ None }
-    ensures others { (k : ℕ) → k ≢ number → attached_in sessions.new k ≡ attached_in sessions.old k }
+    ensures others { OthersStayIn number sessions.old sessions.new }
 {
     let _gone = sessions.remove(&number);
 }
@@ -103,8 +101,8 @@ pub(crate) fn begin_one(
     since: Option<Position>,
 ) -> Result<(), AllocError>
     requires { is_off (sub_in (attached_in sessions.old number) channel.now) ≡ true }
-    ensures here { OnOk result (attached_in sessions.new number ≡ option_map (moves (begins plain channel.now id since)) (attached_in sessions.old number)) }
-    ensures others { (k : ℕ) → k ≢ number → attached_in sessions.new k ≡ attached_in sessions.old k }
+    ensures here { OnOk result (MovesIn number (begins plain channel.now id since) sessions.old sessions.new) }
+    ensures others { OthersStayIn number sessions.old sessions.new }
     ensures err { OnErr result (attached_in sessions.new number ≡ attached_in sessions.old number) }
 {
     match sessions.get_mut(&number) {
@@ -121,8 +119,8 @@ pub(crate) fn read_one(
     recovery: Recovery,
 ) -> bool
     ensures asked { result ≡ is_asked (sub_in (attached_in sessions.old number) channel.now) }
-    ensures here { attached_in sessions.new number ≡ option_map (moves (reads (reading recovery.publications.items) channel.now (reading_of recovery))) (attached_in sessions.old number) }
-    ensures others { (k : ℕ) → k ≢ number → attached_in sessions.new k ≡ attached_in sessions.old k }
+    ensures here { MovesIn number (takes_read recovery channel.now) sessions.old sessions.new }
+    ensures others { OthersStayIn number sessions.old sessions.new }
 {
     match sessions.get_mut(&number) {
         None => false,
@@ -138,9 +136,9 @@ pub(crate) fn finish_one(
     channel: &str,
 ) -> (bool, Step)
     ensures found { result.0 ≡ is_ready (sub_in (attached_in sessions.old number) channel.now) }
-    ensures here { Both (InState (FinishesAt result.1.refused channel.now (sub_in (attached_in sessions.old number) channel.now))) (attached_in sessions.old number) (attached_in sessions.new number) }
-    ensures others { (k : ℕ) → k ≢ number → attached_in sessions.new k ≡ attached_in sessions.old k }
-    ensures offs { (d : List ℕ) → is_off (sub_in (attached_in sessions.new number) d) ≡ off_after result.1.fate channel.now d (is_off (sub_in (attached_in sessions.old number) d)) }
+    ensures here { FinishesIn number result.1 channel.now sessions.old sessions.new }
+    ensures others { OthersStayIn number sessions.old sessions.new }
+    ensures offs { EndsIn number result.1.fate channel.now sessions.old sessions.new }
 {
     match sessions.get_mut(&number) {
         None => (false, Step::none()),
@@ -158,9 +156,9 @@ pub(crate) fn say_one(
     text: String,
 ) -> (Said, Step)
     ensures said { result.0 ≡ said_in (attached_in sessions.new number) }
-    ensures here { Both (InState (OrCloses result.1.refused plain (push plain (Text (string_bytes text))))) (attached_in sessions.old number) (attached_in sessions.new number) }
-    ensures others { (k : ℕ) → k ≢ number → attached_in sessions.new k ≡ attached_in sessions.old k }
-    ensures offs { (d : List ℕ) → is_off (sub_in (attached_in sessions.new number) d) ≡ off_after result.1.fate [] d (is_off (sub_in (attached_in sessions.old number) d)) }
+    ensures here { ActsIn number result.1 (says_one (string_bytes text)) sessions.old sessions.new }
+    ensures others { OthersStayIn number sessions.old sessions.new }
+    ensures offs { EndsIn number result.1.fate [] sessions.old sessions.new }
 {
     match sessions.get_mut(&number) {
         None => (Said::Gone, Step::none()),
@@ -184,9 +182,9 @@ pub(crate) fn check_one(
     top: Option<Position>,
 ) -> (Checked, Step)
     ensures answer { result.0 ≡ check_answer top (sub_in (attached_in sessions.old number) channel.now) }
-    ensures here { Both (InState (OrCloses result.1.refused plain (checks plain channel.now top))) (attached_in sessions.old number) (attached_in sessions.new number) }
-    ensures others { (k : ℕ) → k ≢ number → attached_in sessions.new k ≡ attached_in sessions.old k }
-    ensures offs { (d : List ℕ) → is_off (sub_in (attached_in sessions.new number) d) ≡ off_after result.1.fate channel.now d (is_off (sub_in (attached_in sessions.old number) d)) }
+    ensures here { ActsIn number result.1 (checks plain channel.now top) sessions.old sessions.new }
+    ensures others { OthersStayIn number sessions.old sessions.new }
+    ensures offs { EndsIn number result.1.fate channel.now sessions.old sessions.new }
 {
     match sessions.get_mut(&number) {
         None => (Checked::Nothing, Step::none()),
@@ -196,8 +194,8 @@ pub(crate) fn check_one(
 
 /// One session's client answered the last ping.
 pub(crate) fn pong_one(sessions: &mut BTreeMap<u32, Session>, number: u32)
-    ensures here { attached_in sessions.new number ≡ option_map badge_ponged (attached_in sessions.old number) }
-    ensures others { (k : ℕ) → k ≢ number → attached_in sessions.new k ≡ attached_in sessions.old k }
+    ensures here { BecomesIn number badge_ponged sessions.old sessions.new }
+    ensures others { OthersStayIn number sessions.old sessions.new }
 {
     if let Some(session) = sessions.get_mut(&number) {
         session.pong();
@@ -211,9 +209,9 @@ pub(crate) fn tick_one(
     number: u32,
     now: u64,
 ) -> Step
-    ensures here { Both (Pings result.refused now) (attached_in sessions.old number) (attached_in sessions.new number) }
-    ensures others { (k : ℕ) → k ≢ number → attached_in sessions.new k ≡ attached_in sessions.old k }
-    ensures offs { (d : List ℕ) → is_off (sub_in (attached_in sessions.new number) d) ≡ off_after result.fate [] d (is_off (sub_in (attached_in sessions.old number) d)) }
+    ensures here { MeetsIn number (Pings result.refused now) sessions.old sessions.new }
+    ensures others { OthersStayIn number sessions.old sessions.new }
+    ensures offs { EndsIn number result.fate [] sessions.old sessions.new }
 {
     match sessions.get_mut(&number) {
         None => Step::none(),
@@ -296,7 +294,7 @@ pub(crate) fn insert_one(
     session: Session,
 ) -> Result<(), AllocError>
     ensures here { OnOk result (attached_in sessions.new number ≡ Some (attached_of session)) }
-    ensures others { OnOk result ((k : ℕ) → k ≢ number → attached_in sessions.new k ≡ attached_in sessions.old k) }
+    ensures others { OnOk result (OthersStayIn number sessions.old sessions.new) }
     ensures err { OnErr result (sessions.new.entries ≡ sessions.old.entries) }
 {
     sessions.insert(number, session)?;

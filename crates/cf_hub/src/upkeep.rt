@@ -45,10 +45,9 @@ impl Progress {
 impl Session {
     ghost use Rattle.std.specs.Prelude.{◌≡◌, ◌&&◌, ◌-◌, nat_le, List, ℕ, Some, None, [], is_some, option_map};
     ghost use Rattle.cf_hub.specs.Checked.{check_answer, stand_of};
-    ghost use Rattle.cf_hub.specs.Rows.{off_after};
-    ghost use Rattle.cf_hub.specs.Session.{badge_of, is_ping_due, is_unanswered, ponged, state_of, ticked, ticks};
-    ghost use Rattle.cf_hub.specs.SessionState.{On, checks, is_off};
-    ghost use Rattle.cf_hub.specs.WantOfMemory.{OrCloses};
+    ghost use Rattle.cf_hub.specs.Session.{badge_of, is_ping_due, is_unanswered, ponged, state_of, ticked};
+    ghost use Rattle.cf_hub.specs.SessionState.{On, checks};
+    ghost use Rattle.cf_hub.specs.Sessions.{Acts, EndsAs, ticks_of};
     ghost use Rattle.cf_hub.specs.Wordings.{plain};
 
     /// Where the finished subscription of a channel stands.
@@ -73,8 +72,8 @@ impl Session {
         top: Option<Position>,
     ) -> (Checked, Step)
         ensures answer { result.0 ≡ check_answer top ((state_of self.old).subs channel.now) }
-        ensures state { OrCloses result.1.refused plain (checks plain channel.now top) (state_of self.old) (state_of self.new) }
-        ensures offs { (d : List ℕ) → is_off ((state_of self.new).subs d) ≡ off_after result.1.fate channel.now d (is_off ((state_of self.old).subs d)) }
+        ensures state { Acts result.1.refused (checks plain channel.now top) self.old self.new }
+        ensures offs { EndsAs result.1.fate channel.now self.old self.new }
         ensures badge { badge_of self.new ≡ badge_of self.old }
     {
         let was_closed = self.is_closed();
@@ -124,9 +123,9 @@ impl Session {
 
     /// Queues a ping where one is due, and closes the session where the last one is unanswered for too long.
     pub(crate) fn tick(&mut self, alloc: Global, now: u64) -> Step
-        ensures state { OrCloses result.refused plain (ticks plain now (badge_of self.old)) (state_of self.old) (state_of self.new) }
+        ensures state { Acts result.refused (ticks_of now self.old) self.old self.new }
         ensures badge { badge_of self.new ≡ ticked now (badge_of self.old) }
-        ensures offs { (d : List ℕ) → is_off ((state_of self.new).subs d) ≡ off_after result.fate [] d (is_off ((state_of self.old).subs d)) }
+        ensures offs { EndsAs result.fate [] self.old self.new }
     {
         let was_closed = self.is_closed();
         if self.is_unanswered(now) {

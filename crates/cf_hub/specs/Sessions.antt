@@ -1,0 +1,131 @@
+-- What a call makes of one of a node's sessions: of the session itself, and of all of them by number.
+use Rattle.std.specs.Prelude.{◌≡◌, ◌≢◌, ◌&&◌, ℕ, not, Bool, false, if◌then◌else◌, Option, MatchOption, IfSome, List, map, option_map, string_bytes}
+use Rattle.std.specs.BTreeMap.{BTreeMap}
+use Rattle.std.specs.declared.alloc.Global.{Global}
+use Rattle.std.specs.declared.string.String.{String}
+use Rattle.cf_protocol.specs.Datum.{Placed}
+use Rattle.cf_queue.specs.OutQueue.{Item, Text}
+use Rattle.cf_stream.specs.declared.answer.Recovery.{Recovery}
+use Rattle.cf_hub.specs.Delivery.{fate_of}
+use Rattle.cf_hub.specs.Finish.{FinishesAt}
+use Rattle.cf_hub.specs.Hub.{InState, attached_in, moves}
+use Rattle.cf_hub.specs.Reply.{IsAnswered}
+use Rattle.cf_hub.specs.Rows.{off_after, sub_in}
+use Rattle.cf_hub.specs.Session.{Attached, Badge, badge_of, state_of, ticks}
+use Rattle.cf_hub.specs.SessionState.{Off, SessionState, comes, is_off, is_ready, push, put_sub, reads}
+use Rattle.cf_hub.specs.Subscriptions.{reading_of}
+use Rattle.cf_hub.specs.WantOfMemory.{Both, OrCloses, SaysAll, Serves}
+use Rattle.cf_hub.specs.Wordings.{Held, at_offset, delivering, plain, push_text, reading}
+use Rattle.cf_hub.specs.declared.delivered.Fate.{Fate}
+use Rattle.cf_hub.specs.declared.delivered.Fate.TheVariants.{Closed, Ended, Passed}
+use Rattle.cf_hub.specs.declared.reply.Answered.{Answered}
+use Rattle.cf_hub.specs.declared.session.Session.{Session}
+use Rattle.cf_hub.specs.declared.session.Step.{Step}
+
+abbrev pub Move : Type 0
+Move = SessionState Held Item → SessionState Held Item
+
+abbrev pub SessionMap : Type 0
+SessionMap = BTreeMap ℕ Session
+
+-- ---- moves
+
+-- a text is said
+abbrev pub says_one : List ℕ → Move
+says_one t = push plain (Text t)
+
+-- the read of a channel's stream is taken
+abbrev pub takes_read : Recovery → List ℕ → Move
+takes_read r c = reads (reading r.publications.items) c (reading_of r)
+
+-- the client leaves a channel, if so
+abbrev pub leaves_if : Bool → List ℕ → Move
+leaves_if ends c s = if ends then put_sub c Off s else s
+
+-- the pushes of these
+abbrev pub pushes : List ℕ → List Placed → List Item
+pushes c ps = map (λ p. Text (push_text c p)) ps
+
+-- a ping is said where one is due
+abbrev pub ticks_of : ℕ → Session → Move
+ticks_of now s = ticks plain now (badge_of s)
+
+-- ---- one session
+
+-- the badge of a client that was just attached
+abbrev pub new_badge : List ℕ → List ℕ → ℕ → Badge
+new_badge client user now = record { client = client; user = user; pinged = now; awaits_pong = false }
+
+-- its state goes to what the move makes of it
+abbrev pub Moves : Move → Session → Session → Type 0
+Moves move old new = state_of new ≡ move (state_of old)
+
+-- its state goes to what the move makes of it; or memory was refused for it, and it is closed in place of that
+abbrev pub Acts : Bool → Move → Session → Session → Type 0
+Acts refused move old new = OrCloses refused plain move (state_of old) (state_of new)
+
+-- a text is said, if there is one; or memory was refused for it, and it is closed in place of that
+abbrev pub SaysText : Bool → Option (String Global) → Session → Session → Type 0
+SaysText refused text old new = (t : List ℕ) → IfSome text (λ x. string_bytes x ≡ t) → Acts refused (says_one t) old new
+
+-- it is told these; or memory was refused amid them, and it is closed then
+abbrev pub Tells : Bool → List Item → Session → Session → Type 0
+Tells refused notes old new = SaysAll refused plain notes (state_of old) (state_of new)
+
+-- it met a delivery
+abbrev pub IsBrought : Bool → List ℕ → List ℕ → Placed → Session → Session → Type 0
+IsBrought refused c e p old new = Serves refused (delivering p) c (comes (delivering p) c (at_offset e p)) (state_of old) (state_of new)
+
+abbrev pub fate_brought : List ℕ → List ℕ → Placed → Session → Session → Fate
+fate_brought c e p old new = fate_of c (at_offset e p) (state_of old) (state_of new)
+
+-- its channels are off after as this fate at channel c says
+abbrev pub EndsAs : Fate → List ℕ → Session → Session → Type 0
+EndsAs f c old new = (d : List ℕ) → is_off ((state_of new).subs d) ≡ off_after f c d (is_off ((state_of old).subs d))
+
+-- closed where the call closed it, else this
+abbrev pub closed_or : Bool → Session → Fate → Fate
+closed_or was_closed s f = if not was_closed && (state_of s).closed then Closed else f
+
+-- what a finish did that closed nobody
+abbrev pub finish_fate : Answered → Fate
+finish_fate a = if a.released.insufficient then Ended else Passed
+
+-- the channel's subscription is finished where there is one to finish
+abbrev pub FinishesSession : Bool → List ℕ → Session → Session → Type 0
+FinishesSession refused c old new = FinishesAt refused c ((state_of old).subs c) (state_of old) (state_of new)
+
+-- the channel's subscription is answered where it is ready, and else nothing changes
+abbrev pub AnswersTo : Option Answered → List ℕ → Session → Session → Type 0
+AnswersTo answered c old new =
+    MatchOption answered ((state_of new ≡ state_of old) × (is_ready ((state_of old).subs c) ≡ false)) (λ a. IsAnswered a c (state_of old) (state_of new))
+
+-- ---- the session of a number
+
+-- the sessions of other numbers are as they were
+abbrev pub OthersStayIn : ℕ → SessionMap → SessionMap → Type 0
+OthersStayIn k old new = (j : ℕ) → j ≢ k → attached_in new j ≡ attached_in old j
+
+-- the session of k, where there is one, becomes this
+abbrev pub BecomesIn : ℕ → (Attached → Attached) → SessionMap → SessionMap → Type 0
+BecomesIn k f old new = attached_in new k ≡ option_map f (attached_in old k)
+
+-- it makes this move
+abbrev pub MovesIn : ℕ → Move → SessionMap → SessionMap → Type 0
+MovesIn k move old new = BecomesIn k (moves move) old new
+
+-- R stands between it before and after
+abbrev pub MeetsIn : ℕ → (Attached → Attached → Type 0) → SessionMap → SessionMap → Type 0
+MeetsIn k R old new = Both R (attached_in old k) (attached_in new k)
+
+-- it makes this move, or is closed where memory was refused
+abbrev pub ActsIn : ℕ → Step → Move → SessionMap → SessionMap → Type 0
+ActsIn k step move old new = MeetsIn k (InState (OrCloses step.refused plain move)) old new
+
+-- its channel's subscription is finished where there is one to finish
+abbrev pub FinishesIn : ℕ → Step → List ℕ → SessionMap → SessionMap → Type 0
+FinishesIn k step c old new = MeetsIn k (InState (FinishesAt step.refused c (sub_in (attached_in old k) c))) old new
+
+-- its channels are off after as this fate at channel c says
+abbrev pub EndsIn : ℕ → Fate → List ℕ → SessionMap → SessionMap → Type 0
+EndsIn k f c old new = (d : List ℕ) → is_off (sub_in (attached_in new k) d) ≡ off_after f c d (is_off (sub_in (attached_in old k) d))
