@@ -1,12 +1,13 @@
 -- A schedule that is read line by line.
-use Rattle.std.proofs.Common.{◌≡◌, ℕ, ◌+◌, ◌<◌, zero, suc, Bool, true, false, ◌||◌, Option, Some, None, Result, Ok, Err, IfErr, List, [], ◌∷◌, ◌++◌, length, map, flat_map, take, drop, get_or, refl, sym, ap, subst, ◌∙◌, arith}
+use Rattle.std.proofs.Common.{◌≡◌, ℕ, ◌+◌, ◌<◌, zero, suc, Bool, true, false, ◌||◌, Option, Some, None, Result, Ok, Err, IfErr, List, [], ◌∷◌, ◌++◌, length, map, flat_map, take, drop, get_or, slice_get, refl, sym, ap, subst, ◌∙◌, arith}
+use Rattle.std.specs.List.{AllZip}
 use Rattle.std.specs.Prelude.{option_to_list}
 use Rattle.std.specs.Str.{bytes_eq}
 use Rattle.std.specs.BTreeSet.{contains_text}
 use Rattle.std.specs.Prelude.{MatchOption}
 use Rattle.std.specs.Borrow.{Bor}
 use Rattle.std.proofs.Math.Seq.{drop-cons}
-use Rattle.std.proofs.lemmas.Bool.{false≢true}
+use Rattle.std.proofs.lemmas.Bool.{false≢true, or_parts}
 use Rattle.std.proofs.lemmas.List.{append-nil, map-append, take_more, take-append-drop}
 use Rattle.std.proofs.lemmas.Grind.{flat_map-append}
 use Rattle.std.proofs.lemmas.Slice.Zip.{all_zipped_more}
@@ -18,9 +19,10 @@ use Rattle.cf_schedule.specs.ScheduleLine.{Says, IsPassedOver}
 use Rattle.cf_machine.specs.FreshEpochs.{AreDistinct}
 use Rattle.cf_schedule.specs.declared.event.Event as declared
 use Rattle.cf_simulate.specs.ScheduleText.{lines_of, Gives, events_of, epochs_by, epochs_of}
-use Rattle.cf_simulate.specs.ScheduleRead.{IsReadTo, NotesEpoch, RefusesLine, RefusesText, Epochs}
+use Rattle.cf_simulate.specs.ScheduleRead.{HasLines, IsLineOf, IsReadTo, NotesEpoch, RefusesLine, RefusesText, Epochs}
 use Rattle.cf_simulate.specs.declared.fault.SimulateFault.{SimulateFault}
 use Rattle.cf_simulate.specs.declared.fault.SimulateFault.TheVariants.{Unreadable, UsedTwice, NotUtf8, Memory, InputOutput}
+use Rattle.cf_simulate.specs.declared.schedule.Line.{Line}
 use Rattle.cf_simulate.specs.declared.schedule.Schedule.{Schedule}
 
 -- ---- names among others
@@ -31,11 +33,6 @@ apart a b h = by_value (bytes_eq b a) (bytes_eq-Decides b a)
     by_value : (v : Bool) → (v ≡ true → b ≡ a) × (b ≡ a → v ≡ true) → v ≡ false
     by_value false d = refl
     by_value true d = let e = (bytes_eq-Decides a b).1 (sym (d.0 refl)) in absurd (cc)
-
-or_parts : (a b : Bool) → (a || b) ≡ false → (a ≡ false) × (b ≡ false)
-or_parts false false h = (refl, refl)
-or_parts false true h = absurd (false≢true (sym h))
-or_parts true b h = absurd (false≢true (sym h))
 
 or_turns : (a b c d : Bool) → c ≡ d → (a || c) ≡ (d || (a || false))
 or_turns false false c d e = e ∙ or_none d
@@ -130,6 +127,48 @@ one_more nodes before line old new event says notes items read =
       events = ap (map seen) items ∙ map-append seen old.events.items (event ∷ []) ∙ ap (λ t. t ++ seen event ∷ []) read.events ∙ sym (events_some read.given (seen event));
       epochs = λ e. n.1 e ∙ ap (is_among e) (sym (epochs_some read.given (seen event)));
     }
+
+-- ---- the lines of the events
+
+still_at : (xs : List (List ℕ)) (y : List ℕ) (i : ℕ) (x : List ℕ) → slice_get xs i ≡ Some x → slice_get (xs ++ y ∷ []) i ≡ Some x
+still_at [] y i x h = absurd (cc)
+still_at (z ∷ xs) y zero x h = h
+still_at (z ∷ xs) y (suc i) x h = still_at xs y i x h
+
+last_at : (xs : List (List ℕ)) (y : List ℕ) → slice_get (xs ++ y ∷ []) (length xs) ≡ Some y
+last_at [] y = refl
+last_at (x ∷ xs) y = last_at xs y
+
+still_lines : (nodes : ℕ) (before : List (List ℕ)) (line : List ℕ) (ls : List Line) (es : List Event)
+    → AllZip (IsLineOf nodes before) ls es → AllZip (IsLineOf nodes (before ++ line ∷ [])) ls es
+still_lines nodes before line [] [] h = tt
+still_lines nodes before line [] (e ∷ es) h = absurd h
+still_lines nodes before line (l ∷ ls) [] h = absurd h
+still_lines nodes before line (l ∷ ls) (e ∷ es) h =
+    let is : IsLineOf nodes before l e = h.0 in (
+      record { before = is.before; number = is.number; stands = still_at before line is.before l.text.now is.stands; says = is.says },
+      still_lines nodes before line ls es h.1,
+    )
+
+pub no_lines : (nodes : ℕ) (lines : List Line) (events : List declared.Event) → lines ≡ [] → events ≡ [] → AllZip (IsLineOf nodes []) lines (map seen events)
+no_lines nodes lines events h k = rw (h, k) tt
+
+pub lines_passed : (nodes : ℕ) (before : List (List ℕ)) (line : List ℕ) (s : Schedule) → HasLines nodes before s → HasLines nodes (before ++ line ∷ []) s
+lines_passed nodes before line s h = still_lines nodes before line s.lines.items (map seen s.events.items) h
+
+pub line_added : (nodes : ℕ) (before : List (List ℕ)) (line : Line) (event : declared.Event) (lines more_lines : List Line) (events more_events : List declared.Event)
+    → more_lines ≡ lines ++ line ∷ [] → more_events ≡ events ++ event ∷ []
+    → line.number ≡ length before + 1 → Says nodes line.text.now (seen event)
+    → AllZip (IsLineOf nodes before) lines (map seen events)
+    → AllZip (IsLineOf nodes (before ++ line.text.now ∷ [])) more_lines (map seen more_events)
+line_added nodes before line event lines more_lines events more_events is are number says h =
+    let now : List (List ℕ) = before ++ line.text.now ∷ [] in
+    let seen_are : map seen more_events ≡ map seen events ++ seen event ∷ [] = ap (map seen) are ∙ map-append seen events (event ∷ []) in
+    subst (λ (ls : List Line). AllZip (IsLineOf nodes now) ls (map seen more_events)) (sym is)
+    (subst (λ (es : List Event). AllZip (IsLineOf nodes now) (lines ++ line ∷ []) es) (sym seen_are)
+    (all_zipped_more (IsLineOf nodes now) lines (map seen events) line (seen event)
+    (still_lines nodes before line.text.now lines (map seen events) h)
+    (record { before = length before; number = number; stands = last_at before line.text.now; says = says })))
 
 -- ---- where reading stands
 

@@ -1,5 +1,6 @@
 -- What the readers of a schedule answer.
-use Rattle.std.specs.Prelude.{◌≡◌, ℕ, Option, true, false, ◌||◌, List, map}
+use Rattle.std.specs.Prelude.{◌≡◌, ◌+◌, ℕ, Option, Some, true, false, ◌||◌, List, map, slice_get}
+use Rattle.std.specs.List.{AllZip}
 use Rattle.std.specs.BTreeSet.{BTreeSet, contains_text}
 use Rattle.std.specs.Str.{bytes_eq}
 use Rattle.std.specs.declared.string.String.{String}
@@ -11,6 +12,7 @@ use Rattle.cf_schedule.specs.ScheduleLine.{Says}
 use Rattle.cf_simulate.specs.ScheduleText.{events_of, epochs_of, Give, IsUnreadable, IsUnreadableAt, IsRepeatedAt}
 use Rattle.cf_simulate.specs.declared.fault.SimulateFault.{SimulateFault}
 use Rattle.cf_simulate.specs.declared.fault.SimulateFault.TheVariants.{Unreadable, UsedTwice, Memory}
+use Rattle.cf_simulate.specs.declared.schedule.Line.{Line}
 use Rattle.cf_simulate.specs.declared.schedule.Schedule.{Schedule}
 
 -- these lines were read, and this is kept of them
@@ -19,6 +21,21 @@ pub record IsReadTo (nodes : ℕ) (lines : List (List ℕ)) (s : Schedule) : Typ
   pub give : Give nodes lines given
   pub events : map seen s.events.items ≡ events_of given
   pub epochs : (e : List ℕ) → contains_text s.epochs e ≡ is_among e (epochs_of given)
+
+-- this is one of the lines, with its number from 1, and says the event
+pub record IsLineOf (nodes : ℕ) (lines : List (List ℕ)) (line : Line) (event : Event) : Type 0 where
+  pub before : ℕ
+  pub number : line.number ≡ before + 1
+  pub stands : slice_get lines before ≡ Some line.text.now
+  pub says : Says nodes line.text.now event
+
+-- beside each event of a schedule over these lines stands the one that says it
+abbrev pub HasLines : ℕ → List (List ℕ) → Schedule → Type 0
+HasLines nodes lines s = AllZip (IsLineOf nodes lines) s.lines.items (map seen s.events.items)
+
+-- the line beside the event behind so many
+abbrev pub line_at : Schedule → ℕ → Option Line
+line_at s done = slice_get s.lines.items done
 
 -- why line n, behind these, was refused
 abbrev pub RefusesLine : ℕ → List ℕ → ℕ → List (Option Event) → SimulateFault → Type 0

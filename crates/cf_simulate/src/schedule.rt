@@ -1,9 +1,10 @@
 //! A schedule, read from its lines.
-ghost use Rattle.std.specs.Prelude.{◌≡◌, ◌∷◌, ◌++◌, [], ℕ, List, map, IfOk, IfErr, OnOk};
+ghost use Rattle.std.specs.Prelude.{◌≡◌, ◌∷◌, ◌++◌, ◌+◌, [], ℕ, List, length, map, IfOk, IfErr, IfSome, OnOk};
 ghost use Rattle.cf_schedule.specs.ScheduleLine.{Says};
 ghost use Rattle.cf_schedule.specs.Seen.{seen};
 ghost use Rattle.cf_simulate.specs.ScheduleText.{lines_of, IsSchedule};
-ghost use Rattle.cf_simulate.specs.ScheduleRead.{IsReadTo, RefusesLine, RefusesText, NotesEpoch, RefusesEpoch};
+ghost use Rattle.cf_simulate.specs.ScheduleRead.{HasLines, IsReadTo, RefusesLine, RefusesText};
+ghost use Rattle.cf_simulate.specs.ScheduleRead.{NotesEpoch, RefusesEpoch, line_at};
 
 use crate::fault::SimulateFault;
 use cf_schedule::{Event, EventFault};
@@ -30,6 +31,7 @@ impl<'a> Schedule<'a> {
     /// epoch again, is refused.
     pub fn read(alloc: Global, text: &'a str, nodes: u8) -> Result<Schedule<'a>, SimulateFault>
         ensures ok { IfOk result (λ s. IsSchedule nodes text.now (map seen s.events.items)) }
+        ensures lines { IfOk result (HasLines nodes (lines_of text.now)) }
         ensures err { IfErr result (RefusesText nodes text.now) }
     {
         let lines = lines_of(alloc, text)?;
@@ -42,7 +44,8 @@ impl<'a> Schedule<'a> {
 
     // The schedule of no line.
     fn new(alloc: Global) -> Schedule<'a>
-        ensures { (nodes : ℕ) → IsReadTo nodes [] result }
+        ensures events { (nodes : ℕ) → IsReadTo nodes [] result }
+        ensures lines { (nodes : ℕ) → HasLines nodes [] result }
     {
         Schedule {
             events: Vec::new(alloc),
@@ -59,8 +62,14 @@ impl<'a> Schedule<'a> {
         line: &'a str,
         nodes: u8,
     ) -> Result<(), SimulateFault>
-        ensures ok { OnOk result ((before : List (List ℕ)) → IsReadTo nodes before self.old → IsReadTo nodes (before ++ line.now ∷ []) self.new) }
-        ensures err { IfErr result (λ f. (before : List (List ℕ)) (read : IsReadTo nodes before self.old) → RefusesLine nodes line.now number read.given f) }
+        ensures ok { OnOk result ((before : List (List ℕ)) → IsReadTo nodes before self.old
+            → IsReadTo nodes (before ++ line.now ∷ []) self.new) }
+        ensures lines { OnOk result ((before : List (List ℕ)) → number ≡ length before + 1
+            → HasLines nodes before self.old
+            → HasLines nodes (before ++ line.now ∷ []) self.new) }
+        ensures err { IfErr result (λ f. (before : List (List ℕ))
+            (read : IsReadTo nodes before self.old)
+            → RefusesLine nodes line.now number read.given f) }
     {
         match Event::read(alloc, line, nodes) {
             Ok(None) => Ok(()),
@@ -78,8 +87,16 @@ impl<'a> Schedule<'a> {
         line: &'a str,
         event: Event,
     ) -> Result<(), SimulateFault>
-        ensures ok { OnOk result ((nodes : ℕ) (before : List (List ℕ)) → Says nodes line.now (seen event) → IsReadTo nodes before self.old → IsReadTo nodes (before ++ line.now ∷ []) self.new) }
-        ensures err { IfErr result (λ f. (nodes : ℕ) (before : List (List ℕ)) → Says nodes line.now (seen event) → (read : IsReadTo nodes before self.old) → RefusesLine nodes line.now number read.given f) }
+        ensures ok { OnOk result ((nodes : ℕ) (before : List (List ℕ))
+            → Says nodes line.now (seen event) → IsReadTo nodes before self.old
+            → IsReadTo nodes (before ++ line.now ∷ []) self.new) }
+        ensures lines { OnOk result ((nodes : ℕ) (before : List (List ℕ))
+            → number ≡ length before + 1 → Says nodes line.now (seen event)
+            → HasLines nodes before self.old
+            → HasLines nodes (before ++ line.now ∷ []) self.new) }
+        ensures err { IfErr result (λ f. (nodes : ℕ) (before : List (List ℕ))
+            → Says nodes line.now (seen event) → (read : IsReadTo nodes before self.old)
+            → RefusesLine nodes line.now number read.given f) }
     {
         note_epoch(alloc, &mut self.epochs, &event, number)?;
         self.lines.push(Line { number, text: line })?;
@@ -88,7 +105,9 @@ impl<'a> Schedule<'a> {
     }
 
     /// The line of the event behind the first `done`.
-    pub fn line(&self, done: usize) -> Line<'a> {
+    pub fn line(&self, done: usize) -> Line<'a>
+        ensures { IfSome (line_at self.now done) (λ line. result ≡ line) }
+    {
         let none = Line {
             number: 0,
             text: "",

@@ -1,7 +1,9 @@
-use Rattle.std.proofs.Common.{take}
-use Rattle.cf_simulate.specs.ScheduleRead.{IsReadTo}
+use Rattle.std.proofs.Common.{take, List, ℕ}
+use Rattle.cf_simulate.specs.ScheduleRead.{HasLines, IsReadTo}
 use Rattle.cf_simulate.proofs.Reading.{texts}
 use Rattle.cf_simulate.proofs.schedule.Schedule.read.Given as goal
 
 abbrev pub invariant-loop-before : goal.invariant-loop-before
-invariant-loop-before l = IsReadTo l.nodes (texts (take l.before l.line-items)) l.schedule
+invariant-loop-before l =
+    let read : List (List ℕ) = texts (take l.before l.line-items) in
+    IsReadTo l.nodes read l.schedule × HasLines l.nodes read l.schedule
