@@ -125,7 +125,8 @@ impl Hub {
 
     /// Takes what is next for a session's client: a text, or the close. It takes no memory.
     pub fn take(&mut self, session: u32) -> Option<Out>
-        ensures front { option_map meaning result ≡ option_and_then (λ a. slice_get a.state.notes 0) (attached_at self.old session) }
+        ensures front { option_map meaning result
+            ≡ option_and_then (λ a. slice_get a.state.notes 0) (attached_at self.old session) }
         ensures sessions { One session takes_front self.old self.new }
         ensures rest { SameRest self.old self.new }
         ensures turns { self.new.turns ≡ self.old.turns }

@@ -29,7 +29,8 @@ impl Hub {
     /// already; then nothing changes.
     pub fn read_done(&mut self, session: u32, channel: &str, recovery: Recovery) -> bool
         ensures asked { result ≡ is_asked (sub_at self.old session channel.now) }
-        ensures sessions { One session (reads (reading recovery.publications.items) channel.now (reading_of recovery)) self.old self.new }
+        ensures sessions { One session (reads (reading recovery.publications.items) channel.now (reading_of recovery))
+            self.old self.new }
         ensures rest { SameRest self.old self.new }
         ensures turns { self.new.turns ≡ self.old.turns }
     {
@@ -40,7 +41,8 @@ impl Hub {
     /// unsubscribe push where something is missing then. False where there is nothing to finish; then nothing changes.
     pub fn finish(&mut self, session: u32, channel: &str) -> bool
         ensures found { result ≡ is_ready (sub_at self.old session channel.now) }
-        ensures session { Meets session (λ hit. FinishesAt hit channel.now (sub_at self.old session channel.now)) self.old self.new }
+        ensures session { Meets session (λ hit. FinishesAt hit channel.now (sub_at self.old session channel.now))
+            self.old self.new }
         ensures rest { SameNode self.old self.new }
         ensures turns { self.new.turns ≡ gets_turn session self.old.turns }
     {
@@ -54,7 +56,8 @@ impl Hub {
     /// Queues a text. Where the client is too slow or memory is refused, the session is closed in place of it.
     pub fn say(&mut self, session: u32, text: String) -> Said
         ensures said { result ≡ said_in (attached_at self.new session) }
-        ensures session { Meets session (λ hit. OrCloses hit plain (push plain (Text (string_bytes text)))) self.old self.new }
+        ensures session { Meets session (λ hit. OrCloses hit plain (push plain (Text (string_bytes text))))
+            self.old self.new }
         ensures rest { SameNode self.old self.new }
         ensures turns { self.new.turns ≡ gets_turn session self.old.turns }
     {
@@ -69,7 +72,8 @@ impl Hub {
     /// or memory is refused for the unsubscribe push, the session is closed.
     pub fn check(&mut self, session: u32, channel: &str, top: Option<Position>) -> Checked
         ensures answer { result ≡ check_answer top (sub_at self.old session channel.now) }
-        ensures session { Meets session (λ hit. OrCloses hit plain (checks plain channel.now top)) self.old self.new }
+        ensures session { Meets session (λ hit. OrCloses hit plain (checks plain channel.now top))
+            self.old self.new }
         ensures rest { SameNode self.old self.new }
         ensures turns { self.new.turns ≡ gets_turn session self.old.turns }
     {
@@ -82,7 +86,8 @@ impl Hub {
 
     /// The client answered the last ping. It takes no memory.
     pub fn pong(&mut self, session: u32)
-        ensures here { attached_at self.new session ≡ option_map badge_ponged (attached_at self.old session) }
+        ensures here { attached_at self.new session
+            ≡ option_map badge_ponged (attached_at self.old session) }
         ensures others { (k : ℕ) → k ≢ session → attached_at self.new k ≡ attached_at self.old k }
         ensures rest { SameRest self.old self.new }
         ensures turns { self.new.turns ≡ self.old.turns }
@@ -127,7 +132,8 @@ impl Hub {
     /// The least number from this one on that has a session.
     fn next_from(&self, from: u32) -> Option<u32>
         ensures none { IfNone result (HasNoneFrom from (attached_at self.now)) }
-        ensures next { IfSome result (λ k. IsNextFrom from k (attached_at self.now) × (k < most_sessions)) }
+        ensures next { IfSome result (λ k. IsNextFrom from k (attached_at self.now)
+            × (k < most_sessions)) }
     {
         next_from(&self.sessions, from)
     }

@@ -199,7 +199,8 @@ impl Session {
         publication: &Publication,
     ) -> bool
         requires { IsWritten written.now channel.now publication.now }
-        ensures state { Acts result (says_one (push_text channel.now publication.now)) self.old self.new }
+        ensures state { Acts result (says_one (push_text channel.now publication.now))
+            self.old self.new }
         ensures badge { badge_of self.new ≡ badge_of self.old }
     {
         match written {
@@ -237,7 +238,9 @@ impl Session {
 
     /// What a delivery meets here.
     fn meets(&self, channel: &str, epoch: &Epoch, offset: u64) -> Meets
-        ensures { result ≡ meeting (record { epoch = epoch.now; offset = offset }) (progress_at self.now.subscriptions channel.now) }
+        ensures { result
+            ≡ meeting (record { epoch = epoch.now; offset = offset })
+            (progress_at self.now.subscriptions channel.now) }
     {
         match self.subscriptions.get(channel) {
             None => Meets::Nothing,
@@ -281,7 +284,9 @@ impl Session {
 
     /// Keeps a publication for a channel whose reply waits. Says whether memory was refused for it.
     fn keep(&mut self, channel: &str, epoch: &Epoch, publication: &Publication) -> bool
-        requires { meeting (at_offset epoch.now publication.now) (progress_at self.old.subscriptions channel.now) ≡ Meets.Buffer }
+        requires { meeting (at_offset epoch.now publication.now)
+            (progress_at self.old.subscriptions channel.now)
+            ≡ Meets.Buffer }
         ensures state { IsBrought result channel.now epoch.now publication.now self.old self.new }
         ensures queue { self.new.queue ≡ self.old.queue }
         ensures badge { badge_of self.new ≡ badge_of self.old }
@@ -299,8 +304,10 @@ impl Session {
         written: &Option<String>,
     ) -> Step
         requires { IsWritten written.now channel.now publication.now }
-        ensures state { IsBrought result.refused channel.now epoch.now publication.now self.old self.new }
-        ensures fate { result.fate ≡ fate_brought channel.now epoch.now publication.now self.old self.new }
+        ensures state { IsBrought result.refused channel.now epoch.now publication.now
+            self.old self.new }
+        ensures fate { result.fate
+            ≡ fate_brought channel.now epoch.now publication.now self.old self.new }
         ensures badge { badge_of self.new ≡ badge_of self.old }
     {
         let was_closed = self.queue.is_closed();

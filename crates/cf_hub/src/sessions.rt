@@ -36,9 +36,11 @@ pub(crate) fn bring_one(
     written: &Option<String>,
 ) -> Step
     requires { IsWritten written.now channel.now publication.now }
-    ensures here { MeetsIn number (Brings result.refused channel.now epoch.now publication.now) sessions.old sessions.new }
+    ensures here { MeetsIn number (Brings result.refused channel.now epoch.now publication.now)
+        sessions.old sessions.new }
     ensures others { OthersStayIn number sessions.old sessions.new }
-    ensures fate { result.fate ≡ fate_at channel.now (at_offset epoch.now publication.now) (attached_in sessions.old number) (attached_in sessions.new number) }
+    ensures fate { result.fate ≡ fate_at channel.now (at_offset epoch.now publication.now)
+        (attached_in sessions.old number) (attached_in sessions.new number) }
 {
     match sessions.get_mut(&number) {
         None => Step {
@@ -73,7 +75,8 @@ pub(crate) fn close_one(sessions: &mut BTreeMap<u32, Session>, number: u32, code
 
 /// Takes what is next for one session's client.
 pub(crate) fn take_one(sessions: &mut BTreeMap<u32, Session>, number: u32) -> Option<Out>
-    ensures front { option_map meaning result ≡ option_and_then (λ a. slice_get a.state.notes 0) (attached_in sessions.old number) }
+    ensures front { option_map meaning result
+        ≡ option_and_then (λ a. slice_get a.state.notes 0) (attached_in sessions.old number) }
     ensures here { MovesIn number takes_front sessions.old sessions.new }
     ensures others { OthersStayIn number sessions.old sessions.new }
 {
@@ -101,7 +104,8 @@ pub(crate) fn begin_one(
     since: Option<Position>,
 ) -> Result<(), AllocError>
     requires { is_off (sub_in (attached_in sessions.old number) channel.now) ≡ true }
-    ensures here { OnOk result (MovesIn number (begins plain channel.now id since) sessions.old sessions.new) }
+    ensures here { OnOk result (MovesIn number (begins plain channel.now id since)
+        sessions.old sessions.new) }
     ensures others { OthersStayIn number sessions.old sessions.new }
     ensures err { OnErr result (attached_in sessions.new number ≡ attached_in sessions.old number) }
 {
@@ -181,7 +185,8 @@ pub(crate) fn check_one(
     channel: &str,
     top: Option<Position>,
 ) -> (Checked, Step)
-    ensures answer { result.0 ≡ check_answer top (sub_in (attached_in sessions.old number) channel.now) }
+    ensures answer { result.0
+        ≡ check_answer top (sub_in (attached_in sessions.old number) channel.now) }
     ensures here { ActsIn number result.1 (checks plain channel.now top) sessions.old sessions.new }
     ensures others { OthersStayIn number sessions.old sessions.new }
     ensures offs { EndsIn number result.1.fate channel.now sessions.old sessions.new }
@@ -269,7 +274,8 @@ pub(crate) fn is_taken(sessions: &BTreeMap<u32, Session>, number: u32) -> bool
 
 /// The id of one session's client.
 pub(crate) fn client_in(sessions: &BTreeMap<u32, Session>, number: u32) -> Option<&str>
-    ensures { option_map (λ t. t.now) result ≡ option_map (λ a. a.badge.client) (attached_in sessions.now number) }
+    ensures { option_map (λ t. t.now) result
+        ≡ option_map (λ a. a.badge.client) (attached_in sessions.now number) }
 {
     match sessions.get(&number) {
         None => None,
@@ -279,7 +285,8 @@ pub(crate) fn client_in(sessions: &BTreeMap<u32, Session>, number: u32) -> Optio
 
 /// The name of one session's user.
 pub(crate) fn user_in(sessions: &BTreeMap<u32, Session>, number: u32) -> Option<&str>
-    ensures { option_map (λ t. t.now) result ≡ option_map (λ a. a.badge.user) (attached_in sessions.now number) }
+    ensures { option_map (λ t. t.now) result
+        ≡ option_map (λ a. a.badge.user) (attached_in sessions.now number) }
 {
     match sessions.get(&number) {
         None => None,
