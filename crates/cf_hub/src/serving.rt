@@ -29,7 +29,8 @@ impl Hub {
     /// already; then nothing changes.
     pub fn read_done(&mut self, session: u32, channel: &str, recovery: Recovery) -> bool
         ensures asked { result ≡ is_asked (sub_at self.old session channel.now) }
-        ensures sessions { One session (reads (reading recovery.publications.items) channel.now (reading_of recovery))
+        ensures sessions { One session
+            (reads (reading recovery.publications.items) channel.now (reading_of recovery))
             self.old self.new }
         ensures rest { SameRest self.old self.new }
         ensures turns { self.new.turns ≡ self.old.turns }
@@ -41,7 +42,8 @@ impl Hub {
     /// unsubscribe push where something is missing then. False where there is nothing to finish; then nothing changes.
     pub fn finish(&mut self, session: u32, channel: &str) -> bool
         ensures found { result ≡ is_ready (sub_at self.old session channel.now) }
-        ensures session { Meets session (λ hit. FinishesAt hit channel.now (sub_at self.old session channel.now))
+        ensures session { Meets session
+            (λ hit. FinishesAt hit channel.now (sub_at self.old session channel.now))
             self.old self.new }
         ensures rest { SameNode self.old self.new }
         ensures turns { self.new.turns ≡ gets_turn session self.old.turns }
@@ -56,7 +58,8 @@ impl Hub {
     /// Queues a text. Where the client is too slow or memory is refused, the session is closed in place of it.
     pub fn say(&mut self, session: u32, text: String) -> Said
         ensures said { result ≡ said_in (attached_at self.new session) }
-        ensures session { Meets session (λ hit. OrCloses hit plain (push plain (Text (string_bytes text))))
+        ensures session { Meets session
+            (λ hit. OrCloses hit plain (push plain (Text (string_bytes text))))
             self.old self.new }
         ensures rest { SameNode self.old self.new }
         ensures turns { self.new.turns ≡ gets_turn session self.old.turns }
@@ -72,7 +75,8 @@ impl Hub {
     /// or memory is refused for the unsubscribe push, the session is closed.
     pub fn check(&mut self, session: u32, channel: &str, top: Option<Position>) -> Checked
         ensures answer { result ≡ check_answer top (sub_at self.old session channel.now) }
-        ensures session { Meets session (λ hit. OrCloses hit plain (checks plain channel.now top))
+        ensures session { Meets session
+            (λ hit. OrCloses hit plain (checks plain channel.now top))
             self.old self.new }
         ensures rest { SameNode self.old self.new }
         ensures turns { self.new.turns ≡ gets_turn session self.old.turns }
