@@ -275,6 +275,8 @@ enum Manner {
     FailsAtFlush,
     /// It takes none.
     TakesNothing,
+    /// It takes what is written first, and fails from then on.
+    TakesOneWrite,
     /// It is interrupted each second time, and takes one else.
     IsInterrupted,
 }
@@ -309,7 +311,10 @@ impl Write for Awkward {
         match self.manner {
             Manner::TakesNothing => Ok(0),
             Manner::IsInterrupted => self.take_one(bytes),
-            Manner::FailsAtFlush => {
+            Manner::TakesOneWrite if !self.taken.is_empty() => {
+                Err(io::Error::from(io::ErrorKind::BrokenPipe))
+            }
+            Manner::FailsAtFlush | Manner::TakesOneWrite => {
                 self.taken.extend_from_slice(bytes)?;
                 Ok(bytes.len())
             }
@@ -324,6 +329,8 @@ impl Write for Awkward {
     }
 }
 
+const FIRST_LINE: &str = "ann news sub aaaa 0 fresh\n";
+
 const FIRST_LINES: &str = "ann news sub aaaa 0 fresh\nann news pub aaaa 1 {\"t\":1}\n";
 
 #[test]
@@ -333,6 +340,7 @@ fn awkward_writers(rt: HostRuntime) -> Result<(), Fail> {
     for (manner, status, lines) in [
         (Manner::FailsAtFlush, 4, FIRST_LINES),
         (Manner::TakesNothing, 4, ""),
+        (Manner::TakesOneWrite, 4, FIRST_LINE),
         (Manner::IsInterrupted, 0, FIRST_LINES),
     ] {
         let mut writer = Awkward {
