@@ -1,5 +1,5 @@
 -- Turns of a dispatcher, one after another.
-use Rattle.std.proofs.Common.{Option, List, [], ◌∷◌, refl}
+use Rattle.std.proofs.Common.{Option, [], ◌∷◌, refl}
 use Rattle.cf_broker.specs.Delivery.{Carried}
 use Rattle.cf_hub.specs.declared.delivered.Delivered.{Delivered}
 use Rattle.cf_node.specs.Dispatch.{Dispatches, TakesTurn}

@@ -1,5 +1,5 @@
 -- What a dispatcher does with what comes over its link. (This project's own profile.)
-use Rattle.std.specs.Prelude.{◌≡◌, ℕ, ◌+◌, ◌==◌, not, Bool, true, false, Option, Some, None, List, [], ◌∷◌}
+use Rattle.std.specs.Prelude.{◌≡◌, ◌+◌, ◌==◌, not, Bool, true, false, Option, Some, None, List, [], ◌∷◌}
 use Rattle.cf_broker.specs.Delivery.{Carried}
 use Rattle.cf_hub.specs.declared.delivered.Delivered.{Delivered}
 

@@ -1,4 +1,9 @@
 //! What a session asks for, done on hub and broker.
+ghost use Rattle.std.specs.Prelude.{◌≡◌, IsSome, option_map};
+ghost use Rattle.cf_protocol.specs.Settings.{settings_of};
+ghost use Rattle.cf_session.specs.Shown.{answer_kind, shown_action};
+ghost use Rattle.cf_talk.specs.Played.{ActHasStream, asked_kind};
+
 use crate::connection::Member;
 use crate::io_loop::Around;
 use cf_broker::{Naming, Refused};
@@ -21,12 +26,10 @@ fn broker_error(refused: Refused) -> ErrorCode {
 
 impl<'a, R: Wait, N: Naming, E: Epochs + Drop> Around<'a, R, N, E> {
     /// Does what a session asks for at a moment, and answers it, where it is a call.
-    pub(crate) fn carry_out(
-        &self,
-        member: &mut Member,
-        action: Action,
-        now: u64,
-    ) -> Option<Answer> {
+    pub(crate) fn carry_out(&self, member: &mut Member, action: Action, now: u64) -> Option<Answer>
+        requires stream { ActHasStream N.namespaces (shown_action action) }
+        ensures kind { option_map answer_kind result ≡ asked_kind (shown_action action) }
+    {
         match action {
             Action::Attach { user } => Some(Answer::Attach(self.attach(member, user, now))),
             Action::Begin { channel, id, since } => {
@@ -130,13 +133,12 @@ impl<'a, R: Wait, N: Naming, E: Epochs + Drop> Around<'a, R, N, E> {
         channel: &str,
         since: Option<Position>,
         now: u64,
-    ) -> Result<(), ErrorCode> {
+    ) -> Result<(), ErrorCode>
+        requires { IsSome (settings_of N.namespaces channel.now) }
+    {
         let Some(number) = member.number else {
             return Err(ErrorCode::Internal);
         };
-        if self.setup.namespaces.find(channel).is_none() {
-            return Err(ErrorCode::UnknownChannel);
-        }
         match self.read_shard(channel, since, now) {
             Ok(answer) => {
                 self.shared
@@ -172,10 +174,9 @@ impl<'a, R: Wait, N: Naming, E: Epochs + Drop> Around<'a, R, N, E> {
         member.remove(channel);
     }
 
-    fn publish(&self, channel: &str, body: String, info: Info, now: u64) -> Result<(), ErrorCode> {
-        if self.setup.namespaces.find(channel).is_none() {
-            return Err(ErrorCode::UnknownChannel);
-        }
+    fn publish(&self, channel: &str, body: String, info: Info, now: u64) -> Result<(), ErrorCode>
+        requires { IsSome (settings_of N.namespaces channel.now) }
+    {
         match self.publish_to_shard(channel, body, info, now) {
             Ok(_) => Ok(()),
             Err(refused) => Err(broker_error(refused)),
@@ -188,10 +189,9 @@ impl<'a, R: Wait, N: Naming, E: Epochs + Drop> Around<'a, R, N, E> {
         limit: i32,
         since: Option<Position>,
         now: u64,
-    ) -> Result<History, ErrorCode> {
-        if self.setup.namespaces.find(channel).is_none() {
-            return Err(ErrorCode::UnknownChannel);
-        }
+    ) -> Result<History, ErrorCode>
+        requires { IsSome (settings_of N.namespaces channel.now) }
+    {
         match self.history_of_shard(channel, since, limit, now) {
             Ok(history) => Ok(history),
             Err(refused) => Err(broker_error(refused)),

@@ -130,7 +130,7 @@ fn turn_open<R: Wait, N: Naming, E: Epochs + Drop>(
         return Turned::Idle;
     }
     open.wire.stream_mut().lend(buffer);
-    open.desk.now = now;
+    open.desk.clerk.now = now;
     let end = turn_wire(&mut open.wire, &mut open.desk);
     let goes_on = drains(&mut open.wire);
     if open.wire.stream().is_drained() {
@@ -245,7 +245,9 @@ impl<'a, R: Wait, N: Naming, E: Epochs + Drop> IoLoop<'a, R, N, E> {
     // The round of the client at a place. `false` where its connection is over.
     fn looks_after(&mut self, place: usize) -> bool {
         match self.places.get_mut(place) {
-            Some(Connection::Open(open)) => self.around.look_after(&mut open.desk.member, self.now),
+            Some(Connection::Open(open)) => self
+                .around
+                .look_after(&mut open.desk.clerk.member, self.now),
             _ => true,
         }
     }
@@ -349,7 +351,7 @@ impl<'a, R: Wait, N: Naming, E: Epochs + Drop> IoLoop<'a, R, N, E> {
             return;
         };
         let turned = turn_open(&mut self.buffer, open, self.now);
-        if let Some(number) = open.desk.member.number {
+        if let Some(number) = open.desk.clerk.member.number {
             if let Some(owner) = self.owners.get_mut(number as usize) {
                 *owner = place;
             }
@@ -371,7 +373,7 @@ impl<'a, R: Wait, N: Naming, E: Epochs + Drop> IoLoop<'a, R, N, E> {
             return;
         };
         if let Connection::Open(open) = mem::replace(connection, Connection::Empty) {
-            self.around.give_up(&open.desk.member);
+            self.around.give_up(&open.desk.clerk.member);
         }
         self.release(place);
     }
@@ -415,7 +417,7 @@ impl<'a, R: Wait, N: Naming, E: Epochs + Drop> IoLoop<'a, R, N, E> {
             let Some(Connection::Open(open)) = self.places.get_mut(place) else {
                 continue;
             };
-            let is_free = open.desk.member.number == Some(number) && open.takes_more();
+            let is_free = open.desk.clerk.member.number == Some(number) && open.takes_more();
             open.desk.owed = take_for(&mut hub, number, is_free, &mut open.desk.taken);
             if is_free {
                 let _ = batch.push(place);
@@ -428,7 +430,7 @@ impl<'a, R: Wait, N: Naming, E: Epochs + Drop> IoLoop<'a, R, N, E> {
         match self.places.get_mut(place) {
             Some(Connection::Open(open)) => {
                 open.desk.owed = true;
-                open.desk.member.number
+                open.desk.clerk.member.number
             }
             _ => None,
         }
