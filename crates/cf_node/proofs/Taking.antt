@@ -22,6 +22,7 @@ takes_none k h xs = record {
   waited = refl;
   here = left_all (attached_at h k);
   others = λ j other. refl;
+  turns = refl;
 }
 
 left_step : (x y z : Option Attached) (items : List Item) → y ≡ option_map (left_with items) x → z ≡ option_map (moves takes_front) y → z ≡ option_map (left_with (waits_in z)) x
@@ -47,9 +48,9 @@ no_front [] e = refl
 no_front (x ∷ xs) e = absurd (cc (e))
 
 -- one more was taken
-pub takes_more : (k : ℕ) (h m n : Node) (xs ys zs : List Out) (out : Out) → Takes k h m xs ys → Some (meaning out) ≡ option_and_then (λ (a : Attached). slice_get a.state.notes 0) (attached_at m k) → One k takes_front m n → zs ≡ ys ++ out ∷ []
+pub takes_more : (k : ℕ) (h m n : Node) (xs ys zs : List Out) (out : Out) → Takes k h m xs ys → Some (meaning out) ≡ option_and_then (λ (a : Attached). slice_get a.state.notes 0) (attached_at m k) → One k takes_front m n → n.turns ≡ m.turns → zs ≡ ys ++ out ∷ []
     → Takes k h n xs zs
-takes_more k h m n xs ys zs out t front one gained =
+takes_more k h m n xs ys zs out t front one turns gained =
     let next : waits_at n k ≡ drop 1 (waits_at m k) = waits_next (attached_at m k) (attached_at n k) one.here in
     let cut : waits_at m k ≡ meaning out ∷ waits_at n k = some_front (waits_at m k) (meaning out) (front_of (attached_at m k) (Some (meaning out)) front) ∙ ap (λ (l : List Item). meaning out ∷ l) (sym next) in
     record {
@@ -60,12 +61,13 @@ takes_more k h m n xs ys zs out t front one gained =
           ∙ (sym (append_assoc (map meaning t.taken) (meaning out ∷ []) (waits_at n k)) ∙ ap (λ (l : List Item). l ++ waits_at n k) (sym (map-append meaning t.taken (out ∷ [])))));
       here = left_step (attached_at h k) (attached_at m k) (attached_at n k) (waits_at m k) t.here one.here;
       others = λ j other. one.others j other ∙ t.others j other;
+      turns = turns ∙ t.turns;
     }
 
 -- nothing was left to take
-pub takes_all : (k : ℕ) (h m n : Node) (xs ys : List Out) → Takes k h m xs ys → None ≡ option_and_then (λ (a : Attached). slice_get a.state.notes 0) (attached_at m k) → One k takes_front m n
+pub takes_all : (k : ℕ) (h m n : Node) (xs ys : List Out) → Takes k h m xs ys → None ≡ option_and_then (λ (a : Attached). slice_get a.state.notes 0) (attached_at m k) → One k takes_front m n → n.turns ≡ m.turns
     → Takes k h n xs ys × (waits_at n k ≡ [])
-takes_all k h m n xs ys t front one =
+takes_all k h m n xs ys t front one turns =
     let none : waits_at m k ≡ [] = no_front (waits_at m k) (front_of (attached_at m k) None front) in
     let after : waits_at n k ≡ [] = waits_next (attached_at m k) (attached_at n k) one.here ∙ ap (drop 1) none in (
       record {
@@ -74,6 +76,7 @@ takes_all k h m n xs ys t front one =
         waited = t.waited ∙ ap (λ (l : List Item). map meaning t.taken ++ l) (none ∙ sym after);
         here = left_step (attached_at h k) (attached_at m k) (attached_at n k) (waits_at m k) t.here one.here;
         others = λ j other. one.others j other ∙ t.others j other;
+        turns = turns ∙ t.turns;
       },
       after,
     )

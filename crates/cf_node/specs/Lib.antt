@@ -1,3 +1,4 @@
+pub mod Batch
 pub mod Desk
 pub mod Dispatch
 pub mod Outlet

@@ -1,5 +1,5 @@
 -- What is taken from a node's hub for a client. (This project's own profile.)
-use Rattle.std.specs.Prelude.{◌≡◌, ℕ, ◌++◌, Option, List, map, option_map}
+use Rattle.std.specs.Prelude.{◌≡◌, ℕ, ◌++◌, List, map, option_map}
 use Rattle.cf_queue.specs.Meaning.{meaning}
 use Rattle.cf_queue.specs.OutQueue.{Item}
 use Rattle.cf_queue.specs.declared.queue.Out.{Out}
@@ -21,3 +21,4 @@ pub record Takes (k : ℕ) (old new : Node) (had has : List Out) : Type 0 where
   pub waited : waits_at old k ≡ map meaning taken ++ waits_at new k
   pub here : attached_at new k ≡ option_map (left_with (waits_at new k)) (attached_at old k)
   pub others : OthersStay k old new
+  pub turns : new.turns ≡ old.turns

@@ -1,12 +1,13 @@
 //! The worker that serves the sockets: it turns a connection that has something to read or something to send, and no other.
+use crate::batch::{SESSIONS_AT_ONCE, Seats, take_batch};
 use crate::connection::{Connection, Head, Open};
 use crate::desk::SessionDesk;
 use crate::gate::{Gate, IO_LOOP};
 use crate::node::{LISTENER, Setup, WAKER};
-use crate::outlet::take_for;
 use crate::shared::Shared;
 use crate::socket::Socket;
 use cf_broker::{Broker, Naming, Passes};
+use cf_queue::Out;
 use cf_stream::Epochs;
 use cf_wire::{Gather, TurnEnd, Wire};
 use mio::net::TcpListener;
@@ -19,9 +20,6 @@ use std::sync::Wait;
 use std::sync::atomic::{AtomicU64, Ordering};
 use std::time::{Clock, Duration};
 use std::{io, mem, thread};
-
-/// For so many sessions what waits is taken under one lock of the hub.
-const SESSIONS_AT_ONCE: usize = 64;
 
 /// The most connections accepted at one turn.
 const MOST_ACCEPTED: usize = 4096;
@@ -63,6 +61,8 @@ struct IoLoop<'a, R: Wait, N: Naming, E: Epochs + Drop> {
     owners: Vec<usize>,
     // The places for which something waits in the hub, beside those that the hub names.
     owed: VecDeque<usize>,
+    // The places for which something was just taken.
+    batch: Vec<usize>,
     // A buffer for what one turn sends, so that idle connections keep none.
     buffer: Vec<u8>,
     // Connections wait to be accepted that could not be.
@@ -195,6 +195,7 @@ impl<'a, R: Wait, N: Naming, E: Epochs + Drop> IoLoop<'a, R, N, E> {
             free: Vec::new(alloc),
             owners: Vec::new(alloc),
             owed: VecDeque::new(alloc),
+            batch: Vec::new(alloc),
             buffer: Vec::new(alloc),
             behind: false,
             now: 0,
@@ -389,40 +390,39 @@ impl<'a, R: Wait, N: Naming, E: Epochs + Drop> IoLoop<'a, R, N, E> {
 
     // Turns those for which the hub has something.
     fn serve_named(&mut self) {
-        let mut batch = Vec::new(self.around.alloc);
-        if batch.reserve(SESSIONS_AT_ONCE).is_err() {
+        if self.batch.reserve(SESSIONS_AT_ONCE).is_err() {
             return;
         }
         for _ in 0..MOST_BATCHES {
-            self.take_batch(&mut batch);
-            if batch.is_empty() {
+            self.take_some();
+            if self.batch.is_empty() {
                 return;
             }
-            for place in batch.iter() {
-                self.serve(*place);
-            }
-            batch.clear();
+            self.serve_batch();
         }
     }
 
-    // Takes what waits for some sessions under one lock of the hub, and names their places. What a socket has no room for
-    // stays in the hub.
-    fn take_batch(&mut self, batch: &mut Vec<usize>) {
-        let mut hub = self.around.shared.hub.lock(self.around.rt);
-        for _ in 0..SESSIONS_AT_ONCE {
-            let Some(number) = hub.next_with_output() else {
-                return;
-            };
-            let place = self.owners.get(number as usize).copied().unwrap_or(0);
-            let Some(Connection::Open(open)) = self.places.get_mut(place) else {
-                continue;
-            };
-            let is_free = open.desk.clerk.member.number == Some(number) && open.takes_more();
-            open.desk.owed = take_for(&mut hub, number, is_free, &mut open.desk.taken);
-            if is_free {
-                let _ = batch.push(place);
-            }
+    // Turns those for which something was taken. The room for the next ones is kept.
+    fn serve_batch(&mut self) {
+        let mut batch = mem::replace(&mut self.batch, Vec::new(self.around.alloc));
+        for place in batch.iter() {
+            self.serve(*place);
         }
+        batch.clear();
+        self.batch = batch;
+    }
+
+    // Takes what waits for some sessions under one lock of the hub, and notes their places. What a socket has no room for stays
+    // in the hub.
+    fn take_some(&mut self) {
+        let around = self.around;
+        let mut hub = around.shared.hub.lock(around.rt);
+        take_batch(&mut hub, self);
+    }
+
+    // At which place a session's connection is, if it has one.
+    fn place_of(&self, session: u32) -> usize {
+        self.owners.get(session as usize).copied().unwrap_or(0)
     }
 
     // The session of the connection at a place, from which something is owed from now on.
@@ -448,6 +448,47 @@ impl<'a, R: Wait, N: Naming, E: Epochs + Drop> IoLoop<'a, R, N, E> {
             }
             self.serve(place);
             self.end(place);
+        }
+    }
+}
+
+impl<'a, R: Wait, N: Naming, E: Epochs + Drop> Seats for IoLoop<'a, R, N, E> {
+    // What a socket has room for is nothing that a contract can name.
+    ghost frees = { λ _ _ _. Unit {0} };
+
+    ghost lends = { λ _ _ _ _. Unit {0} };
+
+    ghost gets = { λ _ _ _ _ _. Unit {0} };
+
+    fn is_free(&self, session: u32) -> bool {
+        match self.places.get(self.place_of(session)) {
+            Some(Connection::Open(open)) => {
+                open.desk.clerk.member.number == Some(session) && open.takes_more()
+            }
+            _ => false,
+        }
+    }
+
+    fn lend(&mut self, session: u32) -> VecDeque<Out> {
+        let nothing = VecDeque::new(self.around.alloc);
+        let place = self.place_of(session);
+        match self.places.get_mut(place) {
+            Some(Connection::Open(open)) => mem::replace(&mut open.desk.taken, nothing),
+            _ => nothing,
+        }
+    }
+
+    fn give(&mut self, session: u32, taken: VecDeque<Out>, more: bool) {
+        let place = self.place_of(session);
+        let Some(Connection::Open(open)) = self.places.get_mut(place) else {
+            return;
+        };
+        let is_free = open.takes_more();
+        open.desk.taken = taken;
+        open.desk.owed = more;
+        if is_free {
+            // There is room for it.
+            let _ = self.batch.push(place);
         }
     }
 }

@@ -4,6 +4,7 @@
 //! subscription's position takes none where its shard's log is as it was at the last one.
 #![tactic(auto)]
 
+mod batch;
 mod calls;
 mod connection;
 mod desk;
@@ -18,6 +19,7 @@ mod rounds;
 mod shared;
 mod socket;
 
+pub use batch::{Seats, take_batch};
 pub use gate::{DISPATCHER, Gate, IO_LOOP};
 pub use node::{Node, Setup};
 pub use outlet::take_for;
