@@ -3,6 +3,7 @@ use cf_protocol::{Epoch, Position, Publication};
 use cf_queue::Out;
 use cf_stream::Recovery;
 use std::alloc::{AllocError, Global};
+use std::process::Abort;
 use std::test::Fail;
 
 const REPLY: &str = r#"{"id":2,"subscribe":{"epoch":"aaaa","positioned":true,"recoverable":true}}"#;
@@ -76,17 +77,15 @@ fn text(alloc: Global, text: &str) -> Result<Option<Out>, AllocError> {
     Ok(Some(Out::Text(String::from_str(alloc, text)?)))
 }
 
-#[test]
-fn refusals(rt: HostRuntime) -> Result<(), Fail> {
-    let alloc = rt.alloc();
-    let mut hub = Hub::new(alloc, 0, 1);
-    assert_eq!(rt; hub.begin(0, "news", 2, None), Err(HubRefusal::NoSession));
-    assert_eq!(rt; attach(&mut hub, alloc)?, 0);
-    assert_eq!(rt; hub.client_id(0), Some("0-1-1"));
-    assert_eq!(rt; hub.user(0), Some("ann"));
+/// What isn't there isn't read, finished or left.
+fn has_nothing<R: Abort>(rt: &R, alloc: Global, hub: &mut Hub) {
     assert!(rt; !hub.read_done(0, "news", read(alloc, 0)));
     assert!(rt; !hub.finish(0, "news"));
     assert!(rt; !hub.leave(0, "news"));
+}
+
+/// A session begins with 128 channels, with none of them twice, and with no more.
+fn begins_with_128<R: Abort>(rt: &R, alloc: Global, hub: &mut Hub) -> Result<(), Fail> {
     for number in 0..128_u32 {
         let channel = format!(in alloc; "c{number}")?;
         assert_eq!(rt; hub.begin(0, channel.as_str(), 2, None), Ok(()));
@@ -98,10 +97,53 @@ fn refusals(rt: HostRuntime) -> Result<(), Fail> {
     assert_eq!(rt; hub.begin(0, "news", 2, None), Err(HubRefusal::TooMany));
     assert!(rt; hub.leave(0, "c7"));
     assert_eq!(rt; hub.begin(0, "news", 2, None), Ok(()));
+    Ok(())
+}
+
+#[test]
+fn refusals(rt: HostRuntime) -> Result<(), Fail> {
+    let alloc = rt.alloc();
+    let mut hub = Hub::new(alloc, 0, 1);
+    assert_eq!(rt; hub.begin(0, "news", 2, None), Err(HubRefusal::NoSession));
+    assert_eq!(rt; attach(&mut hub, alloc)?, 0);
+    has_nothing(&rt, alloc, &mut hub);
+    begins_with_128(&rt, alloc, &mut hub)?;
     hub.close(0, 3001);
     assert_eq!(rt; hub.begin(0, "news", 2, None), Err(HubRefusal::NoSession));
     assert_eq!(rt; hub.take(0), Some(Out::Close(3001)));
     assert!(rt; !hub.short());
+    Ok(())
+}
+
+#[test]
+fn names(rt: HostRuntime) -> Result<(), Fail> {
+    let alloc = rt.alloc();
+    let mut hub = Hub::new(alloc, 0, 1);
+    assert_eq!(rt; attach(&mut hub, alloc)?, 0);
+    assert_eq!(rt; hub.client_id(0), Some("0-1-1"));
+    assert_eq!(rt; hub.user(0), Some("ann"));
+    Ok(())
+}
+
+/// A session is pinged at 25 seconds, and closed at 33 unless its client answers by then.
+fn pinged<R: Abort>(
+    rt: &R,
+    alloc: Global,
+    hub: &mut Hub,
+    session: u32,
+    answers: bool,
+) -> Result<(), Fail> {
+    hub.tick(24);
+    assert_eq!(rt; hub.take(session), None);
+    hub.tick(25);
+    assert_eq!(rt; hub.take(session), text(alloc, "{}")?);
+    if answers {
+        hub.pong(session);
+    }
+    hub.tick(32);
+    assert_eq!(rt; hub.take(session), None);
+    hub.tick(33);
+    assert_eq!(rt; hub.is_closed(session), !answers);
     Ok(())
 }
 
@@ -111,17 +153,7 @@ fn pings(rt: HostRuntime) -> Result<(), Fail> {
     for answers in [false, true] {
         let mut hub = Hub::new(alloc, 0, 1);
         let session = attach(&mut hub, alloc)?;
-        hub.tick(24);
-        assert_eq!(rt; hub.take(session), None);
-        hub.tick(25);
-        assert_eq!(rt; hub.take(session), text(alloc, "{}")?);
-        if answers {
-            hub.pong(session);
-        }
-        hub.tick(32);
-        assert_eq!(rt; hub.take(session), None);
-        hub.tick(33);
-        assert_eq!(rt; hub.is_closed(session), !answers);
+        pinged(&rt, alloc, &mut hub, session, answers)?;
         hub.tick(50);
         let next = if answers {
             text(alloc, "{}")?
@@ -157,6 +189,20 @@ fn reply_before_push(rt: HostRuntime) -> Result<(), Fail> {
     Ok(())
 }
 
+/// A check that finds a subscription behind twice ends it.
+fn checked_twice<R: Abort>(rt: &R, alloc: Global, hub: &mut Hub, session: u32) -> Result<(), Fail> {
+    for (top, checked) in [
+        (1, Checked::Behind),
+        (0, Checked::Fine),
+        (1, Checked::Behind),
+        (1, Checked::Ended),
+    ] {
+        assert_eq!(rt; hub.check(session, "news", Some(place(top))), checked);
+    }
+    assert_eq!(rt; hub.take(session), text(alloc, END)?);
+    Ok(())
+}
+
 #[test]
 fn gap_and_check(rt: HostRuntime) -> Result<(), Fail> {
     let alloc = rt.alloc();
@@ -164,16 +210,21 @@ fn gap_and_check(rt: HostRuntime) -> Result<(), Fail> {
     let first = subscribed(&mut hub, alloc)?;
     let second = subscribed(&mut hub, alloc)?;
     assert_eq!(rt; hub.check(second, "chat", None), Checked::Nothing);
-    assert_eq!(rt; hub.check(second, "news", Some(place(1))), Checked::Behind);
-    assert_eq!(rt; hub.check(second, "news", Some(place(0))), Checked::Fine);
-    assert_eq!(rt; hub.check(second, "news", Some(place(1))), Checked::Behind);
-    assert_eq!(rt; hub.check(second, "news", Some(place(1))), Checked::Ended);
-    assert_eq!(rt; hub.take(second), text(alloc, END)?);
+    checked_twice(&rt, alloc, &mut hub, second)?;
     let met = deliver(&mut hub, alloc, 2)?;
     assert_eq!(rt; (met.ended, met.passed, met.closed), (1, 0, 0));
     assert_eq!(rt; hub.take(first), text(alloc, END)?);
     assert_eq!(rt; deliver(&mut hub, alloc, 3)?.dropped, 0);
     Ok(())
+}
+
+/// A text as long as all that may wait for a client.
+fn longest_text(alloc: Global) -> Result<String, AllocError> {
+    let mut long = String::new(alloc);
+    for _ in 0..1_048_576_u32 {
+        long.push('x')?;
+    }
+    Ok(long)
 }
 
 #[test]
@@ -182,19 +233,14 @@ fn slow_consumer(rt: HostRuntime) -> Result<(), Fail> {
     let mut hub = Hub::new(alloc, 0, 1);
     let slow = subscribed(&mut hub, alloc)?;
     let other = subscribed(&mut hub, alloc)?;
-    let mut long = String::new(alloc);
-    for _ in 0..1_048_576_u32 {
-        long.push('x')?;
-    }
-    assert_eq!(rt; hub.say(slow, long), Said::Kept);
+    assert_eq!(rt; hub.say(slow, longest_text(alloc)?), Said::Kept);
     let met = deliver(&mut hub, alloc, 1)?;
     assert_eq!(rt; (met.passed, met.closed), (1, 1));
-    assert!(rt; hub.is_closed(slow));
     assert_eq!(rt; hub.say(slow, String::new(alloc)), Said::Closed);
-    assert_eq!(rt; hub.say(9, String::new(alloc)), Said::Gone);
     assert!(rt; hub.take(slow).is_some());
     assert_eq!(rt; hub.take(slow), Some(Out::Close(3008)));
     assert_eq!(rt; hub.take(other), text(alloc, FIRST)?);
+    assert_eq!(rt; hub.say(9, String::new(alloc)), Said::Gone);
     Ok(())
 }
 

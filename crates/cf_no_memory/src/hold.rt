@@ -125,32 +125,58 @@ fn end_call<R: Print>(rt: &R, streams: &mut Streams) -> Result<(), Stopped> {
     Ok(())
 }
 
-/// `position`, `last`, `held`, `trim`, `due`, `tick`, `forget` and `forget_all` of the streams of all channels.
-pub fn streams_calls<R: Print + AllocGlobal>(rt: &R) -> Result<(), Stopped> {
-    let mut streams = filled_all(rt.alloc())?;
-    held_call(rt, &streams)?;
+// `position` and `last` of the streams of all channels.
+fn asked_calls<R: Print>(rt: &R, streams: &Streams) -> Result<(), Stopped> {
     println!(rt; "Streams::position")?;
     let stands = streams.position("c7").is_some();
     println!(rt; ".")?;
     println!(rt; "Streams::last")?;
     let holds = streams.last("c7").is_some();
     println!(rt; ".")?;
+    println!(rt; "stands {stands}, holds {holds}")?;
+    Ok(())
+}
+
+// `trim` and `due` of the streams of all channels.
+fn due_calls<R: Print>(rt: &R, streams: &mut Streams) -> Result<(), Stopped> {
     println!(rt; "Streams::trim")?;
     streams.trim("c7", 0);
     println!(rt; ".")?;
     println!(rt; "Streams::due")?;
-    let due = due_count(&streams, 349);
+    let due = due_count(streams, 349);
     println!(rt; ".")?;
+    println!(rt; "due {due}")?;
+    Ok(())
+}
+
+// `tick` of the streams of all channels.
+fn tick_calls<R: Print>(rt: &R, streams: &mut Streams) -> Result<(), Stopped> {
     println!(rt; "Streams::tick")?;
     streams.tick(349);
     println!(rt; ".")?;
     println!(rt; "Streams::tick that forgets")?;
     streams.tick(2_592_050);
     println!(rt; ".")?;
+    Ok(())
+}
+
+// `forget` of the streams of all channels.
+fn forget_call<R: Print>(rt: &R, streams: &mut Streams) -> Result<(), Stopped> {
     println!(rt; "Streams::forget")?;
     streams.forget("c77");
     println!(rt; ".")?;
     let is_gone = streams.position("c77").is_none();
-    println!(rt; "stands {stands}, holds {holds}, due {due}, gone {is_gone}")?;
+    println!(rt; "gone {is_gone}")?;
+    Ok(())
+}
+
+/// `position`, `last`, `held`, `trim`, `due`, `tick`, `forget` and `forget_all` of the streams of all channels.
+pub fn streams_calls<R: Print + AllocGlobal>(rt: &R) -> Result<(), Stopped> {
+    let mut streams = filled_all(rt.alloc())?;
+    held_call(rt, &streams)?;
+    asked_calls(rt, &streams)?;
+    due_calls(rt, &mut streams)?;
+    tick_calls(rt, &mut streams)?;
+    forget_call(rt, &mut streams)?;
     end_call(rt, &mut streams)
 }
