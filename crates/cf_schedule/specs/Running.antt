@@ -1,12 +1,8 @@
 -- A world of a schedule, as contracts see it.
 use Rattle.std.specs.Prelude.{Bool}
 use Rattle.cf_world.specs.declared.world.World.{World as Parts}
-use Rattle.cf_schedule.specs.declared.world.World.{World}
 
--- the broker, the nodes and the clients
-abbrev pub parts : World → Parts
-parts w = w.parts
-
--- whether a part of it found no memory
-abbrev pub is_short : World → Bool
-is_short w = w.is_short
+-- the broker, the nodes and the clients, and whether a part of them found no memory
+pub record Running : Type 0 where
+  pub parts : Parts
+  pub is_short : Bool

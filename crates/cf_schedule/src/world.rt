@@ -1,7 +1,6 @@
 //! The world of a schedule, event by event.
 ghost use Rattle.std.specs.Prelude.{◌≡◌, IfOk, IsErr, IsTrue, OnOk, false, is_err, option_copied};
 ghost use Rattle.cf_machine.specs.World.{start};
-ghost use Rattle.cf_schedule.specs.Running.{is_short, parts};
 ghost use Rattle.cf_schedule.specs.Seen.{seen, shown_config};
 ghost use Rattle.cf_world.specs.Tie.{GoesOn, Tied, Writes, client_of, hub_of, seat_at, streams_of};
 
@@ -12,6 +11,7 @@ use cf_hub::Hub;
 use cf_stream::Streams;
 use cf_world::{Entry, Seat, Short, World as Parts};
 use std::alloc::Global;
+use std::marker::Model;
 
 /// The broker, the nodes and all clients. Once a part of it found no memory it carries out nothing more.
 #[derive(Drop)]
@@ -21,11 +21,23 @@ pub struct World {
     alloc: Global,
 }
 
+impl Model for World {
+    ghost use Rattle.cf_schedule.specs.Running.{Running};
+    ghost use Rattle.cf_world.specs.contracts.world.World as world;
+    ghost use Rattle.std.specs.Coded.{codes};
+
+    ghost Value = { Running };
+
+    ghost coded = { Prim.hlevel (codes, world.the_row.coded) };
+
+    ghost view = { λ w. record { parts = w.parts; is_short = w.is_short } };
+}
+
 impl World {
     /// A world in which nothing has happened.
     pub fn new(alloc: Global, config: &Config) -> Result<World, Short>
-        ensures tied { IfOk result (λ w. Tied (shown_config config.now) (parts w) start) }
-        ensures ready { IfOk result (λ w. is_short w ≡ false) }
+        ensures tied { IfOk result (λ w. Tied (shown_config config.now) w.parts start) }
+        ensures ready { IfOk result (λ w. w.is_short ≡ false) }
     {
         let parts = Parts::new(alloc, config.nodes, &config.namespaces)?;
         Ok(World {
@@ -38,10 +50,10 @@ impl World {
     /// Carries out an event, the one of number `at`, and gives what applications got by it. After it answered `Short` it does
     /// so ever after.
     pub fn step(&mut self, at: usize, event: &Event) -> Result<Vec<Entry>, Short>
-        ensures ok { OnOk result (GoesOn (seen event.now) (parts self.old) (parts self.new)) }
-        ensures writes { IfOk result (λ es. Writes at (seen event.now) (parts self.old) es.items) }
-        ensures short { is_short self.new ≡ is_err result }
-        ensures stays_short { IsTrue (is_short self.old) → IsErr result }
+        ensures ok { OnOk result (GoesOn (seen event.now) self.old.parts self.new.parts) }
+        ensures writes { IfOk result (λ es. Writes at (seen event.now) self.old.parts es.items) }
+        ensures short { self.new.is_short ≡ is_err result }
+        ensures stays_short { IsTrue self.old.is_short → IsErr result }
     {
         if self.is_short {
             return Err(Short);
@@ -53,28 +65,28 @@ impl World {
 
     /// A node's sessions.
     pub fn hub(&self, node: u8) -> Option<&Hub>
-        ensures { option_copied result ≡ hub_of (parts self.now) node }
+        ensures { option_copied result ≡ hub_of self.now.parts node }
     {
         self.parts.hub(node)
     }
 
     /// The streams that all nodes share.
     pub fn streams(&self) -> &Streams
-        ensures { result.now ≡ streams_of (parts self.now) }
+        ensures { result.now ≡ streams_of self.now.parts }
     {
         self.parts.streams()
     }
 
     /// The client of this name, if it ever connected.
     pub fn client(&self, name: &str) -> Option<&Client>
-        ensures { option_copied result ≡ client_of (parts self.now) name.now }
+        ensures { option_copied result ≡ client_of self.now.parts name.now }
     {
         self.parts.client(name)
     }
 
     /// Where the session of a client is, if it is connected.
     pub fn seat(&self, name: &str) -> Option<Seat>
-        ensures { result ≡ seat_at (parts self.now) name.now }
+        ensures { result ≡ seat_at self.now.parts name.now }
     {
         self.parts.seat(name)
     }

@@ -2,7 +2,6 @@
 ghost use Rattle.std.specs.Prelude.{◌≡◌, map, string_bytes, true, false, OnOk, OnErr, IfOk, IfErr, IfSome};
 ghost use Rattle.std.specs.Io.KnownBytes.{Appends, Keeps};
 ghost use Rattle.cf_machine.specs.TraceLine.{printed};
-ghost use Rattle.cf_schedule.specs.Running.{parts};
 ghost use Rattle.cf_schedule.specs.Seen.{seen, shown_config};
 ghost use Rattle.cf_world.specs.Entries.{shown_entry};
 ghost use Rattle.cf_world.specs.Tie.{GoesOn};
@@ -116,8 +115,8 @@ fn event_text(
     event: &Event,
     line: Line<'_>,
 ) -> Result<String, Short>
-    ensures ok { OnOk result (GoesOn (seen event.now) (parts world.old) (parts world.new)) }
-    ensures shows { IfOk result (λ text. ShowsEvent explains at (seen event.now) (parts world.old) (string_bytes text)) }
+    ensures ok { OnOk result (GoesOn (seen event.now) world.old.parts world.new.parts) }
+    ensures shows { IfOk result (λ text. ShowsEvent explains at (seen event.now) world.old.parts (string_bytes text)) }
 {
     if explains {
         explained_text(alloc, world, explainer, at, event, line)
@@ -135,8 +134,8 @@ fn explained_text(
     event: &Event,
     line: Line<'_>,
 ) -> Result<String, Short>
-    ensures ok { OnOk result (GoesOn (seen event.now) (parts world.old) (parts world.new)) }
-    ensures shows { IfOk result (λ text. ShowsEvent true at (seen event.now) (parts world.old) (string_bytes text)) }
+    ensures ok { OnOk result (GoesOn (seen event.now) world.old.parts world.new.parts) }
+    ensures shows { IfOk result (λ text. ShowsEvent true at (seen event.now) world.old.parts (string_bytes text)) }
 {
     explainer.before(world, event)?;
     let lines = event_lines(alloc, world, at, event)?;
@@ -148,8 +147,8 @@ fn explained_text(
 
 // Carries out an event, and gives the lines of what applications got by it.
 fn event_lines(alloc: Global, world: &mut World, at: usize, event: &Event) -> Result<String, Short>
-    ensures ok { OnOk result (GoesOn (seen event.now) (parts world.old) (parts world.new)) }
-    ensures shows { IfOk result (λ text. ShowsEvent false at (seen event.now) (parts world.old) (string_bytes text)) }
+    ensures ok { OnOk result (GoesOn (seen event.now) world.old.parts world.new.parts) }
+    ensures shows { IfOk result (λ text. ShowsEvent false at (seen event.now) world.old.parts (string_bytes text)) }
 {
     let entries = world.step(at, event)?;
     let lines = entry_lines(alloc, entries.as_slice())?;

@@ -8,7 +8,6 @@ use Rattle.cf_machine.specs.World.{World, start}
 use Rattle.cf_world.specs.Entries.{shown_entry}
 use Rattle.cf_world.specs.Tie.{Tied}
 use Rattle.cf_world.specs.declared.entry.Entry.{Entry}
-use Rattle.cf_schedule.specs.Running.{parts}
 use Rattle.cf_schedule.specs.Seen.{seen, shown_config}
 use Rattle.cf_schedule.specs.declared.event.Event.{Event as CodeEvent}
 use Rattle.cf_schedule.proofs.Runs.{all-seen, carries, carries-none, past-length, safe-so, seen-more}
@@ -33,7 +32,7 @@ loop-done-preserved c =
     let all : c.append.new.self.items ≡ a ++ b = c.append.ensures.items ∙ ap (λ t. cond t (a ++ b) a) ok in
     let number = past-length es c.loop-done.done lt in
     record {
-      tied = subst (λ (m : World). Tied cfg (parts c.step.new.self) m) (sym next) step;
+      tied = subst (λ (m : World). Tied cfg c.step.new.self.parts m) (sym next) step;
       told =
           ap (map shown_entry) all ∙ map-append shown_entry a b ∙ (λ i. c.loop-done.invariant.told i ++ wrote i)
           ∙ ap (λ n. trace cfg 1 start past ++ writes cfg n (run cfg start past) (seen e)) (sym number)
