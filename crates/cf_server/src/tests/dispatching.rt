@@ -1,12 +1,13 @@
 //! Turns of a dispatcher over a link and a hub in memory.
 use cf_broker::Delivery;
 use cf_hub::{Delivered, Hub};
-use cf_node::{Post, pass_on, take_for};
+use cf_node::{Post, Seats, pass_on, take_batch, take_for};
 use cf_protocol::{Epoch, Position, Publication};
 use cf_queue::Out;
 use cf_stream::Recovery;
 use std::alloc::Global;
 use std::collections::VecDeque;
+use std::mem;
 use std::process::Abort;
 use std::test::Fail;
 
@@ -122,5 +123,91 @@ fn dispatched_in_order(rt: HostRuntime) -> Result<(), Fail> {
         "{\"push\":{\"channel\":\"news\",\"pub\":{\"data\":2,\"offset\":2}}}",
     ];
     assert!(rt; are_texts(&taken, pushes.as_slice()));
+    Ok(())
+}
+
+// What was taken for a client, whether its wire is free, and whether more may wait for it.
+#[derive(Drop)]
+struct Seat {
+    taken: VecDeque<Out>,
+    is_free: bool,
+    owes: bool,
+}
+
+// The seats of a hub's sessions, by their numbers.
+#[derive(Drop)]
+struct Bench {
+    seats: Vec<Seat>,
+    alloc: Global,
+}
+
+impl Seats for Bench {
+    ghost frees = { λ _ _ _. Unit {0} };
+
+    ghost lends = { λ _ _ _ _. Unit {0} };
+
+    ghost gets = { λ _ _ _ _ _. Unit {0} };
+
+    fn is_free(&self, session: u32) -> bool {
+        match self.seats.get(session as usize) {
+            Some(seat) => seat.is_free,
+            None => false,
+        }
+    }
+
+    fn lend(&mut self, session: u32) -> VecDeque<Out> {
+        let nothing = VecDeque::new(self.alloc);
+        match self.seats.get_mut(session as usize) {
+            Some(seat) => mem::replace(&mut seat.taken, nothing),
+            None => nothing,
+        }
+    }
+
+    fn give(&mut self, session: u32, taken: VecDeque<Out>, more: bool) {
+        if let Some(seat) = self.seats.get_mut(session as usize) {
+            seat.taken = taken;
+            seat.owes = more;
+        }
+    }
+}
+
+// These texts were taken for the client of a session, in this order.
+fn has_taken(bench: &Bench, session: usize, texts: &[&str]) -> bool {
+    match bench.seats.get(session) {
+        Some(seat) => are_texts(&seat.taken, texts),
+        None => false,
+    }
+}
+
+// Of two clients one is blocked: what waits for it stays, and comes once it is free and named again.
+#[test]
+fn taken_in_turn(rt: HostRuntime) -> Result<(), Fail> {
+    let alloc = rt.alloc();
+    let mut hub = Hub::new(alloc, 0, 1);
+    let mut bench = Bench {
+        seats: Vec::new(alloc),
+        alloc,
+    };
+    for is_free in [true, false] {
+        let session = hub.attach(String::new(alloc), 0)?;
+        hub.say(session, String::from_str(alloc, "first")?);
+        hub.say(session, String::from_str(alloc, "second")?);
+        bench.seats.push(Seat {
+            taken: VecDeque::new(alloc),
+            is_free,
+            owes: false,
+        })?;
+    }
+    take_batch(&mut hub, &mut bench);
+    assert!(rt; has_taken(&bench, 0, ["first", "second"].as_slice()));
+    assert!(rt; has_taken(&bench, 1, [].as_slice()));
+    if let Some(seat) = bench.seats.get_mut(1) {
+        assert!(rt; seat.owes);
+        seat.is_free = true;
+    }
+    hub.say(1, String::from_str(alloc, "third")?);
+    take_batch(&mut hub, &mut bench);
+    assert!(rt; has_taken(&bench, 0, ["first", "second"].as_slice()));
+    assert!(rt; has_taken(&bench, 1, ["first", "second", "third"].as_slice()));
     Ok(())
 }
