@@ -1,4 +1,4 @@
-ghost use Rattle.std.specs.Prelude.{◌≡◌, IsSome, OnOk};
+ghost use Rattle.std.specs.Prelude.{◌≡◌, IsSome};
 ghost use Rattle.cf_protocol.specs.Settings.{settings_of};
 ghost use Rattle.cf_broker.specs.Shards.{names, number_of};
 
@@ -92,6 +92,25 @@ fn info(alloc: Global) -> Result<Info, Fail> {
     })
 }
 
+/// Publishes, and is told the offset.
+fn publishes_at<N: Naming, R: Wait + Abort>(
+    rt: &R,
+    alloc: Global,
+    broker: &Broker<N, Same>,
+    pass: &mut Pass,
+    channel: &str,
+    offset: u64,
+) -> Result<(), Fail>
+    requires pass { pass.old.word ≡ N.words (number_of channel.now) }
+    requires set_up { IsSome (settings_of N.namespaces channel.now) }
+    ensures { pass.new.word ≡ pass.old.word }
+{
+    let body = String::from_str(alloc, "1")?;
+    let position = broker.publish(rt, pass, channel, body, Some(info(alloc)?), 0)?;
+    assert_eq!(rt; position.offset, offset);
+    Ok(())
+}
+
 /// Publishes three times.
 fn publishes_thrice<N: Naming, R: Wait + Abort>(
     rt: &R,
@@ -102,13 +121,11 @@ fn publishes_thrice<N: Naming, R: Wait + Abort>(
 ) -> Result<(), Fail>
     requires pass { pass.old.word ≡ N.words (number_of channel.now) }
     requires set_up { IsSome (settings_of N.namespaces channel.now) }
-    ensures { OnOk result (pass.new.word ≡ pass.old.word) }
+    ensures { pass.new.word ≡ pass.old.word }
 {
-    for (offset, body) in [(1, "1"), (2, "2"), (3, "3")] {
-        let body = String::from_str(alloc, body)?;
-        let position = broker.publish(rt, pass, channel, body, Some(info(alloc)?), 0)?;
-        assert_eq!(rt; position.offset, offset);
-    }
+    publishes_at(rt, alloc, broker, pass, channel, 1)?;
+    publishes_at(rt, alloc, broker, pass, channel, 2)?;
+    publishes_at(rt, alloc, broker, pass, channel, 3)?;
     let (at, mark) = broker.position(rt, pass, channel);
     assert_eq!(rt; (at.map(|position| position.offset), mark), (Some(3), 4));
     Ok(())
