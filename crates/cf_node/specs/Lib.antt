@@ -1,4 +1,1 @@
-pub mod Batch
 pub mod Desk
-pub mod Dispatch
-pub mod Outlet

@@ -1,12 +1,12 @@
 //! The worker that brings what the broker published to the node's hub.
-ghost use Rattle.cf_node.specs.Dispatch.{Dispatches};
+ghost use Rattle.cf_turns.specs.Dispatch.{Dispatches};
 
 use crate::gate::{DISPATCHER, Gate};
-use crate::post::{Post, pass_on};
 use crate::shared::Shared;
 use cf_broker::Delivery;
 use cf_hub::Delivered;
 use cf_link::Receiver;
+use cf_turns::{Post, pass_on};
 use std::sync::Wait;
 use std::sync::atomic::{AtomicU64, Ordering};
 use std::thread;

@@ -1,5 +1,4 @@
 //! The worker that serves the sockets: it turns a connection that has something to read or something to send, and no other.
-use crate::batch::{SESSIONS_AT_ONCE, Seats, take_batch};
 use crate::connection::{Connection, Head, Open};
 use crate::desk::SessionDesk;
 use crate::gate::{Gate, IO_LOOP};
@@ -9,6 +8,7 @@ use crate::socket::Socket;
 use cf_broker::{Broker, Naming, Passes};
 use cf_queue::Out;
 use cf_stream::Epochs;
+use cf_turns::{SESSIONS_AT_ONCE, Seats, take_batch};
 use cf_wire::{Gather, TurnEnd, Wire};
 use mio::net::TcpListener;
 use mio::{Events, Interest, Poll, Token};

@@ -4,7 +4,6 @@
 //! subscription's position takes none where its shard's log is as it was at the last one.
 #![tactic(auto)]
 
-mod batch;
 mod calls;
 mod connection;
 mod desk;
@@ -12,15 +11,10 @@ mod dispatcher;
 mod gate;
 mod io_loop;
 mod node;
-mod outlet;
 mod passes;
-mod post;
 mod rounds;
 mod shared;
 mod socket;
 
-pub use batch::{Seats, take_batch};
 pub use gate::{DISPATCHER, Gate, IO_LOOP};
 pub use node::{Node, Setup};
-pub use outlet::take_for;
-pub use post::{Post, pass_on};

@@ -1,5 +1,5 @@
 //! What is taken from the hub for the sessions that it names, under one lock.
-ghost use Rattle.cf_node.specs.Batch.{TakesAt, TakesBatch, most_at_once};
+ghost use Rattle.cf_turns.specs.Batch.{TakesAt, TakesBatch, most_at_once};
 
 use crate::outlet::take_for;
 use cf_hub::Hub;
@@ -7,7 +7,7 @@ use cf_queue::Out;
 use std::collections::VecDeque;
 
 /// For so many sessions what waits is taken under one lock of the hub.
-pub(crate) const SESSIONS_AT_ONCE: usize = 64;
+pub const SESSIONS_AT_ONCE: usize = 64;
 
 /// Where the clients of a hub's sessions sit. What each call does it states itself.
 pub trait Seats {

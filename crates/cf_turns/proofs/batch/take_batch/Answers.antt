@@ -1,5 +1,5 @@
-use Rattle.cf_node.proofs.Batches.{goes_on}
-use Rattle.cf_node.proofs.batch.take_batch.Goals as goal
+use Rattle.cf_turns.proofs.Batches.{goes_on}
+use Rattle.cf_turns.proofs.batch.take_batch.Goals as goal
 
 pub loop-named-preserved : goal.loop-named-preserved
 loop-named-preserved g c =

@@ -3,7 +3,7 @@ use Rattle.std.specs.Prelude.{◌≡◌, ◌≤◌, ◌<◌, ◌==◌, ◌⊎◌
 use Rattle.std.specs.List.{count_by}
 use Rattle.cf_queue.specs.declared.queue.Out.{Out}
 use Rattle.cf_hub.specs.Hub.{IsNextTurn, Node, attached_at}
-use Rattle.cf_node.specs.Outlet.{Takes, waits_at}
+use Rattle.cf_turns.specs.Outlet.{Takes, waits_at}
 
 -- for so many sessions at most
 abbrev pub most_at_once : ℕ

@@ -1,6 +1,6 @@
 //! What a dispatcher stands between: a link at which publications come, and the hub of its node.
 ghost use Rattle.std.specs.Prelude.{◌≡◌};
-ghost use Rattle.cf_node.specs.Dispatch.{TakesTurn, stirs};
+ghost use Rattle.cf_turns.specs.Dispatch.{TakesTurn, stirs};
 
 use cf_broker::Delivery;
 use cf_hub::Delivered;

@@ -8,7 +8,7 @@ use Rattle.cf_queue.specs.declared.queue.Out.{Out}
 use Rattle.cf_hub.specs.Hub.{Node, One, attached_at, moves, waits_in}
 use Rattle.cf_hub.specs.Session.{Attached}
 use Rattle.cf_hub.specs.SessionState.{takes_front}
-use Rattle.cf_node.specs.Outlet.{Takes, left_with, waits_at}
+use Rattle.cf_turns.specs.Outlet.{Takes, left_with, waits_at}
 
 left_all : (x : Option Attached) → x ≡ option_map (left_with (waits_in x)) x
 left_all None = refl

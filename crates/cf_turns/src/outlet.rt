@@ -1,6 +1,6 @@
 //! What is taken from the hub for a client whose wire takes more.
 ghost use Rattle.std.specs.Prelude.{◌≡◌, [], IsFalse};
-ghost use Rattle.cf_node.specs.Outlet.{Takes, waits_at};
+ghost use Rattle.cf_turns.specs.Outlet.{Takes, waits_at};
 
 use cf_hub::Hub;
 use cf_queue::Out;

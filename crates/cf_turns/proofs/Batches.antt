@@ -5,7 +5,7 @@ use Rattle.std.proofs.lemmas.List.Sums.{sum_by-cons}
 use Rattle.cf_queue.specs.declared.queue.Out.{Out}
 use Rattle.cf_hub.specs.Hub.{Node, attached_at, is_waiting, waits_in}
 use Rattle.cf_hub.specs.Turns.{first_turn, turns_left}
-use Rattle.cf_node.specs.Batch.{Names, TakesAt, TakesFor, times}
+use Rattle.cf_turns.specs.Batch.{Names, TakesAt, TakesFor, times}
 
 cons_times : (j k : ℕ) (ks : List ℕ) → times j (k ∷ ks) ≡ cond (k == j) 1 0 + times j ks
 cons_times j k ks = sum_by-cons (λ (i : ℕ). cond (i == j) 1 0) k ks
