@@ -1,4 +1,4 @@
-//! A hub of many sessions: deliveries to some of them, and the attach and detach of one.
+//! A hub of many sessions: deliveries to crowds of them, and the attach and detach of one.
 use cf_hub::{Hub, HubRefusal};
 use cf_protocol::{Epoch, Position, Publication};
 use cf_stream::Recovery;
@@ -7,10 +7,12 @@ use std::io;
 use std::io::Print;
 use std::time::{Clock, Instant};
 
-/// How many sessions a hub has, how many of them follow `news`, and how many deliveries there are.
+/// How many sessions a hub has, how many crowds of them there are, each on one channel more, how many sessions a crowd has, and how
+/// many deliveries each crowd gets.
 #[derive(Clone, Copy, Debug)]
-pub(crate) struct Crowd {
+pub(crate) struct Crowds {
     pub(crate) sessions: u32,
+    pub(crate) crowds: u32,
     pub(crate) subscribers: u32,
     pub(crate) times: u32,
 }
@@ -40,16 +42,27 @@ fn subscribe(hub: &mut Hub, alloc: Global, session: u32, channel: &str) -> Resul
     Ok(())
 }
 
-/// A hub of so many sessions, of which those that follow `news` stand apart.
-fn gather(alloc: Global, crowd: Crowd) -> Result<Hub, HubRefusal> {
+/// The channels of the crowds.
+fn channels(alloc: Global, crowds: u32) -> Result<Vec<String>, AllocError> {
+    let mut channels = Vec::new(alloc);
+    for number in 0..crowds {
+        channels.push(format!(in alloc; "news{number}")?)?;
+    }
+    Ok(channels)
+}
+
+/// A hub of so many sessions. Those of the crowds stand apart, one of each crowd after the other.
+fn gather(alloc: Global, crowds: Crowds, channels: &[String]) -> Result<Hub, HubRefusal> {
     let mut hub = Hub::new(alloc, 0, 1);
-    let step = (crowd.sessions / crowd.subscribers.max(1)).max(1);
-    let mut left = crowd.subscribers;
-    for number in 0..crowd.sessions {
+    let followers = crowds.subscribers.saturating_mul(crowds.crowds);
+    let step = (crowds.sessions / followers.max(1)).max(1);
+    let mut turns = channels.iter().cycle().take(followers as usize);
+    for number in 0..crowds.sessions {
         let session = join(&mut hub, alloc, number)?;
-        if number % step == 0 && left > 0 {
-            left -= 1;
-            subscribe(&mut hub, alloc, session, "news")?;
+        if number % step == 0
+            && let Some(channel) = turns.next()
+        {
+            subscribe(&mut hub, alloc, session, channel.as_str())?;
         }
     }
     Ok(hub)
@@ -68,34 +81,57 @@ fn publications(alloc: Global, times: u32) -> Result<Vec<Publication>, AllocErro
     Ok(publications)
 }
 
-/// Each client takes what waits for it.
-fn drain(hub: &mut Hub, sessions: u32) {
-    for _ in 0..sessions {
-        let Some(session) = hub.next_with_output() else {
-            return;
-        };
-        hub.take(session);
+/// So many clients take what waits for them.
+fn drain(hub: &mut Hub, clients: u32) {
+    for _ in 0..clients {
+        if let Some(session) = hub.next_with_output() {
+            hub.take(session);
+        }
     }
 }
 
-/// Delivers all publications, each taken before the next. Says how many pushes that were, and how many nanoseconds the
-/// deliveries alone took.
+/// How many pushes there were, and how many nanoseconds the deliveries alone took.
+#[derive(Clone, Copy, Debug)]
+struct Spent {
+    pushes: u64,
+    nanoseconds: u128,
+}
+
+/// Delivers a publication to each crowd in turn, taken before the next.
+fn deliver_round(
+    clock: &impl Clock,
+    hub: &mut Hub,
+    channels: &[String],
+    publication: &Publication,
+    spent: &mut Spent,
+) -> io::Result<()> {
+    let epoch = Epoch::from_text("aaaa");
+    for channel in channels {
+        let start = Instant::now(clock)?;
+        let delivered = hub.deliver(channel.as_str(), &epoch, publication);
+        let passed = start.elapsed(clock)?.as_nanos();
+        spent.nanoseconds = spent.nanoseconds.saturating_add(passed);
+        spent.pushes = spent.pushes.saturating_add(u64::from(delivered.passed));
+        drain(hub, delivered.passed);
+    }
+    Ok(())
+}
+
+/// Delivers all publications to all crowds.
 fn deliver(
     clock: &impl Clock,
     hub: &mut Hub,
+    channels: &[String],
     publications: &[Publication],
-    crowd: Crowd,
-) -> io::Result<(u64, u128)> {
-    let epoch = Epoch::from_text("aaaa");
-    let (mut pushes, mut spent) = (0_u64, 0_u128);
+) -> io::Result<Spent> {
+    let mut spent = Spent {
+        pushes: 0,
+        nanoseconds: 0,
+    };
     for publication in publications {
-        let start = Instant::now(clock)?;
-        let delivered = hub.deliver("news", &epoch, publication);
-        spent = spent.saturating_add(start.elapsed(clock)?.as_nanos());
-        pushes = pushes.saturating_add(u64::from(delivered.passed));
-        drain(hub, crowd.sessions);
+        deliver_round(clock, hub, channels, publication, &mut spent)?;
     }
-    Ok((pushes, spent))
+    Ok(spent)
 }
 
 /// The last session goes and comes again so often, each time with its row. Says how often it came.
@@ -109,24 +145,24 @@ fn come_and_go(hub: &mut Hub, alloc: Global, last: u32, times: u32) -> Result<u3
     Ok(came)
 }
 
-/// Times a crowd, and prints what it did.
-pub(crate) fn run(rt: &(impl Print + Clock), alloc: Global, crowd: Crowd) -> io::Result<()> {
-    let publications = publications(alloc, crowd.times)?;
+/// Times the crowds, and prints what they took.
+pub(crate) fn run(rt: &(impl Print + Clock), alloc: Global, crowds: Crowds) -> io::Result<()> {
+    let channels = channels(alloc, crowds.crowds)?;
+    let publications = publications(alloc, crowds.times)?;
     let start = Instant::now(rt)?;
-    let Ok(mut hub) = gather(alloc, crowd) else {
+    let Ok(mut hub) = gather(alloc, crowds, channels.as_slice()) else {
         return println!(rt; "refused");
     };
     let gathered = start.elapsed(rt)?.as_nanos();
-    let (pushes, delivered) = deliver(rt, &mut hub, publications.as_slice(), crowd)?;
+    let spent = deliver(rt, &mut hub, channels.as_slice(), publications.as_slice())?;
     let start = Instant::now(rt)?;
-    let Ok(came) = come_and_go(
-        &mut hub,
-        alloc,
-        crowd.sessions.saturating_sub(1),
-        crowd.times,
-    ) else {
+    let last = crowds.sessions.saturating_sub(1);
+    let Ok(came) = come_and_go(&mut hub, alloc, last, crowds.times) else {
         return println!(rt; "refused");
     };
     let moved = start.elapsed(rt)?.as_nanos();
-    println!(rt; "hub {gathered} pushes {pushes} {delivered} came {came} {moved}")
+    println!(rt;
+        "hub {gathered} pushes {} {} came {came} {moved}",
+        spent.pushes, spent.nanoseconds
+    )
 }

@@ -1,13 +1,13 @@
 //! Times a node's hub and its rows, for `bench/hub`.
 //!
-//! A line of the input is `hub SESSIONS SUBSCRIBERS TIMES`, or `rows STEP`. For each line the counts and the nanoseconds are
+//! A line of the input is `hub SESSIONS CROWDS SUBSCRIBERS TIMES`, or `rows STEP`. For each line the counts and the nanoseconds are
 //! printed.
 #![tactic(auto)]
 
 mod crowd;
 mod table;
 
-use crowd::Crowd;
+use crowd::Crowds;
 use std::alloc::Global;
 use std::io;
 use table::Removal;
@@ -15,7 +15,7 @@ use table::Removal;
 /// What a line asks for.
 #[derive(Clone, Copy, Debug)]
 enum Job {
-    Hub(Crowd),
+    Hub(Crowds),
     Rows(Removal),
 }
 
@@ -33,10 +33,12 @@ fn job_of(line: &str) -> Option<Job> {
     match words.next()? {
         "hub" => {
             let sessions = number_of(words.next())?;
+            let crowds = number_of(words.next())?;
             let subscribers = number_of(words.next())?;
             let times = number_of(words.next())?;
-            Some(Job::Hub(Crowd {
+            Some(Job::Hub(Crowds {
                 sessions,
+                crowds,
                 subscribers,
                 times,
             }))
@@ -54,7 +56,7 @@ fn main(rt: HostRuntime) -> io::Result<()> {
     for line in rt.lines(alloc) {
         let line = line?;
         match job_of(line.as_str()) {
-            Some(Job::Hub(crowd)) => crowd::run(&rt, alloc, crowd)?,
+            Some(Job::Hub(crowds)) => crowd::run(&rt, alloc, crowds)?,
             Some(Job::Rows(removal)) => table::run(&rt, alloc, removal)?,
             None => println!(rt; "unusable line")?,
         }
