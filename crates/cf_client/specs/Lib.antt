@@ -6,3 +6,4 @@ pub mod Shown
 pub mod Draft
 pub mod OneAnswer
 pub mod OneMeaning
+pub mod Texts

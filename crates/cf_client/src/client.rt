@@ -1,16 +1,16 @@
 //! A client of one node, as an application uses it.
-ghost use Rattle.std.specs.Prelude.{◌≡◌, ◌++◌, List, ℕ, None, false, true, map, option_map, IfOk, IfErr, OnOk, OnErr, string_bytes, length};
+ghost use Rattle.std.specs.Prelude.{◌≡◌, ◌++◌, List, ℕ, None, false, true, map, option_map, IfOk, IfErr, OnOk, OnErr, length};
 ghost use Rattle.cf_protocol.specs.Frame.{IsReplies};
 ghost use Rattle.cf_protocol.specs.Outgoing as sent;
 ghost use Rattle.cf_protocol.specs.Regular.{IsFrom};
 ghost use Rattle.cf_protocol.specs.Request as request;
 ghost use Rattle.cf_protocol.specs.Shown.{shown_outgoing};
-ghost use Rattle.cf_protocol.specs.Written.{command_text};
-ghost use Rattle.cf_client.specs.ClientState.{is_idle, last_of};
+ghost use Rattle.cf_client.specs.ClientState.{is_idle};
 ghost use Rattle.cf_client.specs.ClientCalls.{new_state, connected, asked, left, called, reconnected, RefusedBy, connect_fault, call_fault, ask_fault, leave_fault, TakesAll};
 ghost use Rattle.cf_client.specs.ClientView.{state_of};
 ghost use Rattle.cf_client.specs.OneAnswer.{AreApart};
 ghost use Rattle.cf_client.specs.Shown.{shown_item, TextRefused};
+ghost use Rattle.cf_client.specs.Texts.{IsCommand, IsNextCommand, last_at};
 
 use crate::calls::Call;
 use crate::channels::{make_idle, mode_at, set_mode};
@@ -67,7 +67,7 @@ impl Client {
     ///
     /// `NotNow` while connected, which is from `connect` to `reconnect`; `Memory`.
     pub fn connect(&mut self, token: &str) -> Result<String, ClientFault>
-        ensures text { IfOk result (λ t. string_bytes t ≡ command_text (record { id = 1; request = request.Connect token.now })) }
+        ensures text { IfOk result (IsCommand 1 (request.Connect token.now)) }
         ensures ok { OnOk result (state_of self.new ≡ connected (state_of self.old)) }
         ensures refused { RefusedBy (connect_fault (state_of self.old)) result }
         ensures err { OnErr result (state_of self.new ≡ state_of self.old) }
@@ -98,7 +98,7 @@ impl Client {
     /// The last position that the client had on a channel: that of its last subscribe reply or publication there. In a command
     /// it is read back.
     pub fn position(&self, channel: &str) -> Option<Position>
-        ensures last { result ≡ last_of ((state_of self.now).client.modes channel.now) }
+        ensures last { result ≡ last_at self.now channel.now }
         ensures regular { IsFrom result }
     {
         let position = mode_at(&self.known.channels, channel).last()?;
@@ -112,7 +112,7 @@ impl Client {
     ///
     /// `NotNow` while not connected, and where the channel isn't idle; `AtLastId` where no id is left; `Memory`.
     pub fn ask(&mut self, channel: &str) -> Result<String, ClientFault>
-        ensures text { IfOk result (λ t. string_bytes t ≡ command_text (record { id = (state_of self.old).client.fresh; request = request.Subscribe channel.now None })) }
+        ensures text { IfOk result (IsNextCommand self.old (request.Subscribe channel.now None)) }
         ensures ok { OnOk result (state_of self.new ≡ asked channel.now None (state_of self.old)) }
         ensures refused { RefusedBy (ask_fault channel.now (state_of self.old)) result }
         ensures err { OnErr result (state_of self.new ≡ state_of self.old) }
@@ -126,9 +126,12 @@ impl Client {
     ///
     /// `NotNow` while not connected, and where the channel isn't idle; `AtLastId` where no id is left; `Memory`.
     pub fn ask_from(&mut self, channel: &str) -> Result<String, ClientFault>
-        ensures text { IfOk result (λ t. string_bytes t ≡ command_text (record { id = (state_of self.old).client.fresh; request = request.Subscribe channel.now (last_of ((state_of self.old).client.modes channel.now)) })) }
-        ensures regular { IsFrom (last_of ((state_of self.old).client.modes channel.now)) }
-        ensures ok { OnOk result (state_of self.new ≡ asked channel.now (last_of ((state_of self.old).client.modes channel.now)) (state_of self.old)) }
+        ensures text { IfOk result
+            (IsNextCommand self.old (request.Subscribe channel.now (last_at self.old channel.now))) }
+        ensures regular { IsFrom (last_at self.old channel.now) }
+        ensures ok { OnOk result
+            (state_of self.new
+            ≡ asked channel.now (last_at self.old channel.now) (state_of self.old)) }
         ensures refused { RefusedBy (ask_fault channel.now (state_of self.old)) result }
         ensures err { OnErr result (state_of self.new ≡ state_of self.old) }
     {
@@ -137,7 +140,7 @@ impl Client {
     }
 
     fn ask_since(&mut self, channel: &str, from: Option<Position>) -> Result<String, ClientFault>
-        ensures text { IfOk result (λ t. string_bytes t ≡ command_text (record { id = (state_of self.old).client.fresh; request = request.Subscribe channel.now from })) }
+        ensures text { IfOk result (IsNextCommand self.old (request.Subscribe channel.now from)) }
         ensures ok { OnOk result (state_of self.new ≡ asked channel.now from (state_of self.old)) }
         ensures refused { RefusedBy (ask_fault channel.now (state_of self.old)) result }
         ensures err { OnErr result (state_of self.new ≡ state_of self.old) }
@@ -181,7 +184,7 @@ impl Client {
     ///
     /// `NotNow` while not connected, and where the channel is idle; `AtLastId` where no id is left; `Memory`.
     pub fn leave(&mut self, channel: &str) -> Result<String, ClientFault>
-        ensures text { IfOk result (λ t. string_bytes t ≡ command_text (record { id = (state_of self.old).client.fresh; request = request.Unsubscribe channel.now })) }
+        ensures text { IfOk result (IsNextCommand self.old (request.Unsubscribe channel.now)) }
         ensures ok { OnOk result (state_of self.new ≡ left channel.now (state_of self.old)) }
         ensures refused { RefusedBy (leave_fault channel.now (state_of self.old)) result }
         ensures err { OnErr result (state_of self.new ≡ state_of self.old) }
@@ -204,7 +207,8 @@ impl Client {
     ///
     /// `NotNow` while not connected; `AtLastId` where no id is left; `Memory`.
     pub fn put(&mut self, channel: &str, body: &str) -> Result<String, ClientFault>
-        ensures text { IfOk result (λ t. string_bytes t ≡ command_text (record { id = (state_of self.old).client.fresh; request = request.Publish channel.now (request.Body body.now) })) }
+        ensures text { IfOk result
+            (IsNextCommand self.old (request.Publish channel.now (request.Body body.now))) }
         ensures ok { OnOk result (state_of self.new ≡ called channel.now (state_of self.old)) }
         ensures refused { RefusedBy (call_fault (state_of self.old)) result }
         ensures err { OnErr result (state_of self.new ≡ state_of self.old) }
@@ -222,7 +226,8 @@ impl Client {
     ///
     /// `NotNow` while not connected; `AtLastId` where no id is left; `Memory`.
     pub fn list(&mut self, channel: &str, limit: i32) -> Result<String, ClientFault>
-        ensures text { IfOk result (λ t. string_bytes t ≡ command_text (record { id = (state_of self.old).client.fresh; request = request.History channel.now limit None false })) }
+        ensures text { IfOk result
+            (IsNextCommand self.old (request.History channel.now limit None false)) }
         ensures ok { OnOk result (state_of self.new ≡ called channel.now (state_of self.old)) }
         ensures refused { RefusedBy (call_fault (state_of self.old)) result }
         ensures err { OnErr result (state_of self.new ≡ state_of self.old) }
@@ -264,7 +269,9 @@ impl Client {
     /// `Bad` where the text is no frame of replies and pushes; `NotNow` while not connected; `Memory`, which leaves the client
     /// as it was too: what takes memory comes before the first change.
     pub fn on_text(&mut self, text: &str) -> Result<Vec<AppEvent>, ClientFault>
-        ensures takes { IfOk result (λ es. (os : List sent.Outgoing) → IsReplies text.now os → TakesAll os (state_of self.old) (state_of self.new) (map shown_item es.items)) }
+        ensures takes { IfOk result
+            (λ es. (os : List sent.Outgoing) → IsReplies text.now os
+            → TakesAll os (state_of self.old) (state_of self.new) (map shown_item es.items)) }
         ensures read { OnOk result ((os : List sent.Outgoing) × IsReplies text.now os) }
         ensures ok { OnOk result ((state_of self.old).connected ≡ true) }
         ensures refused { IfErr result (TextRefused text.now (state_of self.old).connected) }
@@ -280,7 +287,9 @@ impl Client {
     /// The replies and pushes of a text.
     fn read(&self, text: &str) -> Result<Vec<Outgoing>, ClientFault>
         ensures found { IfOk result (λ os. IsReplies text.now (map shown_outgoing os.items)) }
-        ensures only { IfOk result (λ os. (rs : List sent.Outgoing) → IsReplies text.now rs → rs ≡ map shown_outgoing os.items) }
+        ensures only { IfOk result
+            (λ os. (rs : List sent.Outgoing) → IsReplies text.now rs
+            → rs ≡ map shown_outgoing os.items) }
         ensures ok { OnOk result ((state_of self.now).connected ≡ true) }
         ensures refused { IfErr result (TextRefused text.now (state_of self.now).connected) }
     {

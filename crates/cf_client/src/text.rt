@@ -1,13 +1,13 @@
 //! The texts of a client's commands.
-ghost use Rattle.std.specs.Prelude.{◌≡◌, None, false, IfOk, string_bytes};
+ghost use Rattle.std.specs.Prelude.{None, false, IfOk};
 ghost use Rattle.cf_protocol.specs.Request as request;
-ghost use Rattle.cf_protocol.specs.Written.{command_text};
+ghost use Rattle.cf_client.specs.Texts.{IsCommand};
 
 use cf_protocol::{Command, Data, Position, Request, write_command};
 use std::alloc::{AllocError, Global};
 
 pub(crate) fn connect_text(alloc: Global, token: &str) -> Result<String, AllocError>
-    ensures { IfOk result (λ t. string_bytes t ≡ command_text (record { id = 1; request = request.Connect token.now })) }
+    ensures { IfOk result (IsCommand 1 (request.Connect token.now)) }
 {
     let token = String::from_str(alloc, token)?;
     let request = Request::Connect { token };
@@ -20,7 +20,7 @@ pub(crate) fn subscribe_text(
     channel: &str,
     since: Option<Position>,
 ) -> Result<String, AllocError>
-    ensures { IfOk result (λ t. string_bytes t ≡ command_text (record { id = id; request = request.Subscribe channel.now since })) }
+    ensures { IfOk result (IsCommand id (request.Subscribe channel.now since)) }
 {
     let channel = String::from_str(alloc, channel)?;
     let request = Request::Subscribe { channel, since };
@@ -28,7 +28,7 @@ pub(crate) fn subscribe_text(
 }
 
 pub(crate) fn unsubscribe_text(alloc: Global, id: u32, channel: &str) -> Result<String, AllocError>
-    ensures { IfOk result (λ t. string_bytes t ≡ command_text (record { id = id; request = request.Unsubscribe channel.now })) }
+    ensures { IfOk result (IsCommand id (request.Unsubscribe channel.now)) }
 {
     let channel = String::from_str(alloc, channel)?;
     let request = Request::Unsubscribe { channel };
@@ -41,7 +41,7 @@ pub(crate) fn publish_text(
     channel: &str,
     body: &str,
 ) -> Result<String, AllocError>
-    ensures { IfOk result (λ t. string_bytes t ≡ command_text (record { id = id; request = request.Publish channel.now (request.Body body.now) })) }
+    ensures { IfOk result (IsCommand id (request.Publish channel.now (request.Body body.now))) }
 {
     let channel = String::from_str(alloc, channel)?;
     let body = Data::Body(String::from_str(alloc, body)?);
@@ -55,7 +55,7 @@ pub(crate) fn history_text(
     channel: &str,
     limit: i32,
 ) -> Result<String, AllocError>
-    ensures { IfOk result (λ t. string_bytes t ≡ command_text (record { id = id; request = request.History channel.now limit None false })) }
+    ensures { IfOk result (IsCommand id (request.History channel.now limit None false)) }
 {
     let channel = String::from_str(alloc, channel)?;
     let request = Request::History {
