@@ -14,7 +14,8 @@ pub(crate) struct Call {
 
 /// The channel of the call under an id.
 pub(crate) fn channel_called(calls: &Vec<Call>, id: u32) -> Result<Option<String>, AllocError>
-    ensures { IfOk result (λ found. option_map string_bytes found ≡ channel_under id (calls_of calls.now.items)) }
+    ensures { IfOk result
+        (λ found. option_map string_bytes found ≡ channel_under id (calls_of calls.now.items)) }
 {
     for call in calls {
         if call.id == id {

@@ -94,8 +94,12 @@ pub(crate) fn mode_at(channels: &BTreeMap<String, Mode>, channel: &str) -> Mode
 
 /// Changes the mode of a channel that the client asked for. Another stays as it is.
 pub(crate) fn set_mode(channels: &mut BTreeMap<String, Mode>, channel: &str, mode: Mode)
-    ensures sets { IsSome (get_by_text channels.old channel.now) → SetsMode channels.old channels.new channel.now (shown_mode mode) }
-    ensures each { (c : List ℕ) → get_by_text channels.new c ≡ option_map (λ m. if bytes_eq channel.now c then mode else m) (get_by_text channels.old c) }
+    ensures sets { IsSome (get_by_text channels.old channel.now)
+        → SetsMode channels.old channels.new channel.now (shown_mode mode) }
+    ensures each { (c : List ℕ)
+        → get_by_text channels.new c
+        ≡ option_map (λ m. if bytes_eq channel.now c then mode else m)
+        (get_by_text channels.old c) }
 {
     if let Some(place) = channels.get_mut(channel) {
         *place = mode;

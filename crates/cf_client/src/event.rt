@@ -58,7 +58,8 @@ pub(crate) fn subscribed(
     recovered: bool,
     position: &Position,
 ) -> AppEvent
-    ensures { shown_item result ≡ Subscribed (string_bytes channel) was_recovering recovered position.now }
+    ensures { shown_item result
+        ≡ Subscribed (string_bytes channel) was_recovering recovered position.now }
 {
     AppEvent::Subscribed {
         channel,
@@ -87,7 +88,10 @@ pub(crate) fn pass_all(
     publications: Vec<Publication>,
     events: &mut Vec<AppEvent>,
 ) -> Result<(), AllocError>
-    ensures { OnOk result (map shown_item events.new.items ≡ map shown_item events.old.items ++ map (published channel.now position.now.epoch) publications.items) }
+    ensures { OnOk result
+        (map shown_item events.new.items
+        ≡ map shown_item events.old.items
+        ++ map (published channel.now position.now.epoch) publications.items) }
 {
     let alloc = *events.allocator();
     let epoch = position.epoch;

@@ -33,7 +33,8 @@ pub(crate) fn add_first_row(
     requires absent { number_at names.old channel.now ≡ None }
     ensures numbered { AreNumbered names.new }
     ensures used { AreUsed names.new rows.new }
-    ensures ok { OnOk result (named names.new rows.new ≡ with_follow (named names.old rows.old) channel.now session) }
+    ensures ok { OnOk result
+        (named names.new rows.new ≡ with_follow (named names.old rows.old) channel.now session) }
     ensures err { OnErr result (named names.new rows.new ≡ named names.old rows.old) }
 {
     let number = names.add(alloc, channel)?;
@@ -53,7 +54,8 @@ pub(crate) fn remove_row(names: &mut Names, rows: &mut SubTable, channel: u32, s
     ensures numbered { AreNumbered names.new }
     ensures used { AreUsed names.new rows.new }
     ensures rows { rows.new ≡ without_row rows.old channel session }
-    ensures removed { named names.new rows.new ≡ named names.old (without_row rows.old channel session) }
+    ensures removed { named names.new rows.new
+        ≡ named names.old (without_row rows.old channel session) }
     ensures found { result ≡ follows rows.old channel session }
 {
     let found = rows.remove(channel, session);

@@ -23,7 +23,8 @@ use std::collections::BTreeSet;
 #[tactic(auto, unfolding(crate::specs::Reading::key_end))]
 fn key_ends(text: &[u8]) -> Result<(&[u8], &[u8]), Stop>
     ensures ok { IfOk result
-        (λ r. (text_end Within.Plain (drop 1 text.now) ≡ Ok r.0.now) × (key_end true text.now ≡ Ok r.1.now)) }
+        (λ r. (text_end Within.Plain (drop 1 text.now) ≡ Ok r.0.now)
+        × (key_end true text.now ≡ Ok r.1.now)) }
     ensures shorter { IfOk result
         (λ r. (length r.0.now ≤ length text.now) × (length r.1.now ≤ length text.now)) }
     ensures err { IfErr result

@@ -46,9 +46,13 @@ fn apart_end(text: &[u8]) -> Result<&[u8], Stop>
 /// `NotJson` says that the text is no frame, and `TooDeep` that a frame that it is has a value that nests deeper than
 /// [`MAX_DEPTH`](crate::MAX_DEPTH).
 pub fn split_frame(alloc: Global, text: &str) -> Result<Vec<Span>, Fault>
-    ensures found { IfOk result (λ v. (ts : List Tree) × (places : List Place) × (ts ≢ []) × Values ts places text.now
-        × (v.items ≡ map (span_at text.now) places) × AllZip (λ s t. IsAt text.now t s) v.items ts) }
-    ensures only { IfOk result (λ v. (ts : List Tree) → IsFrame text.now ts → AllZip (λ s t. IsAt text.now t s) v.items ts) }
+    ensures found { IfOk result
+        (λ v. (ts : List Tree) × (places : List Place) × (ts ≢ []) × Values ts places text.now
+        × (v.items ≡ map (span_at text.now) places)
+        × AllZip (λ s t. IsAt text.now t s) v.items ts) }
+    ensures only { IfOk result
+        (λ v. (ts : List Tree) → IsFrame text.now ts
+        → AllZip (λ s t. IsAt text.now t s) v.items ts) }
     ensures faults { IfErr result (RefusesFrame text.now) }
 {
     let bytes = text.as_bytes();

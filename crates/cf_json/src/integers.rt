@@ -9,7 +9,8 @@ use crate::span::Span;
 /// The number at the span where it is spelled by digits alone and fits a `u64`.
 pub fn read_whole(text: &str, span: Span) -> Option<u64>
     requires { (n : List ℕ) × IsAt text.now (number n) span }
-    ensures { (n : List ℕ) → IsAt text.now (number n) span → result ≡ option_and_then as_u64 (whole_of n) }
+    ensures { (n : List ℕ) → IsAt text.now (number n) span
+        → result ≡ option_and_then as_u64 (whole_of n) }
 {
     match text[span.from..span.to].parse::<u64>() {
         Ok(whole) => Some(whole),
@@ -20,7 +21,8 @@ pub fn read_whole(text: &str, span: Span) -> Option<u64>
 /// The number at the span where it is spelled by digits alone, or by a minus and digits, and fits an `i64`.
 pub fn read_signed(text: &str, span: Span) -> Option<i64>
     requires { (n : List ℕ) × IsAt text.now (number n) span }
-    ensures { (n : List ℕ) → IsAt text.now (number n) span → result ≡ option_and_then as_i64 (signed_of n) }
+    ensures { (n : List ℕ) → IsAt text.now (number n) span
+        → result ≡ option_and_then as_i64 (signed_of n) }
 {
     match text[span.from..span.to].parse::<i64>() {
         Ok(signed) => Some(signed),

@@ -109,7 +109,8 @@ impl<T> Receiver<T> {
     /// The oldest item that waits. `None` where the link was empty at one moment of the call. It takes no memory.
     pub fn receive(&mut self, rt: &impl Wait) -> Option<T>
         ensures same { IsSameLink self.new self.old }
-        ensures received { MatchOption result (self.new.items ≡ self.old.items) (λ x. self.new.items ≡ self.old.items ++ x ∷ []) }
+        ensures received { MatchOption result (self.new.items ≡ self.old.items)
+            (λ x. self.new.items ≡ self.old.items ++ x ∷ []) }
         ensures empty { IfNone result (WasEmpty self.old.items) }
     {
         self.line.pop_as::<Receives, _>(rt, &mut self.pass)
@@ -119,7 +120,8 @@ impl<T> Receiver<T> {
     /// wake sooner. `None` where the link was empty at one moment of the call. It takes no memory.
     pub fn receive_within<R: Wait + Clock>(&mut self, rt: &R, most: Duration) -> Option<T>
         ensures same { IsSameLink self.new self.old }
-        ensures received { MatchOption result (self.new.items ≡ self.old.items) (λ x. self.new.items ≡ self.old.items ++ x ∷ []) }
+        ensures received { MatchOption result (self.new.items ≡ self.old.items)
+            (λ x. self.new.items ≡ self.old.items ++ x ∷ []) }
         ensures empty { IfNone result (WasEmpty self.old.items) }
     {
         if let Some(item) = self.receive(rt) {

@@ -24,7 +24,15 @@ pub trait Naming {
 impl Naming for Brand {
     ghost use Rattle.std.specs.Prelude.{[]};
 
-    ghost word = { record { words = 0; slots = 0; views_name = 0; atom = 0; block = 0; offset = 0; slot_names = [] } };
+    ghost word = { record {
+      words = 0;
+      slots = 0;
+      views_name = 0;
+      atom = 0;
+      block = 0;
+      offset = 0;
+      slot_names = [];
+    } };
 }
 
 /// The owner of a word of this name, to lie under a lock. Contracts see it as the shard's log.
@@ -62,10 +70,13 @@ impl<N: Naming> NamedOwner<N> {
         requires word { word.now ≡ N.word }
         requires pass { pass.old.word ≡ N.word }
         ensures room { (result ≡ true) ↔ (length self.old < 2 ^ 62) }
-        ensures log { MatchBool result (self.new ≡ self.old ++ entry_of entry.now ∷ []) (self.new ≡ self.old) }
+        ensures log { MatchBool result (self.new ≡ self.old ++ entry_of entry.now ∷ [])
+            (self.new ≡ self.old) }
         ensures seen { IsPrefix pass.old.log self.old }
         ensures pass { MatchBool result
-            (pass.new ≡ record (caught_up pass.old self.new) { share = pass.old.share + publishes (entry_of entry.now) })
+            (pass.new
+            ≡ record (caught_up pass.old self.new)
+            { share = pass.old.share + publishes (entry_of entry.now) })
             (pass.new ≡ caught_up pass.old self.new) }
     {
         if self.owner.count() >= MOST_ENTRIES {
@@ -92,7 +103,9 @@ fn publish_as<'a, N: Naming, R: Wait>(
     ensures same { result.0.word ≡ pass.word }
     ensures begins { IsPrefix pass.log result.0.log }
     ensures full { result.1 ≡ false → 2 ^ 62 ≤ length result.0.log }
-    ensures published { result.1 ≡ true → (result.0.share ≡ pass.share + 1) × Gains pass.log result.0.log (publication channel.now body.now) }
+    ensures published { result.1 ≡ true
+        → (result.0.share ≡ pass.share + 1)
+        × Gains pass.log result.0.log (publication channel.now body.now) }
 {
     let published = owner
         .lock(rt)
@@ -119,7 +132,8 @@ pub fn publish_both<N: Naming + Send + Sync, R: Threads + Wait + Sync>(
     ensures begins { IsPrefix pass.old.log pass.new.log }
     ensures full { result ≡ false → 2 ^ 62 ≤ length pass.new.log }
     ensures share { result ≡ true → pass.new.share ≡ pass.old.share + 2 }
-    ensures both { result ≡ true → Gains pass.old.log pass.new.log (publication channel.now first.now)
+    ensures both { result ≡ true
+        → Gains pass.old.log pass.new.log (publication channel.now first.now)
         × Gains pass.old.log pass.new.log (publication channel.now second.now) }
 {
     let one = word.lend(pass);
@@ -128,11 +142,21 @@ pub fn publish_both<N: Naming + Send + Sync, R: Threads + Wait + Sync>(
         rt,
         || -> (Pass, bool)
             requires { (word.now ≡ N.word) × (one.word ≡ N.word) × (one.share ≡ 0) }
-            ensures { (result.0.word ≡ N.word) × (result.1 ≡ false → 2 ^ 62 ≤ length result.0.log) × (result.1 ≡ true → (result.0.share ≡ 1) × Gains one.log result.0.log (publication channel.entry.now first.entry.now)) }
+            ensures { (result.0.word ≡ N.word)
+                × (result.1 ≡ false → 2 ^ 62 ≤ length result.0.log)
+                × (result.1 ≡ true
+                → (result.0.share ≡ 1)
+                × Gains one.log result.0.log
+                (publication channel.entry.now first.entry.now)) }
         { publish_as(rt, word, owner, one, channel, first) },
         || -> (Pass, bool)
             requires { (word.now ≡ N.word) × (two.word ≡ N.word) × (two.share ≡ 0) }
-            ensures { (result.0.word ≡ N.word) × (result.1 ≡ false → 2 ^ 62 ≤ length result.0.log) × (result.1 ≡ true → (result.0.share ≡ 1) × Gains two.log result.0.log (publication channel.entry.now second.entry.now)) }
+            ensures { (result.0.word ≡ N.word)
+                × (result.1 ≡ false → 2 ^ 62 ≤ length result.0.log)
+                × (result.1 ≡ true
+                → (result.0.share ≡ 1)
+                × Gains two.log result.0.log
+                (publication channel.entry.now second.entry.now)) }
         { publish_as(rt, word, owner, two, channel, second) },
     );
     word.join(pass, one);

@@ -62,7 +62,13 @@ impl Model for Pass {
 
     ghost Value = { PassState };
 
-    ghost view = { λ p. record { word = p.seat.table_id; log = p.seat.me.0.log; found = p.seat.me.0.found; looks = p.seat.me.0.looks; share = p.seat.me.0.share } };
+    ghost view = { λ p. record {
+      word = p.seat.table_id;
+      log = p.seat.me.0.log;
+      found = p.seat.me.0.found;
+      looks = p.seat.me.0.looks;
+      share = p.seat.me.0.share;
+    } };
 
     ghost invariant = { λ p. IsPass p.seat.me p.share };
 }
@@ -111,7 +117,8 @@ impl ShardWord {
     /// as it was then.
     pub fn look(&self, pass: &mut Pass) -> u64
         requires { pass.old.word ≡ self.now }
-        ensures looked { pass.new ≡ record pass.old { found = pass.new.found; looks = pass.old.looks + 1 } }
+        ensures looked { pass.new
+            ≡ record pass.old { found = pass.new.found; looks = pass.old.looks + 1 } }
         ensures count { result ≡ length pass.new.found }
         ensures seen { IsPrefix pass.old.log pass.new.found }
         ensures rises { IsPrefix pass.old.found pass.new.found }
@@ -134,9 +141,11 @@ impl ShardWord {
     pub fn join(&self, pass: &mut Pass, other: Pass)
         requires pass { pass.old.word ≡ self.now }
         requires other { other.word ≡ self.now }
-        ensures joined { pass.new ≡ record (met pass.old other) { share = pass.old.share + other.share } }
+        ensures joined { pass.new
+            ≡ record (met pass.old other) { share = pass.old.share + other.share } }
         ensures seen { IsPrefix pass.old.log pass.new.log × IsPrefix other.log pass.new.log }
-        ensures found { IsPrefix pass.old.found pass.new.found × IsPrefix other.found pass.new.found }
+        ensures found { IsPrefix pass.old.found pass.new.found
+            × IsPrefix other.found pass.new.found }
     {
         let Pass { share, seat } = other;
         self.table.shared.join_seat::<Joins>(&mut pass.seat, seat);
@@ -161,10 +170,13 @@ impl ShardWord {
         requires owner { owner.old.word ≡ self.now }
         requires pass { pass.old.word ≡ self.now }
         requires room { length owner.old.log < 2 ^ 62 }
-        ensures owner { owner.new ≡ record owner.old { log = owner.old.log ++ entry_of entry.now ∷ [] } }
+        ensures owner { owner.new
+            ≡ record owner.old { log = owner.old.log ++ entry_of entry.now ∷ [] } }
         ensures seen { IsPrefix pass.old.log owner.old.log × IsPrefix pass.old.found owner.old.log }
         ensures share { pass.old.share ≤ published owner.old.log }
-        ensures pass { pass.new ≡ record (caught_up pass.old owner.new.log) { share = pass.old.share + publishes (entry_of entry.now) } }
+        ensures pass { pass.new
+            ≡ record (caught_up pass.old owner.new.log)
+            { share = pass.old.share + publishes (entry_of entry.now) } }
     {
         let table = &self.table.shared;
         take_in(table, &mut owner.seat, &mut pass.seat);
@@ -204,10 +216,14 @@ fn load_count(table: &Shared<u8, View, (), Law>, seat: &mut Seat<u8, View>) -> u
 
 // The owner's seat compares its log with what the pass was told of, and has its share for now.
 fn take_in(table: &Shared<u8, View, (), Law>, owner: &mut Seat<u8, View>, pass: &mut Seat<u8, View>)
-    requires table { (owner.old.table_id ≡ table.now.table_id) × (pass.old.table_id ≡ table.now.table_id) × (0 < table.now.table_id.words) }
+    requires table { (owner.old.table_id ≡ table.now.table_id)
+        × (pass.old.table_id ≡ table.now.table_id) × (0 < table.now.table_id.words) }
     requires owns { (owner.old.me.0.owns ≡ true) × (pass.old.me.0.owns ≡ false) }
-    ensures owner { (owner.new.table_id ≡ owner.old.table_id) × (owner.new.me ≡ (compared owner.old.me.0 (given pass.old.me.0 pass.old.me.0.share), owner.old.me.1)) }
-    ensures pass { (pass.new.table_id ≡ pass.old.table_id) × (pass.new.me ≡ (with_share pass.old.me.0 0, pass.old.me.1)) }
+    ensures owner { (owner.new.table_id ≡ owner.old.table_id)
+        × (owner.new.me
+        ≡ (compared owner.old.me.0 (given pass.old.me.0 pass.old.me.0.share), owner.old.me.1)) }
+    ensures pass { (pass.new.table_id ≡ pass.old.table_id)
+        × (pass.new.me ≡ (with_share pass.old.me.0 0, pass.old.me.1)) }
 {
     let new = table.split_seat::<Gives>(pass);
     table.join_seat::<Compares>(owner, new);
@@ -215,11 +231,15 @@ fn take_in(table: &Shared<u8, View, (), Law>, owner: &mut Seat<u8, View>, pass: 
 
 // The same, and a step that tells how they compare.
 fn compare(table: &Shared<u8, View, (), Law>, owner: &mut Seat<u8, View>, pass: &mut Seat<u8, View>)
-    requires table { (owner.old.table_id ≡ table.now.table_id) × (pass.old.table_id ≡ table.now.table_id) × (0 < table.now.table_id.words) }
+    requires table { (owner.old.table_id ≡ table.now.table_id)
+        × (pass.old.table_id ≡ table.now.table_id) × (0 < table.now.table_id.words) }
     requires owner { (owner.old.me.0.owns ≡ true) × (owner.old.me.0.found ≡ owner.old.me.0.log) }
     requires pass { (pass.old.me.0.owns ≡ false) × IsPrefix pass.old.me.0.log pass.old.me.0.found }
-    ensures owner { (owner.new.table_id ≡ owner.old.table_id) × (owner.new.me ≡ (compared owner.old.me.0 (given pass.old.me.0 pass.old.me.0.share), owner.old.me.1)) }
-    ensures pass { (pass.new.table_id ≡ pass.old.table_id) × (pass.new.me ≡ (with_share pass.old.me.0 0, pass.old.me.1)) }
+    ensures owner { (owner.new.table_id ≡ owner.old.table_id)
+        × (owner.new.me
+        ≡ (compared owner.old.me.0 (given pass.old.me.0 pass.old.me.0.share), owner.old.me.1)) }
+    ensures pass { (pass.new.table_id ≡ pass.old.table_id)
+        × (pass.new.me ≡ (with_share pass.old.me.0 0, pass.old.me.1)) }
     ensures behind { IsBehind owner.old.me.0 pass.old.me.0 }
 {
     take_in(table, owner, pass);
@@ -232,10 +252,14 @@ fn give_back(
     owner: &mut Seat<u8, View>,
     pass: &mut Seat<u8, View>,
 )
-    requires table { (owner.old.table_id ≡ table.now.table_id) × (pass.old.table_id ≡ table.now.table_id) × (0 < table.now.table_id.words) }
+    requires table { (owner.old.table_id ≡ table.now.table_id)
+        × (pass.old.table_id ≡ table.now.table_id) × (0 < table.now.table_id.words) }
     requires owns { pass.old.me.0.owns ≡ false }
-    ensures owner { (owner.new.table_id ≡ owner.old.table_id) × (owner.new.me ≡ (with_share owner.old.me.0 0, owner.old.me.1)) }
-    ensures pass { (pass.new.table_id ≡ pass.old.table_id) × (pass.new.me ≡ (joined pass.old.me.0 (given owner.old.me.0 owner.old.me.0.share), pass.old.me.1)) }
+    ensures owner { (owner.new.table_id ≡ owner.old.table_id)
+        × (owner.new.me ≡ (with_share owner.old.me.0 0, owner.old.me.1)) }
+    ensures pass { (pass.new.table_id ≡ pass.old.table_id)
+        × (pass.new.me
+        ≡ (joined pass.old.me.0 (given owner.old.me.0 owner.old.me.0.share), pass.old.me.1)) }
 {
     let new = table.split_seat::<Gives>(owner);
     table.join_seat::<Joins>(pass, new);
@@ -255,7 +279,8 @@ fn add<E: Added>(table: &Shared<u8, View, (), Law>, seat: &mut Seat<u8, View>, _
     requires entry { entry_of _entry.now ≡ E.entry }
     requires table { (seat.old.table_id ≡ table.now.table_id) × (0 < table.now.table_id.words) }
     requires owns { (seat.old.me.0.owns ≡ true) × (length seat.old.me.0.log < 2 ^ 62) }
-    ensures log { (seat.new.table_id ≡ seat.old.table_id) × (seat.new.me ≡ (added seat.old.me.0 E.entry, seat.old.me.1)) }
+    ensures log { (seat.new.table_id ≡ seat.old.table_id)
+        × (seat.new.me ≡ (added seat.old.me.0 E.entry, seat.old.me.1)) }
     ensures told { Knows seat.old.me.0 (length seat.old.me.0.log) }
 {
     table.fetch_add::<Adds<E>>(seat, 0, 1);

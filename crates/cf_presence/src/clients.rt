@@ -100,7 +100,8 @@ impl ChannelClients {
         user: &str,
         now: u64,
     ) -> Result<(), PresenceRefusal>
-        ensures ok { OnOk result (self.new ≡ fin.insert self.old client.now (record { user = user.now; at = now })) }
+        ensures ok { OnOk result
+            (self.new ≡ fin.insert self.old client.now (record { user = user.now; at = now })) }
         ensures err { OnErr result (self.new ≡ self.old) }
         ensures again { IsThere self.old client.now user.now → result ≡ Ok tt }
     {
@@ -180,10 +181,13 @@ impl ChannelClients {
 /// Sets the moment of a client that is there under this user, if it is. It takes no memory.
 #[tactic(auto, using(std::proofs::lemmas::Map::Text::text_keys))]
 fn renew(map: &mut BTreeMap<String, Entry>, client: &str, user: &str, now: u64) -> bool
-    ensures renewed { IsTrue result → SetsAt map.old map.new client.now (Some (record { user = user.now; at = now })) }
-    ensures users { (u : List ℕ) → clients_with u (values_of map.new.entries) ≡ clients_with u (values_of map.old.entries) }
+    ensures renewed { IsTrue result
+        → SetsAt map.old map.new client.now (Some (record { user = user.now; at = now })) }
+    ensures users { (u : List ℕ)
+        → clients_with u (values_of map.new.entries) ≡ clients_with u (values_of map.old.entries) }
     ensures same { IsFalse result → map.new.entries ≡ map.old.entries }
-    ensures there { IsSomeAnd (get_by_text map.old client.now) (λ s. s.user ≡ user.now) → IsTrue result }
+    ensures there { IsSomeAnd (get_by_text map.old client.now) (λ s. s.user ≡ user.now)
+        → IsTrue result }
 {
     let Some(entry) = map.get_mut(client) else {
         return false;

@@ -59,7 +59,8 @@ impl Presence {
     ) -> Result<(), PresenceRefusal>
         ensures ok { OnOk result (self.new ≡ entered self.old channel.now client.now user.now now) }
         ensures err { OnErr result (self.new ≡ self.old) }
-        ensures again { IsThere (clients_of self.old channel.now) client.now user.now → result ≡ Ok tt }
+        ensures again { IsThere (clients_of self.old channel.now) client.now user.now
+            → result ≡ Ok tt }
     {
         enter_in(&mut self.map, self.alloc, channel, client, user, now)
     }
@@ -73,7 +74,8 @@ impl Presence {
 
     /// The user of each client that is there in a channel, by the client's id. `Memory` where a growth was refused.
     pub fn list(&self, channel: &str) -> Result<BTreeMap<String, String>, PresenceRefusal>
-        ensures { IfOk result (λ users. shown_users users ≡ users_of (clients_of self.now channel.now)) }
+        ensures { IfOk result
+            (λ users. shown_users users ≡ users_of (clients_of self.now channel.now)) }
     {
         match self.map.get(channel) {
             None => Ok(BTreeMap::new(self.alloc)),
@@ -114,9 +116,14 @@ fn enter_in(
     user: &str,
     now: u64,
 ) -> Result<(), PresenceRefusal>
-    ensures ok { OnOk result (SetsAt map.old map.new channel.now (Some (fin.insert (unwrap_or (get_by_text map.old channel.now) fin.empty) client.now (record { user = user.now; at = now })))) }
+    ensures ok { OnOk result
+        (SetsAt map.old map.new channel.now
+        (Some
+        (fin.insert (unwrap_or (get_by_text map.old channel.now) fin.empty)
+        client.now (record { user = user.now; at = now })))) }
     ensures err { OnErr result ((q : List ℕ) → get_by_text map.new q ≡ get_by_text map.old q) }
-    ensures again { IsThere (unwrap_or (get_by_text map.old channel.now) fin.empty) client.now user.now → result ≡ Ok tt }
+    ensures again { IsThere (unwrap_or (get_by_text map.old channel.now) fin.empty) client.now
+        user.now → result ≡ Ok tt }
 {
     match map.get_mut(channel) {
         Some(clients) => clients.enter(client, user, now),
@@ -132,7 +139,8 @@ fn enter_in(
 /// A client leaves a channel, which goes with its last client.
 #[tactic(auto, using(std::proofs::lemmas::Map::Text::text_keys))]
 fn leave_in(map: &mut BTreeMap<String, ChannelClients>, channel: &str, client: &str)
-    ensures { SetsAt map.old map.new channel.now (if_any (fin.remove (unwrap_or (get_by_text map.old channel.now) fin.empty) client.now)) }
+    ensures { SetsAt map.old map.new channel.now
+        (if_any (fin.remove (unwrap_or (get_by_text map.old channel.now) fin.empty) client.now)) }
 {
     if let Some(clients) = map.get_mut(channel) {
         clients.leave(client);

@@ -18,7 +18,9 @@ pub(crate) fn add_user(
     alloc: Global,
     user: &str,
 ) -> Result<(), PresenceRefusal>
-    ensures ok { OnOk result (SetsAt users.old users.new user.now (Some (unwrap_or (get_by_text users.old user.now) 0 + 1))) }
+    ensures ok { OnOk result
+        (SetsAt users.old users.new user.now
+        (Some (unwrap_or (get_by_text users.old user.now) 0 + 1))) }
     ensures err { OnErr result ((q : List ℕ) → get_by_text users.new q ≡ get_by_text users.old q) }
 {
     match users.get_mut(user) {
@@ -39,7 +41,8 @@ pub(crate) fn add_user(
 /// One client less of a user, who is left out with the last one. It takes no memory.
 #[tactic(auto, using(std::proofs::lemmas::Map::Text::text_keys))]
 pub(crate) fn drop_user(users: &mut BTreeMap<String, u64>, user: &str)
-    ensures { SetsAt users.old users.new user.now (counted (unwrap_or (get_by_text users.old user.now) 0 - 1)) }
+    ensures { SetsAt users.old users.new user.now
+        (counted (unwrap_or (get_by_text users.old user.now) 0 - 1)) }
 {
     if let Some(count) = users.get_mut(user) {
         if *count > 1 {
@@ -57,7 +60,8 @@ pub(crate) fn drop_gone(
     now: u64,
 )
     requires { CountsUsers users.old clients.now }
-    ensures { Tallies users.new (λ u. clients_with u (filter (stays now) (values_of clients.now.entries))) }
+    ensures { Tallies users.new
+        (λ u. clients_with u (filter (stays now) (values_of clients.now.entries))) }
 {
     let mut rest = clients.values();
     while let Some(entry) = rest.next() {

@@ -19,14 +19,22 @@ pub fn text_lengths()
 /// How many bytes the push of a publication has that no client published.
 pub fn push_length()
     ensures { (channel body : List ℕ) (offset : ℕ) → 0 < length channel → 0 < offset
-        → length (outgoing_text (Push channel (Publication (record { offset = offset; datum = record { body = body; info = None } }))))
+        → length
+        (outgoing_text
+        (Push channel
+        (Publication
+        (record {
+          offset = offset;
+          datum = record { body = body; info = None };
+        }))))
         ≡ 47 + length (quoted channel) + length (decimal offset) + length body }
 {}
 
 /// The text of a regular command is read as that command alone.
 pub fn commands_read_back()
     ensures read { (k : Command) → IsRegularCommand k → IsCommands (command_text k) (k ∷ []) }
-    ensures alone { (k : Command) (ks : List Command) → IsRegularCommand k → IsCommands (command_text k) ks → ks ≡ k ∷ [] }
+    ensures alone { (k : Command) (ks : List Command) → IsRegularCommand k
+        → IsCommands (command_text k) ks → ks ≡ k ∷ [] }
 {
     one_value();
     compact_reads_back();
@@ -36,7 +44,8 @@ pub fn commands_read_back()
 /// The text of a regular reply or push is read as that one alone.
 pub fn replies_read_back()
     ensures read { (o : Outgoing) → IsRegular o → IsReplies (outgoing_text o) (o ∷ []) }
-    ensures alone { (o : Outgoing) (os : List Outgoing) → IsRegular o → IsReplies (outgoing_text o) os → os ≡ o ∷ [] }
+    ensures alone { (o : Outgoing) (os : List Outgoing) → IsRegular o
+        → IsReplies (outgoing_text o) os → os ≡ o ∷ [] }
 {
     one_value();
     compact_reads_back();

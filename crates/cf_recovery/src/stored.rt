@@ -10,14 +10,17 @@ use cf_protocol::{Epoch, Position, Publication};
 
 /// Whether a publication of this epoch is the one `ahead` offsets above a position.
 fn is_ahead(epoch: &Epoch, publication: &Publication, at: &Position, ahead: u64) -> bool
-    ensures { result ≡ (bytes_eq epoch.now at.now.epoch && (publication.now.offset == at.now.offset + ahead)) }
+    ensures { result
+        ≡ (bytes_eq epoch.now at.now.epoch && (publication.now.offset == at.now.offset + ahead)) }
 {
     publication.offset.checked_sub(at.offset) == Some(ahead) && *epoch == at.epoch
 }
 
 /// Whether a publication of this epoch is at most `ahead` offsets above a position, or not above it, in its epoch.
 fn is_within(epoch: &Epoch, publication: &Publication, at: &Position, ahead: u64) -> bool
-    ensures { result ≡ (bytes_eq epoch.now at.now.epoch && nat_le publication.now.offset (at.now.offset + ahead)) }
+    ensures { result
+        ≡ (bytes_eq epoch.now at.now.epoch
+        && nat_le publication.now.offset (at.now.offset + ahead)) }
 {
     *epoch == at.epoch && publication.offset.saturating_sub(at.offset) <= ahead
 }
@@ -31,8 +34,14 @@ pub(crate) fn find(
     ahead: u64,
 ) -> Option<usize>
     requires { length epochs.now ≡ length publications.now }
-    ensures found { IfSome result (λ i. (from ≤ i) × (i < length publications.now) × (is_at (stored epochs.now publications.now) at.now.epoch (at.now.offset + ahead) i ≡ true)) }
-    ensures none { IfNone result ((i : ℕ) → from ≤ i → is_at (stored epochs.now publications.now) at.now.epoch (at.now.offset + ahead) i ≡ false) }
+    ensures found { IfSome result
+        (λ i. (from ≤ i) × (i < length publications.now)
+        × (is_at (stored epochs.now publications.now) at.now.epoch (at.now.offset + ahead) i
+        ≡ true)) }
+    ensures none { IfNone result
+        ((i : ℕ) → from ≤ i
+        → is_at (stored epochs.now publications.now) at.now.epoch (at.now.offset + ahead) i
+        ≡ false) }
 {
     for i in from..publications.len() {
         if is_ahead(&epochs[i], &publications[i], at, ahead) {
@@ -50,7 +59,9 @@ pub(crate) fn are_within(
     ahead: u64,
 ) -> bool
     requires { length epochs.now ≡ length publications.now }
-    ensures { result ≡ all_within (places (stored epochs.now publications.now)) at.now.epoch (at.now.offset + ahead) }
+    ensures { result
+        ≡ all_within (places (stored epochs.now publications.now)) at.now.epoch
+        (at.now.offset + ahead) }
 {
     for i in 0..publications.len() {
         if !is_within(&epochs[i], &publications[i], at, ahead) {
@@ -68,10 +79,15 @@ pub(crate) fn gather(
 ) -> usize
     requires { length epochs.old.items ≡ length publications.old.items }
     ensures beside { length epochs.new.items ≡ length publications.new.items }
-    ensures moved { IsPermutation (stored epochs.old.items publications.old.items) (stored epochs.new.items publications.new.items) }
+    ensures moved { IsPermutation (stored epochs.old.items publications.old.items)
+        (stored epochs.new.items publications.new.items) }
     ensures counted { result ≤ length publications.new.items }
-    ensures front { (k : ℕ) → k < result → is_at (stored epochs.new.items publications.new.items) at.now.epoch (at.now.offset + 1 + k) k ≡ true }
-    ensures gap { (i : ℕ) → is_at (stored epochs.new.items publications.new.items) at.now.epoch (at.now.offset + 1 + result) i ≡ false }
+    ensures front { (k : ℕ) → k < result
+        → is_at (stored epochs.new.items publications.new.items) at.now.epoch
+        (at.now.offset + 1 + k) k ≡ true }
+    ensures gap { (i : ℕ)
+        → is_at (stored epochs.new.items publications.new.items) at.now.epoch
+        (at.now.offset + 1 + result) i ≡ false }
 {
     let mut count = 0;
     while let Some(i) = find(epochs, publications, count, at, count as u64 + 1) {

@@ -35,7 +35,8 @@ impl Model for Waiting {
 
     ghost view = { λ w. kept_of w.epochs.items w.publications.items w.overflow w.short };
 
-    ghost invariant = { λ w. IsStored w.epochs.items w.publications.items w.highest w.overflow w.short };
+    ghost invariant = { λ w. IsStored w.epochs.items w.publications.items w.highest w.overflow
+        w.short };
 }
 
 /// What follows a reply to a subscribe.
@@ -76,10 +77,14 @@ impl Waiting {
     /// At the 1,001st place, and where memory is refused, all that is kept is given up, and so is whatever comes later. `short` tells
     /// the second from the first.
     pub fn keep(&mut self, epoch: &Epoch, publication: &Publication)
-        ensures kept { self.new.short ≡ self.old.short → self.new ≡ with_arrival (arrival epoch.now publication.now) self.old }
-        ensures refused { self.old.short ≡ false → self.new.short ≡ true → TakesRoom (arrival epoch.now publication.now) self.old × (self.new ≡ given_up true) }
+        ensures kept { self.new.short ≡ self.old.short
+            → self.new ≡ with_arrival (arrival epoch.now publication.now) self.old }
+        ensures refused { self.old.short ≡ false → self.new.short ≡ true
+            → TakesRoom (arrival epoch.now publication.now) self.old × (self.new ≡ given_up true) }
         ensures sticky { self.old.short ≡ true → self.new ≡ self.old }
-        ensures stands { (arrived : List Position) → StandsFor self.old arrived → StandsFor self.new (arrives (record { epoch = epoch.now; offset = publication.now.offset }) arrived) }
+        ensures stands { (arrived : List Position) → StandsFor self.old arrived
+            → StandsFor self.new
+            (arrives (record { epoch = epoch.now; offset = publication.now.offset }) arrived) }
         ensures within { IsWithin self.new }
     {
         if self.overflow || self.has(epoch, publication.offset) {
@@ -103,8 +108,11 @@ impl Waiting {
         ensures buffered { length result.run.items ≤ length self.arrived }
         ensures given_up { self.overflow ≡ true → result.run.items ≡ [] }
         ensures within { IsWithin self }
-        ensures insufficient { result.insufficient ≡ (self.overflow || falls_short (places self.arrived) (ended_at at.now)) }
-        ensures stands { (arrived : List Position) → StandsFor self arrived → self.short ≡ false → (length result.run.items ≡ run_length arrived (ended_at at.now)) × (result.insufficient ≡ falls_short arrived (ended_at at.now)) }
+        ensures insufficient { result.insufficient
+            ≡ (self.overflow || falls_short (places self.arrived) (ended_at at.now)) }
+        ensures stands { (arrived : List Position) → StandsFor self arrived → self.short ≡ false
+            → (length result.run.items ≡ run_length arrived (ended_at at.now))
+            × (result.insufficient ≡ falls_short arrived (ended_at at.now)) }
     {
         let Waiting {
             mut epochs,
@@ -145,7 +153,10 @@ impl Waiting {
     /// Keeps a copy. Where memory is refused nothing changes.
     fn store(&mut self, epoch: &Epoch, publication: &Publication) -> Result<(), AllocError>
         requires { TakesRoom (arrival epoch.now publication.now) self.old }
-        ensures ok { OnOk result (self.new ≡ record self.old { arrived = arrival epoch.now publication.now ∷ self.old.arrived }) }
+        ensures ok { OnOk result
+            (self.new
+            ≡ record self.old
+            { arrived = arrival epoch.now publication.now ∷ self.old.arrived }) }
         ensures err { OnErr result (self.new ≡ self.old) }
     {
         let copy = publication.copied()?;

@@ -139,7 +139,8 @@ impl Event {
     /// that begins with `#`. A line that is neither is Unreadable.
     pub fn read(alloc: Global, line: &str, nodes: u8) -> Result<Option<Event>, EventFault>
         // What is read is what the line says, and nothing only of a line that is passed over.
-        ensures found { IfOk result (λ o. MatchOption o (IsPassedOver line.now) (λ e. Says nodes line.now (seen e))) }
+        ensures found { IfOk result
+            (λ o. MatchOption o (IsPassedOver line.now) (λ e. Says nodes line.now (seen e))) }
         // A line that is passed over is.
         ensures passed_over { IsPassedOver line.now → result ≡ Ok None }
         // A line that says an event is read as it, unless memory runs out.
@@ -160,8 +161,10 @@ impl Event {
 
 /// A line says one event alone, and one that is passed over says none.
 pub fn one_event()
-    ensures one { (nodes : ℕ) (line : List ℕ) (e f : SaidEvent) → nodes ≤ last_number → Says nodes line e → Says nodes line f → e ≡ f }
-    ensures none { (nodes : ℕ) (line : List ℕ) (e : SaidEvent) → Says nodes line e → IsPassedOver line → ⊥ }
+    ensures one { (nodes : ℕ) (line : List ℕ) (e f : SaidEvent) → nodes ≤ last_number
+        → Says nodes line e → Says nodes line f → e ≡ f }
+    ensures none { (nodes : ℕ) (line : List ℕ) (e : SaidEvent) → Says nodes line e
+        → IsPassedOver line → ⊥ }
 {
     one_value();
 }
@@ -203,7 +206,8 @@ fn cut(text: &str) -> Option<(&str, &str)>
 
 // A node's number, below the number of nodes.
 fn node(text: &str, nodes: u8) -> Option<u8>
-    ensures { MatchOption result ((n : ℕ) → n < nodes → text.now ≢ decimal n) (λ n. (n < nodes) × (text.now ≡ decimal n)) }
+    ensures { MatchOption result ((n : ℕ) → n < nodes → text.now ≢ decimal n)
+        (λ n. (n < nodes) × (text.now ≡ decimal n)) }
 {
     let number = whole_number(text)?;
     if number < u64::from(nodes) {
@@ -215,7 +219,8 @@ fn node(text: &str, nodes: u8) -> Option<u8>
 
 // How many publications a trim may leave.
 fn count_left(text: &str) -> Option<usize>
-    ensures { MatchOption result ((k : ℕ) → k ≤ most_left → text.now ≢ decimal k) (λ k. (k ≤ most_left) × (text.now ≡ decimal k)) }
+    ensures { MatchOption result ((k : ℕ) → k ≤ most_left → text.now ≢ decimal k)
+        (λ k. (k ≤ most_left) × (text.now ≡ decimal k)) }
 {
     let number = whole_number(text)?;
     if number <= MOST_LEFT {
@@ -237,7 +242,8 @@ fn limit_of(text: &str) -> Option<i32>
 
 // A limit without a sign.
 fn most_of(digits: &str) -> Option<i32>
-    ensures { MatchOption result ((n : ℕ) → n < 2 ^ 31 → digits.now ≢ decimal n) (λ limit. (n : ℕ) × (n < 2 ^ 31) × (limit ≡ pos n) × (digits.now ≡ decimal n)) }
+    ensures { MatchOption result ((n : ℕ) → n < 2 ^ 31 → digits.now ≢ decimal n)
+        (λ limit. (n : ℕ) × (n < 2 ^ 31) × (limit ≡ pos n) × (digits.now ≡ decimal n)) }
 {
     let number = whole_number(digits)?;
     if number < END_OF_LIMITS {
@@ -249,7 +255,8 @@ fn most_of(digits: &str) -> Option<i32>
 
 // The limit that has these digits behind a minus sign.
 fn least_of(digits: &str) -> Option<i32>
-    ensures { MatchOption result ((n : ℕ) → n ≤ 2 ^ 31 → digits.now ≢ decimal n) (λ limit. (n : ℕ) × (n ≤ 2 ^ 31) × (limit ≡ neg_ℤ (pos n)) × (digits.now ≡ decimal n)) }
+    ensures { MatchOption result ((n : ℕ) → n ≤ 2 ^ 31 → digits.now ≢ decimal n)
+        (λ limit. (n : ℕ) × (n ≤ 2 ^ 31) × (limit ≡ neg_ℤ (pos n)) × (digits.now ≡ decimal n)) }
 {
     let number = whole_number(digits)?;
     if number <= END_OF_LIMITS {
@@ -270,8 +277,11 @@ fn one_word(line: &str) -> Result<Event, EventFault>
 }
 
 fn client_and_channel(alloc: Global, text: &str) -> Result<(ClientName, ChannelName), EventFault>
-    ensures ok { IfOk result (λ p. IsClientName p.0 × IsChannelName p.1 × (text.now ≡ spaced (p.0 ∷ p.1 ∷ []))) }
-    ensures err { IfErr result (λ e. Refused e ((x c : List ℕ) → IsClientName x → IsChannelName c → text.now ≢ spaced (x ∷ c ∷ []))) }
+    ensures ok { IfOk result
+        (λ p. IsClientName p.0 × IsChannelName p.1 × (text.now ≡ spaced (p.0 ∷ p.1 ∷ []))) }
+    ensures err { IfErr result
+        (λ e. Refused e
+        ((x c : List ℕ) → IsClientName x → IsChannelName c → text.now ≢ spaced (x ∷ c ∷ []))) }
 {
     let Some((client, channel)) = cut(text) else {
         return Err(EventFault::Unreadable);
@@ -333,8 +343,12 @@ fn finish(alloc: Global, text: &str) -> Result<Event, EventFault>
 }
 
 fn channel_and_data(alloc: Global, text: &str) -> Result<(ChannelName, Body), EventFault>
-    ensures ok { IfOk result (λ p. IsChannelName p.0 × IsLastWord (λ s. IsData s p.1) p.0 text.now) }
-    ensures err { IfErr result (λ e. Refused e ((c s body : List ℕ) → IsChannelName c → IsData s body → text.now ≢ spaced (c ∷ s ∷ []))) }
+    ensures ok { IfOk result
+        (λ p. IsChannelName p.0 × IsLastWord (λ s. IsData s p.1) p.0 text.now) }
+    ensures err { IfErr result
+        (λ e. Refused e
+        ((c s body : List ℕ) → IsChannelName c → IsData s body
+        → text.now ≢ spaced (c ∷ s ∷ []))) }
 {
     let Some((channel, data)) = cut(text) else {
         return Err(EventFault::Unreadable);
@@ -439,8 +453,12 @@ fn check(alloc: Global, text: &str) -> Result<Event, EventFault>
 }
 
 fn channel_and_limit(alloc: Global, text: &str) -> Result<(ChannelName, i32), EventFault>
-    ensures ok { IfOk result (λ p. IsChannelName p.0 × IsLastWord (λ s. IsLimit s p.1) p.0 text.now) }
-    ensures err { IfErr result (λ e. Refused e ((c s : List ℕ) (limit : ℤ) → IsChannelName c → IsLimit s limit → text.now ≢ spaced (c ∷ s ∷ []))) }
+    ensures ok { IfOk result
+        (λ p. IsChannelName p.0 × IsLastWord (λ s. IsLimit s p.1) p.0 text.now) }
+    ensures err { IfErr result
+        (λ e. Refused e
+        ((c s : List ℕ) (limit : ℤ) → IsChannelName c → IsLimit s limit
+        → text.now ≢ spaced (c ∷ s ∷ []))) }
 {
     let Some((channel, limit)) = cut(text) else {
         return Err(EventFault::Unreadable);

@@ -27,8 +27,10 @@ pub enum Stopped {
 
 /// What the applications get in a run of a schedule.
 pub fn run(alloc: Global, config: &Config, events: &[Event]) -> Result<Trace, Stopped>
-    ensures whole { IfOk result (λ t. shown_trace t ≡ trace (shown_config config.now) 1 start (map seen events.now)) }
-    ensures safe { IfOk result (λ t. Safe (shown_config config.now) (lines (map seen events.now)) (shown_trace t)) }
+    ensures whole { IfOk result
+        (λ t. shown_trace t ≡ trace (shown_config config.now) 1 start (map seen events.now)) }
+    ensures safe { IfOk result
+        (λ t. Safe (shown_config config.now) (lines (map seen events.now)) (shown_trace t)) }
     ensures stopped { IfErr result (Stops (shown_config config.now) (map seen events.now)) }
 {
     safe_always();

@@ -47,7 +47,8 @@ fn unsubscribe_refusal(channel: &str) -> Option<ErrorCode>
 }
 
 fn publish_refusal(namespaces: &Namespaces, channel: &str, body: &Data) -> Option<ErrorCode>
-    ensures { result ≡ first_failed (checks namespaces.now (request.Publish channel.now (shown_data body.now))) }
+    ensures { result
+        ≡ first_failed (checks namespaces.now (request.Publish channel.now (shown_data body.now))) }
 {
     if is_bad_channel(channel) {
         return Some(ErrorCode::BadRequest);
@@ -80,7 +81,8 @@ fn presence_refusal(namespaces: &Namespaces, channel: &str) -> Option<ErrorCode>
 }
 
 fn history_refusal(namespaces: &Namespaces, channel: &str, reverse: bool) -> Option<ErrorCode>
-    ensures { result ≡ first_failed (checks namespaces.now (request.History channel.now (pos 0) None reverse)) }
+    ensures { result
+        ≡ first_failed (checks namespaces.now (request.History channel.now (pos 0) None reverse)) }
 {
     if is_bad_channel(channel) {
         return Some(ErrorCode::BadRequest);

@@ -44,7 +44,8 @@ impl<'a> Session<'a> {
     /// A session that waits for its client's connect.
     pub fn new(alloc: Global, namespaces: &'a Namespaces, tokens: &'a Tokens) -> Session<'a>
         ensures progress { progress_of result ≡ Todo (script.Served None) }
-        ensures tables { tables_of result ≡ record { namespaces = namespaces.now; tokens = tokens.now } }
+        ensures tables { tables_of result
+            ≡ record { namespaces = namespaces.now; tokens = tokens.now } }
         ensures idle { is_idle result ≡ true }
         ensures short { is_short result ≡ false }
     {
@@ -152,7 +153,8 @@ impl<'a> Session<'a> {
         ensures acts { ActsNext self.old result self.new }
         ensures keeps { Keeps self.old self.new }
         ensures work { IsSome result → work_of self.new < work_of self.old }
-        ensures idle { result ≡ None → awaits (progress_of self.new) ≡ None → is_idle self.new ≡ true }
+        ensures idle { result ≡ None → awaits (progress_of self.new) ≡ None
+            → is_idle self.new ≡ true }
     {
         let was_short = self.is_short;
         self.fell_short = false;
@@ -165,7 +167,8 @@ impl<'a> Session<'a> {
         ensures acts { ActsNext self.old result self.new }
         ensures tables { tables_of self.new ≡ tables_of self.old }
         ensures work { IsSome result → work_of self.new < work_of self.old }
-        ensures idle { result ≡ None → awaits (progress_of self.new) ≡ None → is_idle self.new ≡ true }
+        ensures idle { result ≡ None → awaits (progress_of self.new) ≡ None
+            → is_idle self.new ≡ true }
     {
         match mem::replace(&mut self.stage, Stage::Ready) {
             Stage::Ready => self.next_command(),
@@ -264,7 +267,9 @@ impl<'a> Session<'a> {
     /// The connect's attach was answered: its client is known from now on.
     fn attached(&mut self, id: u32, user: String, answer: Answer)
         requires { self.old.stage ≡ Stage.Ready }
-        ensures goes { GoesOn (shown_answer answer) (Out kind.Attach (after_attach id (string_bytes user) (rest_with self.old))) (progress_of self.new) self.new.fell_short }
+        ensures goes { GoesOn (shown_answer answer)
+            (Out kind.Attach (after_attach id (string_bytes user) (rest_with self.old)))
+            (progress_of self.new) self.new.fell_short }
         ensures tables { tables_of self.new ≡ tables_of self.old }
         ensures work { work_of self.new ≤ work_of self.old + 1 }
     {
@@ -308,7 +313,8 @@ impl<'a> Session<'a> {
     /// Begins a command. None: there is nothing to do for it.
     fn start(&mut self, command: Command) -> Option<Action>
         requires { self.old.stage ≡ Stage.Ready }
-        ensures acts { Begins self.old (script_from self.old (shown_command command)) result self.new }
+        ensures acts { Begins self.old (script_from self.old (shown_command command)) result
+            self.new }
         ensures tables { tables_of self.new ≡ tables_of self.old }
         ensures frame { self.new.frame ≡ self.old.frame }
         ensures work { work_at self.new.stage < 7 }
@@ -330,7 +336,8 @@ impl<'a> Session<'a> {
     /// The first command, which is to be the connect.
     fn open(&mut self, id: u32, request: Request) -> Action
         requires { self.old.stage ≡ Stage.Ready }
-        ensures acts { ActsOn self.old (opening_script self.old id (shown_request request)) (Some result) self.new }
+        ensures acts { ActsOn self.old (opening_script self.old id (shown_request request))
+            (Some result) self.new }
         ensures tables { tables_of self.new ≡ tables_of self.old }
         ensures frame { self.new.frame ≡ self.old.frame }
         ensures work { work_at self.new.stage < 7 }
@@ -351,7 +358,9 @@ impl<'a> Session<'a> {
 
     fn attach(&mut self, id: u32, user: &str) -> Result<Action, AllocError>
         ensures act { IfOk result (λ a. shown_action a ≡ Calls (call.Attach user.now)) }
-        ensures goes { OnOk result (progress_of self.new ≡ Out kind.Attach (after_attach id user.now (rest_with self.old))) }
+        ensures goes { OnOk result
+            (progress_of self.new
+            ≡ Out kind.Attach (after_attach id user.now (rest_with self.old))) }
         ensures work { OnOk result (work_at self.new.stage ≡ 2) }
         ensures tables { tables_of self.new ≡ tables_of self.old }
         ensures frame { self.new.frame ≡ self.old.frame }
@@ -365,8 +374,10 @@ impl<'a> Session<'a> {
     /// A command of a connected client that passed its checks.
     fn grant(&mut self, id: u32, request: Request) -> Result<Option<Action>, AllocError>
         requires { self.old.stage ≡ Stage.Ready }
-        ensures acts { (who : Who) → self.old.client ≡ Some who → IfOk result (λ r.
-            Begins self.old (granted who id (shown_request request) (rest_of self.old)) r self.new) }
+        ensures acts { (who : Who) → self.old.client ≡ Some who
+            → IfOk result
+            (λ r. Begins self.old
+            (granted who id (shown_request request) (rest_of self.old)) r self.new) }
         ensures err { OnErr result (self.new.stage ≡ Stage.Ready) }
         ensures client { OnErr result (self.new.client ≡ self.old.client) }
         ensures tables { tables_of self.new ≡ tables_of self.old }
@@ -439,9 +450,13 @@ impl<'a> Session<'a> {
         channel: String,
         since: &Option<Position>,
     ) -> Result<Action, AllocError>
-        ensures act { IfOk result (λ a. shown_action a ≡ Calls (call.Begin (string_bytes channel) id since.now)) }
-        ensures goes { OnOk result (progress_of self.new ≡ Out kind.Begin
-            (after_begin id (string_bytes channel) (string_bytes channel) since.now (rest_of self.old))) }
+        ensures act { IfOk result
+            (λ a. shown_action a ≡ Calls (call.Begin (string_bytes channel) id since.now)) }
+        ensures goes { OnOk result
+            (progress_of self.new
+            ≡ Out kind.Begin
+            (after_begin id (string_bytes channel) (string_bytes channel) since.now
+            (rest_of self.old))) }
         ensures err { OnErr result (self.new.stage ≡ self.old.stage) }
         ensures client { self.new.client ≡ self.old.client }
         ensures tables { tables_of self.new ≡ tables_of self.old }
@@ -466,7 +481,8 @@ impl<'a> Session<'a> {
     /// The reply to a command.
     fn say(&mut self, id: u32, outcome: Outcome) -> Action
         requires { self.old.stage ≡ Stage.Ready }
-        ensures acts { ActsOn self.old (script.Say id (shown_outcome outcome) (rest_of self.old)) (Some result) self.new }
+        ensures acts { ActsOn self.old
+            (script.Say id (shown_outcome outcome) (rest_of self.old)) (Some result) self.new }
         ensures tables { tables_of self.new ≡ tables_of self.old }
         ensures frame { self.new.frame ≡ self.old.frame }
         ensures work { work_at self.new.stage ≡ 0 }
@@ -480,7 +496,8 @@ impl<'a> Session<'a> {
     /// Memory was refused: the command is answered as one that failed within, or the session is closed.
     fn fall_short(&mut self, id: u32) -> Action
         requires { self.old.stage ≡ Stage.Ready }
-        ensures falls { Falls id (rest_of self.old) (Some (shown_action result)) (progress_of self.new) }
+        ensures falls { Falls id (rest_of self.old) (Some (shown_action result))
+            (progress_of self.new) }
         ensures tables { tables_of self.new ≡ tables_of self.old }
         ensures frame { self.new.frame ≡ self.old.frame }
         ensures short { self.new.fell_short ≡ true }

@@ -30,8 +30,14 @@ pub fn simulate<R: Read, W: Write>(
     config: &Config,
     explains: bool,
 ) -> Result<(), SimulateFault>
-    ensures done { OnOk result (IfSome (R.remaining reader.old) (λ input. Prints explains (shown_config config.now) input (W.contents writer.old) (W.contents writer.new))) }
-    ensures ends { IfErr result (λ f. IfSome (R.remaining reader.old) (λ input. Ends explains (shown_config config.now) input (W.contents writer.old) (W.contents writer.new) f)) }
+    ensures done { OnOk result
+        (IfSome (R.remaining reader.old)
+        (λ input. Prints explains (shown_config config.now) input (W.contents writer.old)
+        (W.contents writer.new))) }
+    ensures ends { IfErr result
+        (λ f. IfSome (R.remaining reader.old)
+        (λ input. Ends explains (shown_config config.now) input (W.contents writer.old)
+        (W.contents writer.new) f)) }
 {
     let mut input = Vec::new(alloc);
     reader.read_to_end(&mut input)?;
@@ -46,8 +52,12 @@ fn simulate_bytes<W: Write>(
     config: &Config,
     explains: bool,
 ) -> Result<(), SimulateFault>
-    ensures done { OnOk result (Prints explains (shown_config config.now) input.now (W.contents writer.old) (W.contents writer.new)) }
-    ensures ends { IfErr result (Ends explains (shown_config config.now) input.now (W.contents writer.old) (W.contents writer.new)) }
+    ensures done { OnOk result
+        (Prints explains (shown_config config.now) input.now (W.contents writer.old)
+        (W.contents writer.new)) }
+    ensures ends { IfErr result
+        (Ends explains (shown_config config.now) input.now (W.contents writer.old)
+        (W.contents writer.new)) }
 {
     let Ok(text) = str::from_utf8(input) else {
         return Err(SimulateFault::NotUtf8);
@@ -64,8 +74,12 @@ fn write_run<W: Write>(
     schedule: &Schedule<'_>,
     explains: bool,
 ) -> Result<(), SimulateFault>
-    ensures done { OnOk result (WritesAll explains (shown_config config.now) (map seen schedule.now.events.items) (W.contents writer.old) (W.contents writer.new)) }
-    ensures ends { IfErr result (EndsRun explains (shown_config config.now) (map seen schedule.now.events.items) (W.contents writer.old) (W.contents writer.new)) }
+    ensures done { OnOk result
+        (WritesAll explains (shown_config config.now) (map seen schedule.now.events.items)
+        (W.contents writer.old) (W.contents writer.new)) }
+    ensures ends { IfErr result
+        (EndsRun explains (shown_config config.now) (map seen schedule.now.events.items)
+        (W.contents writer.old) (W.contents writer.new)) }
 {
     let run = write_events(alloc, writer, config, schedule, explains);
     match writer.flush() {
@@ -82,8 +96,12 @@ fn write_events<W: Write>(
     schedule: &Schedule<'_>,
     explains: bool,
 ) -> Result<(), SimulateFault>
-    ensures done { OnOk result (WritesAll explains (shown_config config.now) (map seen schedule.now.events.items) (W.contents writer.old) (W.contents writer.new)) }
-    ensures ends { IfErr result (EndsRun explains (shown_config config.now) (map seen schedule.now.events.items) (W.contents writer.old) (W.contents writer.new)) }
+    ensures done { OnOk result
+        (WritesAll explains (shown_config config.now) (map seen schedule.now.events.items)
+        (W.contents writer.old) (W.contents writer.new)) }
+    ensures ends { IfErr result
+        (EndsRun explains (shown_config config.now) (map seen schedule.now.events.items)
+        (W.contents writer.old) (W.contents writer.new)) }
 {
     one_event_more();
     let events = schedule.events.as_slice();
@@ -116,7 +134,8 @@ fn event_text(
     line: Line<'_>,
 ) -> Result<String, Short>
     ensures ok { OnOk result (GoesOn (seen event.now) world.old.parts world.new.parts) }
-    ensures shows { IfOk result (λ text. ShowsEvent explains at (seen event.now) world.old.parts (string_bytes text)) }
+    ensures shows { IfOk result
+        (λ text. ShowsEvent explains at (seen event.now) world.old.parts (string_bytes text)) }
 {
     if explains {
         explained_text(alloc, world, explainer, at, event, line)
@@ -135,7 +154,8 @@ fn explained_text(
     line: Line<'_>,
 ) -> Result<String, Short>
     ensures ok { OnOk result (GoesOn (seen event.now) world.old.parts world.new.parts) }
-    ensures shows { IfOk result (λ text. ShowsEvent true at (seen event.now) world.old.parts (string_bytes text)) }
+    ensures shows { IfOk result
+        (λ text. ShowsEvent true at (seen event.now) world.old.parts (string_bytes text)) }
 {
     explainer.before(world, event)?;
     let lines = event_lines(alloc, world, at, event)?;
@@ -148,7 +168,8 @@ fn explained_text(
 // Carries out an event, and gives the lines of what applications got by it.
 fn event_lines(alloc: Global, world: &mut World, at: usize, event: &Event) -> Result<String, Short>
     ensures ok { OnOk result (GoesOn (seen event.now) world.old.parts world.new.parts) }
-    ensures shows { IfOk result (λ text. ShowsEvent false at (seen event.now) world.old.parts (string_bytes text)) }
+    ensures shows { IfOk result
+        (λ text. ShowsEvent false at (seen event.now) world.old.parts (string_bytes text)) }
 {
     let entries = world.step(at, event)?;
     let lines = entry_lines(alloc, entries.as_slice())?;
@@ -170,7 +191,8 @@ fn entry_lines(alloc: Global, entries: &[Entry]) -> Result<String, AllocError>
 // Writes these bytes, or their front where a write fails.
 fn write_bytes<W: Write>(writer: &mut W, bytes: &[u8]) -> Result<(), SimulateFault>
     ensures all { OnOk result (Appends (W.contents writer.old) (W.contents writer.new) bytes.now) }
-    ensures part { OnErr result (AddsPart (W.contents writer.old) (W.contents writer.new) bytes.now) }
+    ensures part { OnErr result
+        (AddsPart (W.contents writer.old) (W.contents writer.new) bytes.now) }
     ensures fault { IfErr result (λ f. f ≡ SimulateFault.InputOutput) }
 {
     let mut rest = bytes;
@@ -185,7 +207,8 @@ fn write_bytes<W: Write>(writer: &mut W, bytes: &[u8]) -> Result<(), SimulateFau
 
 // Writes some of these bytes, and gives what is left. None is written where the write was interrupted, or fails.
 fn write_some<'a, W: Write>(writer: &mut W, bytes: &'a [u8]) -> Result<&'a [u8], SimulateFault>
-    ensures some { IfOk result (λ rest. Leaves (W.contents writer.old) (W.contents writer.new) bytes.now rest.now) }
+    ensures some { IfOk result
+        (λ rest. Leaves (W.contents writer.old) (W.contents writer.new) bytes.now rest.now) }
     ensures none { OnErr result (Keeps (W.contents writer.old) (W.contents writer.new)) }
     ensures fault { IfErr result (λ f. f ≡ SimulateFault.InputOutput) }
 {

@@ -38,9 +38,11 @@ pub fn converse<R: BufRead, W: Write>(
         Speaks (record { namespaces = setup.namespaces; tokens = setup.tokens }) setup.epochs input
         (W.contents writer.old) (W.contents writer.new))) }
     // What isn't UTF-8 is met at its line, after what the earlier lines gave.
-    ensures not_utf8 { IsErrOf result SpeakFault.NotUtf8 → IfSome (R.remaining reader.old) (λ input.
-        BreaksOff (record { namespaces = setup.namespaces; tokens = setup.tokens }) setup.epochs input
-        (W.contents writer.old) (W.contents writer.new)) }
+    ensures not_utf8 { IsErrOf result SpeakFault.NotUtf8
+        → IfSome (R.remaining reader.old)
+        (λ input. BreaksOff
+        (record { namespaces = setup.namespaces; tokens = setup.tokens }) setup.epochs
+        input (W.contents writer.old) (W.contents writer.new)) }
 {
     let Setup {
         namespaces,
@@ -84,8 +86,9 @@ fn serve_lines<R: BufRead, W: Write>(
 
 // The next line without its line feed, if there is one.
 fn read_line<R: BufRead>(alloc: Global, reader: &mut R) -> Result<Option<Vec<u8>>, SpeakFault>
-    ensures line { IfOk result (λ line.
-        ReadsLine (R.remaining reader.old) (R.remaining reader.new) (option_map (λ v. v.items) line)) }
+    ensures line { IfOk result
+        (λ line. ReadsLine (R.remaining reader.old) (R.remaining reader.new)
+        (option_map (λ v. v.items) line)) }
     ensures outside { IfErr result (λ fault. fault ≢ SpeakFault.NotUtf8) }
 {
     let mut line = Vec::new(alloc);
@@ -109,13 +112,16 @@ fn answer<W: Write>(
     requires idle { is_idle session.old ≡ true }
     requires stands { is_over (scene_of node.old) ≡ false }
     requires tables { (scene_of node.old).streams.namespaces ≡ (tables_of session.old).namespaces }
-    ensures answers { OnOk result (AnswersLine (tables_of session.old) (progress_of session.old) (scene_of node.old) line.now
-        (scene_of node.new) (progress_of session.new) (W.contents writer.old) (W.contents writer.new)) }
+    ensures answers { OnOk result
+        (AnswersLine (tables_of session.old) (progress_of session.old) (scene_of node.old)
+        line.now (scene_of node.new) (progress_of session.new) (W.contents writer.old)
+        (W.contents writer.new)) }
     ensures not_utf8 { IsErrOf result SpeakFault.NotUtf8 →
         IsNoText line.now × (W.contents writer.new ≡ W.contents writer.old) }
     ensures idle { OnOk result (is_over (scene_of node.new) ≡ false → is_idle session.new ≡ true) }
     ensures tables { OnOk result (tables_of session.new ≡ tables_of session.old) }
-    ensures namespaces { OnOk result ((scene_of node.new).streams.namespaces ≡ (tables_of session.new).namespaces) }
+    ensures namespaces { OnOk result
+        ((scene_of node.new).streams.namespaces ≡ (tables_of session.new).namespaces) }
 {
     let Ok(text) = str::from_utf8(line) else {
         return Err(SpeakFault::NotUtf8);
@@ -135,7 +141,8 @@ fn answer<W: Write>(
 // Writes all that waits for the client.
 fn write_waiting<W: Write>(alloc: Global, node: &mut Solo, writer: &mut W) -> Result<(), SpeakFault>
     ensures written { OnOk result
-        (Appends (W.contents writer.old) (W.contents writer.new) (lines_of (waits (scene_of node.old)))) }
+        (Appends (W.contents writer.old) (W.contents writer.new)
+        (lines_of (waits (scene_of node.old)))) }
     ensures drained { OnOk result (Leaves [] (scene_of node.old) (scene_of node.new)) }
     ensures outside { IfErr result (λ fault. fault ≢ SpeakFault.NotUtf8) }
 {

@@ -77,7 +77,8 @@ impl Solo {
 
     /// What is next for the client: a text, or the close by its code.
     pub fn take(&mut self) -> Option<Out>
-        ensures front { option_map meaning result ≡ slice_get (notes_in (member (scene_of self.old))) 0 }
+        ensures front { option_map meaning result
+            ≡ slice_get (notes_in (member (scene_of self.old))) 0 }
         ensures step { Takes (scene_of self.old) (scene_of self.new) }
     {
         match self.number {
@@ -87,7 +88,8 @@ impl Solo {
     }
 
     fn attach(&mut self, user: String) -> Result<String, ErrorCode>
-        ensures step { DoesCall self.old (call.Attach (string_bytes user)) (Answer.Attach result) self.new }
+        ensures step { DoesCall self.old (call.Attach (string_bytes user))
+            (Answer.Attach result) self.new }
         ensures short { Remembers self.old self.new }
         ensures namespaces { IsSetUpAs self.old self.new }
     {
@@ -110,7 +112,8 @@ impl Solo {
     }
 
     fn begin(&mut self, channel: &str, id: u32, since: Option<Position>) -> Result<(), ErrorCode>
-        ensures step { DoesCall self.old (call.Begin channel.now id since) (Answer.Begin result) self.new }
+        ensures step { DoesCall self.old (call.Begin channel.now id since) (Answer.Begin result)
+            self.new }
         ensures short { Remembers self.old self.new }
         ensures namespaces { IsSetUpAs self.old self.new }
     {
@@ -125,7 +128,8 @@ impl Solo {
 
     fn read(&mut self, channel: &str, since: Option<Position>) -> Result<(), ErrorCode>
         requires { IsSetUp (scene_of self.old).streams channel.now }
-        ensures step { DoesCall self.old (call.Read channel.now since) (Answer.Read result) self.new }
+        ensures step { DoesCall self.old (call.Read channel.now since) (Answer.Read result)
+            self.new }
         ensures short { Remembers self.old self.new }
         ensures namespaces { IsSetUpAs self.old self.new }
     {
@@ -178,7 +182,9 @@ impl Solo {
 
     fn publish(&mut self, channel: String, body: String, info: Info) -> Result<(), ErrorCode>
         requires { IsSetUp (scene_of self.old).streams (string_bytes channel) }
-        ensures step { DoesCall self.old (call.Publish (string_bytes channel) (string_bytes body) info) (Answer.Publish result) self.new }
+        ensures step { DoesCall self.old
+            (call.Publish (string_bytes channel) (string_bytes body) info) (Answer.Publish result)
+            self.new }
         ensures short { Remembers self.old self.new }
         ensures namespaces { IsSetUpAs self.old self.new }
     {
@@ -206,7 +212,8 @@ impl Solo {
         since: Option<Position>,
     ) -> Result<History, ErrorCode>
         requires { IsSetUp (scene_of self.old).streams channel.now }
-        ensures step { DoesCall self.old (call.History channel.now limit since) (Answer.History result) self.new }
+        ensures step { DoesCall self.old (call.History channel.now limit since)
+            (Answer.History result) self.new }
         ensures short { Remembers self.old self.new }
         ensures namespaces { IsSetUpAs self.old self.new }
     {
@@ -225,7 +232,8 @@ impl Solo {
     }
 
     fn list(&mut self, channel: &str) -> Result<BTreeMap<String, String>, ErrorCode>
-        ensures step { DoesCall self.old (call.Presence channel.now) (Answer.Presence result) self.new }
+        ensures step { DoesCall self.old (call.Presence channel.now) (Answer.Presence result)
+            self.new }
         ensures short { Remembers self.old self.new }
         ensures namespaces { IsSetUpAs self.old self.new }
     {
@@ -298,7 +306,8 @@ fn enter(
     number: u32,
     channel: &str,
 ) -> Result<(), PresenceRefusal>
-    ensures { OnOk result (presence.new ≡ enters_now channel.now (attached_at hub.now number) presence.old) }
+    ensures { OnOk result
+        (presence.new ≡ enters_now channel.now (attached_at hub.now number) presence.old) }
 {
     match (hub.client_id(number), hub.user(number)) {
         (Some(client), Some(user)) => presence.enter(channel, client, user, NOW),
@@ -308,7 +317,8 @@ fn enter(
 
 // Brings what is due to the hub.
 fn bring_due(hub: &mut Hub, streams: &Streams, due: Option<String>)
-    ensures brings { hub.new.refused ≡ 0 → brings_due (option_map string_bytes due) streams.now hub.old hub.new }
+    ensures brings { hub.new.refused ≡ 0
+        → brings_due (option_map string_bytes due) streams.now hub.old hub.new }
     ensures short { hub.new.refused ≡ 0 → hub.old.refused ≡ 0 }
 {
     match due {
@@ -319,7 +329,8 @@ fn bring_due(hub: &mut Hub, streams: &Streams, due: Option<String>)
 
 // Brings the newest publication of a channel to the hub.
 fn bring_newest(hub: &mut Hub, streams: &Streams, channel: &str)
-    ensures brings { hub.new.refused ≡ 0 → brings_newest channel.now (stream_of streams.now channel.now) hub.old hub.new }
+    ensures brings { hub.new.refused ≡ 0
+        → brings_newest channel.now (stream_of streams.now channel.now) hub.old hub.new }
     ensures short { hub.new.refused ≡ 0 → hub.old.refused ≡ 0 }
 {
     let Some(position) = streams.position(channel) else {

@@ -34,7 +34,8 @@ impl<'a> Model for DueWalk<'a> {
 
     ghost use Rattle.cf_stream.specs.Streams.{due_channels};
 
-    ghost view = { λ w. due_channels w.now w.namespaces.now (map (λ e. (string_bytes e.0, e.1)) w.rest) };
+    ghost view = { λ w. due_channels w.now w.namespaces.now
+        (map (λ e. (string_bytes e.0, e.1)) w.rest) };
 }
 
 impl<'a> Iterator for DueWalk<'a> {

@@ -53,7 +53,14 @@ impl Model for Stream {
 
     ghost Value = { Shown };
 
-    ghost view = { λ s. record { epoch = s.epoch; size = s.size; top = s.top; held = map (λ p. p.datum) s.ring.items; published = s.published; used = s.used } };
+    ghost view = { λ s. record {
+      epoch = s.epoch;
+      size = s.size;
+      top = s.top;
+      held = map (λ p. p.datum) s.ring.items;
+      published = s.published;
+      used = s.used;
+    } };
 
     ghost invariant = { λ s. IsRing s.size s.top s.ring.items };
 }

@@ -28,7 +28,8 @@ pub trait Node {
     /// Carries out an action, and answers it where it is a call. A stream is asked for only where its namespace is set up.
     fn act(&mut self, action: Action) -> Option<Answer>
         requires stream { ActHasStream (namespaces self.old) (shown_action action) }
-        ensures does { does self.old (shown_action action) (option_map shown_answer result) self.new }
+        ensures does { does self.old (shown_action action) (option_map shown_answer result)
+            self.new }
         ensures kind { option_map answer_kind result ≡ asked_kind (shown_action action) }
         ensures namespaces { namespaces self.new ≡ namespaces self.old };
 }

@@ -38,8 +38,10 @@ fn carry_out<N: Node>(session: &mut Session<'_>, node: &mut N, action: Action)
     requires kind { asked_kind (shown_action action) ≡ awaits (progress_of session.old) }
     requires stream { ActHasStream (N.namespaces node.old) (shown_action action) }
     requires asks { AskStreams (N.namespaces node.old) (progress_of session.old) }
-    ensures next { (p : Progress) → Does p (Some (shown_action action)) (progress_of session.old) → is_short session.new ≡ false →
-        Next N.closed N.does p (progress_of session.new) node.old node.new }
+    ensures next { (p : Progress)
+        → Does p (Some (shown_action action)) (progress_of session.old)
+        → is_short session.new ≡ false
+        → Next N.closed N.does p (progress_of session.new) node.old node.new }
     ensures awaits { awaits (progress_of session.new) ≡ None }
     ensures asks { AskStreams (N.namespaces node.old) (progress_of session.new) }
     ensures tables { tables_of session.new ≡ tables_of session.old }

@@ -86,7 +86,8 @@ impl<S: Write> Gather<S> {
 fn write_all_of<S: Write>(stream: &mut S, bytes: &[u8]) -> (usize, io::Result<()>)
     ensures bound { result.0 ≤ length bytes.now }
     ensures all { OnOk result.1 (result.0 ≡ length bytes.now) }
-    ensures bytes { Appends (S.contents stream.old) (S.contents stream.new) (take result.0 bytes.now) }
+    ensures bytes { Appends (S.contents stream.old) (S.contents stream.new)
+        (take result.0 bytes.now) }
 {
     let mut count = 0;
     while count < bytes.len() {

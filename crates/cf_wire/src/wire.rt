@@ -109,7 +109,8 @@ impl<S: Read + Write + Drop> Wire<S> {
             Turns D.hears D.gives S.remaining S.contents (least result) most_reads (Some result)
             (place desk.old self.old) (place desk.new self.new) }
         ensures ends { Agrees result self.new.stage }
-        ensures spent { is_over self.old.stage ≡ true → (self.new ≡ self.old) × (desk.new ≡ desk.old) }
+        ensures spent { is_over self.old.stage ≡ true
+            → (self.new ≡ self.old) × (desk.new ≡ desk.old) }
     {
         match self.stage {
             Stage::Over(end) => end.told(),
@@ -244,7 +245,8 @@ impl<S: Read + Write + Drop> Wire<S> {
     }
 
     fn send(&mut self, text: String) -> Result<(), TurnEnd>
-        ensures put { Settles S.contents self.old.socket (out.Text text) self.new.socket self.new.stage }
+        ensures put { Settles S.contents self.old.socket (out.Text text) self.new.socket
+            self.new.stage }
         ensures open { OnOk result (self.new.stage ≡ Stage.Open) }
         ensures ends { IfErr result (λ end. Stops end self.new.stage) }
     {
@@ -258,7 +260,8 @@ impl<S: Read + Write + Drop> Wire<S> {
     }
 
     fn shut(&mut self, code: u16) -> Result<(), TurnEnd>
-        ensures put { Settles S.contents self.old.socket (out.Close code) self.new.socket self.new.stage }
+        ensures put { Settles S.contents self.old.socket (out.Close code) self.new.socket
+            self.new.stage }
         ensures open { OnOk result (self.new.stage ≡ Stage.Open) }
         ensures ends { IfErr result (λ end. Stops end self.new.stage) }
     {
@@ -319,7 +322,8 @@ impl<S: Read + Write + Drop> Wire<S> {
     fn pause(&mut self, error: &Error, stage: Stage) -> TurnEnd
         requires { is_over stage ≡ false }
         ensures same { self.new.socket ≡ self.old.socket }
-        ensures left { (IsIo error.now × (self.new.stage ≡ stage)) ⊎ (has_failed self.new.stage ≡ true) }
+        ensures left { (IsIo error.now × (self.new.stage ≡ stage))
+            ⊎ (has_failed self.new.stage ≡ true) }
         ensures halts { Halts result self.new.stage }
     {
         if would_block(error) {

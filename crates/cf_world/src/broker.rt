@@ -53,8 +53,12 @@ impl Accepted {
     ) -> Result<Accepted, AllocError>
         ensures channel { IfOk result (λ a. string_bytes a.channel ≡ channel.now) }
         ensures epoch { IfOk result (λ a. a.epoch ≡ position.epoch) }
-        ensures publication { IfOk result (λ a. a.publication
-            ≡ record { offset = position.offset; datum = record { body = body.now; info = info } }) }
+        ensures publication { IfOk result
+            (λ a. a.publication
+            ≡ record {
+              offset = position.offset;
+              datum = record { body = body.now; info = info };
+            }) }
     {
         Ok(Accepted {
             channel: String::from_str(alloc, channel)?,

@@ -69,8 +69,8 @@ impl Epochs for WaitingEpochs {
     ghost use Rattle.std.specs.Prelude.{◌≡◌, slice_get, drop};
 
     // the front one, if one waits
-    ghost draws = { λ old epoch new.
-        (epoch ≡ slice_get old.waiting.items 0) × (new.waiting.items ≡ drop 1 old.waiting.items) × (new.came ≡ old.came) };
+    ghost draws = { λ old epoch new. (epoch ≡ slice_get old.waiting.items 0)
+        × (new.waiting.items ≡ drop 1 old.waiting.items) × (new.came ≡ old.came) };
 
     fn draw(&mut self) -> Option<Epoch> {
         self.waiting.pop_front()
