@@ -53,83 +53,92 @@ fn signed_of(text: &str) -> Option<i64> {
     read_signed(text, span_of(text, Kind::Number)?)
 }
 
-fn brackets(alloc: Global, count: usize, ends: bool) -> Result<String, Fault> {
-    let mut text = String::new(alloc);
-    for _ in 0..count {
-        text.push('[')?;
+// The keys of an object's members, and where their values stand.
+fn shown_members(alloc: Global, text: &str) -> Result<String, Fault> {
+    let mut shown = String::new(alloc);
+    for (key, span) in &members_of(alloc, text)? {
+        shown.push_str(format!(in alloc; "{key} {} {} ", span.from, span.to)?.as_str())?;
     }
-    if ends {
-        for _ in 0..count {
-            text.push(']')?;
-        }
-    }
-    Ok(text)
+    Ok(shown)
 }
 
 #[test]
 fn members_by_key(rt: HostRuntime) -> Result<(), Fail> {
-    let found = members_of(rt.alloc(), "{\"a\":1,\"b\":2,\"a\":3}")?;
-    let mut shown = String::new(rt.alloc());
-    for (key, span) in &found {
-        shown.push_str(format!(in rt.alloc(); "{key} {} {} ", span.from, span.to)?.as_str())?;
+    for (text, members) in [
+        ("{\"a\":1,\"b\":2,\"a\":3}", "b 11 12 a 17 18 "),
+        ("{ }", ""),
+        ("{\"\\u0061\":1,\"a\":2}", "a 16 17 "),
+    ] {
+        assert_eq!(rt; shown_members(rt.alloc(), text)?.as_str(), members);
     }
-    assert_eq!(rt; shown.as_str(), "b 11 12 a 17 18 ");
-    assert_eq!(rt; members_of(rt.alloc(), "{ }")?.len(), 0);
-    assert_eq!(rt; members_of(rt.alloc(), "{\"\\u0061\":1,\"a\":2}")?.len(), 1);
-    assert!(rt;
-        matches!(
-            &members_of(rt.alloc(), "{\"\\ud800\":1}"),
-            Err(Fault::NotJson(_))
-        )
-    );
     Ok(())
+}
+
+#[test]
+fn keys_of_no_characters(rt: HostRuntime) {
+    let found = members_of(rt.alloc(), "{\"\\ud800\":1}");
+    assert!(rt; matches!(&found, Err(Fault::NotJson(_))));
+}
+
+// Where an array's items stand.
+fn shown_items(alloc: Global, text: &str) -> Result<String, Fault> {
+    let mut shown = String::new(alloc);
+    for span in &items_of(alloc, text)? {
+        shown.push_str(format!(in alloc; "{} {} ", span.from, span.to)?.as_str())?;
+    }
+    Ok(shown)
 }
 
 #[test]
 fn items_in_order(rt: HostRuntime) -> Result<(), Fail> {
-    let found = items_of(rt.alloc(), "[1, {} ,[]]")?;
-    let wanted = [
-        Span { from: 1, to: 2 },
-        Span { from: 4, to: 6 },
-        Span { from: 8, to: 10 },
-    ];
-    assert!(rt; found.as_slice() == wanted.as_slice());
-    assert_eq!(rt; items_of(rt.alloc(), "[\n]")?.len(), 0);
+    assert_eq!(rt;
+        shown_items(rt.alloc(), "[1, {} ,[]]")?.as_str(),
+        "1 2 4 6 8 10 "
+    );
+    assert_eq!(rt; shown_items(rt.alloc(), "[\n]")?.as_str(), "");
     Ok(())
+}
+
+// Values, each behind its kind and its depth.
+const KINDS: &str = r#"Object 1 {}
+Array 1 []
+Text 0 "[\"["
+Number 0 -1
+Number 0 0
+True 0 true
+False 0 false
+Null 0 null
+Array 3 [[],{"a":[1]},2]
+Object 1 {"[[":"[[["}"#;
+
+// A value behind its kind and its depth.
+fn with_kind(alloc: Global, text: &str) -> Result<String, Fault> {
+    let span = scan(text)?;
+    Ok(format!(in alloc; "{:?} {} {text}", kind(text, span), depth(text, span))?)
 }
 
 #[test]
 fn kinds_and_depths(rt: HostRuntime) -> Result<(), Fail> {
-    let texts = [
-        ("{}", Kind::Object, 1),
-        ("[]", Kind::Array, 1),
-        ("\"[\\\"[\"", Kind::Text, 0),
-        ("-1", Kind::Number, 0),
-        ("0", Kind::Number, 0),
-        ("true", Kind::True, 0),
-        ("false", Kind::False, 0),
-        ("null", Kind::Null, 0),
-        ("[[],{\"a\":[1]},2]", Kind::Array, 3),
-        ("{\"[[\":\"[[[\"}", Kind::Object, 1),
-    ];
-    for (text, wanted, deep) in texts {
-        let span = scan(text)?;
-        assert!(rt; kind(text, span) == wanted, "{text}");
-        assert_eq!(rt; depth(text, span), deep, "{text}");
+    for row in KINDS.split('\n') {
+        let text = row.splitn(3, ' ').last().unwrap_or("");
+        assert_eq!(rt; with_kind(rt.alloc(), text)?.as_str(), row);
     }
     Ok(())
 }
 
+fn compacted(alloc: Global, text: &str) -> Result<String, Fault> {
+    compact(alloc, text, scan(text)?)
+}
+
 #[test]
 fn compact_texts(rt: HostRuntime) -> Result<(), Fail> {
-    let texts = [
+    for (text, wanted) in [
         ("[ 1.50 , \"x y\" ]", "[1.50,\"x y\"]"),
         ("{ \"a\\u0020\" :\t{ } }", "{\"a\\u0020\":{}}"),
         (" \" \\\" \" ", "\" \\\" \""),
         ("\n1E+05\r", "1E+05"),
-    ];
-    for (text, wanted) in texts {
-        assert_eq!(rt; compact(rt.alloc(), text, scan(text)?)?.as_str(), wanted);
+    ] {
+        assert_eq!(rt; compacted(rt.alloc(), text)?.as_str(), wanted);
     }
     Ok(())
 }
@@ -139,56 +148,72 @@ fn strings_read_and_written(rt: HostRuntime) -> Result<(), Fail> {
     assert_eq!(rt; text_of(rt.alloc(), "\"\\u0061b\"")?.as_str(), "ab");
     assert_eq!(rt; quote(rt.alloc(), "a\"b")?.as_str(), "\"a\\\"b\"");
     assert!(rt; matches!(&text_of(rt.alloc(), "\"\\ud834\""), Err(Fault::NotJson(_))));
-    one_value();
-    quoting_reads_back();
     Ok(())
 }
 
+// The laws are there to be called.
 #[test]
-fn whole_numbers(rt: HostRuntime) -> Result<(), Fail> {
+fn laws() {
+    one_value();
+    quoting_reads_back();
+}
+
+#[test]
+fn whole_numbers(rt: HostRuntime) {
+    assert_eq!(rt; whole_of("0"), Some(0));
     assert_eq!(rt; whole_of("18446744073709551615"), Some(u64::MAX));
-    for text in ["18446744073709551616", "1.0", "1e0", "-1", "-0", "0.0"] {
+    for text in "18446744073709551616|1.0|1e0|-1|-0|0.0".split('|') {
         assert_eq!(rt; whole_of(text), None, "{text}");
     }
-    assert_eq!(rt; whole_of("0"), Some(0));
-    assert_eq!(rt; signed_of("-1"), Some(-1));
-    assert_eq!(rt; signed_of("-0"), Some(0));
-    assert_eq!(rt; signed_of("9223372036854775807"), Some(i64::MAX));
-    assert_eq!(rt; signed_of("-9223372036854775808"), Some(i64::MIN));
-    for text in ["9223372036854775808", "-9223372036854775809", "-1.0", "1E2"] {
+}
+
+#[test]
+fn signed_numbers(rt: HostRuntime) {
+    for (text, number) in [
+        ("-1", -1),
+        ("-0", 0),
+        ("9223372036854775807", i64::MAX),
+        ("-9223372036854775808", i64::MIN),
+    ] {
+        assert_eq!(rt; signed_of(text), Some(number));
+    }
+    for text in "9223372036854775808|-9223372036854775809|-1.0|1E2".split('|') {
         assert_eq!(rt; signed_of(text), None, "{text}");
     }
-    Ok(())
+}
+
+// So many brackets behind one text, and before so many of the other.
+fn nested(
+    alloc: Global,
+    front: &str,
+    depth: usize,
+    piece: &str,
+    count: usize,
+) -> Result<String, Fault> {
+    let opening = "[".repeat(alloc, depth)?;
+    let closing = piece.repeat(alloc, count)?;
+    Ok(format!(in alloc; "{front}{opening}{closing}")?)
 }
 
 #[test]
 fn depths_allowed(rt: HostRuntime) -> Result<(), Fail> {
-    let alloc = rt.alloc();
-    assert_eq!(rt;
-        scan(brackets(alloc, 64, true)?.as_str()),
-        Ok(Span { from: 0, to: 128 })
-    );
-    assert_eq!(rt;
-        scan(brackets(alloc, 65, true)?.as_str()),
-        Err(Fault::TooDeep(64))
-    );
-    assert_eq!(rt;
-        scan(brackets(alloc, 65, false)?.as_str()),
-        Err(Fault::TooDeep(64))
-    );
-    let mut late = brackets(alloc, 65, false)?;
-    late.push('}')?;
-    assert_eq!(rt; scan(late.as_str()), Err(Fault::TooDeep(64)));
-    let mut early = String::from_str(alloc, "[}")?;
-    early.push_str(late.as_str())?;
-    assert_eq!(rt; scan(early.as_str()), Err(Fault::NotJson(1)));
-    let mut second = String::from_str(alloc, "{}")?;
-    second.push_str(late.as_str())?;
-    assert!(rt;
-        matches!(
-            &split_frame(alloc, second.as_str()),
-            Err(Fault::TooDeep(66))
-        )
-    );
+    for (front, depth, piece, count, answer) in [
+        ("", 64, "]", 64, Ok(Span { from: 0, to: 128 })),
+        ("", 65, "]", 65, Err(Fault::TooDeep(64))),
+        ("", 65, "]", 0, Err(Fault::TooDeep(64))),
+        ("", 65, "}", 1, Err(Fault::TooDeep(64))),
+        ("[}", 65, "}", 1, Err(Fault::NotJson(1))),
+    ] {
+        let text = nested(rt.alloc(), front, depth, piece, count)?;
+        assert_eq!(rt; scan(text.as_str()), answer);
+    }
+    Ok(())
+}
+
+#[test]
+fn depth_in_frame(rt: HostRuntime) -> Result<(), Fail> {
+    let text = nested(rt.alloc(), "{}", 65, "}", 1)?;
+    let found = split_frame(rt.alloc(), text.as_str());
+    assert!(rt; matches!(&found, Err(Fault::TooDeep(66))));
     Ok(())
 }
