@@ -1,8 +1,7 @@
 // Texts by the rules of RFC 8259, sections 2 to 7, each with its answer by hand.
 use crate::{Fault, Span, scan, split_frame};
-use std::alloc::{AllocError, Global};
+use std::alloc::Global;
 use std::process::Abort;
-use std::test::Fail;
 
 fn is_not_json<T: Drop>(found: Result<T, Fault>) -> bool {
     match found {
@@ -11,28 +10,17 @@ fn is_not_json<T: Drop>(found: Result<T, Fault>) -> bool {
     }
 }
 
-// A text without its marks `^`, and where they stood. The text's end is the last place.
-fn unmarked(alloc: Global, row: &str) -> Result<(String, Vec<usize>), AllocError> {
-    let mut text = String::new(alloc);
-    let mut places = Vec::new(alloc);
-    for part in row.split('^') {
-        text.push_str(part)?;
-        places.push(text.len())?;
-    }
-    Ok((text, places))
-}
-
-fn place(places: &[usize], number: usize) -> usize {
-    places.get(number).copied().unwrap_or(usize::MAX)
+fn is_value(text: &str) -> bool {
+    let whole = Span {
+        from: 0,
+        to: text.len(),
+    };
+    scan(text) == Ok(whole)
 }
 
 fn are_values(rt: &impl Abort, texts: &str, parted_by: char) {
     for text in texts.split(parted_by) {
-        let whole = Span {
-            from: 0,
-            to: text.len(),
-        };
-        assert_eq!(rt; scan(text), Ok(whole), "{text}");
+        assert!(rt; is_value(text), "{text}");
     }
 }
 
@@ -102,20 +90,21 @@ fn texts_of_one_value(rt: HostRuntime) {
     );
 }
 
-// Marks stand around each value.
+fn stands(rt: &impl Abort, text: &str, from: usize, to: usize) {
+    assert!(rt; scan(text) == Ok(Span { from, to }), "{text}");
+}
+
 #[test]
-fn white_space_around(rt: HostRuntime) -> Result<(), Fail> {
-    for row in " ^1^|\t^1^|\n^1^|\r^1^|^1^ |^1^\n| \t\r\n^1^ \t\r\n| ^{}^ | ^-0.5e+10^ ".split(
-        '|',
-    ) {
-        let (text, places) = unmarked(rt.alloc(), row)?;
-        let span = Span {
-            from: place(places.as_slice(), 0),
-            to: place(places.as_slice(), 1),
-        };
-        assert_eq!(rt; scan(text.as_str()), Ok(span), "{row}");
-    }
-    Ok(())
+fn white_space_around(rt: HostRuntime) {
+    stands(&rt, " 1", 1, 2);
+    stands(&rt, "\t1", 1, 2);
+    stands(&rt, "\n1", 1, 2);
+    stands(&rt, "\r1", 1, 2);
+    stands(&rt, "1 ", 0, 1);
+    stands(&rt, "1\n", 0, 1);
+    stands(&rt, " \t\r\n1 \t\r\n", 4, 5);
+    stands(&rt, " {} ", 1, 3);
+    stands(&rt, " -0.5e+10 ", 1, 9);
 }
 
 fn are_no_values(rt: &impl Abort, texts: &str, parted_by: char) {
@@ -215,19 +204,21 @@ fn texts_of_no_value(rt: HostRuntime) {
     are_no_values(&rt, NO_SPACED_VALUES, '|');
 }
 
-// A mark stands where the text is refused.
-fn fail_at_marks(
-    rt: &impl Abort,
-    alloc: Global,
-    rows: &str,
-    parted_by: char,
-) -> Result<(), AllocError> {
-    for row in rows.split(parted_by) {
-        let (text, places) = unmarked(alloc, row)?;
-        let fault = Fault::NotJson(place(places.as_slice(), 0));
-        assert_eq!(rt; scan(text.as_str()), Err(fault), "{row}");
+// A row's text is refused where its mark `^` stands.
+fn fails_at_mark(alloc: Global, row: &str) -> bool {
+    let Some((front, back)) = row.split_once('^') else {
+        return false;
+    };
+    match format!(in alloc; "{front}{back}") {
+        Ok(text) => scan(text.as_str()) == Err(Fault::NotJson(front.len())),
+        Err(_) => false,
     }
-    Ok(())
+}
+
+fn fail_at_marks(rt: &impl Abort, alloc: Global, rows: &str, parted_by: char) {
+    for row in rows.split(parted_by) {
+        assert!(rt; fails_at_mark(alloc, row), "{row}");
+    }
 }
 
 const FAULTS: &str = r#"^
@@ -260,10 +251,20 @@ null^l
 
 /// Where a text is refused: the first byte at which what was read so far can't go on, or the text's end.
 #[test]
-fn places_of_faults(rt: HostRuntime) -> Result<(), Fail> {
-    fail_at_marks(&rt, rt.alloc(), FAULTS, '\n')?;
-    fail_at_marks(&rt, rt.alloc(), " ^|\t\n ^x| tru^x|\"a^\nb\"", '|')?;
-    Ok(())
+fn places_of_faults(rt: HostRuntime) {
+    fail_at_marks(&rt, rt.alloc(), FAULTS, '\n');
+    fail_at_marks(&rt, rt.alloc(), " ^|\t\n ^x| tru^x|\"a^\nb\"", '|');
+}
+
+// The same of a frame.
+fn frame_fails_at_mark(alloc: Global, row: &str) -> bool {
+    let Some((front, back)) = row.split_once('^') else {
+        return false;
+    };
+    match format!(in alloc; "{front}{back}") {
+        Ok(text) => is_at(split_frame(alloc, text.as_str()), front.len()),
+        Err(_) => false,
+    }
 }
 
 fn is_at<T: Drop>(found: Result<T, Fault>, place: usize) -> bool {
@@ -273,38 +274,40 @@ fn is_at<T: Drop>(found: Result<T, Fault>, place: usize) -> bool {
     }
 }
 
-/// The same of a frame.
 #[test]
-fn places_in_frames(rt: HostRuntime) -> Result<(), Fail> {
+fn places_in_frames(rt: HostRuntime) {
     for row in "{}^x|1^-2|1 0^1|1nul^|{}^,{}".split('|') {
-        let (text, places) = unmarked(rt.alloc(), row)?;
-        let found = split_frame(rt.alloc(), text.as_str());
-        assert!(rt; is_at(found, place(places.as_slice(), 0)), "{row}");
+        assert!(rt; frame_fails_at_mark(rt.alloc(), row), "{row}");
     }
-    Ok(())
 }
 
-// Marks part the values of each frame.
+// A row's text is a frame of values that its marks `^` part.
+fn has_values_at_marks(alloc: Global, row: &str) -> bool {
+    let Ok(text) = row.replace(alloc, '^', "") else {
+        return false;
+    };
+    match split_frame(alloc, text.as_str()) {
+        Ok(found) => found.len() == row.split('^').count(),
+        Err(_) => false,
+    }
+}
+
 const FRAMES: &str =
     "1|{}|{}^{}|{}^ {}|1^true|true^false|\"a\"^\"b\"|1^ 2|[]^1|1^[]|null^1|\"a\"^1|1^\"a\"|1^{}^2|null^null|{}^\n{}\n| {}^{} |1^\n-2|0^ 1.5e2^\r-3^\ttrue";
 
 #[test]
-fn frames(rt: HostRuntime) -> Result<(), Fail> {
+fn frames(rt: HostRuntime) {
     for row in FRAMES.split('|') {
-        let (text, places) = unmarked(rt.alloc(), row)?;
-        let found = split_frame(rt.alloc(), text.as_str())?;
-        assert_eq!(rt; found.len(), places.len(), "{row}");
+        assert!(rt; has_values_at_marks(rt.alloc(), row), "{row}");
     }
-    Ok(())
 }
 
 const NO_FRAMES: &str =
     "1-2|01|-0-1|1.5.2|00|1e5-1|{},{}|{}]|{}x|1 01|[1][2|true1-|| |\n|{}\u{c}{}|\u{feff}{}";
 
 #[test]
-fn texts_that_are_no_frame(rt: HostRuntime) -> Result<(), Fail> {
+fn texts_that_are_no_frame(rt: HostRuntime) {
     for text in NO_FRAMES.split('|') {
         assert!(rt; is_not_json(split_frame(rt.alloc(), text)), "{text}");
     }
-    Ok(())
 }

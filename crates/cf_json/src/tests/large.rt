@@ -1,119 +1,142 @@
 // Each call that takes memory at its largest size: a text of 65,536 bytes, with ample memory. And the text of each fault.
-use super::vectors::{items_of, members_of, text_of};
-use crate::{Fault, compact, quote, scan, split_frame};
+use super::vectors::{compacts_to, items_of, members_of, text_of};
+use crate::{Fault, quote, split_frame};
 use std::alloc::Global;
 use std::process::Abort;
-use std::test::Fail;
+
+// A piece so many times, between two texts.
+fn repeated(alloc: Global, front: &str, piece: &str, count: usize, back: &str) -> Option<String> {
+    let pieces = piece.repeat(alloc, count).ok()?;
+    format!(in alloc; "{front}{pieces}{back}").ok()
+}
 
 // An object of so many different keys, the last `end`.
-fn object_of(alloc: Global, count: usize) -> Result<String, Fault> {
-    let mut text = String::from_str(alloc, "{")?;
+fn object_of(alloc: Global, count: usize) -> Option<String> {
+    let mut text = String::from_str(alloc, "{").ok()?;
     for number in 1..count {
-        text.push_str(format!(in alloc; "\"k{number}\":1,")?.as_str())?;
+        let member = format!(in alloc; "\"k{number}\":1,").ok()?;
+        text.push_str(member.as_str()).ok()?;
     }
-    text.push_str("\"end\":1}")?;
-    Ok(text)
+    text.push_str("\"end\":1}").ok()?;
+    Some(text)
+}
+
+// How many members an object has, and whether the last one's key is `end`.
+fn ends_after(alloc: Global, object: &str) -> (usize, bool) {
+    match members_of(alloc, object) {
+        Ok(found) => match found.last() {
+            Some((key, _)) => (found.len(), key.as_str() == "end"),
+            None => (0, false),
+        },
+        Err(_) => (0, false),
+    }
 }
 
 #[test]
-fn many_keys(rt: HostRuntime) -> Result<(), Fail> {
-    let object = object_of(rt.alloc(), 6000)?;
-    let found = members_of(rt.alloc(), object.as_str())?;
-    assert_eq!(rt; found.len(), 6000);
-    assert!(rt; matches!(found.last(), Some((key, _)) if key.as_str() == "end"));
-    Ok(())
+fn many_keys(rt: HostRuntime) {
+    let object = object_of(rt.alloc(), 6000).unwrap_or(String::new(rt.alloc()));
+    assert!(rt; ends_after(rt.alloc(), object.as_str()) == (6000, true));
 }
 
 #[test]
-fn one_key_often(rt: HostRuntime) -> Result<(), Fail> {
-    let often = "\"k\":1,".repeat(rt.alloc(), 6000)?;
-    let object = format!(in rt.alloc(); "{{{often}\"k\":2}}")?;
-    assert_eq!(rt; members_of(rt.alloc(), object.as_str())?.len(), 1);
-    Ok(())
+fn one_key_often(rt: HostRuntime) {
+    let object = repeated(rt.alloc(), "{", "\"end\":1,", 5000, "\"end\":2}").unwrap_or(String::new(
+        rt.alloc(),
+    ));
+    assert!(rt; ends_after(rt.alloc(), object.as_str()) == (1, true));
 }
 
-// An array of a piece so many times, and of 12.
-fn array_of(alloc: Global, piece: &str, count: usize) -> Result<String, Fault> {
-    let pieces = piece.repeat(alloc, count)?;
-    Ok(format!(in alloc; "[{pieces}12]")?)
-}
-
-#[test]
-fn many_items(rt: HostRuntime) -> Result<(), Fail> {
-    let array = array_of(rt.alloc(), " 1,", 999)?;
-    assert_eq!(rt; items_of(rt.alloc(), array.as_str())?.len(), 1000);
-    Ok(())
+// How many items an array of so many has.
+fn count_items(alloc: Global, count: usize) -> Option<usize> {
+    let array = repeated(alloc, "[", "1, ", count.saturating_sub(1), "1]")?;
+    Some(items_of(alloc, array.as_str()).ok()?.len())
 }
 
 #[test]
-fn many_values(rt: HostRuntime) -> Result<(), Fail> {
-    let frame = "{}".repeat(rt.alloc(), 32_768)?;
-    assert_eq!(rt; split_frame(rt.alloc(), frame.as_str())?.len(), 32_768);
-    Ok(())
+fn many_items(rt: HostRuntime) {
+    assert!(rt; count_items(rt.alloc(), 1000) == Some(1000));
 }
 
-// A piece so many times, between quotes.
-fn string_of(alloc: Global, piece: &str, count: usize) -> Result<String, Fault> {
-    let pieces = piece.repeat(alloc, count)?;
-    Ok(format!(in alloc; "\"{pieces}\"")?)
+// How many values a frame of so many has.
+fn count_values(alloc: Global, count: usize) -> Option<usize> {
+    let frame = "{}".repeat(alloc, count).ok()?;
+    Some(split_frame(alloc, frame.as_str()).ok()?.len())
 }
 
-// So many of the escaped piece are read as so many pieces, which are written as so many of the quoted piece.
-fn reads_and_quotes(
+#[test]
+fn many_values(rt: HostRuntime) {
+    assert!(rt; count_values(rt.alloc(), 32_768) == Some(32_768));
+}
+
+// A string is read as this text, which is written as that string.
+fn reads_and_quotes(alloc: Global, text: &str, string: &str, quoted: &str) -> bool {
+    match (text_of(alloc, string), quote(alloc, text)) {
+        (Ok(read), Ok(written)) => read.as_str() == text && written.as_str() == quoted,
+        _ => false,
+    }
+}
+
+// The same of so many of these pieces.
+fn is_long_string(
     alloc: Global,
     count: usize,
-    piece: &str,
-    escaped: &str,
+    text: &str,
+    string: &str,
     quoted: &str,
-) -> Result<bool, Fault> {
-    let string = string_of(alloc, escaped, count)?;
-    let read = text_of(alloc, string.as_str())?;
-    let written = quote(alloc, read.as_str())?;
-    Ok(
-        read.as_str() == piece.repeat(alloc, count)?.as_str()
-            && written.as_str() == string_of(alloc, quoted, count)?.as_str(),
-    )
+) -> Option<bool> {
+    let text = text.repeat(alloc, count).ok()?;
+    let string = repeated(alloc, "\"", string, count, "\"")?;
+    let quoted = repeated(alloc, "\"", quoted, count, "\"")?;
+    Some(reads_and_quotes(alloc, text.as_str(), string.as_str(), quoted.as_str()))
 }
 
 #[test]
-fn long_strings(rt: HostRuntime) -> Result<(), Fail> {
-    assert!(rt; reads_and_quotes(rt.alloc(), 13_000, "abcde", "abcde", "abcde")?);
-    let escaped = "\\u0009\\n\\\"\\/";
-    assert!(rt; reads_and_quotes(rt.alloc(), 5416, "\t\n\"/", escaped, "\\t\\n\\\"/")?);
-    Ok(())
+fn long_strings(rt: HostRuntime) {
+    let plain = is_long_string(rt.alloc(), 13_000, "abcde", "abcde", "abcde");
+    assert!(rt; plain == Some(true));
+    let escaped = is_long_string(
+        rt.alloc(),
+        5416,
+        "\t\n\"/",
+        "\\u0009\\n\\\"\\/",
+        "\\t\\n\\\"/",
+    );
+    assert!(rt; escaped == Some(true));
 }
 
 // An array of so many pieces is compact with so many of the shorter.
-fn compacts(
-    rt: &impl Abort,
-    alloc: Global,
-    count: usize,
-    piece: &str,
-    shorter: &str,
-) -> Result<(), Fault> {
-    let text = array_of(alloc, piece, count)?;
-    let short = compact(alloc, text.as_str(), scan(text.as_str())?)?;
-    assert!(rt; short.as_str() == array_of(alloc, shorter, count)?.as_str());
-    Ok(())
+fn is_long_compact(alloc: Global, count: usize, piece: &str, shorter: &str) -> Option<bool> {
+    let text = repeated(alloc, "[", piece, count, "12]")?;
+    let short = repeated(alloc, "[", shorter, count, "12]")?;
+    Some(compacts_to(alloc, text.as_str(), short.as_str()))
+}
+
+fn compacts(rt: &impl Abort, alloc: Global, count: usize, piece: &str, shorter: &str) {
+    assert!(rt;
+        is_long_compact(alloc, count, piece, shorter) == Some(true),
+        "{piece}"
+    );
 }
 
 // The first is of 65,536 bytes. The others are compact already, without a space and with one in a string.
 #[test]
-fn long_compact(rt: HostRuntime) -> Result<(), Fail> {
-    compacts(&rt, rt.alloc(), 10_922, "\" \" , ", "\" \",")?;
-    compacts(&rt, rt.alloc(), 16_000, "1,", "1,")?;
-    compacts(&rt, rt.alloc(), 16_000, "\" \",", "\" \",")?;
-    Ok(())
+fn long_compact(rt: HostRuntime) {
+    compacts(&rt, rt.alloc(), 10_922, "\" \" , ", "\" \",");
+    compacts(&rt, rt.alloc(), 16_000, "1,", "1,");
+    compacts(&rt, rt.alloc(), 16_000, "\" \",", "\" \",");
+}
+
+fn is_shown(alloc: Global, fault: Fault, text: &str) -> bool {
+    match format!(in alloc; "{fault}") {
+        Ok(shown) => shown.as_str() == text,
+        Err(_) => false,
+    }
 }
 
 #[test]
-fn texts_of_faults(rt: HostRuntime) -> Result<(), Fail> {
-    for (fault, text) in [
-        (Fault::NotJson(7), "no JSON at byte 7"),
-        (Fault::TooDeep(64), "nested too deep at byte 64"),
-        (Fault::Memory, "out of memory"),
-    ] {
-        assert_eq!(rt; format!(in rt.alloc(); "{fault}")?.as_str(), text);
-    }
-    Ok(())
+fn texts_of_faults(rt: HostRuntime) {
+    let alloc = rt.alloc();
+    assert!(rt; is_shown(alloc, Fault::NotJson(7), "no JSON at byte 7"));
+    assert!(rt; is_shown(alloc, Fault::TooDeep(64), "nested too deep at byte 64"));
+    assert!(rt; is_shown(alloc, Fault::Memory, "out of memory"));
 }

@@ -9,7 +9,8 @@ use crate::{
     read_signed, read_text, read_whole, scan, split_frame,
 };
 use std::alloc::Global;
-use std::test::Fail;
+use std::fmt::Debug;
+use std::process::Abort;
 
 // The span of a text's one value, where that is of the kind.
 fn span_of(text: &str, wanted: Kind) -> Option<Span>
@@ -53,102 +54,98 @@ fn signed_of(text: &str) -> Option<i64> {
     read_signed(text, span_of(text, Kind::Number)?)
 }
 
-// The keys of an object's members, and where their values stand.
-fn shown_members(alloc: Global, text: &str) -> Result<String, Fault> {
-    let mut shown = String::new(alloc);
-    for (key, span) in &members_of(alloc, text)? {
-        shown.push_str(format!(in alloc; "{key} {} {} ", span.from, span.to)?.as_str())?;
+// What the members or the items were found to be is shown as this text.
+fn is_shown<T: Debug>(alloc: Global, found: &T, text: &str) -> bool {
+    match format!(in alloc; "{found:?}") {
+        Ok(shown) => shown.as_str() == text,
+        Err(_) => false,
     }
-    Ok(shown)
 }
 
-#[test]
-fn members_by_key(rt: HostRuntime) -> Result<(), Fail> {
-    for (text, members) in [
-        ("{\"a\":1,\"b\":2,\"a\":3}", "b 11 12 a 17 18 "),
-        ("{ }", ""),
-        ("{\"\\u0061\":1,\"a\":2}", "a 16 17 "),
-    ] {
-        assert_eq!(rt; shown_members(rt.alloc(), text)?.as_str(), members);
-    }
-    Ok(())
-}
-
-#[test]
-fn keys_of_no_characters(rt: HostRuntime) {
-    let found = members_of(rt.alloc(), "{\"\\ud800\":1}");
-    assert!(rt; matches!(&found, Err(Fault::NotJson(_))));
-}
-
-// Where an array's items stand.
-fn shown_items(alloc: Global, text: &str) -> Result<String, Fault> {
-    let mut shown = String::new(alloc);
-    for span in &items_of(alloc, text)? {
-        shown.push_str(format!(in alloc; "{} {} ", span.from, span.to)?.as_str())?;
-    }
-    Ok(shown)
-}
-
-#[test]
-fn items_in_order(rt: HostRuntime) -> Result<(), Fail> {
-    assert_eq!(rt;
-        shown_items(rt.alloc(), "[1, {} ,[]]")?.as_str(),
-        "1 2 4 6 8 10 "
+fn has_members(rt: &impl Abort, alloc: Global, text: &str, members: &str) {
+    assert!(rt;
+        is_shown(alloc, &members_of(alloc, text), members),
+        "{text}"
     );
-    assert_eq!(rt; shown_items(rt.alloc(), "[\n]")?.as_str(), "");
-    Ok(())
-}
-
-// Values, each behind its kind and its depth.
-const KINDS: &str = r#"Object 1 {}
-Array 1 []
-Text 0 "[\"["
-Number 0 -1
-Number 0 0
-True 0 true
-False 0 false
-Null 0 null
-Array 3 [[],{"a":[1]},2]
-Object 1 {"[[":"[[["}"#;
-
-// A value behind its kind and its depth.
-fn with_kind(alloc: Global, text: &str) -> Result<String, Fault> {
-    let span = scan(text)?;
-    Ok(format!(in alloc; "{:?} {} {text}", kind(text, span), depth(text, span))?)
 }
 
 #[test]
-fn kinds_and_depths(rt: HostRuntime) -> Result<(), Fail> {
-    for row in KINDS.split('\n') {
-        let text = row.splitn(3, ' ').last().unwrap_or("");
-        assert_eq!(rt; with_kind(rt.alloc(), text)?.as_str(), row);
+fn members_by_key(rt: HostRuntime) {
+    let alloc = rt.alloc();
+    has_members(
+        &rt,
+        alloc,
+        "{\"a\":1,\"b\":2,\"a\":3}",
+        "Ok([(\"b\", Span { from: 11, to: 12 }), (\"a\", Span { from: 17, to: 18 })])",
+    );
+    has_members(&rt, alloc, "{ }", "Ok([])");
+    has_members(
+        &rt,
+        alloc,
+        "{\"\\u0061\":1,\"a\":2}",
+        "Ok([(\"a\", Span { from: 16, to: 17 })])",
+    );
+    has_members(&rt, alloc, "{\"\\ud800\":1}", "Err(NotJson(1))");
+}
+
+fn has_items(rt: &impl Abort, alloc: Global, text: &str, items: &str) {
+    assert!(rt; is_shown(alloc, &items_of(alloc, text), items), "{text}");
+}
+
+#[test]
+fn items_in_order(rt: HostRuntime) {
+    has_items(
+        &rt,
+        rt.alloc(),
+        "[1, {} ,[]]",
+        "Ok([Span { from: 1, to: 2 }, Span { from: 4, to: 6 }, Span { from: 8, to: 10 }])",
+    );
+    has_items(&rt, rt.alloc(), "[\n]", "Ok([])");
+}
+
+fn has_kind(text: &str, wanted: Kind, deep: usize) -> bool {
+    match scan(text) {
+        Ok(span) => kind(text, span) == wanted && depth(text, span) == deep,
+        Err(_) => false,
     }
-    Ok(())
 }
 
-fn compacted(alloc: Global, text: &str) -> Result<String, Fault> {
-    compact(alloc, text, scan(text)?)
+fn is_of(rt: &impl Abort, text: &str, wanted: Kind, deep: usize) {
+    assert!(rt; has_kind(text, wanted, deep), "{text}");
 }
 
 #[test]
-fn compact_texts(rt: HostRuntime) -> Result<(), Fail> {
-    for (text, wanted) in [
-        ("[ 1.50 , \"x y\" ]", "[1.50,\"x y\"]"),
-        ("{ \"a\\u0020\" :\t{ } }", "{\"a\\u0020\":{}}"),
-        (" \" \\\" \" ", "\" \\\" \""),
-        ("\n1E+05\r", "1E+05"),
-    ] {
-        assert_eq!(rt; compacted(rt.alloc(), text)?.as_str(), wanted);
+fn kinds_and_depths(rt: HostRuntime) {
+    is_of(&rt, "{}", Kind::Object, 1);
+    is_of(&rt, "[]", Kind::Array, 1);
+    is_of(&rt, "\"[\\\"[\"", Kind::Text, 0);
+    is_of(&rt, "-1", Kind::Number, 0);
+    is_of(&rt, "0", Kind::Number, 0);
+    is_of(&rt, "true", Kind::True, 0);
+    is_of(&rt, "false", Kind::False, 0);
+    is_of(&rt, "null", Kind::Null, 0);
+    is_of(&rt, "[[],{\"a\":[1]},2]", Kind::Array, 3);
+    is_of(&rt, "{\"[[\":\"[[[\"}", Kind::Object, 1);
+}
+
+// A text's compact text is this one.
+pub(super) fn compacts_to(alloc: Global, text: &str, short: &str) -> bool {
+    let Ok(span) = scan(text) else {
+        return false;
+    };
+    match compact(alloc, text, span) {
+        Ok(found) => found.as_str() == short,
+        Err(_) => false,
     }
-    Ok(())
 }
 
 #[test]
-fn strings_read_and_written(rt: HostRuntime) -> Result<(), Fail> {
-    assert_eq!(rt; text_of(rt.alloc(), "\"\\u0061b\"")?.as_str(), "ab");
-    assert_eq!(rt; quote(rt.alloc(), "a\"b")?.as_str(), "\"a\\\"b\"");
-    assert!(rt; matches!(&text_of(rt.alloc(), "\"\\ud834\""), Err(Fault::NotJson(_))));
-    Ok(())
+fn compact_texts(rt: HostRuntime) {
+    let alloc = rt.alloc();
+    assert!(rt; compacts_to(alloc, "[ 1.50 , \"x y\" ]", "[1.50,\"x y\"]"));
+    assert!(rt; compacts_to(alloc, "{ \"a\\u0020\" :\t{ } }", "{\"a\\u0020\":{}}"));
+    assert!(rt; compacts_to(alloc, " \" \\\" \" ", "\" \\\" \""));
+    assert!(rt; compacts_to(alloc, "\n1E+05\r", "1E+05"));
 }
 
 // The laws are there to be called.
@@ -158,62 +155,76 @@ fn laws() {
     quoting_reads_back();
 }
 
+fn is_whole(rt: &impl Abort, text: &str, number: Option<u64>) {
+    assert!(rt; whole_of(text) == number, "{text}");
+}
+
 #[test]
 fn whole_numbers(rt: HostRuntime) {
-    assert_eq!(rt; whole_of("0"), Some(0));
-    assert_eq!(rt; whole_of("18446744073709551615"), Some(u64::MAX));
-    for text in "18446744073709551616|1.0|1e0|-1|-0|0.0".split('|') {
-        assert_eq!(rt; whole_of(text), None, "{text}");
-    }
+    is_whole(&rt, "0", Some(0));
+    is_whole(&rt, "18446744073709551615", Some(u64::MAX));
+    is_whole(&rt, "18446744073709551616", None);
+    is_whole(&rt, "1.0", None);
+    is_whole(&rt, "1e0", None);
+    is_whole(&rt, "-1", None);
+    is_whole(&rt, "-0", None);
+    is_whole(&rt, "0.0", None);
+}
+
+fn is_signed(rt: &impl Abort, text: &str, number: Option<i64>) {
+    assert!(rt; signed_of(text) == number, "{text}");
 }
 
 #[test]
 fn signed_numbers(rt: HostRuntime) {
-    for (text, number) in [
-        ("-1", -1),
-        ("-0", 0),
-        ("9223372036854775807", i64::MAX),
-        ("-9223372036854775808", i64::MIN),
-    ] {
-        assert_eq!(rt; signed_of(text), Some(number));
-    }
-    for text in "9223372036854775808|-9223372036854775809|-1.0|1E2".split('|') {
-        assert_eq!(rt; signed_of(text), None, "{text}");
+    is_signed(&rt, "-1", Some(-1));
+    is_signed(&rt, "-0", Some(0));
+    is_signed(&rt, "9223372036854775807", Some(i64::MAX));
+    is_signed(&rt, "-9223372036854775808", Some(i64::MIN));
+    is_signed(&rt, "9223372036854775808", None);
+    is_signed(&rt, "-9223372036854775809", None);
+    is_signed(&rt, "-1.0", None);
+    is_signed(&rt, "1E2", None);
+}
+
+// So many opening brackets between two texts.
+fn nested(alloc: Global, front: &str, depth: usize, back: &str) -> Option<String> {
+    let opening = "[".repeat(alloc, depth).ok()?;
+    format!(in alloc; "{front}{opening}{back}").ok()
+}
+
+// What the scan of such a text answers.
+fn scan_nested(alloc: Global, front: &str, depth: usize, back: &str) -> Result<Span, Fault> {
+    match nested(alloc, front, depth, back) {
+        Some(text) => scan(text.as_str()),
+        None => Err(Fault::Memory),
     }
 }
 
-// So many brackets behind one text, and before so many of the other.
-fn nested(
-    alloc: Global,
-    front: &str,
-    depth: usize,
-    piece: &str,
-    count: usize,
-) -> Result<String, Fault> {
-    let opening = "[".repeat(alloc, depth)?;
-    let closing = piece.repeat(alloc, count)?;
-    Ok(format!(in alloc; "{front}{opening}{closing}")?)
+// 64 closing brackets.
+const CLOSING: &str = "]]]]]]]]]]]]]]]]]]]]]]]]]]]]]]]]]]]]]]]]]]]]]]]]]]]]]]]]]]]]]]]]";
+
+#[test]
+fn depths_allowed(rt: HostRuntime) {
+    let alloc = rt.alloc();
+    let whole = Span { from: 0, to: 128 };
+    assert!(rt; scan_nested(alloc, "", 64, CLOSING) == Ok(whole));
+    assert!(rt; scan_nested(alloc, "[", 64, CLOSING) == Err(Fault::TooDeep(64)));
+    assert!(rt; scan_nested(alloc, "", 65, "") == Err(Fault::TooDeep(64)));
+    assert!(rt; scan_nested(alloc, "", 65, "}") == Err(Fault::TooDeep(64)));
+    assert!(rt; scan_nested(alloc, "[}", 65, "}") == Err(Fault::NotJson(1)));
+}
+
+// The place at which a frame of such a text is too deep.
+fn too_deep_at(alloc: Global, front: &str, depth: usize, back: &str) -> Option<usize> {
+    let text = nested(alloc, front, depth, back)?;
+    match split_frame(alloc, text.as_str()) {
+        Err(Fault::TooDeep(place)) => Some(place),
+        _ => None,
+    }
 }
 
 #[test]
-fn depths_allowed(rt: HostRuntime) -> Result<(), Fail> {
-    for (front, depth, piece, count, answer) in [
-        ("", 64, "]", 64, Ok(Span { from: 0, to: 128 })),
-        ("", 65, "]", 65, Err(Fault::TooDeep(64))),
-        ("", 65, "]", 0, Err(Fault::TooDeep(64))),
-        ("", 65, "}", 1, Err(Fault::TooDeep(64))),
-        ("[}", 65, "}", 1, Err(Fault::NotJson(1))),
-    ] {
-        let text = nested(rt.alloc(), front, depth, piece, count)?;
-        assert_eq!(rt; scan(text.as_str()), answer);
-    }
-    Ok(())
-}
-
-#[test]
-fn depth_in_frame(rt: HostRuntime) -> Result<(), Fail> {
-    let text = nested(rt.alloc(), "{}", 65, "}", 1)?;
-    let found = split_frame(rt.alloc(), text.as_str());
-    assert!(rt; matches!(&found, Err(Fault::TooDeep(66))));
-    Ok(())
+fn depth_in_frame(rt: HostRuntime) {
+    assert!(rt; too_deep_at(rt.alloc(), "{}", 65, "}") == Some(66));
 }
