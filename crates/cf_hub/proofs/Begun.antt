@@ -1,5 +1,5 @@
 -- A subscription begins, and has a row.
-use Rattle.std.proofs.Common.{◌≡◌, ◌≢◌, ℕ, ◌==◌, ◌&&◌, ◌||◌, not, Bool, true, false, if◌then◌else◌, Option, Some, None, List, [], ◌∷◌, arith, refl, sym, ap, ◌∙◌, subst, option_map, BTreeMap}
+use Rattle.std.proofs.Common.{◌≡◌, ◌≢◌, ℕ, ◌==◌, ◌&&◌, ◌||◌, not, Bool, true, false, if◌then◌else◌, Option, Some, None, List, [], ◌∷◌, arith, refl, sym, ap, ◌∙◌, subst, option_map}
 use Rattle.std.specs.Str.{bytes_eq}
 use Rattle.std.specs.Cmp.Lexicographic.{bytes_decides}
 use Rattle.std.proofs.lemmas.Bool.Decides.{nat_tests, Decides-eqb}
@@ -7,8 +7,8 @@ use Rattle.std.proofs.lemmas.List.Folds.{list_any-append}
 use Rattle.cf_protocol.specs.Position.{Position}
 use Rattle.cf_followers.specs.Follows.{Follow, follow, follows, is_of, with_follow, without_follow}
 use Rattle.cf_recovery.specs.Kept.{nothing_kept}
-use Rattle.cf_hub.specs.declared.session.Session.{Session}
 use Rattle.cf_hub.specs.Hub.{attached_in, is_open, moves}
+use Rattle.cf_hub.specs.Places.{Places}
 use Rattle.cf_hub.specs.Rows.{Agrees, sub_in}
 use Rattle.cf_hub.specs.Session.{Attached}
 use Rattle.cf_hub.specs.SessionState.{Asked, begins, is_off}
@@ -33,7 +33,7 @@ and_false : (b : Bool) → (b && false) ≡ false
 and_false true = refl
 and_false false = refl
 
-module _ (c : List ℕ) (k : ℕ) (id : ℕ) (since : Option Position) (m n : BTreeMap ℕ Session) (rows : List Follow) (agrees : Agrees (attached_in m) rows) (live : is_open (attached_in m k) ≡ true)
+module _ (c : List ℕ) (k : ℕ) (id : ℕ) (since : Option Position) (m n : Places) (rows : List Follow) (agrees : Agrees (attached_in m) rows) (live : is_open (attached_in m k) ≡ true)
     (here : attached_in n k ≡ option_map (moves (begins plain c id since)) (attached_in m k)) (others : (j : ℕ) → j ≢ k → attached_in n j ≡ attached_in m j) where
   begun : (d : List ℕ) (o : Option Attached) → is_open o ≡ true → not (is_off (sub_in (option_map (moves (begins plain c id since)) o) d)) ≡ (not (is_off (sub_in o d)) || bytes_eq c d)
   begun d None e = absurd (cc)
@@ -68,13 +68,13 @@ with_without [] c k h = let e = (bytes_decides c c).1 refl in grind (arith, nat_
 with_without (r ∷ rows) c k h = grind (arith, nat_tests, with_without rows c k)
 
 -- where both were as they are, nothing changed
-pub same_all : (k : ℕ) (m n : BTreeMap ℕ Session) → attached_in n k ≡ attached_in m k → ((j : ℕ) → j ≢ k → attached_in n j ≡ attached_in m j) → (j : ℕ) → attached_in n j ≡ attached_in m j
+pub same_all : (k : ℕ) (m n : Places) → attached_in n k ≡ attached_in m k → ((j : ℕ) → j ≢ k → attached_in n j ≡ attached_in m j) → (j : ℕ) → attached_in n j ≡ attached_in m j
 same_all k m n here others j = by_value (j == k) (Decides-eqb j k)
   where
     by_value : (t : Bool) → (t ≡ true → j ≡ k) × (j ≡ k → t ≡ true) → attached_in n j ≡ attached_in m j
     by_value true e = subst (λ i. attached_in n i ≡ attached_in m i) (sym (e.0 refl)) here
     by_value false e = others j (λ h. absurd (let g = e.1 h in cc))
 
-pub undone_agrees : (m n : BTreeMap ℕ Session) (rows left : List Follow) → Agrees (attached_in m) rows → ((j : ℕ) → attached_in n j ≡ attached_in m j) → left ≡ rows → Agrees (attached_in n) left
+pub undone_agrees : (m n : Places) (rows left : List Follow) → Agrees (attached_in m) rows → ((j : ℕ) → attached_in n j ≡ attached_in m j) → left ≡ rows → Agrees (attached_in n) left
 undone_agrees m n rows left a same e =
     subst (λ (rs : List Follow). Agrees (attached_in n) rs) (sym e) (λ d j. a d j ∙ ap (λ o. not (is_off (sub_in o d))) (sym (same j)))

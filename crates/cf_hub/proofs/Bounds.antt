@@ -1,15 +1,15 @@
 -- The numbers of all sessions stay below the most that a node has, and those below the first free one stay taken.
-use Rattle.std.proofs.Common.{◌≡◌, ◌≢◌, ℕ, ◌==◌, ◌<◌, min, Bool, true, false, Option, Some, None, arith, refl, sym, ap, ◌∙◌, subst, option_map, is_some, BTreeMap}
+use Rattle.std.proofs.Common.{◌≡◌, ◌≢◌, ℕ, ◌==◌, ◌<◌, min, Bool, true, false, Option, Some, None, arith, refl, sym, ap, ◌∙◌, subst, option_map, is_some}
 use Rattle.std.proofs.lemmas.Bool.Decides.{Decides-eqb}
 use Rattle.cf_queue.specs.OutQueue.{Item}
-use Rattle.cf_hub.specs.declared.session.Session.{Session}
 use Rattle.cf_hub.specs.Hub.{AreNumbered, attached_in, moves}
+use Rattle.cf_hub.specs.Places.{Places}
 use Rattle.cf_hub.specs.Session.{Attached}
 use Rattle.cf_hub.specs.SessionState.{SessionState}
 use Rattle.cf_hub.specs.WantOfMemory.{Both}
 use Rattle.cf_hub.specs.Wordings.{Held}
 
-module _ (k : ℕ) (m n : BTreeMap ℕ Session) {from : ℕ} (few : AreNumbered from (attached_in m)) where
+module _ (k : ℕ) (m n : Places) {from : ℕ} (few : AreNumbered from (attached_in m)) where
   others_are : ((j : ℕ) → j ≢ k → attached_in n j ≡ attached_in m j) → (j : ℕ) → (P : Option Attached → Type 0) → (P (attached_in m k) → P (attached_in n k)) → P (attached_in m j) → P (attached_in n j)
   others_are others j P here h = by_value (j == k) (Decides-eqb j k)
     where
@@ -52,6 +52,6 @@ module _ (k : ℕ) (m n : BTreeMap ℕ Session) {from : ℕ} (few : AreNumbered 
         taken = λ j h. let less : j < k = omega (arith, h) in let old : j < from = omega (arith, h) in ap is_some (others j (λ e. absurd (omega (arith, e, less)))) ∙ few.taken j old;
       }
 
-pub bounded_move : (k : ℕ) (m n : BTreeMap ℕ Session) {from : ℕ} (f : SessionState Held Item → SessionState Held Item) → AreNumbered from (attached_in m) → attached_in n k ≡ option_map (moves f) (attached_in m k) → ((j : ℕ) → j ≢ k → attached_in n j ≡ attached_in m j)
+pub bounded_move : (k : ℕ) (m n : Places) {from : ℕ} (f : SessionState Held Item → SessionState Held Item) → AreNumbered from (attached_in m) → attached_in n k ≡ option_map (moves f) (attached_in m k) → ((j : ℕ) → j ≢ k → attached_in n j ≡ attached_in m j)
     → AreNumbered from (attached_in n)
 bounded_move k m n f few here others = bounded_map k m n few (moves f) here others

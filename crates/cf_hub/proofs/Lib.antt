@@ -23,3 +23,4 @@ pub mod Ending
 pub mod Counts
 pub mod Marks
 pub mod Naming
+pub mod Placing

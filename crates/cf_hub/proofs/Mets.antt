@@ -1,10 +1,10 @@
 -- One session meets a call that may want memory, and its rows go with what ended.
-use Rattle.std.proofs.Common.{◌≡◌, ◌≢◌, ℕ, Bool, Option, List, sym, ap, ◌∙◌, subst, BTreeMap}
+use Rattle.std.proofs.Common.{◌≡◌, ◌≢◌, ℕ, Bool, Option, List, sym, ap, ◌∙◌, subst}
 use Rattle.cf_followers.specs.Follows.{Follow}
 use Rattle.cf_queue.specs.OutQueue.{Item}
-use Rattle.cf_hub.specs.declared.session.Session.{Session}
 use Rattle.cf_hub.specs.declared.delivered.Fate.{Fate}
 use Rattle.cf_hub.specs.Hub.{Node, InState, Meets, PingStep, Pings, attached_at, attached_in, counted, one_if}
+use Rattle.cf_hub.specs.Places.{Places, numbered}
 use Rattle.cf_hub.specs.Rows.{Agrees, off_after, rows_after, sub_in}
 use Rattle.cf_hub.specs.Session.{Attached, shown_all}
 use Rattle.cf_hub.specs.SessionState.{SessionState, is_off}
@@ -14,13 +14,13 @@ use Rattle.cf_hub.specs.Wordings.{Held}
 use Rattle.cf_hub.proofs.Hubs.{seen, agrees_seen}
 use Rattle.cf_hub.proofs.Walks.{agrees_by}
 
-module _ (f : Fate) (c : List ℕ) (k : ℕ) (m n : BTreeMap ℕ Session) (rows : List Follow) (agrees : Agrees (attached_in m) rows)
+module _ (f : Fate) (c : List ℕ) (k : ℕ) (m n : Places) (rows : List Follow) (agrees : Agrees (attached_in m) rows)
     (others : (j : ℕ) → j ≢ k → attached_in n j ≡ attached_in m j)
     (offs : (d : List ℕ) → is_off (sub_in (attached_in n k) d) ≡ off_after f c d (is_off (sub_in (attached_in m k) d))) where
   pub met_agrees : (left : List Follow) → left ≡ rows_after f c k rows → Agrees (attached_in n) left
   met_agrees left gone = subst (λ (rs : List Follow). Agrees (attached_in n) rs) (sym gone) (agrees_by f c k (attached_in m) (attached_in n) rows agrees offs others)
 
-  module _ (old new : Node) (was : old.sessions ≡ shown_all m.entries) (is : new.sessions ≡ shown_all n.entries) (gone : new.rows ≡ rows_after f c k rows) where
+  module _ (old new : Node) (was : old.sessions ≡ shown_all (numbered 0 m)) (is : new.sessions ≡ shown_all (numbered 0 n)) (gone : new.rows ≡ rows_after f c k rows) where
     seen_both : (R : Attached → Attached → Type 0) → Both R (attached_in m k) (attached_in n k) → Both R (attached_at old k) (attached_at new k)
     seen_both R here =
         subst (λ (g : ℕ → Option Attached). Both R (g k) (attached_at new k)) (sym (seen old m was))

@@ -1,13 +1,13 @@
 -- One session changes, and its rows with it.
-use Rattle.std.proofs.Common.{◌≡◌, ◌≢◌, ℕ, not, Bool, true, false, if◌then◌else◌, Option, Some, None, List, refl, sym, ap, ◌∙◌, subst, option_map, is_some, BTreeMap}
+use Rattle.std.proofs.Common.{◌≡◌, ◌≢◌, ℕ, not, Bool, true, false, if◌then◌else◌, Option, Some, None, List, refl, sym, ap, ◌∙◌, subst, option_map, is_some}
 use Rattle.std.specs.Str.{bytes_eq}
 use Rattle.cf_followers.specs.Follows.{Follow}
 use Rattle.cf_queue.specs.OutQueue.{Item, Close}
 use Rattle.cf_protocol.specs.Note.{Reading}
-use Rattle.cf_hub.specs.declared.session.Session.{Session}
 use Rattle.cf_hub.specs.declared.delivered.Fate.{Fate}
 use Rattle.cf_hub.specs.declared.delivered.Fate.TheVariants as fate
 use Rattle.cf_hub.specs.Hub.{Node, One, attached_in, is_open, moves}
+use Rattle.cf_hub.specs.Places.{Places, numbered}
 use Rattle.cf_hub.specs.Rows.{Agrees, off_after, rows_after, sub_in}
 use Rattle.cf_hub.specs.Session.{Attached, shown_all}
 use Rattle.cf_hub.specs.SessionState.{SessionState, Subscription, Wording, Off, Asked, Ready, On, reads, read_at, closes, closes_now, leaves, is_off}
@@ -27,7 +27,7 @@ off_stays fate.Ended c d = either (bytes_eq d c)
     either false = refl
 off_stays fate.Closed c d = refl
 
-module _ (f : Fate) (c : List ℕ) (k : ℕ) (move : SessionState Held Item → SessionState Held Item) (m n : BTreeMap ℕ Session) (rows : List Follow) (agrees : Agrees (attached_in m) rows)
+module _ (f : Fate) (c : List ℕ) (k : ℕ) (move : SessionState Held Item → SessionState Held Item) (m n : Places) (rows : List Follow) (agrees : Agrees (attached_in m) rows)
     (here : attached_in n k ≡ option_map (moves move) (attached_in m k)) (others : (j : ℕ) → j ≢ k → attached_in n j ≡ attached_in m j)
     (offs : (a : Attached) (d : List ℕ) → attached_in m k ≡ Some a → is_off ((move a.state).subs d) ≡ off_after f c d (is_off (a.state.subs d))) where
   off_in : (d : List ℕ) (o : Option Attached) → attached_in m k ≡ o → is_off (sub_in (option_map (moves move) o) d) ≡ off_after f c d (is_off (sub_in o d))
@@ -37,7 +37,7 @@ module _ (f : Fate) (c : List ℕ) (k : ℕ) (move : SessionState Held Item → 
   pub one_agrees : Agrees (attached_in n) (rows_after f c k rows)
   one_agrees = agrees_by f c k (attached_in m) (attached_in n) rows agrees (λ d. ap (λ o. is_off (sub_in o d)) here ∙ off_in d (attached_in m k) refl) others
 
-  pub one_seen : (old new : Node) → old.sessions ≡ shown_all m.entries → new.sessions ≡ shown_all n.entries → new.rows ≡ rows_after f c k rows → One k move old new
+  pub one_seen : (old new : Node) → old.sessions ≡ shown_all (numbered 0 m) → new.sessions ≡ shown_all (numbered 0 n) → new.rows ≡ rows_after f c k rows → One k move old new
   one_seen old new was is gone =
       record {
         here = ap (λ g. g k) (seen new n is) ∙ here ∙ ap (λ g. option_map (moves move) (g k)) (sym (seen old m was));

@@ -1,11 +1,12 @@
 -- A session that was just attached.
-use Rattle.std.proofs.Common.{◌≡◌, ◌≢◌, ℕ, ◌==◌, ◌<◌, ◌+◌, is_some, Bool, true, false, Some, None, List, [], arith, refl, sym, ap, ◌∙◌, BTreeMap}
+use Rattle.std.proofs.Common.{◌≡◌, ◌≢◌, ℕ, ◌==◌, ◌<◌, ◌+◌, is_some, Bool, true, false, Some, None, List, [], arith, refl, sym, ap, ◌∙◌}
 use Rattle.std.proofs.lemmas.Bool.Decides.{Decides-eqb}
 use Rattle.cf_followers.specs.Follows.{Follow}
 use Rattle.cf_queue.specs.OutQueue.{Item}
 use Rattle.cf_hub.specs.declared.session.Session.{Session}
 use Rattle.cf_hub.specs.declared.delivered.Fate.TheVariants as fate
 use Rattle.cf_hub.specs.Hub.{AreNumbered, attached_in, fresh, most_sessions}
+use Rattle.cf_hub.specs.Places.{Places}
 use Rattle.cf_hub.specs.Rows.{Agrees, sub_in}
 use Rattle.cf_hub.specs.Session.{attached_of, badge_of, state_of}
 use Rattle.cf_hub.specs.SessionState.{SessionState, is_off, opens}
@@ -15,7 +16,7 @@ use Rattle.cf_hub.proofs.Walks.{agrees_by}
 pub fresh_is : (s : Session) (client user : List ℕ) (now : ℕ) → state_of s ≡ opens → badge_of s ≡ record { client = client; user = user; pinged = now; awaits_pong = false } → attached_of s ≡ fresh client user now
 fresh_is s client user now e f = λ i. record { badge = f i; state = e i }
 
-module _ (k : ℕ) (m n : BTreeMap ℕ Session) where
+module _ (k : ℕ) (m n : Places) where
   pub fresh_agrees : (rows : List Follow) (s : Session) → Agrees (attached_in m) rows → attached_in m k ≡ None → attached_in n k ≡ Some (attached_of s) → ((j : ℕ) → j ≢ k → attached_in n j ≡ attached_in m j) → state_of s ≡ opens → Agrees (attached_in n) rows
   fresh_agrees rows s agrees free here others e =
       agrees_by fate.Passed [] k (attached_in m) (attached_in n) rows agrees

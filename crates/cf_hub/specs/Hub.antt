@@ -1,7 +1,7 @@
 -- A node's sessions by number, and which session follows which channel.
 pub use Rattle.cf_hub.specs.Turns.{is_in}
 use Rattle.std.specs.Prelude.{◌≡◌, ◌≢◌, ◌≤◌, ◌<◌, ◌⊎◌, ℕ, ◌+◌, min, not, Bool, true, false, if◌then◌else◌, Option, Some, None, option_map, is_some, List, [], length, ◌++◌, ◌∷◌}
-use Rattle.std.specs.BTreeMap.{BTreeMap, get, is_at}
+use Rattle.std.specs.BTreeMap.{is_at}
 use Rattle.std.specs.Fmt.{decimal}
 use Rattle.std.specs.Map.{lookup}
 use Rattle.std.specs.Ordering.{nat_cmp}
@@ -11,13 +11,13 @@ use Rattle.cf_queue.specs.OutQueue.{Item}
 use Rattle.cf_followers.specs.Follows.{Follow, channels_of, most_rows, sessions_of, with_follow}
 use Rattle.cf_hub.specs.Delivery.{fate_at, none, tally}
 use Rattle.cf_hub.specs.declared.delivered.Delivered.{Delivered}
+use Rattle.cf_hub.specs.Places.{Places, session_in}
 use Rattle.cf_hub.specs.Rows.{Agrees, sub_in}
 use Rattle.cf_hub.specs.Session.{Attached, Shown, attached_shown, attached_of, ticked, ticks}
 use Rattle.cf_hub.specs.SessionState.{SessionState, Subscription, begins, comes, is_off, opens}
 use Rattle.cf_hub.specs.WantOfMemory.{Both, OrCloses, Serves}
 use Rattle.cf_hub.specs.Turns.{Turns, first_turn, get_turns, gets_turn, no_turns, turns_left}
 use Rattle.cf_hub.specs.Wordings.{Held, at_offset, delivering, plain}
-use Rattle.cf_hub.specs.declared.session.Session.{Session}
 use Rattle.cf_hub.specs.declared.refusal.HubRefusal.{HubRefusal}
 use Rattle.cf_hub.specs.declared.refusal.HubRefusal.TheVariants as refusal
 use Rattle.cf_hub.specs.declared.said.Said.{Said}
@@ -42,8 +42,8 @@ largest = 18446744073709551615
 abbrev pub attached_at : Node → ℕ → Option Attached
 attached_at h k = option_map attached_shown (lookup (is_at (nat_cmp k)) h.sessions)
 
-abbrev pub attached_in : BTreeMap ℕ Session → ℕ → Option Attached
-attached_in sessions k = option_map attached_of (get nat_cmp sessions k)
+abbrev pub attached_in : Places → ℕ → Option Attached
+attached_in sessions k = option_map attached_of (session_in sessions k)
 
 -- no session yet
 abbrev pub empty : ℕ → ℕ → Node

@@ -4,7 +4,9 @@ pub mod WantOfMemory
 pub mod Wordings
 pub mod Delivery
 pub mod Subscriptions
+pub mod Places
 pub mod Session
+pub mod Lent
 pub mod Asking
 pub mod Checked
 pub mod Finish

@@ -1,6 +1,5 @@
 -- What a call makes of one of a node's sessions: of the session itself, and of all of them by number.
 use Rattle.std.specs.Prelude.{◌≡◌, ◌≢◌, ◌&&◌, ℕ, not, Bool, false, if◌then◌else◌, Option, MatchOption, IfSome, List, map, option_map, string_bytes}
-use Rattle.std.specs.BTreeMap.{BTreeMap}
 use Rattle.std.specs.declared.alloc.Global.{Global}
 use Rattle.std.specs.declared.string.String.{String}
 use Rattle.cf_protocol.specs.Datum.{Placed}
@@ -9,6 +8,7 @@ use Rattle.cf_stream.specs.declared.answer.Recovery.{Recovery}
 use Rattle.cf_hub.specs.Delivery.{fate_of}
 use Rattle.cf_hub.specs.Finish.{FinishesAt}
 use Rattle.cf_hub.specs.Hub.{InState, attached_in, moves}
+use Rattle.cf_hub.specs.Places.{Places}
 use Rattle.cf_hub.specs.Reply.{IsAnswered}
 use Rattle.cf_hub.specs.Rows.{off_after, sub_in}
 use Rattle.cf_hub.specs.Session.{Attached, Badge, badge_of, state_of, ticks}
@@ -24,9 +24,6 @@ use Rattle.cf_hub.specs.declared.session.Step.{Step}
 
 abbrev pub Move : Type 0
 Move = SessionState Held Item → SessionState Held Item
-
-abbrev pub SessionMap : Type 0
-SessionMap = BTreeMap ℕ Session
 
 -- ---- moves
 
@@ -103,29 +100,29 @@ AnswersTo answered c old new =
 -- ---- the session of a number
 
 -- the sessions of other numbers are as they were
-abbrev pub OthersStayIn : ℕ → SessionMap → SessionMap → Type 0
+abbrev pub OthersStayIn : ℕ → Places → Places → Type 0
 OthersStayIn k old new = (j : ℕ) → j ≢ k → attached_in new j ≡ attached_in old j
 
 -- the session of k, where there is one, becomes this
-abbrev pub BecomesIn : ℕ → (Attached → Attached) → SessionMap → SessionMap → Type 0
+abbrev pub BecomesIn : ℕ → (Attached → Attached) → Places → Places → Type 0
 BecomesIn k f old new = attached_in new k ≡ option_map f (attached_in old k)
 
 -- it makes this move
-abbrev pub MovesIn : ℕ → Move → SessionMap → SessionMap → Type 0
+abbrev pub MovesIn : ℕ → Move → Places → Places → Type 0
 MovesIn k move old new = BecomesIn k (moves move) old new
 
 -- R stands between it before and after
-abbrev pub MeetsIn : ℕ → (Attached → Attached → Type 0) → SessionMap → SessionMap → Type 0
+abbrev pub MeetsIn : ℕ → (Attached → Attached → Type 0) → Places → Places → Type 0
 MeetsIn k R old new = Both R (attached_in old k) (attached_in new k)
 
 -- it makes this move, or is closed where memory was refused
-abbrev pub ActsIn : ℕ → Step → Move → SessionMap → SessionMap → Type 0
+abbrev pub ActsIn : ℕ → Step → Move → Places → Places → Type 0
 ActsIn k step move old new = MeetsIn k (InState (OrCloses step.refused plain move)) old new
 
 -- its channel's subscription is finished where there is one to finish
-abbrev pub FinishesIn : ℕ → Step → List ℕ → SessionMap → SessionMap → Type 0
+abbrev pub FinishesIn : ℕ → Step → List ℕ → Places → Places → Type 0
 FinishesIn k step c old new = MeetsIn k (InState (FinishesAt step.refused c (sub_in (attached_in old k) c))) old new
 
 -- its channels are off after as this fate at channel c says
-abbrev pub EndsIn : ℕ → Fate → List ℕ → SessionMap → SessionMap → Type 0
+abbrev pub EndsIn : ℕ → Fate → List ℕ → Places → Places → Type 0
 EndsIn k f c old new = (d : List ℕ) → is_off (sub_in (attached_in new k) d) ≡ off_after f c d (is_off (sub_in (attached_in old k) d))

@@ -11,6 +11,7 @@ ghost use Rattle.cf_hub.specs.SessionState.{is_unfinished};
 ghost use Rattle.cf_hub.specs.Subscriptions.{sub_of};
 
 use crate::hub::Hub;
+use crate::places::Sessions;
 use crate::session::Session;
 use crate::subscription::Progress;
 use cf_protocol::Position;
@@ -64,19 +65,19 @@ impl Hub {
     }
 }
 
-fn asked_in(sessions: &BTreeMap<u32, Session>, number: u32, channel: &str) -> Option<Asked>
+fn asked_in(sessions: &Sessions, number: u32, channel: &str) -> Option<Asked>
     ensures { result ≡ asked_of (sub_in (attached_in sessions.now number) channel.now) }
 {
-    match sessions.get(&number) {
+    match sessions.get(number) {
         None => None,
         Some(session) => session.asked(channel),
     }
 }
 
-fn is_settled_in(sessions: &BTreeMap<u32, Session>, number: u32) -> bool
+fn is_settled_in(sessions: &Sessions, number: u32) -> bool
     ensures { IsTrue result ↔ ((c : List ℕ) → is_unfinished (sub_in (attached_in sessions.now number) c) ≡ false) }
 {
-    match sessions.get(&number) {
+    match sessions.get(number) {
         None => true,
         Some(session) => session.is_settled(),
     }

@@ -12,7 +12,7 @@ ghost use Rattle.cf_hub.specs.Wordings.{IsWritten};
 
 use crate::delivered::{Delivered, Fate};
 use crate::listed::Listed;
-use crate::session::Session;
+use crate::places::Sessions;
 use crate::sessions::{
     bring_one, close_one, count_more, drop_one, leave_one, settle_all, take_one,
 };
@@ -21,7 +21,6 @@ use cf_followers::Followers;
 use cf_protocol::{Epoch, Publication};
 use cf_queue::Out;
 use std::alloc::Global;
-use std::collections::BTreeMap;
 use std::marker::Model;
 
 /// How many sessions a node has at most.
@@ -36,7 +35,7 @@ pub struct Hub {
     pub(crate) node: u8,
     pub(crate) boot: u64,
     pub(crate) used: u64,
-    pub(crate) sessions: BTreeMap<u32, Session>,
+    pub(crate) sessions: Sessions,
     /// Each number below this one has a session.
     pub(crate) free_from: u32,
     pub(crate) rows: Followers,
@@ -51,10 +50,11 @@ impl Model for Hub {
     ghost Value = { Node };
 
     ghost use Rattle.cf_hub.specs.Hub.{AreNumbered, attached_in};
+    ghost use Rattle.cf_hub.specs.Places.{numbered};
     ghost use Rattle.cf_hub.specs.Rows.{Agrees};
     ghost use Rattle.cf_hub.specs.Session.{shown_all};
 
-    ghost view = { λ h. record { node = h.node; boot = h.boot; used = h.used; sessions = shown_all h.sessions.entries; rows = h.rows; refused = h.refused; turns = h.listed } };
+    ghost view = { λ h. record { node = h.node; boot = h.boot; used = h.used; sessions = shown_all (numbered 0 h.sessions); rows = h.rows; refused = h.refused; turns = h.listed } };
 
     ghost invariant = { λ h. Agrees (attached_in h.sessions) h.rows × AreNumbered h.free_from (attached_in h.sessions) };
 }
@@ -68,7 +68,7 @@ impl Hub {
             node,
             boot,
             used: 0,
-            sessions: BTreeMap::new(alloc),
+            sessions: Sessions::new(alloc),
             free_from: 0,
             rows: Followers::new(alloc),
             refused: 0,

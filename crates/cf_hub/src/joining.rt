@@ -70,7 +70,7 @@ impl Hub {
         self.listed.make_room(number)?;
         let client = write_client_id(self.alloc, self.node, self.boot, self.used + 1)?;
         let session = Session::new(self.alloc, client, user, now);
-        insert_one(&mut self.sessions, number, session)?;
+        insert_one(&mut self.sessions, self.alloc, number, session)?;
         self.free_from = number + 1;
         self.used += 1;
         Ok(())

@@ -8,6 +8,7 @@ mod hub;
 mod joining;
 pub mod laws;
 mod listed;
+mod places;
 mod refusal;
 mod reply;
 mod said;

@@ -5,8 +5,7 @@ use crate::checked::Checked;
 use crate::hub::Hub;
 use crate::said::Said;
 use crate::sessions::{
-    check_one, count_more, finish_one, next_from, next_in, pong_one, read_one, say_one, settle,
-    tick_one,
+    check_one, count_more, finish_one, next_in, pong_one, read_one, say_one, settle, tick_one,
 };
 use cf_protocol::Position;
 use cf_stream::Recovery;
@@ -139,7 +138,7 @@ impl Hub {
         ensures next { IfSome result (λ k. IsNextFrom from k (attached_at self.now)
             × (k < most_sessions)) }
     {
-        next_from(&self.sessions, from)
+        self.sessions.next_from(from)
     }
 
     fn ping(&mut self, session: u32, now: u64)

@@ -1,11 +1,9 @@
 //! A node's sessions by number: what a call makes of one of them.
-ghost use Rattle.std.specs.Prelude.{◌≡◌, [], true, not, is_some, IfNone, IfSome, OnOk, OnErr, Some, None, string_bytes, option_map, option_and_then, slice_get};
-ghost use Rattle.std.specs.BTreeMap.{get};
-ghost use Rattle.std.specs.Ordering.{nat_cmp};
+ghost use Rattle.std.specs.Prelude.{◌≡◌, [], true, not, is_some, OnOk, OnErr, Some, None, string_bytes, option_map, option_and_then, slice_get};
 ghost use Rattle.cf_queue.specs.Meaning.{meaning};
 ghost use Rattle.cf_queue.specs.OutQueue.{Close};
 ghost use Rattle.cf_hub.specs.Delivery.{fate_at};
-ghost use Rattle.cf_hub.specs.Hub.{Brings, HasNoneFrom, IsNextFrom, IsNextTurn, Pings, attached_in, counted, is_open, is_waiting, one_if, said_in, waits_in};
+ghost use Rattle.cf_hub.specs.Hub.{Brings, IsNextTurn, Pings, attached_in, counted, is_open, is_waiting, one_if, said_in, waits_in};
 ghost use Rattle.cf_hub.specs.Checked.{check_answer, stand_of};
 ghost use Rattle.cf_hub.specs.Rows.{AgreedBefore, Agrees, TellsFate, rows_after, sub_in};
 ghost use Rattle.cf_hub.specs.Session.{attached_of, badge_ponged};
@@ -16,6 +14,7 @@ ghost use Rattle.cf_hub.specs.Wordings.{IsWritten, at_offset, plain};
 use crate::checked::Checked;
 use crate::delivered::Fate;
 use crate::listed::Listed;
+use crate::places::Sessions;
 use crate::said::Said;
 use crate::session::{Session, Step};
 use cf_followers::Followers;
@@ -23,11 +22,10 @@ use cf_protocol::{Epoch, Position, Publication};
 use cf_queue::Out;
 use cf_stream::Recovery;
 use std::alloc::{AllocError, Global};
-use std::collections::BTreeMap;
 
 /// Brings a publication to one session.
 pub(crate) fn bring_one(
-    sessions: &mut BTreeMap<u32, Session>,
+    sessions: &mut Sessions,
     alloc: Global,
     number: u32,
     channel: &str,
@@ -42,7 +40,7 @@ pub(crate) fn bring_one(
     ensures fate { result.fate ≡ fate_at channel.now (at_offset epoch.now publication.now)
         (attached_in sessions.old number) (attached_in sessions.new number) }
 {
-    match sessions.get_mut(&number) {
+    match sessions.get_mut(number) {
         None => Step {
             fate: Fate::Dropped,
             refused: false,
@@ -52,51 +50,51 @@ pub(crate) fn bring_one(
 }
 
 /// One session leaves a channel.
-pub(crate) fn leave_one(sessions: &mut BTreeMap<u32, Session>, number: u32, channel: &str)
+pub(crate) fn leave_one(sessions: &mut Sessions, number: u32, channel: &str)
     ensures here { MovesIn number (leaves channel.now) sessions.old sessions.new }
     ensures others { OthersStayIn number sessions.old sessions.new }
 {
-    if let Some(session) = sessions.get_mut(&number) {
+    if let Some(session) = sessions.get_mut(number) {
         session.leave(channel);
     }
 }
 
 /// Closes one session. Says whether it was open.
-pub(crate) fn close_one(sessions: &mut BTreeMap<u32, Session>, number: u32, code: u16) -> bool
+pub(crate) fn close_one(sessions: &mut Sessions, number: u32, code: u16) -> bool
     ensures here { MovesIn number (closes_now (Close code)) sessions.old sessions.new }
     ensures others { OthersStayIn number sessions.old sessions.new }
     ensures open { result ≡ is_open (attached_in sessions.old number) }
 {
-    match sessions.get_mut(&number) {
+    match sessions.get_mut(number) {
         None => false,
         Some(session) => session.close(code),
     }
 }
 
 /// Takes what is next for one session's client.
-pub(crate) fn take_one(sessions: &mut BTreeMap<u32, Session>, number: u32) -> Option<Out>
+pub(crate) fn take_one(sessions: &mut Sessions, number: u32) -> Option<Out>
     ensures front { option_map meaning result
         ≡ option_and_then (λ a. slice_get a.state.notes 0) (attached_in sessions.old number) }
     ensures here { MovesIn number takes_front sessions.old sessions.new }
     ensures others { OthersStayIn number sessions.old sessions.new }
 {
-    match sessions.get_mut(&number) {
+    match sessions.get_mut(number) {
         None => None,
         Some(session) => session.take(),
     }
 }
 
 /// One session goes.
-pub(crate) fn drop_one(sessions: &mut BTreeMap<u32, Session>, number: u32)
+pub(crate) fn drop_one(sessions: &mut Sessions, number: u32)
     ensures here { attached_in sessions.new number ≡ None }
     ensures others { OthersStayIn number sessions.old sessions.new }
 {
-    let _gone = sessions.remove(&number);
+    sessions.remove(number);
 }
 
 /// Makes a subscription of one session, which is open and doesn't follow the channel.
 pub(crate) fn begin_one(
-    sessions: &mut BTreeMap<u32, Session>,
+    sessions: &mut Sessions,
     alloc: Global,
     number: u32,
     channel: &str,
@@ -109,7 +107,7 @@ pub(crate) fn begin_one(
     ensures others { OthersStayIn number sessions.old sessions.new }
     ensures err { OnErr result (attached_in sessions.new number ≡ attached_in sessions.old number) }
 {
-    match sessions.get_mut(&number) {
+    match sessions.get_mut(number) {
         None => Ok(()),
         Some(session) => session.begin(alloc, channel, id, since),
     }
@@ -117,7 +115,7 @@ pub(crate) fn begin_one(
 
 /// Hands the read of a channel's stream to one session.
 pub(crate) fn read_one(
-    sessions: &mut BTreeMap<u32, Session>,
+    sessions: &mut Sessions,
     number: u32,
     channel: &str,
     recovery: Recovery,
@@ -126,7 +124,7 @@ pub(crate) fn read_one(
     ensures here { MovesIn number (takes_read recovery channel.now) sessions.old sessions.new }
     ensures others { OthersStayIn number sessions.old sessions.new }
 {
-    match sessions.get_mut(&number) {
+    match sessions.get_mut(number) {
         None => false,
         Some(session) => session.read_done(channel, recovery),
     }
@@ -134,7 +132,7 @@ pub(crate) fn read_one(
 
 /// Finishes a subscription of one session. Says whether there was one to finish.
 pub(crate) fn finish_one(
-    sessions: &mut BTreeMap<u32, Session>,
+    sessions: &mut Sessions,
     alloc: Global,
     number: u32,
     channel: &str,
@@ -144,7 +142,7 @@ pub(crate) fn finish_one(
     ensures others { OthersStayIn number sessions.old sessions.new }
     ensures offs { EndsIn number result.1.fate channel.now sessions.old sessions.new }
 {
-    match sessions.get_mut(&number) {
+    match sessions.get_mut(number) {
         None => (false, Step::none()),
         Some(session) => match session.finish(alloc, channel) {
             None => (false, Step::none()),
@@ -154,17 +152,13 @@ pub(crate) fn finish_one(
 }
 
 /// Says a text to one session's client.
-pub(crate) fn say_one(
-    sessions: &mut BTreeMap<u32, Session>,
-    number: u32,
-    text: String,
-) -> (Said, Step)
+pub(crate) fn say_one(sessions: &mut Sessions, number: u32, text: String) -> (Said, Step)
     ensures said { result.0 ≡ said_in (attached_in sessions.new number) }
     ensures here { ActsIn number result.1 (says_one (string_bytes text)) sessions.old sessions.new }
     ensures others { OthersStayIn number sessions.old sessions.new }
     ensures offs { EndsIn number result.1.fate [] sessions.old sessions.new }
 {
-    match sessions.get_mut(&number) {
+    match sessions.get_mut(number) {
         None => (Said::Gone, Step::none()),
         Some(session) => {
             let step = session.tell(text);
@@ -179,7 +173,7 @@ pub(crate) fn say_one(
 
 /// Checks a subscription of one session.
 pub(crate) fn check_one(
-    sessions: &mut BTreeMap<u32, Session>,
+    sessions: &mut Sessions,
     alloc: Global,
     number: u32,
     channel: &str,
@@ -191,104 +185,88 @@ pub(crate) fn check_one(
     ensures others { OthersStayIn number sessions.old sessions.new }
     ensures offs { EndsIn number result.1.fate channel.now sessions.old sessions.new }
 {
-    match sessions.get_mut(&number) {
+    match sessions.get_mut(number) {
         None => (Checked::Nothing, Step::none()),
         Some(session) => session.check(alloc, channel, top),
     }
 }
 
 /// One session's client answered the last ping.
-pub(crate) fn pong_one(sessions: &mut BTreeMap<u32, Session>, number: u32)
+pub(crate) fn pong_one(sessions: &mut Sessions, number: u32)
     ensures here { BecomesIn number badge_ponged sessions.old sessions.new }
     ensures others { OthersStayIn number sessions.old sessions.new }
 {
-    if let Some(session) = sessions.get_mut(&number) {
+    if let Some(session) = sessions.get_mut(number) {
         session.pong();
     }
 }
 
 /// Pings one session's client where it is due.
-pub(crate) fn tick_one(
-    sessions: &mut BTreeMap<u32, Session>,
-    alloc: Global,
-    number: u32,
-    now: u64,
-) -> Step
+pub(crate) fn tick_one(sessions: &mut Sessions, alloc: Global, number: u32, now: u64) -> Step
     ensures here { MeetsIn number (Pings result.refused now) sessions.old sessions.new }
     ensures others { OthersStayIn number sessions.old sessions.new }
     ensures offs { EndsIn number result.fate [] sessions.old sessions.new }
 {
-    match sessions.get_mut(&number) {
+    match sessions.get_mut(number) {
         None => Step::none(),
         Some(session) => session.tick(alloc, now),
     }
 }
 
-/// The least number from this one on that has a session.
-pub(crate) fn next_from(sessions: &BTreeMap<u32, Session>, from: u32) -> Option<u32>
-    ensures none { IfNone result (HasNoneFrom from (attached_in sessions.now)) }
-    ensures next { IfSome result (λ k. IsNextFrom from k (attached_in sessions.now)) }
-{
-    match sessions.range(from..).next() {
-        Some((number, _)) => Some(*number),
-        None => None,
-    }
-}
-
 /// Whether one session is closed, or there is none.
-pub(crate) fn is_closed_in(sessions: &BTreeMap<u32, Session>, number: u32) -> bool
+pub(crate) fn is_closed_in(sessions: &Sessions, number: u32) -> bool
     ensures { result ≡ not (is_open (attached_in sessions.now number)) }
 {
-    match sessions.get(&number) {
+    match sessions.get(number) {
         None => true,
         Some(session) => session.is_closed(),
     }
 }
 
 /// Whether one session's subscription to a channel is finished.
-pub(crate) fn is_on_in(sessions: &BTreeMap<u32, Session>, number: u32, channel: &str) -> bool
+pub(crate) fn is_on_in(sessions: &Sessions, number: u32, channel: &str) -> bool
     ensures { result ≡ is_some (stand_of (sub_in (attached_in sessions.now number) channel.now)) }
 {
-    match sessions.get(&number) {
+    match sessions.get(number) {
         None => false,
         Some(session) => session.is_on(channel),
     }
 }
 
 /// Whether one session follows a channel, or is asking for it.
-pub(crate) fn has_in(sessions: &BTreeMap<u32, Session>, number: u32, channel: &str) -> bool
+pub(crate) fn has_in(sessions: &Sessions, number: u32, channel: &str) -> bool
     ensures { result ≡ not (is_off (sub_in (attached_in sessions.now number) channel.now)) }
 {
-    match sessions.get(&number) {
+    match sessions.get(number) {
         None => false,
         Some(session) => session.has(channel),
     }
 }
 
 /// Whether a number has a session.
-pub(crate) fn is_taken(sessions: &BTreeMap<u32, Session>, number: u32) -> bool
+pub(crate) fn is_taken(sessions: &Sessions, number: u32) -> bool
     ensures { result ≡ is_some (attached_in sessions.now number) }
 {
-    sessions.contains_key(&number)
+    sessions.has(number)
 }
 
 /// The id of one session's client.
-pub(crate) fn client_in(sessions: &BTreeMap<u32, Session>, number: u32) -> Option<&str>
+pub(crate) fn client_in(sessions: &Sessions, number: u32) -> Option<&str>
     ensures { option_map (λ t. t.now) result
         ≡ option_map (λ a. a.badge.client) (attached_in sessions.now number) }
 {
-    match sessions.get(&number) {
+    match sessions.get(number) {
         None => None,
         Some(session) => Some(session.client_id()),
     }
 }
 
 /// The name of one session's user.
-pub(crate) fn user_in(sessions: &BTreeMap<u32, Session>, number: u32) -> Option<&str>
+pub(crate) fn user_in(sessions: &Sessions, number: u32) -> Option<&str>
     ensures { option_map (λ t. t.now) result
         ≡ option_map (λ a. a.badge.user) (attached_in sessions.now number) }
 {
-    match sessions.get(&number) {
+    match sessions.get(number) {
         None => None,
         Some(session) => Some(session.user()),
     }
@@ -296,30 +274,30 @@ pub(crate) fn user_in(sessions: &BTreeMap<u32, Session>, number: u32) -> Option<
 
 /// Adds a session under a number that has none.
 pub(crate) fn insert_one(
-    sessions: &mut BTreeMap<u32, Session>,
+    sessions: &mut Sessions,
+    alloc: Global,
     number: u32,
     session: Session,
 ) -> Result<(), AllocError>
     ensures here { OnOk result (attached_in sessions.new number ≡ Some (attached_of session)) }
     ensures others { OnOk result (OthersStayIn number sessions.old sessions.new) }
-    ensures err { OnErr result (sessions.new.entries ≡ sessions.old.entries) }
+    ensures err { OnErr result (sessions.new ≡ sessions.old) }
 {
-    sessions.insert(number, session)?;
-    Ok(())
+    sessions.insert(alloc, number, session)
 }
 
 /// Whether something waits for one session's client.
-fn has_output(sessions: &BTreeMap<u32, Session>, number: u32) -> bool
+fn has_output(sessions: &Sessions, number: u32) -> bool
     ensures { result ≡ is_waiting (waits_in (attached_in sessions.now number)) }
 {
-    match sessions.get(&number) {
+    match sessions.get(number) {
         None => false,
         Some(session) => !session.is_silent(),
     }
 }
 
 /// The first listed number of a session for whose client something waits. It and those before it are no longer listed.
-pub(crate) fn next_in(listed: &mut Listed, sessions: &BTreeMap<u32, Session>) -> Option<u32>
+pub(crate) fn next_in(listed: &mut Listed, sessions: &Sessions) -> Option<u32>
     ensures { IsNextTurn (attached_in sessions.now) listed.old listed.new result }
 {
     while let Some(number) = listed.take() {
@@ -346,10 +324,10 @@ pub(crate) fn settle(rows: &mut Followers, session: u32, channel: &str, fate: Fa
 }
 
 /// What a call that met a session with this channel did with it, by what is off now: all subscriptions, this one, or neither.
-fn fate_now(sessions: &BTreeMap<u32, Session>, number: u32, channel: &str) -> Fate
+fn fate_now(sessions: &Sessions, number: u32, channel: &str) -> Fate
     ensures { TellsFate result channel.now (attached_in sessions.now number) }
 {
-    let Some(session) = sessions.get(&number) else {
+    let Some(session) = sessions.get(number) else {
         return Fate::Closed;
     };
     if session.has_none() {
@@ -362,7 +340,7 @@ fn fate_now(sessions: &BTreeMap<u32, Session>, number: u32, channel: &str) -> Fa
 }
 
 /// Removes the rows of what ended in a call that met all followers of a channel.
-pub(crate) fn settle_all(rows: &mut Followers, sessions: &BTreeMap<u32, Session>, channel: &str)
+pub(crate) fn settle_all(rows: &mut Followers, sessions: &Sessions, channel: &str)
     requires { AgreedBefore channel.now (attached_in sessions.now) rows.old }
     ensures { Agrees (attached_in sessions.now) rows.new }
 {

@@ -6,10 +6,10 @@ ghost use Rattle.cf_hub.specs.Hub.{attached_in, waits_in};
 ghost use Rattle.cf_hub.specs.Rows.{sub_in};
 
 use crate::hub::Hub;
+use crate::places::Sessions;
 use crate::session::Session;
 use crate::subscription::Progress;
 use cf_protocol::Position;
-use std::collections::BTreeMap;
 
 impl Hub {
     ghost use Rattle.std.specs.Prelude.{◌≡◌, length, option_map};
@@ -39,28 +39,28 @@ impl Hub {
     }
 }
 
-fn place_in(sessions: &BTreeMap<u32, Session>, number: u32, channel: &str) -> Option<Position>
+fn place_in(sessions: &Sessions, number: u32, channel: &str) -> Option<Position>
     ensures { result ≡ place_of (sub_in (attached_in sessions.now number) channel.now) }
 {
-    match sessions.get(&number) {
+    match sessions.get(number) {
         None => None,
         Some(session) => session.place(channel),
     }
 }
 
-fn waiting_in(sessions: &BTreeMap<u32, Session>, number: u32) -> usize
+fn waiting_in(sessions: &Sessions, number: u32) -> usize
     ensures { result ≡ length (waits_in (attached_in sessions.now number)) }
 {
-    match sessions.get(&number) {
+    match sessions.get(number) {
         None => 0,
         Some(session) => session.waiting(),
     }
 }
 
-fn front_in(sessions: &BTreeMap<u32, Session>, number: u32) -> Option<&str>
+fn front_in(sessions: &Sessions, number: u32) -> Option<&str>
     ensures { option_map (λ t. t.now) result ≡ first_text (waits_in (attached_in sessions.now number)) }
 {
-    match sessions.get(&number) {
+    match sessions.get(number) {
         None => None,
         Some(session) => session.front(),
     }

@@ -1,7 +1,6 @@
 use Rattle.std.proofs.Common.{◌≡◌, ◌∙◌, Bool, true, false, Option, Some, not, refl, sym, subst, option_map, rules}
 use Rattle.std.specs.Prelude.{IsTrue}
-use Rattle.std.specs.BTreeMap.{get}
-use Rattle.std.specs.Ordering.{nat_cmp}
+use Rattle.cf_hub.specs.Places.{session_in}
 use Rattle.cf_hub.specs.Rows.{TellsFate}
 use Rattle.cf_hub.specs.Session.{attached_of, state_of}
 use Rattle.cf_hub.specs.SessionState.{is_off}
@@ -16,7 +15,7 @@ un_not false e = absurd (cc)
 
 pub returns-else-has : goal.returns-else-has
 returns-else-has c =
-    let found : get nat_cmp c.args.sessions.now c.args.number ≡ Some c.in-Some.session.now = search rules in
+    let found : session_in c.args.sessions.now c.args.number ≡ Some c.in-Some.session.now = search rules in
     let off : is_off ((state_of c.in-Some.session.now).subs c.args.channel.now) ≡ true = un_not (is_off ((state_of c.in-Some.session.now).subs c.args.channel.now)) (sym c.if-has.false ∙ c.has.ensures) in
     subst (λ (o : Option Session). TellsFate fate.Ended c.args.channel.now (option_map attached_of o)) (sym found)
     (tells_ended c.args.channel.now (option_map attached_of (Some c.in-Some.session.now)) off (λ h. let no = subst IsTrue c.if-has_none.false (c.has_none.ensures.1 h) in cc))

@@ -5,6 +5,7 @@ use Rattle.std.specs.Ordering.{nat_cmp}
 use Rattle.cf_followers.specs.Follows.{AreFollows, sessions_of}
 use Rattle.cf_hub.specs.declared.delivered.Delivered.{Delivered}
 use Rattle.cf_hub.specs.Hub.{AreNumbered, Node, attached_at, attached_in, largest}
+use Rattle.cf_hub.specs.Places.{numbered}
 use Rattle.cf_hub.specs.Rows.{AgreedBefore, Agrees}
 use Rattle.cf_hub.specs.Session.{Attached, attached_shown, shown_all}
 use Rattle.cf_hub.proofs.Deliveries.{IsOnItsWay, starts, steps, goes_on, ends_before, ends_counted, ends_numbered, ends_served, ends_so_many, ends_turns}
@@ -48,8 +49,8 @@ at_its_end c = subst (λ (todo : List ℕ). IsOnItsWay c.args.publication.now c.
 agreed : (c : In-None) → Agrees (attached_at c.args.self.now) c.args.self.now.rows
 agreed c = agrees_view _ _ c.self.inside.sessions c.self.view_is refl c.self.invariant.0
 
-numbered : (c : In-None) → AreNumbered c.self.inside.free_from (attached_in c.loop-session.self-inside.1.1.1.1.0)
-numbered c =
+are_numbered : (c : In-None) → AreNumbered c.self.inside.free_from (attached_in c.loop-session.self-inside.1.1.1.1.0)
+are_numbered c =
     let was : attached_at c.args.self.now ≡ attached_in c.self.inside.sessions = seen c.args.self.now c.self.inside.sessions (ap (λ (h : Node). h.sessions) (sym c.self.view_is)) in
     ends_numbered c.args.publication.now c.args.channel.now c.args.epoch.now c.args.self.now (attached_in c.loop-session.self-inside.1.1.1.1.0) c.loop-session.self-inside.1.1.1.1.1.1.1.0 c.loop-session.self-inside.1.1.1.1.1.1.1.1.0 c.loop-session.counts c.loop-session.yielded (agreed c) (at_its_end c) c.self.inside.free_from
     (subst (λ (g : ℕ → Option Attached). AreNumbered c.self.inside.free_from g) (sym was) c.self.invariant.1)
@@ -60,7 +61,7 @@ quiet c none = subst (λ (h : Node). Agrees (attached_in c.loop-session.self-ins
 pub invariant_of-self : goal.invariant_of-self
 invariant_of-self c =
     let i = (goal.at.invariant_of-self c).In-None in let a = c.if-counts-gt0.false in let b = c.if-counts-gt0-2.false in
-    let none : c.loop-session.counts.ended + c.loop-session.counts.closed ≡ 0 = omega (arith, a, b) in (quiet i none, numbered i)
+    let none : c.loop-session.counts.ended + c.loop-session.counts.closed ≡ 0 = omega (arith, a, b) in (quiet i none, are_numbered i)
 
 pub settle_all-requires : goal.settle_all-requires
 settle_all-requires c =
@@ -69,16 +70,16 @@ settle_all-requires c =
     (ends_before c.args.publication.now c.args.channel.now c.args.epoch.now c.args.self.now (attached_in c.loop-session.self-inside.1.1.1.1.0) c.loop-session.self-inside.1.1.1.1.1.1.1.0 c.loop-session.self-inside.1.1.1.1.1.1.1.1.0 c.loop-session.counts c.loop-session.yielded (agreed i) (at_its_end i))
 
 pub invariant_of-self-then-counts-gt0 : goal.invariant_of-self-then-counts-gt0
-invariant_of-self-then-counts-gt0 c = (c.settle_all.ensures, numbered (goal.at.invariant_of-self-then-counts-gt0 c).In-None)
+invariant_of-self-then-counts-gt0 c = (c.settle_all.ensures, are_numbered (goal.at.invariant_of-self-then-counts-gt0 c).In-None)
 
 pub returns-then-counts-gt0-clause-each : goal.returns-then-counts-gt0-clause-each
 returns-then-counts-gt0-clause-each c =
-    let i = (goal.at.returns-then-counts-gt0-clause-each c).In-None in ends_served c.args.publication.now c.args.channel.now c.args.epoch.now c.args.self.now (attached_in c.loop-session.self-inside.1.1.1.1.0) c.loop-session.self-inside.1.1.1.1.1.1.1.0 c.loop-session.self-inside.1.1.1.1.1.1.1.1.0 c.loop-session.counts c.loop-session.yielded (agreed i) (at_its_end i) _ (λ j k. seen_in c.loop-session.self-inside.1.1.1.1.0.entries k j) refl
+    let i = (goal.at.returns-then-counts-gt0-clause-each c).In-None in ends_served c.args.publication.now c.args.channel.now c.args.epoch.now c.args.self.now (attached_in c.loop-session.self-inside.1.1.1.1.0) c.loop-session.self-inside.1.1.1.1.1.1.1.0 c.loop-session.self-inside.1.1.1.1.1.1.1.1.0 c.loop-session.counts c.loop-session.yielded (agreed i) (at_its_end i) _ (λ j k. seen_in c.loop-session.self-inside.1.1.1.1.0 k j) refl
 
 pub returns-then-counts-gt0-clause-counts : goal.returns-then-counts-gt0-clause-counts
 returns-then-counts-gt0-clause-counts c =
     let i = (goal.at.returns-then-counts-gt0-clause-counts c).In-None in ends_counted c.args.publication.now c.args.channel.now c.args.epoch.now c.args.self.now (attached_in c.loop-session.self-inside.1.1.1.1.0) c.loop-session.self-inside.1.1.1.1.1.1.1.0 c.loop-session.self-inside.1.1.1.1.1.1.1.1.0 c.loop-session.counts c.loop-session.yielded (agreed i) (at_its_end i)
-    (λ k. option_map attached_shown (lookup (is_at (nat_cmp k)) (shown_all c.loop-session.self-inside.1.1.1.1.0.entries))) (λ j k. seen_in c.loop-session.self-inside.1.1.1.1.0.entries k j)
+    (λ k. option_map attached_shown (lookup (is_at (nat_cmp k)) (shown_all (numbered 0 c.loop-session.self-inside.1.1.1.1.0)))) (λ j k. seen_in c.loop-session.self-inside.1.1.1.1.0 k j)
 
 pub returns-then-counts-gt0-clause-adds_up : goal.returns-then-counts-gt0-clause-adds_up
 returns-then-counts-gt0-clause-adds_up c =
@@ -94,12 +95,12 @@ returns-then-counts-gt0-clause-agrees c =
 
 pub returns-else-counts-gt0-2-clause-each : goal.returns-else-counts-gt0-2-clause-each
 returns-else-counts-gt0-2-clause-each c =
-    let i = (goal.at.returns-else-counts-gt0-2-clause-each c).In-None in ends_served c.args.publication.now c.args.channel.now c.args.epoch.now c.args.self.now (attached_in c.loop-session.self-inside.1.1.1.1.0) c.loop-session.self-inside.1.1.1.1.1.1.1.0 c.loop-session.self-inside.1.1.1.1.1.1.1.1.0 c.loop-session.counts c.loop-session.yielded (agreed i) (at_its_end i) _ (λ j k. seen_in c.loop-session.self-inside.1.1.1.1.0.entries k j) refl
+    let i = (goal.at.returns-else-counts-gt0-2-clause-each c).In-None in ends_served c.args.publication.now c.args.channel.now c.args.epoch.now c.args.self.now (attached_in c.loop-session.self-inside.1.1.1.1.0) c.loop-session.self-inside.1.1.1.1.1.1.1.0 c.loop-session.self-inside.1.1.1.1.1.1.1.1.0 c.loop-session.counts c.loop-session.yielded (agreed i) (at_its_end i) _ (λ j k. seen_in c.loop-session.self-inside.1.1.1.1.0 k j) refl
 
 pub returns-else-counts-gt0-2-clause-counts : goal.returns-else-counts-gt0-2-clause-counts
 returns-else-counts-gt0-2-clause-counts c =
     let i = (goal.at.returns-else-counts-gt0-2-clause-counts c).In-None in ends_counted c.args.publication.now c.args.channel.now c.args.epoch.now c.args.self.now (attached_in c.loop-session.self-inside.1.1.1.1.0) c.loop-session.self-inside.1.1.1.1.1.1.1.0 c.loop-session.self-inside.1.1.1.1.1.1.1.1.0 c.loop-session.counts c.loop-session.yielded (agreed i) (at_its_end i)
-    (λ k. option_map attached_shown (lookup (is_at (nat_cmp k)) (shown_all c.loop-session.self-inside.1.1.1.1.0.entries))) (λ j k. seen_in c.loop-session.self-inside.1.1.1.1.0.entries k j)
+    (λ k. option_map attached_shown (lookup (is_at (nat_cmp k)) (shown_all (numbered 0 c.loop-session.self-inside.1.1.1.1.0)))) (λ j k. seen_in c.loop-session.self-inside.1.1.1.1.0 k j)
 
 pub returns-else-counts-gt0-2-clause-adds_up : goal.returns-else-counts-gt0-2-clause-adds_up
 returns-else-counts-gt0-2-clause-adds_up c =

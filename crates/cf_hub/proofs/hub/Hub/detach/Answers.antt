@@ -18,11 +18,11 @@ invariant_of-self c = (
 )
 
 pub returns-clause-gone : goal.returns-clause-gone
-returns-clause-gone c = seen_in c.drop_one.new.sessions.entries c.args.session ∙ c.drop_one.ensures.here
+returns-clause-gone c = seen_in c.drop_one.new.sessions c.args.session ∙ c.drop_one.ensures.here
 
 pub returns-clause-others : goal.returns-clause-others
 returns-clause-others c = λ j h.
-    seen_in c.drop_one.new.sessions.entries j ∙ c.drop_one.ensures.others j h
+    seen_in c.drop_one.new.sessions j ∙ c.drop_one.ensures.others j h
     ∙ ap (λ (g : ℕ → Option Attached). g j) (sym (seen c.args.self.now c.self.inside.sessions (ap (λ (h : Node). h.sessions) (sym c.self.view_is))))
 
 pub returns-clause-agrees : goal.returns-clause-agrees

@@ -21,11 +21,11 @@ pub returns-clause-opens : goal.returns-clause-opens
 returns-clause-opens c =
     let named : string_bytes c.in_ok-client.client ≡ client_id c.self.inside.node c.self.inside.boot (c.self.inside.used + 1) = search rules in
     record {
-      here = seen_in c.insert_one.new.sessions.entries c.args.number ∙ c.in_ok-insert_one.ensures.here
+      here = seen_in c.insert_one.new.sessions c.args.number ∙ c.in_ok-insert_one.ensures.here
           ∙ ap Some (fresh_is c.new-session.result (client_id c.self.inside.node c.self.inside.boot (c.self.inside.used + 1)) (string_bytes c.args.user) c.args.now c.new-session.ensures.state
           (c.new-session.ensures.badge ∙ ap (λ (t : List ℕ). badge_with t (string_bytes c.args.user) c.args.now) named))
           ∙ ap (λ (h : Node). Some (fresh (client_id h.node h.boot (h.used + 1)) (string_bytes c.args.user) c.args.now)) c.self.view_is;
-      others = λ j h. seen_in c.insert_one.new.sessions.entries j ∙ c.in_ok-insert_one.ensures.others j h ∙ ap (λ (g : ℕ → Option Attached). g j) (sym (seen c.args.self.now c.self.inside.sessions (ap (λ (h : Node). h.sessions) (sym c.self.view_is))));
+      others = λ j h. seen_in c.insert_one.new.sessions j ∙ c.in_ok-insert_one.ensures.others j h ∙ ap (λ (g : ℕ → Option Attached). g j) (sym (seen c.args.self.now c.self.inside.sessions (ap (λ (h : Node). h.sessions) (sym c.self.view_is))));
       used = ap (λ (h : Node). h.used + 1) c.self.view_is;
       node = ap (λ (h : Node). h.node) c.self.view_is;
       boot = ap (λ (h : Node). h.boot) c.self.view_is;

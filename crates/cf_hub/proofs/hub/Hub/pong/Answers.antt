@@ -22,10 +22,10 @@ invariant_of-self c = (
 
 pub returns-clause-here : goal.returns-clause-here
 returns-clause-here c =
-    seen_in c.pong_one.new.sessions.entries c.args.session ∙ c.pong_one.ensures.here
+    seen_in c.pong_one.new.sessions c.args.session ∙ c.pong_one.ensures.here
     ∙ ap (λ (g : ℕ → Option Attached). option_map badge_ponged (g c.args.session)) (sym (seen c.args.self.now c.self.inside.sessions (ap (λ (h : Node). h.sessions) (sym c.self.view_is))))
 
 pub returns-clause-others : goal.returns-clause-others
 returns-clause-others c = λ j h.
-    seen_in c.pong_one.new.sessions.entries j ∙ c.pong_one.ensures.others j h
+    seen_in c.pong_one.new.sessions j ∙ c.pong_one.ensures.others j h
     ∙ ap (λ (g : ℕ → Option Attached). g j) (sym (seen c.args.self.now c.self.inside.sessions (ap (λ (h : Node). h.sessions) (sym c.self.view_is))))

@@ -24,4 +24,4 @@ returns-clause-session c =
     (c.count_more-self-inside.ensures ∙ ap (λ (h : Node). counted (one_if c.say_one-said.result.1.refused) h.refused) c.self.view_is)
 
 pub returns-clause-said : goal.returns-clause-said
-returns-clause-said c = c.say_one-said.ensures.said ∙ ap said_in (sym (seen_in c.say_one-said.new.sessions.entries c.args.session))
+returns-clause-said c = c.say_one-said.ensures.said ∙ ap said_in (sym (seen_in c.say_one-said.new.sessions c.args.session))

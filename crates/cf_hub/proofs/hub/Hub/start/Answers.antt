@@ -36,8 +36,8 @@ pub returns-in-Ok-begin_one-clause-ok : goal.returns-in-Ok-begin_one-clause-ok
 returns-in-Ok-begin_one-clause-ok c =
     record {
       one = record {
-        here = seen_in c.begin_one.new.sessions.entries c.args.session ∙ c.in-Ok-begin_one.ensures.here ∙ ap (λ (g : ℕ → Option Attached). option_map (moves (begins plain c.args.channel.now c.args.id c.args.since)) (g c.args.session)) (sym (seen c.args.self.now c.self.inside.sessions (ap (λ (h : Node). h.sessions) (sym c.self.view_is))));
-        others = λ j h. seen_in c.begin_one.new.sessions.entries j ∙ c.begin_one.ensures.others j h ∙ ap (λ (g : ℕ → Option Attached). g j) (sym (seen c.args.self.now c.self.inside.sessions (ap (λ (h : Node). h.sessions) (sym c.self.view_is))));
+        here = seen_in c.begin_one.new.sessions c.args.session ∙ c.in-Ok-begin_one.ensures.here ∙ ap (λ (g : ℕ → Option Attached). option_map (moves (begins plain c.args.channel.now c.args.id c.args.since)) (g c.args.session)) (sym (seen c.args.self.now c.self.inside.sessions (ap (λ (h : Node). h.sessions) (sym c.self.view_is))));
+        others = λ j h. seen_in c.begin_one.new.sessions j ∙ c.begin_one.ensures.others j h ∙ ap (λ (g : ℕ → Option Attached). g j) (sym (seen c.args.self.now c.self.inside.sessions (ap (λ (h : Node). h.sessions) (sym c.self.view_is))));
         agrees = agrees_shown c.begin_one.new.sessions c.add.new.self (invariant_of-self-in-Ok-begin_one c).0;
       };
       rows = c.in-Ok.ensures.ok ∙ ap (λ (h : Node). with_follow h.rows c.args.channel.now c.args.session) c.self.view_is;
@@ -66,7 +66,7 @@ returns-in-Err-begin_one-clause-err c =
     ∙ ap not c.requires.may.1 in
     let left : c.remove-added.new.self ≡ c.self.inside.rows = c.remove-added.ensures.removed ∙ ap (gone c.args.channel.now c.args.session) c.in-Ok.ensures.ok ∙ with_without c.self.inside.rows c.args.channel.now c.args.session absent in
     record {
-      sessions = λ j. seen_in c.begin_one.new.sessions.entries j ∙ same_all c.args.session c.self.inside.sessions c.begin_one.new.sessions c.in-Err-begin_one.ensures.err c.begin_one.ensures.others j ∙ ap (λ (g : ℕ → Option Attached). g j) (sym (seen c.args.self.now c.self.inside.sessions (ap (λ (h : Node). h.sessions) (sym c.self.view_is))));
+      sessions = λ j. seen_in c.begin_one.new.sessions j ∙ same_all c.args.session c.self.inside.sessions c.begin_one.new.sessions c.in-Err-begin_one.ensures.err c.begin_one.ensures.others j ∙ ap (λ (g : ℕ → Option Attached). g j) (sym (seen c.args.self.now c.self.inside.sessions (ap (λ (h : Node). h.sessions) (sym c.self.view_is))));
       rows = left ∙ ap (λ (h : Node). h.rows) c.self.view_is;
       rest = record {
         node = ap (λ (h : Node). h.node) c.self.view_is;
