@@ -48,7 +48,8 @@ impl Hub {
 
     /// Whether no subscription of a session waits for its reply. It takes no memory.
     pub fn is_settled(&self, session: u32) -> bool
-        ensures { IsTrue result ↔ ((c : List ℕ) → is_unfinished (sub_at self.now session c) ≡ false) }
+        ensures { IsTrue result
+            ↔ ((c : List ℕ) → is_unfinished (sub_at self.now session c) ≡ false) }
     {
         is_settled_in(&self.sessions, session)
     }
@@ -75,7 +76,8 @@ fn asked_in(sessions: &Sessions, number: u32, channel: &str) -> Option<Asked>
 }
 
 fn is_settled_in(sessions: &Sessions, number: u32) -> bool
-    ensures { IsTrue result ↔ ((c : List ℕ) → is_unfinished (sub_in (attached_in sessions.now number) c) ≡ false) }
+    ensures { IsTrue result
+        ↔ ((c : List ℕ) → is_unfinished (sub_in (attached_in sessions.now number) c) ≡ false) }
 {
     match sessions.get(number) {
         None => true,
@@ -96,7 +98,8 @@ impl Session {
     }
 
     fn is_settled(&self) -> bool
-        ensures { IsTrue result ↔ ((c : List ℕ) → is_unfinished ((state_of self.now).subs c) ≡ false) }
+        ensures { IsTrue result
+            ↔ ((c : List ℕ) → is_unfinished ((state_of self.now).subs c) ≡ false) }
     {
         all_finished(&self.subscriptions)
     }
@@ -123,7 +126,9 @@ impl Progress {
 
 // Whether the reply of each was queued.
 fn all_finished(subscriptions: &BTreeMap<String, Box<Progress>>) -> bool
-    ensures all { result ≡ list_all (λ s. not (is_unfinished (sub_of (Some s.value)))) (values_of subscriptions.now.entries) }
+    ensures all { result
+        ≡ list_all (λ s. not (is_unfinished (sub_of (Some s.value))))
+        (values_of subscriptions.now.entries) }
     ensures ordered { IsOrdered string_cmp subscriptions.now }
 {
     subscriptions

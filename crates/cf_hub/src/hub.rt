@@ -54,9 +54,18 @@ impl Model for Hub {
     ghost use Rattle.cf_hub.specs.Rows.{Agrees};
     ghost use Rattle.cf_hub.specs.Session.{shown_all};
 
-    ghost view = { λ h. record { node = h.node; boot = h.boot; used = h.used; sessions = shown_all (numbered 0 h.sessions); rows = h.rows; refused = h.refused; turns = h.listed } };
+    ghost view = { λ h. record {
+      node = h.node;
+      boot = h.boot;
+      used = h.used;
+      sessions = shown_all (numbered 0 h.sessions);
+      rows = h.rows;
+      refused = h.refused;
+      turns = h.listed;
+    } };
 
-    ghost invariant = { λ h. Agrees (attached_in h.sessions) h.rows × AreNumbered h.free_from (attached_in h.sessions) };
+    ghost invariant = { λ h. Agrees (attached_in h.sessions) h.rows
+        × AreNumbered h.free_from (attached_in h.sessions) };
 }
 
 impl Hub {

@@ -44,7 +44,8 @@ impl Hub {
 
     /// The least number that no session has, while one more session may come.
     fn free_number(&self) -> Option<u32>
-        ensures { MatchOption result (NoRoom self.now) (λ k. IsLeastFree self.now k × (k < most_sessions) × (self.now.used < largest)) }
+        ensures { MatchOption result (NoRoom self.now)
+            (λ k. IsLeastFree self.now k × (k < most_sessions) × (self.now.used < largest)) }
     {
         if self.used == u64::MAX {
             return None;
@@ -78,14 +79,16 @@ impl Hub {
 
     /// The id of a session's client. It takes no memory.
     pub fn client_id(&self, session: u32) -> Option<&str>
-        ensures { option_map (λ t. t.now) result ≡ option_map (λ a. a.badge.client) (attached_at self.now session) }
+        ensures { option_map (λ t. t.now) result
+            ≡ option_map (λ a. a.badge.client) (attached_at self.now session) }
     {
         client_in(&self.sessions, session)
     }
 
     /// The name of a session's user. It takes no memory.
     pub fn user(&self, session: u32) -> Option<&str>
-        ensures { option_map (λ t. t.now) result ≡ option_map (λ a. a.badge.user) (attached_at self.now session) }
+        ensures { option_map (λ t. t.now) result
+            ≡ option_map (λ a. a.badge.user) (attached_at self.now session) }
     {
         user_in(&self.sessions, session)
     }
@@ -113,9 +116,13 @@ impl Hub {
         since: Option<Position>,
     ) -> Result<(), HubRefusal>
         ensures ok { OnOk result (Begins session channel.now id since self.old self.new) }
-        ensures no_session { IsErrOf result HubRefusal.NoSession ↔ (is_open (attached_at self.old session) ≡ false) }
-        ensures already { IsErrOf result HubRefusal.Already ↔ IsOpenWith (λ off. off ≡ false) session channel.now self.old }
-        ensures too_many { IsErrOf result HubRefusal.TooMany ↔ (IsOpenWith (λ off. off ≡ true) session channel.now self.old × IsFull session self.old) }
+        ensures no_session { IsErrOf result HubRefusal.NoSession
+            ↔ (is_open (attached_at self.old session) ≡ false) }
+        ensures already { IsErrOf result HubRefusal.Already
+            ↔ IsOpenWith (λ off. off ≡ false) session channel.now self.old }
+        ensures too_many { IsErrOf result HubRefusal.TooMany
+            ↔ (IsOpenWith (λ off. off ≡ true) session channel.now self.old
+            × IsFull session self.old) }
         ensures err { IfErr result (λ e. IsRefused e self.old self.new) }
         ensures turns { self.new.turns ≡ self.old.turns }
     {
@@ -153,10 +160,16 @@ impl Hub {
 
     /// Whether a session may ask for a channel, but for memory.
     fn may_begin(&self, session: u32, channel: &str) -> Result<(), HubRefusal>
-        ensures ok { OnOk result (IsOpenWith (λ off. off ≡ true) session channel.now self.now × (length self.now.rows < most_rows)) }
-        ensures no_session { IsErrOf result HubRefusal.NoSession ↔ (is_open (attached_at self.now session) ≡ false) }
-        ensures already { IsErrOf result HubRefusal.Already ↔ IsOpenWith (λ off. off ≡ false) session channel.now self.now }
-        ensures too_many { IsErrOf result HubRefusal.TooMany ↔ (IsOpenWith (λ off. off ≡ true) session channel.now self.now × IsFull session self.now) }
+        ensures ok { OnOk result
+            (IsOpenWith (λ off. off ≡ true) session channel.now self.now
+            × (length self.now.rows < most_rows)) }
+        ensures no_session { IsErrOf result HubRefusal.NoSession
+            ↔ (is_open (attached_at self.now session) ≡ false) }
+        ensures already { IsErrOf result HubRefusal.Already
+            ↔ IsOpenWith (λ off. off ≡ false) session channel.now self.now }
+        ensures too_many { IsErrOf result HubRefusal.TooMany
+            ↔ (IsOpenWith (λ off. off ≡ true) session channel.now self.now
+            × IsFull session self.now) }
         ensures memory { IfErr result (λ e. e ≢ HubRefusal.Memory) }
     {
         if self.is_closed(session) {

@@ -26,9 +26,14 @@ pub fn calls_are_alike()
 
 /// What a session says stays when the publication lists grow.
 pub fn what_is_said_stays()
-    ensures grows { (old new : Lists) (a : Texts) (b : Notes) → Grown old new → SaysSession old a b → SaysSession new a b }
-    ensures listed { (lists : Lists) (c e : List ℕ) (p : Placed) → placed_at (lists c e) p.offset ≡ Some p → IsPlaced IsBody p → IsListed lists c e p }
-    ensures read { (lists : Lists) (c : List ℕ) (r : Reading) (missed : List Placed) → r.top ≤ length (lists c r.epoch) → missed ≡ placed_from (lists c r.epoch) r.low (r.top - r.low) → ArePlaced IsBody missed → IsPosition (record { epoch = r.epoch; offset = r.top }) → AreMissed lists c r missed }
+    ensures grows { (old new : Lists) (a : Texts) (b : Notes) → Grown old new
+        → SaysSession old a b → SaysSession new a b }
+    ensures listed { (lists : Lists) (c e : List ℕ) (p : Placed)
+        → placed_at (lists c e) p.offset ≡ Some p → IsPlaced IsBody p → IsListed lists c e p }
+    ensures read { (lists : Lists) (c : List ℕ) (r : Reading) (missed : List Placed)
+        → r.top ≤ length (lists c r.epoch)
+        → missed ≡ placed_from (lists c r.epoch) r.low (r.top - r.low) → ArePlaced IsBody missed
+        → IsPosition (record { epoch = r.epoch; offset = r.top }) → AreMissed lists c r missed }
 {}
 
 /// The rows of a session are as many as its subscriptions, and all rows as many as the subscriptions of all sessions.

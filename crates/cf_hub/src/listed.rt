@@ -24,7 +24,8 @@ impl Model for Listed {
 
     ghost view = { λ l. record { numbers = l.numbers.items; known = length l.is_listed.items } };
 
-    ghost invariant = { λ l. AreMarked l.numbers.items l.is_listed.items (deque_capacity l.numbers) };
+    ghost invariant = { λ l. AreMarked l.numbers.items l.is_listed.items
+        (deque_capacity l.numbers) };
 }
 
 impl Listed {
@@ -69,7 +70,8 @@ impl Listed {
     /// Takes the first number. It takes no memory.
     pub(crate) fn take(&mut self) -> Option<u32>
         ensures known { self.new.known ≡ self.old.known }
-        ensures first { MatchOption result ((self.old.numbers ≡ []) × (self.new.numbers ≡ [])) (λ k. self.old.numbers ≡ k ∷ self.new.numbers) }
+        ensures first { MatchOption result ((self.old.numbers ≡ []) × (self.new.numbers ≡ []))
+            (λ k. self.old.numbers ≡ k ∷ self.new.numbers) }
     {
         let number = self.numbers.pop_front()?;
         self.is_listed[number as usize] = false;

@@ -71,7 +71,9 @@ impl Progress {
 
     /// Gives the reply and what follows it, where the stream was read, and stands behind both.
     fn answer(&mut self) -> Option<Answered>
-        ensures { MatchOption result ((self.new ≡ self.old) × (is_ready (sub_of (Some self.old)) ≡ false)) (λ a. Answers a self.old × (self.new ≡ stands a)) }
+        ensures { MatchOption result
+            ((self.new ≡ self.old) × (is_ready (sub_of (Some self.old)) ≡ false))
+            (λ a. Answers a self.old × (self.new ≡ stands a)) }
     {
         match mem::replace(self, nowhere()) {
             Progress::Ready {
@@ -110,7 +112,8 @@ fn read_at(
     recovery: Recovery,
 ) -> bool
     ensures asked { result ≡ is_asked (sub_of (progress_at subscriptions.old channel.now)) }
-    ensures after { SetsAt subscriptions.old subscriptions.new channel.now (option_map (was_read recovery) (progress_at subscriptions.old channel.now)) }
+    ensures after { SetsAt subscriptions.old subscriptions.new channel.now
+        (option_map (was_read recovery) (progress_at subscriptions.old channel.now)) }
 {
     match subscriptions.get_mut(channel) {
         None => false,
@@ -121,7 +124,12 @@ fn read_at(
 /// Gives a channel's reply and what follows it.
 #[tactic(auto, using(std::proofs::lemmas::Map::Text::text_keys))]
 fn answer_at(subscriptions: &mut BTreeMap<String, Box<Progress>>, channel: &str) -> Option<Answered>
-    ensures { MatchOption result (SetsAt subscriptions.old subscriptions.new channel.now (progress_at subscriptions.old channel.now) × (is_ready (sub_of (progress_at subscriptions.old channel.now)) ≡ false)) (λ a. AnswersIn a (progress_at subscriptions.old channel.now) × SetsAt subscriptions.old subscriptions.new channel.now (Some (stands a))) }
+    ensures { MatchOption result
+        (SetsAt subscriptions.old subscriptions.new channel.now
+        (progress_at subscriptions.old channel.now)
+        × (is_ready (sub_of (progress_at subscriptions.old channel.now)) ≡ false))
+        (λ a. AnswersIn a (progress_at subscriptions.old channel.now)
+        × SetsAt subscriptions.old subscriptions.new channel.now (Some (stands a))) }
 {
     match subscriptions.get_mut(channel) {
         None => None,

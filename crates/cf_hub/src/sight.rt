@@ -33,7 +33,8 @@ impl Hub {
 
     /// The text that a session's client takes next, if it is one. It takes no memory.
     pub fn front(&self, session: u32) -> Option<&str>
-        ensures { option_map (λ t. t.now) result ≡ first_text (waits_in (attached_at self.now session)) }
+        ensures { option_map (λ t. t.now) result
+            ≡ first_text (waits_in (attached_at self.now session)) }
     {
         front_in(&self.sessions, session)
     }
@@ -58,7 +59,8 @@ fn waiting_in(sessions: &Sessions, number: u32) -> usize
 }
 
 fn front_in(sessions: &Sessions, number: u32) -> Option<&str>
-    ensures { option_map (λ t. t.now) result ≡ first_text (waits_in (attached_in sessions.now number)) }
+    ensures { option_map (λ t. t.now) result
+        ≡ first_text (waits_in (attached_in sessions.now number)) }
 {
     match sessions.get(number) {
         None => None,

@@ -46,7 +46,9 @@ pub(crate) fn reply_text(
     was_recovering: bool,
     recovery: Recovery,
 ) -> Option<String>
-    ensures { IfSome result (λ t. string_bytes t ≡ reply_text id was_recovering (reading_of recovery) recovery.publications.items) }
+    ensures { IfSome result
+        (λ t. string_bytes t
+        ≡ reply_text id was_recovering (reading_of recovery) recovery.publications.items) }
 {
     let reply = Outgoing::Answer {
         id,
