@@ -1,5 +1,5 @@
 -- Where no stream stands, the streams are what the empty log leaves.
-use Rattle.std.proofs.Common.{◌≡◌, ℕ, List, [], None, Option, refl, sym, subst}
+use Rattle.std.proofs.Common.{◌≡◌, List, [], None, Option, refl, sym, subst}
 use Rattle.std.specs.Ordering.{nat_cmp}
 use Rattle.std.specs.Cmp.Lexicographic.{slice_cmp}
 use Rattle.std.specs.FinMap as fin

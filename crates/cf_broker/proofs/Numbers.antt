@@ -89,3 +89,15 @@ named_lent t ps e = words_lent ps ∙ e
 
 pub lent_step : (ps : List PassState) (n : ℕ) (old new : List PassState) (q : PassState) → n < length ps → old ≡ map lent (take n ps) → q ≡ lent (pass_at ps n) → new ≡ old ++ q ∷ [] → new ≡ map lent (take (n + 1) ps)
 lent_step ps n old new q lt is at more = more ∙ ((λ i. is i ++ at i ∷ []) ∙ sym (lent_more ps n lt))
+
+-- one word more, and its first pass
+pub firsts_more : (ts all : List TableId) (t : TableId) (ps qs : List PassState) (p : PassState) → ps ≡ map first_pass ts → p ≡ first_pass t → all ≡ ts ++ t ∷ [] → qs ≡ ps ++ p ∷ [] → qs ≡ map first_pass all
+firsts_more ts all t ps qs p e is more passes = passes ∙ ((λ i. e i ++ is i ∷ []) ∙ (sym (map-append first_pass ts (t ∷ [])) ∙ ap (map first_pass) (sym more)))
+
+words_of_firsts : (ts : List TableId) → map word_of (map first_pass ts) ≡ ts
+words_of_firsts [] = refl
+words_of_firsts (t ∷ ts) = ap (λ (l : List TableId). t ∷ l) (words_of_firsts ts)
+
+-- the first passes of the words are of the words
+pub firsts_named : (t : ℕ → TableId) (ts : List TableId) (ps : List PassState) → ps ≡ map first_pass ts → ts ≡ names t 16 → AreOfShards t ps
+firsts_named t ts ps e is = ap (map word_of) e ∙ (words_of_firsts ts ∙ is)

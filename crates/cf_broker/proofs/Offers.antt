@@ -1,10 +1,8 @@
 -- Copies of a publication, and what was offered of them.
-use Rattle.std.proofs.Common.{◌≡◌, ◌+◌, ℕ, List, [], ◌∷◌, ◌++◌, refl, sym, subst, add-one, vec_len}
-use Rattle.std.specs.Prelude.{All}
-use Rattle.std.proofs.lemmas.List.Elements.{All-append, All-nil}
+use Rattle.std.proofs.Common.{◌≡◌, ◌+◌, ℕ, List, refl, sym, subst, add-one}
 use Rattle.cf_protocol.specs.declared.position.Position.{Position}
 use Rattle.cf_protocol.specs.Datum.{Datum}
-use Rattle.cf_broker.specs.Delivery.{Carried, carried, OfferedToAll, IsCopy, AreCopies}
+use Rattle.cf_broker.specs.Delivery.{Carried, carried, OfferedToAll, IsCopy}
 
 pub offered_none : {L : Type 0} (offers : L → ℕ → Carried → L → Type 0) (d : Carried) (l : L) → OfferedToAll offers 0 d l l
 unfolding OfferedToAll

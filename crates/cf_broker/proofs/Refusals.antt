@@ -1,13 +1,13 @@
 -- Why a call is refused, read off the shard's log.
-use Rattle.std.proofs.Common.{◌≡◌, ℕ, ◌+◌, List, [], ◌∷◌, length, Option, Some, None, refl, sym, ap, ◌∙◌, subst}
+use Rattle.std.proofs.Common.{◌≡◌, ℕ, List, [], ◌∷◌, length, Option, Some, None, refl, sym, ap, ◌∙◌, subst}
 use Rattle.std.specs.Prelude.{◌≢◌, ◌↔◌, Result, Ok, Err, IfErr, IsErrOf, IsSomeAnd, OnErr}
 use Rattle.cf_protocol.specs.declared.position.Position.{Position}
 use Rattle.cf_protocol.specs.Datum.{Datum}
 use Rattle.cf_protocol.specs.LogEntry.{Entry}
-use Rattle.cf_protocol.specs.LogEntry.Entry.{Publish, Trim, Forget}
+use Rattle.cf_protocol.specs.LogEntry.Entry.{Publish}
 use Rattle.cf_protocol.specs.Settings.{NamespaceTable}
 use Rattle.cf_stream.specs.ChannelLists.{ShowsAt}
-use Rattle.cf_stream.specs.LogState.{IsState, life_in, opening, if_stands}
+use Rattle.cf_stream.specs.LogState.{IsState, opening, if_stands}
 use Rattle.cf_stream.specs.PublicationList.{Life}
 use Rattle.cf_stream.specs.Stream.{Shown}
 use Rattle.cf_stream.specs.StreamState.{last_offset}

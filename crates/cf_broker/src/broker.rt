@@ -1,24 +1,25 @@
 //! The sixteen shards, each under a lock of its own, beside its word.
-ghost use Rattle.std.specs.Prelude.{◌≡◌, ◌≢◌, ◌+◌, ◌<◌, ◌≤◌, ◌↔◌, length, IfOk, IfErr, OnOk, OnErr, IsSome, IsTrue, vec_len};
+ghost use Rattle.std.specs.Prelude.{◌≡◌, ◌≢◌, ◌+◌, ◌<◌, ◌≤◌, ◌↔◌, length, IfOk, IfErr, OnOk, OnErr, IsSome, IsTrue};
 ghost use mathlib.Core.List.{IsPrefix};
 ghost use Rattle.cf_protocol.specs.Settings.{settings_of};
-ghost use Rattle.cf_order.specs.Passes.{first_pass};
 ghost use Rattle.cf_protocol.specs.LogEntry.Entry.{Trim, Forget};
 ghost use Rattle.cf_broker.specs.LogAnswer.{Follows, IsPosition, IsPublished, IsReadAnswer, IsHistoryAnswer, IsTrimmed, IsForgotten, IsTicked, RefusesPublish, RefusesRead, RefusesHistory, RefusesEntry};
-ghost use Rattle.cf_broker.specs.Shard.{no_streams, datum_of};
+ghost use Rattle.cf_broker.specs.Shard.{datum_of};
 ghost use Rattle.cf_broker.specs.Shards.{number_of, names, first_passes};
 
 use crate::delivery::Delivery;
 use crate::naming::Naming;
-use crate::place::Place;
+use crate::parts::parts_of;
+use crate::places::Places;
+use crate::quarter::{Quarter, at_one, last_quarter};
 use crate::refusal::Refused;
 use crate::shard::ReadAnswer;
-use crate::words::{NewWord, Passes, Words};
+use crate::words::{Passes, Words};
 use cf_link::Sender;
 use cf_order::{Pass, ShardWord};
 use cf_presence::Stats;
 use cf_protocol::{Info, Namespaces, Position};
-use cf_stream::{Epochs, History, Streams};
+use cf_stream::{Epochs, History};
 use std::alloc::{AllocError, Global};
 use std::collections::BTreeMap;
 use std::marker::PhantomData;
@@ -43,99 +44,17 @@ pub fn shard_of(channel: &str) -> usize
 /// it is held, one link after another.
 #[derive(Drop)]
 pub struct Broker<N: Naming, E: Epochs> {
-    place_0: Place<N, E, 0>,
-    place_1: Place<N, E, 1>,
-    place_2: Place<N, E, 2>,
-    place_3: Place<N, E, 3>,
-    place_4: Place<N, E, 4>,
-    place_5: Place<N, E, 5>,
-    place_6: Place<N, E, 6>,
-    place_7: Place<N, E, 7>,
-    place_8: Place<N, E, 8>,
-    place_9: Place<N, E, 9>,
-    place_10: Place<N, E, 10>,
-    place_11: Place<N, E, 11>,
-    place_12: Place<N, E, 12>,
-    place_13: Place<N, E, 13>,
-    place_14: Place<N, E, 14>,
-    place_15: Place<N, E, 15>,
+    first: Quarter<N, E, 0, 1, 2, 3>,
+    second: Quarter<N, E, 4, 5, 6, 7>,
+    third: Quarter<N, E, 8, 9, 10, 11>,
+    fourth: Quarter<N, E, 12, 13, 14, 15>,
     senders: Vec<Mutex<Sender<Delivery>>>,
-}
-
-macro_rules! at_place {
-    ($broker:expr, $number:expr, $place:ident => $body:expr) => {
-        match $number {
-            0 => {
-                let $place = &$broker.place_0;
-                $body
-            }
-            1 => {
-                let $place = &$broker.place_1;
-                $body
-            }
-            2 => {
-                let $place = &$broker.place_2;
-                $body
-            }
-            3 => {
-                let $place = &$broker.place_3;
-                $body
-            }
-            4 => {
-                let $place = &$broker.place_4;
-                $body
-            }
-            5 => {
-                let $place = &$broker.place_5;
-                $body
-            }
-            6 => {
-                let $place = &$broker.place_6;
-                $body
-            }
-            7 => {
-                let $place = &$broker.place_7;
-                $body
-            }
-            8 => {
-                let $place = &$broker.place_8;
-                $body
-            }
-            9 => {
-                let $place = &$broker.place_9;
-                $body
-            }
-            10 => {
-                let $place = &$broker.place_10;
-                $body
-            }
-            11 => {
-                let $place = &$broker.place_11;
-                $body
-            }
-            12 => {
-                let $place = &$broker.place_12;
-                $body
-            }
-            13 => {
-                let $place = &$broker.place_13;
-                $body
-            }
-            14 => {
-                let $place = &$broker.place_14;
-                $body
-            }
-            _ => {
-                let $place = &$broker.place_15;
-                $body
-            }
-        }
-    };
 }
 
 impl<N: Naming, E: Epochs + Drop> Broker<N, E> {
     /// A broker without streams, over these words and namespaces, and the first pass of each shard. The first shard draws from
     /// the first epochs, and the first node is sent to by the first of the senders. An `AllocError` where memory was refused.
+    #[tactic(auto, using(crate::proofs::Numbers::firsts_named))]
     pub fn new(
         alloc: Global,
         words: Words,
@@ -147,55 +66,25 @@ impl<N: Naming, E: Epochs + Drop> Broker<N, E> {
         requires namespaces { namespaces.now ≡ N.namespaces }
         ensures { IfOk result (λ r. r.1 ≡ first_passes N.words) }
     {
+        let epochs = Vec::from_array(alloc, epochs)?;
         let senders = locked(alloc, links)?;
-        let mut parts = parts(alloc, namespaces, Vec::from_array(alloc, epochs)?)?;
-        let Words { mut list } = words;
-        let (place_15, pass_15) = last_place::<N, E, 15>(alloc, &mut parts, &mut list);
-        let (place_14, pass_14) = last_place::<N, E, 14>(alloc, &mut parts, &mut list);
-        let (place_13, pass_13) = last_place::<N, E, 13>(alloc, &mut parts, &mut list);
-        let (place_12, pass_12) = last_place::<N, E, 12>(alloc, &mut parts, &mut list);
-        let (place_11, pass_11) = last_place::<N, E, 11>(alloc, &mut parts, &mut list);
-        let (place_10, pass_10) = last_place::<N, E, 10>(alloc, &mut parts, &mut list);
-        let (place_9, pass_9) = last_place::<N, E, 9>(alloc, &mut parts, &mut list);
-        let (place_8, pass_8) = last_place::<N, E, 8>(alloc, &mut parts, &mut list);
-        let (place_7, pass_7) = last_place::<N, E, 7>(alloc, &mut parts, &mut list);
-        let (place_6, pass_6) = last_place::<N, E, 6>(alloc, &mut parts, &mut list);
-        let (place_5, pass_5) = last_place::<N, E, 5>(alloc, &mut parts, &mut list);
-        let (place_4, pass_4) = last_place::<N, E, 4>(alloc, &mut parts, &mut list);
-        let (place_3, pass_3) = last_place::<N, E, 3>(alloc, &mut parts, &mut list);
-        let (place_2, pass_2) = last_place::<N, E, 2>(alloc, &mut parts, &mut list);
-        let (place_1, pass_1) = last_place::<N, E, 1>(alloc, &mut parts, &mut list);
-        let (place_0, pass_0) = last_place::<N, E, 0>(alloc, &mut parts, &mut list);
+        let mut parts = parts_of(alloc, namespaces, epochs)?;
+        let Words { mut list, passes } = words;
+        let fourth = last_quarter(alloc, &mut parts, &mut list);
+        let third = last_quarter(alloc, &mut parts, &mut list);
+        let second = last_quarter(alloc, &mut parts, &mut list);
+        let first = last_quarter(alloc, &mut parts, &mut list);
         let broker = Broker {
-            place_0,
-            place_1,
-            place_2,
-            place_3,
-            place_4,
-            place_5,
-            place_6,
-            place_7,
-            place_8,
-            place_9,
-            place_10,
-            place_11,
-            place_12,
-            place_13,
-            place_14,
-            place_15,
+            first,
+            second,
+            third,
+            fourth,
             senders,
         };
-        let list = Vec::from_array(
-            alloc,
-            [
-                pass_0, pass_1, pass_2, pass_3, pass_4, pass_5, pass_6, pass_7, pass_8, pass_9,
-                pass_10, pass_11, pass_12, pass_13, pass_14, pass_15,
-            ],
-        )?;
         Ok((
             broker,
             Passes {
-                list,
+                list: passes,
                 of: PhantomData,
             },
         ))
@@ -206,7 +95,7 @@ impl<N: Naming, E: Epochs + Drop> Broker<N, E> {
         requires { shard < SHARDS }
         ensures { result.now ≡ N.words shard }
     {
-        at_place!(self, shard, place => place.word())
+        at_one!(self, shard, 4, 8, 12, quarter => quarter.word(shard))
     }
 
     /// Publishes to a channel at a moment in seconds, offers the publication to each node, and answers its position. The
@@ -232,7 +121,8 @@ impl<N: Naming, E: Epochs + Drop> Broker<N, E> {
         ensures seen { OnErr result (Follows pass.old pass.new 0) }
     {
         let senders = self.senders.as_slice();
-        at_place!(self, shard_of(channel), place => place.publish(rt, pass, senders, channel, body, info, now))
+        let number = shard_of(channel);
+        at_one!(self, number, 4, 8, 12, quarter => quarter.publish(rt, number, pass, senders, channel, body, info, now))
     }
 
     /// The publications of a channel after a position, where all are held, at a moment in seconds, and the length of the
@@ -254,7 +144,8 @@ impl<N: Naming, E: Epochs + Drop> Broker<N, E> {
         ensures refusals { IfErr result (RefusesRead N.namespaces pass.new.log channel.now) }
         ensures seen { Follows pass.old pass.new 0 }
     {
-        at_place!(self, shard_of(channel), place => place.read(rt, pass, channel, since, now))
+        let number = shard_of(channel);
+        at_one!(self, number, 4, 8, 12, quarter => quarter.read(rt, number, pass, channel, since, now))
     }
 
     /// The first publications of a channel that are held after a position, up to a limit. Without a position its stream opens
@@ -277,7 +168,8 @@ impl<N: Naming, E: Epochs + Drop> Broker<N, E> {
             (RefusesHistory N.namespaces pass.new.log channel.now since) }
         ensures seen { Follows pass.old pass.new 0 }
     {
-        at_place!(self, shard_of(channel), place => place.history(rt, pass, channel, since, limit, now))
+        let number = shard_of(channel);
+        at_one!(self, number, 4, 8, 12, quarter => quarter.history(rt, number, pass, channel, since, limit, now))
     }
 
     /// Where a channel's stream stands, if it has one, and the length of the shard's log. It takes no memory and opens nothing.
@@ -292,7 +184,8 @@ impl<N: Naming, E: Epochs + Drop> Broker<N, E> {
         ensures mark { result.1 ≡ length pass.new.log }
         ensures seen { Follows pass.old pass.new 0 }
     {
-        at_place!(self, shard_of(channel), place => place.position(rt, pass, channel))
+        let number = shard_of(channel);
+        at_one!(self, number, 4, 8, 12, quarter => quarter.position(rt, number, pass, channel))
     }
 
     /// Keeps at most the newest publications of a channel. It takes no memory. `AtLastCount` where the log has no room.
@@ -310,7 +203,8 @@ impl<N: Naming, E: Epochs + Drop> Broker<N, E> {
             (RefusesEntry N.namespaces pass.new.log channel.now (Trim channel.now count)) }
         ensures seen { Follows pass.old pass.new 0 }
     {
-        at_place!(self, shard_of(channel), place => place.trim(rt, pass, channel, count))
+        let number = shard_of(channel);
+        at_one!(self, number, 4, 8, 12, quarter => quarter.trim(rt, number, pass, channel, count))
     }
 
     /// Ends a channel's stream. It takes no memory. `AtLastCount` where the log has no room.
@@ -322,7 +216,8 @@ impl<N: Naming, E: Epochs + Drop> Broker<N, E> {
             (RefusesEntry N.namespaces pass.new.log channel.now (Forget channel.now)) }
         ensures seen { Follows pass.old pass.new 0 }
     {
-        at_place!(self, shard_of(channel), place => place.forget(rt, pass, channel))
+        let number = shard_of(channel);
+        at_one!(self, number, 4, 8, 12, quarter => quarter.forget(rt, number, pass, channel))
     }
 
     /// Empties the histories of one shard whose time is over at a moment in seconds, ends the streams that were not used for
@@ -341,7 +236,7 @@ impl<N: Naming, E: Epochs + Drop> Broker<N, E> {
         ensures refusals { IfErr result (λ e. e ≡ Refused.AtLastCount) }
         ensures seen { Follows pass.old pass.new 0 }
     {
-        at_place!(self, shard, place => place.tick(rt, pass, now))
+        at_one!(self, shard, 4, 8, 12, quarter => quarter.tick(rt, shard, pass, now))
     }
 
     /// Whether the log of a channel's shard has no more entries than a mark, by one load: it waits for nobody and takes no
@@ -371,78 +266,29 @@ impl<N: Naming, E: Epochs + Drop> Broker<N, E> {
     ) -> Result<(), Refused>
         ensures { IfErr result (λ e. e ≡ Refused.Memory) }
     {
-        at_place!(self, shard_of(channel), place => place.enter(rt, channel, client, user, now))
+        let number = shard_of(channel);
+        at_one!(self, number, 4, 8, 12, quarter => quarter.enter(rt, number, channel, client, user, now))
     }
 
     /// A client leaves a channel. Where it isn't there nothing changes. It takes no memory.
     pub fn leave<R: Wait>(&self, rt: &R, channel: &str, client: &str) {
-        at_place!(self, shard_of(channel), place => place.leave(rt, channel, client));
+        let number = shard_of(channel);
+        at_one!(self, number, 4, 8, 12, quarter => quarter.leave(rt, number, channel, client));
     }
 
     /// The user of each client that is there in a channel, by the client's id. `Memory` where a growth was refused.
     pub fn list<R: Wait>(&self, rt: &R, channel: &str) -> Result<BTreeMap<String, String>, Refused>
         ensures { IfErr result (λ e. e ≡ Refused.Memory) }
     {
-        at_place!(self, shard_of(channel), place => place.list(rt, channel))
+        let number = shard_of(channel);
+        at_one!(self, number, 4, 8, 12, quarter => quarter.list(rt, number, channel))
     }
 
     /// How many clients are there in a channel, and how many different users. It takes no memory.
     pub fn stats<R: Wait>(&self, rt: &R, channel: &str) -> Stats {
-        at_place!(self, shard_of(channel), place => place.stats(rt, channel))
+        let number = shard_of(channel);
+        at_one!(self, number, 4, 8, 12, quarter => quarter.stats(rt, number, channel))
     }
-}
-
-/// What a shard is made of.
-#[derive(Drop)]
-struct Part<N: Naming, E: Epochs> {
-    streams: Streams,
-    epochs: Box<E>,
-    of: PhantomData<N>,
-    ghost empty: { streams ≡ no_streams N.namespaces },
-}
-
-/// The parts of a shard for each of these epochs, in their order.
-fn parts<N: Naming, E: Epochs + Drop>(
-    alloc: Global,
-    namespaces: &Namespaces,
-    epochs: Vec<E>,
-) -> Result<Vec<Part<N, E>>, AllocError>
-    requires { namespaces.now ≡ N.namespaces }
-    ensures { IfOk result (λ v. vec_len v ≡ vec_len epochs) }
-{
-    let mut parts = Vec::new(alloc);
-    for source in epochs {
-        let streams = Streams::new(alloc, namespaces)?;
-        parts.push(Part {
-            streams,
-            epochs: Box::new(alloc, source)?,
-            of: PhantomData,
-        })?;
-    }
-    Ok(parts)
-}
-
-/// A shard of the last of these parts, beside the last of these words, and the word's first pass.
-fn last_place<N: Naming, E: Epochs, const I: usize>(
-    alloc: Global,
-    parts: &mut Vec<Part<N, E>>,
-    words: &mut Vec<NewWord>,
-) -> (Place<N, E, I>, Pass)
-    requires parts { 0 < vec_len parts.old }
-    requires words { words.old.items ≡ names N.words (I + 1) }
-    ensures parts { vec_len parts.new + 1 ≡ vec_len parts.old }
-    ensures words { words.new.items ≡ names N.words I }
-    ensures pass { result.1 ≡ first_pass (N.words I) }
-{
-    let Some(part) = parts.pop() else {
-        unreachable!()
-    };
-    let Some(new) = words.pop() else {
-        unreachable!()
-    };
-    let NewWord { word, owner, pass } = new;
-    let place = Place::new(alloc, part.streams, part.epochs, word, owner);
-    (place, pass)
 }
 
 /// Each sender under a lock of its own.

@@ -10,7 +10,10 @@ mod broker;
 mod delivery;
 mod entries;
 mod naming;
+mod parts;
 mod place;
+mod places;
+mod quarter;
 mod refusal;
 mod shard;
 #[cfg(test)]

@@ -1,12 +1,10 @@
 //! One shard under its lock, beside its word.
-ghost use Rattle.std.specs.Prelude.{◌≡◌, ◌≢◌, [], length, IfOk, IfErr, OnOk, OnErr, IsSome};
-ghost use Rattle.cf_protocol.specs.Settings.{settings_of};
-ghost use Rattle.cf_protocol.specs.LogEntry.Entry.{Trim, Forget};
-ghost use Rattle.cf_broker.specs.LogAnswer.{Follows, IsPosition, IsPublished, IsReadAnswer, IsHistoryAnswer, IsTrimmed, IsForgotten, IsTicked, RefusesPublish, RefusesRead, RefusesHistory, RefusesEntry};
-ghost use Rattle.cf_broker.specs.Shard.{no_streams, datum_of};
+ghost use Rattle.std.specs.Prelude.{◌≡◌, []};
+ghost use Rattle.cf_broker.specs.Shard.{no_streams};
 
 use crate::delivery::{Delivery, NodeLinks};
 use crate::naming::Naming;
+use crate::places::Places;
 use crate::refusal::Refused;
 use crate::shard::{ReadAnswer, Shard};
 use cf_link::Sender;
@@ -18,7 +16,7 @@ use std::alloc::Global;
 use std::collections::BTreeMap;
 use std::sync::{Mutex, Wait};
 
-/// A shard under its lock. Each call is the shard's method of the same name, while the lock is held.
+/// A shard under its lock.
 #[derive(Drop)]
 pub(crate) struct Place<N: Naming, E: Epochs, const I: usize> {
     word: ShardWord,
@@ -41,166 +39,129 @@ impl<N: Naming, E: Epochs, const I: usize> Place<N, E, I> {
         let lock = Mutex::new(Shard::new(alloc, streams, epochs, owner));
         Place { word, lock }
     }
+}
 
-    /// The shard's word, by which passes are lent, met and joined, and at which they look.
-    pub(crate) fn word(&self) -> &ShardWord
-        ensures { result.now ≡ N.words I }
-    {
+impl<N: Naming, E: Epochs, const I: usize> Places<N> for Place<N, E, I> {
+    ghost use Rattle.std.specs.Prelude.{◌≡◌};
+
+    ghost has = { λ n. n ≡ I };
+
+    fn word(&self, _number: usize) -> &ShardWord {
         &self.word
     }
 
-    pub(crate) fn publish<R: Wait>(
+    fn publish<R: Wait>(
         &self,
         rt: &R,
+        _number: usize,
         pass: &mut Pass,
         senders: &[Mutex<Sender<Delivery>>],
         channel: &str,
         body: String,
         info: Option<Info>,
         now: u64,
-    ) -> Result<Position, Refused>
-        requires pass { pass.old.word ≡ N.words I }
-        requires set_up { IsSome (settings_of N.namespaces channel.now) }
-        ensures answer { IfOk result (λ p. IsPublished N.namespaces
-            pass.old.log pass.new.log channel.now (datum_of body info) p) }
-        ensures own { IfOk result (λ _. Follows pass.old pass.new 1) }
-        ensures refusals { IfErr result
-            (RefusesPublish N.namespaces pass.new.log channel.now (datum_of body info)) }
-        ensures seen { OnErr result (Follows pass.old pass.new 0) }
-    {
+    ) -> Result<Position, Refused> {
         let mut shard = self.lock.lock(rt);
         let mut links = NodeLinks { rt, senders };
         shard.publish(&self.word, pass, &mut links, channel, body, info, now)
     }
 
-    pub(crate) fn read<R: Wait>(
+    fn read<R: Wait>(
         &self,
         rt: &R,
+        _number: usize,
         pass: &mut Pass,
         channel: &str,
         since: Option<Position>,
         now: u64,
-    ) -> Result<ReadAnswer, Refused>
-        requires pass { pass.old.word ≡ N.words I }
-        requires set_up { IsSome (settings_of N.namespaces channel.now) }
-        ensures answer { IfOk result (λ r. IsReadAnswer N.namespaces
-            pass.old.log pass.new.log channel.now since
-            r.recovery.position r.recovery.recovered r.recovery.publications.items) }
-        ensures mark { IfOk result (λ r. r.mark ≡ length pass.new.log) }
-        ensures refusals { IfErr result (RefusesRead N.namespaces pass.new.log channel.now) }
-        ensures seen { Follows pass.old pass.new 0 }
-    {
+    ) -> Result<ReadAnswer, Refused> {
         self.lock
             .lock(rt)
             .read(&self.word, pass, channel, since, now)
     }
 
-    pub(crate) fn history<R: Wait>(
+    fn history<R: Wait>(
         &self,
         rt: &R,
+        _number: usize,
         pass: &mut Pass,
         channel: &str,
         since: Option<Position>,
         limit: i32,
         now: u64,
-    ) -> Result<History, Refused>
-        requires pass { pass.old.word ≡ N.words I }
-        requires set_up { IsSome (settings_of N.namespaces channel.now) }
-        ensures answer { IfOk result (λ h. IsHistoryAnswer N.namespaces
-            pass.old.log pass.new.log channel.now since limit h.position h.publications.items) }
-        ensures refusals { IfErr result
-            (RefusesHistory N.namespaces pass.new.log channel.now since) }
-        ensures seen { Follows pass.old pass.new 0 }
-    {
+    ) -> Result<History, Refused> {
         self.lock
             .lock(rt)
             .history(&self.word, pass, channel, since, limit, now)
     }
 
-    pub(crate) fn position<R: Wait>(
+    fn position<R: Wait>(
         &self,
         rt: &R,
+        _number: usize,
         pass: &mut Pass,
         channel: &str,
-    ) -> (Option<Position>, u64)
-        requires pass { pass.old.word ≡ N.words I }
-        ensures answer { IsPosition N.namespaces pass.new.log channel.now result.0 }
-        ensures mark { result.1 ≡ length pass.new.log }
-        ensures seen { Follows pass.old pass.new 0 }
-    {
+    ) -> (Option<Position>, u64) {
         self.lock.lock(rt).position(&self.word, pass, channel)
     }
 
-    pub(crate) fn trim<R: Wait>(
+    fn trim<R: Wait>(
         &self,
         rt: &R,
+        _number: usize,
         pass: &mut Pass,
         channel: &str,
         count: usize,
-    ) -> Result<(), Refused>
-        requires pass { pass.old.word ≡ N.words I }
-        ensures done { OnOk result
-            (IsTrimmed N.namespaces pass.old.log pass.new.log channel.now count) }
-        ensures refusals { IfErr result
-            (RefusesEntry N.namespaces pass.new.log channel.now (Trim channel.now count)) }
-        ensures seen { Follows pass.old pass.new 0 }
-    {
+    ) -> Result<(), Refused> {
         self.lock.lock(rt).trim(&self.word, pass, channel, count)
     }
 
-    pub(crate) fn forget<R: Wait>(
+    fn forget<R: Wait>(
         &self,
         rt: &R,
+        _number: usize,
         pass: &mut Pass,
         channel: &str,
-    ) -> Result<(), Refused>
-        requires pass { pass.old.word ≡ N.words I }
-        ensures done { OnOk result
-            (IsForgotten N.namespaces pass.old.log pass.new.log channel.now) }
-        ensures refusals { IfErr result
-            (RefusesEntry N.namespaces pass.new.log channel.now (Forget channel.now)) }
-        ensures seen { Follows pass.old pass.new 0 }
-    {
+    ) -> Result<(), Refused> {
         self.lock.lock(rt).forget(&self.word, pass, channel)
     }
 
-    pub(crate) fn tick<R: Wait>(&self, rt: &R, pass: &mut Pass, now: u64) -> Result<(), Refused>
-        requires pass { pass.old.word ≡ N.words I }
-        ensures done { OnOk result (IsTicked pass.old.log pass.new.log) }
-        ensures refusals { IfErr result (λ e. e ≡ Refused.AtLastCount) }
-        ensures seen { Follows pass.old pass.new 0 }
-    {
+    fn tick<R: Wait>(
+        &self,
+        rt: &R,
+        _number: usize,
+        pass: &mut Pass,
+        now: u64,
+    ) -> Result<(), Refused> {
         self.lock.lock(rt).tick(&self.word, pass, now)
     }
 
-    pub(crate) fn enter<R: Wait>(
+    fn enter<R: Wait>(
         &self,
         rt: &R,
+        _number: usize,
         channel: &str,
         client: &str,
         user: &str,
         now: u64,
-    ) -> Result<(), Refused>
-        ensures { IfErr result (λ e. e ≡ Refused.Memory) }
-    {
+    ) -> Result<(), Refused> {
         self.lock.lock(rt).enter(channel, client, user, now)
     }
 
-    pub(crate) fn leave<R: Wait>(&self, rt: &R, channel: &str, client: &str) {
+    fn leave<R: Wait>(&self, rt: &R, _number: usize, channel: &str, client: &str) {
         self.lock.lock(rt).leave(channel, client);
     }
 
-    pub(crate) fn list<R: Wait>(
+    fn list<R: Wait>(
         &self,
         rt: &R,
+        _number: usize,
         channel: &str,
-    ) -> Result<BTreeMap<String, String>, Refused>
-        ensures { IfErr result (λ e. e ≡ Refused.Memory) }
-    {
+    ) -> Result<BTreeMap<String, String>, Refused> {
         self.lock.lock(rt).list(channel)
     }
 
-    pub(crate) fn stats<R: Wait>(&self, rt: &R, channel: &str) -> Stats {
+    fn stats<R: Wait>(&self, rt: &R, _number: usize, channel: &str) -> Stats {
         self.lock.lock(rt).stats(channel)
     }
 }

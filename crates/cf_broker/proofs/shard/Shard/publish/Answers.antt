@@ -1,4 +1,3 @@
-use Rattle.std.proofs.Common.{◌∙◌}
 use Rattle.cf_broker.proofs.Calls.{opening_stood, noted, kept, published_by_log, follows, stood_at, refused_alike}
 use Rattle.cf_broker.proofs.shard.Shard.publish.Goals as goal
 

@@ -1,6 +1,5 @@
-use Rattle.std.proofs.Common.{◌≡◌, ◌≤◌, ◌<◌, ℕ, List, arith, ap, sym, subst, ◌∙◌, length}
-use Rattle.cf_order.specs.Passes.{PassState}
-use Rattle.cf_broker.specs.Shards.{AreOfShards, lent}
+use Rattle.std.proofs.Common.{◌≡◌, arith, sym, subst, ◌∙◌, length}
+use Rattle.cf_broker.specs.Shards.{AreOfShards}
 use Rattle.cf_broker.proofs.Numbers.{lent_all, named_lent, named_length}
 use Rattle.cf_broker.proofs.words.Passes.lend.Goals as goal
 

@@ -1,5 +1,5 @@
 use Rattle.std.proofs.Common.{◌≡◌, vec_len, length}
-use Rattle.cf_broker.proofs.broker.parts.Given as goal
+use Rattle.cf_broker.proofs.parts.parts_of.Given as goal
 
 abbrev pub invariant-loop-source : goal.invariant-loop-source
 invariant-loop-source g l = vec_len l.parts ≡ length l.yielded
