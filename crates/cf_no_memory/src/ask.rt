@@ -1,63 +1,64 @@
 //! What is asked of a hub about its sessions.
 
-use crate::Stopped;
+use crate::NoMemory;
 use crate::follow::subscribed;
+use crate::report::Report;
 use cf_hub::Hub;
 
 /// The calls that look at a hub, those that take what waits, and `pong`.
-pub fn calls<R: Print + AllocGlobal>(rt: &R) -> Result<(), Stopped> {
-    let mut hub = Hub::new(rt.alloc(), 0, 1);
-    let ann = subscribed(rt.alloc(), &mut hub)?;
+pub fn calls(report: &Report) -> Result<(), NoMemory> {
+    let mut hub = Hub::new(report.alloc(), 0, 1);
+    let ann = subscribed(report.alloc(), &mut hub)?;
     if hub.begin(ann, "chat", 3, None).is_err() {
-        return Err(Stopped::Memory);
+        return Err(NoMemory);
     }
-    session_calls(rt, &hub, ann)?;
-    channel_calls(rt, &hub, ann)?;
-    output_calls(rt, &mut hub, ann)
+    session_calls(report, &hub, ann);
+    channel_calls(report, &hub, ann);
+    output_calls(report, &hub, ann);
+    turn_calls(report, &mut hub, ann);
+    Ok(())
 }
 
-fn session_calls<R: Print>(rt: &R, hub: &Hub, session: u32) -> Result<(), Stopped> {
-    println!(rt; "Hub::boot, client_id, user and is_closed")?;
+fn session_calls(report: &Report, hub: &Hub, session: u32) {
+    report.begin("Hub::boot, client_id, user and is_closed");
     let boot = hub.boot();
     let client = hub.client_id(session).is_some();
     let user = hub.user(session) == Some("ann");
     let closed = hub.is_closed(session);
-    println!(rt; ".")?;
-    println!(rt; "boot {boot}, client {client}, user {user}, closed {closed}")?;
-    Ok(())
+    report.end();
+    report.say(format_args!("boot {boot}, client {client}, user {user}, closed {closed}"));
 }
 
-fn channel_calls<R: Print>(rt: &R, hub: &Hub, session: u32) -> Result<(), Stopped> {
-    println!(rt; "Hub::asked and is_settled")?;
+fn channel_calls(report: &Report, hub: &Hub, session: u32) {
+    report.begin("Hub::asked and is_settled");
     let asked = hub.asked(session, "chat").is_some();
     let settled = hub.is_settled(session);
-    println!(rt; ".")?;
-    println!(rt; "Hub::is_on, has and place")?;
+    report.end();
+    report.begin("Hub::is_on, has and place");
     let on = hub.is_on(session, "news");
     let has = hub.has(session, "chat");
     let stands = hub.place(session, "news").is_some();
-    println!(rt; ".")?;
-    println!(rt; "asked {asked}, settled {settled}, on {on}, has {has}, stands {stands}")?;
-    Ok(())
+    report.end();
+    report.say(format_args!(
+        "asked {asked}, settled {settled}, on {on}, has {has}, stands {stands}"
+    ));
 }
 
-fn output_calls<R: Print>(rt: &R, hub: &mut Hub, session: u32) -> Result<(), Stopped> {
-    println!(rt; "Hub::waiting and front")?;
+fn output_calls(report: &Report, hub: &Hub, session: u32) {
+    report.begin("Hub::waiting and front");
     let waiting = hub.waiting(session);
     let front = hub.front(session).is_some();
-    println!(rt; ".")?;
-    println!(rt; "waiting {waiting}, front {front}")?;
-    turn_calls(rt, hub, session)
+    report.end();
+    report.say(format_args!("waiting {waiting}, front {front}"));
 }
 
-fn turn_calls<R: Print>(rt: &R, hub: &mut Hub, session: u32) -> Result<(), Stopped> {
-    println!(rt; "Hub::next_with_output and take")?;
+fn turn_calls(report: &Report, hub: &mut Hub, session: u32) {
+    report.begin("Hub::next_with_output and take");
     let next = hub.next_with_output() == Some(session);
     let taken = hub.take(session).is_some();
-    println!(rt; ".")?;
-    println!(rt; "Hub::pong")?;
+    report.end();
+    report.begin("Hub::pong");
     hub.pong(session);
-    println!(rt; ".")?;
-    println!(rt; "next {next}, taken {taken}")?;
-    Ok(())
+    report.end();
+    report.say(format_args!("next {next}, taken {taken}"));
 }

@@ -1,6 +1,6 @@
 //! What begins with nothing.
 
-use crate::Stopped;
+use crate::report::Report;
 use cf_followers::Followers;
 use cf_hub::Hub;
 use cf_queue::OutQueue;
@@ -8,33 +8,31 @@ use cf_recovery::Waiting;
 use cf_subs::SubTable;
 
 /// `new` of the tables, the buffer, the queue and the hub.
-pub fn calls<R: Print + AllocGlobal>(rt: &R) -> Result<(), Stopped> {
-    table_calls(rt)?;
-    waiting_calls(rt)
+pub fn calls(report: &Report) {
+    table_calls(report);
+    waiting_calls(report);
 }
 
-fn table_calls<R: Print + AllocGlobal>(rt: &R) -> Result<(), Stopped> {
-    let alloc = rt.alloc();
-    println!(rt; "new of SubTable, Followers and Hub")?;
+fn table_calls(report: &Report) {
+    let alloc = report.alloc();
+    report.begin("new of SubTable, Followers and Hub");
     let table = SubTable::new(alloc);
     let followers = Followers::new(alloc);
     let hub = Hub::new(alloc, 0, 7);
-    println!(rt; ".")?;
+    report.end();
     let rows = table.len();
     let follows = followers.len();
     let boot = hub.boot();
-    println!(rt; "rows {rows}, follows {follows}, boot {boot}")?;
-    Ok(())
+    report.say(format_args!("rows {rows}, follows {follows}, boot {boot}"));
 }
 
-fn waiting_calls<R: Print + AllocGlobal>(rt: &R) -> Result<(), Stopped> {
-    let alloc = rt.alloc();
-    println!(rt; "new of OutQueue and Waiting")?;
+fn waiting_calls(report: &Report) {
+    let alloc = report.alloc();
+    report.begin("new of OutQueue and Waiting");
     let queue = OutQueue::new(alloc, 1000);
     let waiting = Waiting::new(alloc);
-    println!(rt; ".")?;
+    report.end();
     let is_empty = queue.is_empty();
     let short = waiting.short();
-    println!(rt; "empty {is_empty}, short {short}")?;
-    Ok(())
+    report.say(format_args!("empty {is_empty}, short {short}"));
 }

@@ -1,7 +1,8 @@
 //! Who follows what.
 
-use crate::Stopped;
+use crate::NoMemory;
 use crate::gather::publication;
+use crate::report::Report;
 use cf_hub::Hub;
 use cf_protocol::{
     Data, Epoch, Namespaces, Position, Request, Tokens, read_namespaces, read_tokens,
@@ -9,10 +10,10 @@ use cf_protocol::{
 use cf_session::{Session, refusal_of};
 use cf_stream::Recovery;
 use cf_subs::SubTable;
-use std::alloc::{AllocError, Global};
+use std::alloc::Global;
 
 // A hundred sessions that follow two channels each.
-fn table(alloc: Global) -> Result<SubTable, AllocError> {
+fn table(alloc: Global) -> Result<SubTable, NoMemory> {
     let mut table = SubTable::new(alloc);
     for session in 0..100_u32 {
         add(&mut table, 1, session)?;
@@ -21,27 +22,27 @@ fn table(alloc: Global) -> Result<SubTable, AllocError> {
     Ok(table)
 }
 
-fn add(table: &mut SubTable, channel: u32, session: u32) -> Result<(), AllocError> {
+fn add(table: &mut SubTable, channel: u32, session: u32) -> Result<(), NoMemory> {
     if table.has(channel, session) {
         return Ok(());
     }
     match table.add(channel, session) {
         Ok(()) => Ok(()),
-        Err(_) => Err(AllocError),
+        Err(_) => Err(NoMemory),
     }
 }
 
 /// The calls of a table of rows that look at it, and those that remove.
-pub fn table_calls<R: Print + AllocGlobal>(rt: &R) -> Result<(), Stopped> {
-    let mut table = table(rt.alloc())?;
-    look_calls(rt, &table)?;
-    println!(rt; "SubTable::remove")?;
+pub fn table_calls(report: &Report) -> Result<(), NoMemory> {
+    let mut table = table(report.alloc())?;
+    look_calls(report, &table);
+    report.begin("SubTable::remove");
     let removed = table.remove(1, 50);
-    println!(rt; ".")?;
-    println!(rt; "SubTable::detach")?;
+    report.end();
+    report.begin("SubTable::detach");
     let detached = table.detach(51);
-    println!(rt; ".")?;
-    println!(rt; "removed {removed}, detached {detached}")?;
+    report.end();
+    report.say(format_args!("removed {removed}, detached {detached}"));
     Ok(())
 }
 
@@ -63,36 +64,42 @@ fn walked_session(table: &SubTable, session: u32) -> u64 {
     count
 }
 
-fn look_calls<R: Print>(rt: &R, table: &SubTable) -> Result<(), Stopped> {
-    println!(rt; "SubTable::has")?;
-    let has = table.has(1, 50);
-    println!(rt; ".")?;
-    println!(rt; "SubTable::walk")?;
-    let sessions = walked(table, 1);
-    println!(rt; ".")?;
-    println!(rt; "SubTable::walk_session")?;
-    let channels = walked_session(table, 50);
-    println!(rt; ".")?;
-    println!(rt; "SubTable::first and after")?;
+fn look_calls(report: &Report, table: &SubTable) {
+    let (has, sessions, channels) = walk_calls(report, table);
+    report.begin("SubTable::first and after");
     let first = table.first(1).is_some();
     let after = table.after(1, 50).is_some();
-    println!(rt; ".")?;
-    println!(rt; "SubTable::has_channel, channel_count and len")?;
+    report.end();
+    report.begin("SubTable::has_channel, channel_count and len");
     let has_channel = table.has_channel(3);
     let count = table.channel_count(50);
     let rows = table.len();
-    println!(rt; ".")?;
-    println!(rt; "{has} {sessions} {channels} {first} {after} {has_channel} {count} {rows}")?;
-    Ok(())
+    report.end();
+    report.say(format_args!(
+        "{has} {sessions} {channels} {first} {after} {has_channel} {count} {rows}"
+    ));
+}
+
+fn walk_calls(report: &Report, table: &SubTable) -> (bool, u64, u64) {
+    report.begin("SubTable::has");
+    let has = table.has(1, 50);
+    report.end();
+    report.begin("SubTable::walk");
+    let sessions = walked(table, 1);
+    report.end();
+    report.begin("SubTable::walk_session");
+    let channels = walked_session(table, 50);
+    report.end();
+    (has, sessions, channels)
 }
 
 /// A session of ann that follows `news`.
-pub fn subscribed(alloc: Global, hub: &mut Hub) -> Result<u32, Stopped> {
+pub fn subscribed(alloc: Global, hub: &mut Hub) -> Result<u32, NoMemory> {
     let Ok(session) = hub.attach(String::from_str(alloc, "ann")?, 0) else {
-        return Err(Stopped::Memory);
+        return Err(NoMemory);
     };
     if hub.begin(session, "news", 2, None).is_err() {
-        return Err(Stopped::Memory);
+        return Err(NoMemory);
     }
     let recovery = Recovery {
         position: Position {
@@ -108,62 +115,66 @@ pub fn subscribed(alloc: Global, hub: &mut Hub) -> Result<u32, Stopped> {
 }
 
 /// `leave`, `close`, `detach` and `short` of a hub.
-pub fn hub_calls<R: Print + AllocGlobal>(rt: &R) -> Result<(), Stopped> {
-    let alloc = rt.alloc();
+pub fn hub_calls(report: &Report) -> Result<(), NoMemory> {
+    let alloc = report.alloc();
     let mut hub = Hub::new(alloc, 0, 1);
     let ann = subscribed(alloc, &mut hub)?;
     let bob = subscribed(alloc, &mut hub)?;
     hub.deliver("news", &Epoch::from_text("aaaa"), &publication(alloc, 1)?);
-    println!(rt; "Hub::leave")?;
+    leave_calls(report, &mut hub, ann, bob);
+    session_calls(report)
+}
+
+fn leave_calls(report: &Report, hub: &mut Hub, ann: u32, bob: u32) {
+    report.begin("Hub::leave");
     let left = hub.leave(ann, "news");
-    println!(rt; ".")?;
-    println!(rt; "Hub::close")?;
+    report.end();
+    report.begin("Hub::close");
     hub.close(bob, 3001);
-    println!(rt; ".")?;
-    println!(rt; "Hub::detach")?;
+    report.end();
+    report.begin("Hub::detach");
     let gone = hub.detach(ann);
-    println!(rt; ".")?;
-    println!(rt; "Hub::short")?;
+    report.end();
+    report.begin("Hub::short");
     let short = hub.short();
-    println!(rt; ".")?;
-    println!(rt; "left {left}, gone {gone}, short {short}")?;
-    session_calls(rt)
+    report.end();
+    report.say(format_args!("left {left}, gone {gone}, short {short}"));
 }
 
 // The tables that a session stands on.
-fn tables(alloc: Global) -> Result<(Namespaces, Tokens), Stopped> {
+fn tables(alloc: Global) -> Result<(Namespaces, Tokens), NoMemory> {
     let Ok(namespaces) = read_namespaces(alloc, "=100,300,phs") else {
-        return Err(Stopped::Memory);
+        return Err(NoMemory);
     };
     let Ok(tokens) = read_tokens(alloc, "") else {
-        return Err(Stopped::Memory);
+        return Err(NoMemory);
     };
     Ok((namespaces, tokens))
 }
 
 // `short` of a session, and `refusal_of`.
-fn session_calls<R: Print + AllocGlobal>(rt: &R) -> Result<(), Stopped> {
-    let (namespaces, tokens) = tables(rt.alloc())?;
-    let mut session = Session::new(rt.alloc(), &namespaces, &tokens);
+fn session_calls(report: &Report) -> Result<(), NoMemory> {
+    let (namespaces, tokens) = tables(report.alloc())?;
+    let mut session = Session::new(report.alloc(), &namespaces, &tokens);
     if session.is_idle() {
         session.on_text("{\"id\":1,\"connect\":{}}");
     }
-    println!(rt; "Session::short")?;
+    report.begin("Session::short");
     let short = session.short();
-    println!(rt; ".")?;
-    println!(rt; "short {short}")?;
-    check_calls(rt, &namespaces)
+    report.end();
+    report.say(format_args!("short {short}"));
+    check_calls(report, &namespaces)
 }
 
 // `refusal_of` a publish.
-fn check_calls<R: Print + AllocGlobal>(rt: &R, namespaces: &Namespaces) -> Result<(), Stopped> {
+fn check_calls(report: &Report, namespaces: &Namespaces) -> Result<(), NoMemory> {
     let request = Request::Publish {
-        channel: String::from_str(rt.alloc(), "news")?,
-        body: Data::Body(String::from_str(rt.alloc(), "1")?),
+        channel: String::from_str(report.alloc(), "news")?,
+        body: Data::Body(String::from_str(report.alloc(), "1")?),
     };
-    println!(rt; "cf_session::refusal_of")?;
+    report.begin("cf_session::refusal_of");
     let passes = refusal_of(namespaces, &request).is_none();
-    println!(rt; ".")?;
-    println!(rt; "passes {passes}")?;
+    report.end();
+    report.say(format_args!("passes {passes}"));
     Ok(())
 }

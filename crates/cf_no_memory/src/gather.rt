@@ -1,6 +1,7 @@
 //! What comes before a subscription's reply.
 
-use crate::Stopped;
+use crate::NoMemory;
+use crate::report::Report;
 use cf_protocol::{Epoch, Position, Publication};
 use cf_recovery::{Verdict, Waiting, check};
 use std::alloc::{AllocError, Global};
@@ -24,20 +25,20 @@ fn filled(alloc: Global, epoch: &Epoch) -> Result<Waiting, AllocError> {
 }
 
 /// `check`, `short` and `release` of `cf_recovery`.
-pub fn calls<R: Print + AllocGlobal>(rt: &R) -> Result<(), Stopped> {
+pub fn calls(report: &Report) -> Result<(), NoMemory> {
     let epoch = Epoch::from_text("aaaa");
     let at = Position { epoch, offset: 0 };
-    println!(rt; "cf_recovery::check")?;
+    report.begin("cf_recovery::check");
     let passes = check(&at, &epoch, 1) == Verdict::Pass;
-    println!(rt; ".")?;
-    let waiting = filled(rt.alloc(), &epoch)?;
-    println!(rt; "Waiting::short")?;
+    report.end();
+    let waiting = filled(report.alloc(), &epoch)?;
+    report.begin("Waiting::short");
     let short = waiting.short();
-    println!(rt; ".")?;
-    println!(rt; "Waiting::release")?;
+    report.end();
+    report.begin("Waiting::release");
     let released = waiting.release(&at);
-    println!(rt; ".")?;
+    report.end();
     let count = released.run.len();
-    println!(rt; "passes {passes}, short {short}, released {count}")?;
+    report.say(format_args!("passes {passes}, short {short}, released {count}"));
     Ok(())
 }

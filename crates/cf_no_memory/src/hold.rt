@@ -1,6 +1,7 @@
 //! Streams.
 
-use crate::Stopped;
+use crate::NoMemory;
+use crate::report::Report;
 use cf_protocol::{Epoch, read_namespaces};
 use cf_stream::{Due, Epochs, Stream, Streams};
 use std::alloc::Global;
@@ -20,10 +21,10 @@ impl Epochs for Always {
 }
 
 // A stream that holds ten publications.
-fn filled(alloc: Global) -> Result<Stream, Stopped> {
+fn filled(alloc: Global) -> Result<Stream, NoMemory> {
     let epoch = Epoch::from_text("aaaa");
     if epoch.is_empty() {
-        return Err(Stopped::Memory);
+        return Err(NoMemory);
     }
     let mut stream = Stream::start(alloc, epoch, 10)?;
     for _ in 0..12 {
@@ -32,40 +33,42 @@ fn filled(alloc: Global) -> Result<Stream, Stopped> {
     Ok(stream)
 }
 
-// `resize` of a stream.
-fn resize_call<R: Print>(rt: &R, stream: &mut Stream) -> Result<(), Stopped> {
-    println!(rt; "Stream::resize")?;
-    stream.resize(8);
-    println!(rt; ".")?;
-    let held = stream.held();
-    println!(rt; "held {held}")?;
+/// `position`, `resize`, `trim` and `tick` of a stream.
+pub fn stream_calls(report: &Report) -> Result<(), NoMemory> {
+    let mut stream = filled(report.alloc())?;
+    resize_call(report, &mut stream);
+    trim_calls(report, &mut stream);
     Ok(())
 }
 
-/// `position`, `resize`, `trim` and `tick` of a stream.
-pub fn stream_calls<R: Print + AllocGlobal>(rt: &R) -> Result<(), Stopped> {
-    let mut stream = filled(rt.alloc())?;
-    resize_call(rt, &mut stream)?;
-    println!(rt; "Stream::position")?;
+fn resize_call(report: &Report, stream: &mut Stream) {
+    report.begin("Stream::resize");
+    stream.resize(8);
+    report.end();
+    let held = stream.held();
+    report.say(format_args!("held {held}"));
+}
+
+fn trim_calls(report: &Report, stream: &mut Stream) {
+    report.begin("Stream::position");
     let position = stream.position();
-    println!(rt; ".")?;
-    println!(rt; "Stream::trim")?;
+    report.end();
+    report.begin("Stream::trim");
     stream.trim(5);
-    println!(rt; ".")?;
-    println!(rt; "Stream::tick")?;
+    report.end();
+    report.begin("Stream::tick");
     stream.tick(300, 300);
-    println!(rt; ".")?;
+    report.end();
     let offset = position.offset;
     let held = stream.held();
-    println!(rt; "offset {offset}, held {held}")?;
-    Ok(())
+    report.say(format_args!("offset {offset}, held {held}"));
 }
 
 // Streams of a hundred channels, each with three publications, the last at the moment of the channel's number.
-fn filled_all(alloc: Global) -> Result<Streams, Stopped> {
+fn filled_all(alloc: Global) -> Result<Streams, NoMemory> {
     let namespaces = match read_namespaces(alloc, "=2,300,phs") {
         Ok(namespaces) => namespaces,
-        Err(_) => return Err(Stopped::Memory),
+        Err(_) => return Err(NoMemory),
     };
     let mut streams = Streams::new(alloc, &namespaces)?;
     for number in 0..100_u64 {
@@ -80,7 +83,7 @@ fn publish_three(
     streams: &mut Streams,
     channel: &str,
     now: u64,
-) -> Result<(), Stopped> {
+) -> Result<(), NoMemory> {
     for _ in 0..3 {
         if streams.is_set_up(channel) {
             streams.publish(
@@ -106,77 +109,58 @@ fn due_count(streams: &Streams, now: u64) -> u64 {
     count
 }
 
-// `held` of the streams of all channels.
-fn held_call<R: Print>(rt: &R, streams: &Streams) -> Result<(), Stopped> {
-    println!(rt; "Streams::held")?;
-    let held = streams.held("c7");
-    println!(rt; ".")?;
-    println!(rt; "held {held}")?;
-    Ok(())
-}
-
-// `forget_all` of the streams of all channels.
-fn end_call<R: Print>(rt: &R, streams: &mut Streams) -> Result<(), Stopped> {
-    println!(rt; "Streams::forget_all")?;
-    streams.forget_all();
-    println!(rt; ".")?;
-    let is_gone = streams.position("c60").is_none();
-    println!(rt; "gone {is_gone}")?;
-    Ok(())
-}
-
-// `position` and `last` of the streams of all channels.
-fn asked_calls<R: Print>(rt: &R, streams: &Streams) -> Result<(), Stopped> {
-    println!(rt; "Streams::position")?;
-    let stands = streams.position("c7").is_some();
-    println!(rt; ".")?;
-    println!(rt; "Streams::last")?;
-    let holds = streams.last("c7").is_some();
-    println!(rt; ".")?;
-    println!(rt; "stands {stands}, holds {holds}")?;
-    Ok(())
-}
-
-// `trim` and `due` of the streams of all channels.
-fn due_calls<R: Print>(rt: &R, streams: &mut Streams) -> Result<(), Stopped> {
-    println!(rt; "Streams::trim")?;
-    streams.trim("c7", 0);
-    println!(rt; ".")?;
-    println!(rt; "Streams::due")?;
-    let due = due_count(streams, 349);
-    println!(rt; ".")?;
-    println!(rt; "due {due}")?;
-    Ok(())
-}
-
-// `tick` of the streams of all channels.
-fn tick_calls<R: Print>(rt: &R, streams: &mut Streams) -> Result<(), Stopped> {
-    println!(rt; "Streams::tick")?;
-    streams.tick(349);
-    println!(rt; ".")?;
-    println!(rt; "Streams::tick that forgets")?;
-    streams.tick(2_592_050);
-    println!(rt; ".")?;
-    Ok(())
-}
-
-// `forget` of the streams of all channels.
-fn forget_call<R: Print>(rt: &R, streams: &mut Streams) -> Result<(), Stopped> {
-    println!(rt; "Streams::forget")?;
-    streams.forget("c77");
-    println!(rt; ".")?;
-    let is_gone = streams.position("c77").is_none();
-    println!(rt; "gone {is_gone}")?;
-    Ok(())
-}
-
 /// `position`, `last`, `held`, `trim`, `due`, `tick`, `forget` and `forget_all` of the streams of all channels.
-pub fn streams_calls<R: Print + AllocGlobal>(rt: &R) -> Result<(), Stopped> {
-    let mut streams = filled_all(rt.alloc())?;
-    held_call(rt, &streams)?;
-    asked_calls(rt, &streams)?;
-    due_calls(rt, &mut streams)?;
-    tick_calls(rt, &mut streams)?;
-    forget_call(rt, &mut streams)?;
-    end_call(rt, &mut streams)
+pub fn streams_calls(report: &Report) -> Result<(), NoMemory> {
+    let mut streams = filled_all(report.alloc())?;
+    look_calls(report, &streams);
+    due_calls(report, &mut streams);
+    tick_calls(report, &mut streams);
+    forget_calls(report, &mut streams);
+    Ok(())
+}
+
+fn look_calls(report: &Report, streams: &Streams) {
+    report.begin("Streams::held");
+    let held = streams.held("c7");
+    report.end();
+    report.say(format_args!("held {held}"));
+    report.begin("Streams::position");
+    let stands = streams.position("c7").is_some();
+    report.end();
+    report.begin("Streams::last");
+    let holds = streams.last("c7").is_some();
+    report.end();
+    report.say(format_args!("stands {stands}, holds {holds}"));
+}
+
+fn due_calls(report: &Report, streams: &mut Streams) {
+    report.begin("Streams::trim");
+    streams.trim("c7", 0);
+    report.end();
+    report.begin("Streams::due");
+    let due = due_count(streams, 349);
+    report.end();
+    report.say(format_args!("due {due}"));
+}
+
+fn tick_calls(report: &Report, streams: &mut Streams) {
+    report.begin("Streams::tick");
+    streams.tick(349);
+    report.end();
+    report.begin("Streams::tick that forgets");
+    streams.tick(2_592_050);
+    report.end();
+}
+
+fn forget_calls(report: &Report, streams: &mut Streams) {
+    report.begin("Streams::forget");
+    streams.forget("c77");
+    report.end();
+    let is_gone = streams.position("c77").is_none();
+    report.say(format_args!("gone {is_gone}"));
+    report.begin("Streams::forget_all");
+    streams.forget_all();
+    report.end();
+    let is_gone = streams.position("c60").is_none();
+    report.say(format_args!("gone {is_gone}"));
 }

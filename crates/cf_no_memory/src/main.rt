@@ -10,73 +10,66 @@ mod hold;
 mod log;
 mod number;
 mod present;
+mod report;
 mod rows;
 mod wait;
 
+use crate::report::Report;
 use cf_stream::StreamRefusal;
 use std::alloc::AllocError;
-use std::io;
 use std::process::ExitCode;
 
-/// Why the calls were not made. There was no memory for what stands before them, or a line was not printed.
+/// There was no memory for what stands before the calls.
 #[derive(Drop)]
-enum Stopped {
-    Memory,
-    Output,
-}
+struct NoMemory;
 
-impl From<AllocError> for Stopped {
-    fn from(_refused: AllocError) -> Stopped {
-        Stopped::Memory
+impl From<AllocError> for NoMemory {
+    fn from(_refused: AllocError) -> NoMemory {
+        NoMemory
     }
 }
 
-impl From<StreamRefusal> for Stopped {
-    fn from(_refused: StreamRefusal) -> Stopped {
-        Stopped::Memory
-    }
-}
-
-impl From<io::Error> for Stopped {
-    fn from(_error: io::Error) -> Stopped {
-        Stopped::Output
+impl From<StreamRefusal> for NoMemory {
+    fn from(_refused: StreamRefusal) -> NoMemory {
+        NoMemory
     }
 }
 
 // What does take memory.
-fn control<R: Print + AllocGlobal>(rt: &R) -> Result<(), Stopped> {
-    println!(rt; "control")?;
-    let text = String::from_str(rt.alloc(), "text")?;
-    println!(rt; ".")?;
-    println!(rt; "{text}")?;
+fn control(report: &Report) -> Result<(), NoMemory> {
+    report.begin("control");
+    let text = String::from_str(report.alloc(), "text")?;
+    report.end();
+    report.say(text);
     Ok(())
 }
 
 // What a node's sessions stand on.
-fn session_calls<R: Print + AllocGlobal>(rt: &R) -> Result<(), Stopped> {
-    begin::calls(rt)?;
-    rows::calls(rt)?;
-    ask::calls(rt)?;
-    present::calls(rt)?;
-    number::calls(rt)
+fn session_calls(report: &Report) -> Result<(), NoMemory> {
+    begin::calls(report);
+    rows::calls(report)?;
+    ask::calls(report)?;
+    present::calls(report)?;
+    number::calls(report)
 }
 
-fn calls<R: Print + AllocGlobal>(rt: &R) -> Result<(), Stopped> {
-    control(rt)?;
-    gather::calls(rt)?;
-    hold::stream_calls(rt)?;
-    hold::streams_calls(rt)?;
-    wait::calls(rt)?;
-    follow::table_calls(rt)?;
-    follow::hub_calls(rt)?;
-    log::calls(rt)?;
-    session_calls(rt)
+fn calls(report: &Report) -> Result<(), NoMemory> {
+    control(report)?;
+    gather::calls(report)?;
+    hold::stream_calls(report)?;
+    hold::streams_calls(report)?;
+    wait::calls(report)?;
+    follow::table_calls(report)?;
+    follow::hub_calls(report)?;
+    log::calls(report)?;
+    session_calls(report)
 }
 
 fn main(rt: HostRuntime) -> ExitCode {
-    match calls(&rt) {
-        Ok(()) => ExitCode::SUCCESS,
-        Err(Stopped::Memory) => ExitCode::from(3),
-        Err(Stopped::Output) => ExitCode::from(4),
+    let report = Report::new(rt);
+    match calls(&report) {
+        Ok(()) if report.is_whole() => ExitCode::SUCCESS,
+        Ok(()) => ExitCode::from(4),
+        Err(NoMemory) => ExitCode::from(3),
     }
 }

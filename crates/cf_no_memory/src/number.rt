@@ -1,17 +1,18 @@
 //! The number of a client's next command.
 
-use crate::Stopped;
+use crate::NoMemory;
+use crate::report::Report;
 use cf_client::Client;
 
 /// `next_id` of a client that is connected.
-pub fn calls<R: Print + AllocGlobal>(rt: &R) -> Result<(), Stopped> {
-    let mut client = Client::new(rt.alloc());
+pub fn calls(report: &Report) -> Result<(), NoMemory> {
+    let mut client = Client::new(report.alloc());
     if client.connect("").is_err() {
-        return Err(Stopped::Memory);
+        return Err(NoMemory);
     }
-    println!(rt; "Client::next_id")?;
+    report.begin("Client::next_id");
     let id = client.next_id().unwrap_or(0);
-    println!(rt; ".")?;
-    println!(rt; "id {id}")?;
+    report.end();
+    report.say(format_args!("id {id}"));
     Ok(())
 }
