@@ -8,9 +8,8 @@ use crate::connection::Member;
 use crate::io_loop::Around;
 use cf_broker::{Naming, Refused};
 use cf_protocol::{ErrorCode, Info, Position};
-use cf_session::{Action, Answer, hub_error};
+use cf_session::{Action, Answer};
 use cf_stream::{Epochs, History};
-use std::alloc::AllocError;
 use std::collections::BTreeMap;
 use std::sync::Wait;
 
@@ -31,10 +30,13 @@ impl<'a, R: Wait, N: Naming, E: Epochs + Drop> Around<'a, R, N, E> {
         ensures kind { option_map answer_kind result ≡ asked_kind (shown_action action) }
     {
         match action {
-            Action::Attach { user } => Some(Answer::Attach(self.attach(member, user, now))),
-            Action::Begin { channel, id, since } => {
-                Some(Answer::Begin(self.begin(member, channel.as_str(), id, since)))
-            }
+            Action::Attach { user } => Some(Answer::Attach(
+                self.shared.attach(self.rt, self.alloc, member, user, now),
+            )),
+            Action::Begin { channel, id, since } => Some(Answer::Begin(
+                self.shared
+                    .begin(self.rt, member, channel.as_str(), id, since),
+            )),
             Action::Read { channel, since } => {
                 Some(Answer::Read(self.read(member, channel.as_str(), since, now)))
             }
@@ -61,69 +63,17 @@ impl<'a, R: Wait, N: Naming, E: Epochs + Drop> Around<'a, R, N, E> {
                 Some(Answer::Stats(self.broker.stats(self.rt, channel.as_str())))
             }
             Action::Say(text) => {
-                self.say(member, text);
+                self.shared.say(self.rt, member, text);
                 None
             }
             Action::Pong => {
-                self.pong(member);
+                self.shared.pong(self.rt, member);
                 None
             }
             Action::Close(code) => {
-                self.close(member, code.code());
+                self.shared.close(self.rt, member, code.code());
                 None
             }
-        }
-    }
-
-    fn attach(&self, member: &mut Member, user: String, now: u64) -> Result<String, ErrorCode> {
-        let Ok(kept) = user.clone() else {
-            return Err(ErrorCode::Internal);
-        };
-        let mut hub = self.shared.hub.lock(self.rt);
-        let number = match hub.attach(user, now) {
-            Ok(number) => number,
-            Err(refusal) => return Err(hub_error(&refusal)),
-        };
-        member.number = Some(number);
-        member.user = kept;
-        let client = hub.client_id(number).unwrap_or("");
-        match self.two_of(client) {
-            Ok((kept, given)) => {
-                member.client = kept;
-                Ok(given)
-            }
-            Err(_) => Err(ErrorCode::Internal),
-        }
-    }
-
-    fn two_of(&self, text: &str) -> Result<(String, String), AllocError> {
-        let one = String::from_str(self.alloc, text)?;
-        let other = String::from_str(self.alloc, text)?;
-        Ok((one, other))
-    }
-
-    fn begin(
-        &self,
-        member: &mut Member,
-        channel: &str,
-        id: u32,
-        since: Option<Position>,
-    ) -> Result<(), ErrorCode> {
-        let Some(number) = member.number else {
-            return Err(ErrorCode::Internal);
-        };
-        // Room for the channel at which the client will be present.
-        if member.channels.reserve(1).is_err() {
-            return Err(ErrorCode::Internal);
-        }
-        match self
-            .shared
-            .hub
-            .lock(self.rt)
-            .begin(number, channel, id, since)
-        {
-            Ok(()) => Ok(()),
-            Err(refusal) => Err(hub_error(&refusal)),
         }
     }
 
@@ -153,23 +103,14 @@ impl<'a, R: Wait, N: Naming, E: Epochs + Drop> Around<'a, R, N, E> {
 
     // The subscription is finished, and where it stands then, its client is present.
     fn finish(&self, member: &mut Member, channel: String, now: u64) {
-        let Some(number) = member.number else {
-            return;
-        };
-        let mut hub = self.shared.hub.lock(self.rt);
-        hub.finish(number, channel.as_str());
-        let stands = hub.is_on(number, channel.as_str());
-        drop(hub);
-        if stands {
+        if self.shared.finish(self.rt, member, channel.as_str()) {
             self.enter(member, channel.as_str(), now);
             member.add(channel);
         }
     }
 
     fn leave(&self, member: &mut Member, channel: &str) {
-        if let Some(number) = member.number {
-            self.shared.hub.lock(self.rt).leave(number, channel);
-        }
+        self.shared.leave(self.rt, member, channel);
         self.broker.leave(self.rt, channel, member.client.as_str());
         member.remove(channel);
     }
@@ -202,26 +143,6 @@ impl<'a, R: Wait, N: Naming, E: Epochs + Drop> Around<'a, R, N, E> {
         match self.broker.list(self.rt, channel) {
             Ok(clients) => Ok(clients),
             Err(refused) => Err(broker_error(refused)),
-        }
-    }
-
-    fn say(&self, member: &Member, text: String) {
-        if let Some(number) = member.number {
-            self.shared.hub.lock(self.rt).say(number, text);
-        }
-    }
-
-    fn pong(&self, member: &Member) {
-        if let Some(number) = member.number {
-            self.shared.hub.lock(self.rt).pong(number);
-        }
-    }
-
-    // A session that isn't attached has no queue: its close is sent as it is.
-    fn close(&self, member: &mut Member, code: u16) {
-        match member.number {
-            Some(number) => self.shared.hub.lock(self.rt).close(number, code),
-            None => member.refused = Some(code),
         }
     }
 }

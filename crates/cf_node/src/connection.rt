@@ -2,6 +2,7 @@
 use crate::desk::SessionDesk;
 use crate::socket::Socket;
 use cf_broker::Naming;
+use cf_queue::Out;
 use cf_stream::Epochs;
 use cf_wire::{Gather, Wire};
 use mio::net::TcpStream;
@@ -77,18 +78,25 @@ impl Head {
                 Err(error) if error.kind() == ErrorKind::WouldBlock => return Ok(false),
                 Err(error) => return Err(error),
             };
-            if count == 0 {
-                return Err(io::Error::from(ErrorKind::UnexpectedEof));
-            }
-            let known = self.bytes.len().saturating_sub(3);
-            self.bytes
-                .extend_from_slice(chunk.get(..count).unwrap_or(&[]))?;
-            if has_blank_line(self.bytes.get(known..).unwrap_or(&[])) {
+            if self.keep(chunk.get(..count).unwrap_or(&[]))? {
                 return Ok(true);
             }
-            if self.bytes.len() >= LONGEST_HEAD {
-                return Err(io::Error::from(ErrorKind::InvalidData));
-            }
+        }
+        Ok(false)
+    }
+
+    // Keeps what was read, and says whether the head is whole; an error where nothing was, or the head is too long.
+    fn keep(&mut self, part: &[u8]) -> io::Result<bool> {
+        if part.is_empty() {
+            return Err(io::Error::from(ErrorKind::UnexpectedEof));
+        }
+        let known = self.bytes.len().saturating_sub(3);
+        self.bytes.extend_from_slice(part)?;
+        if has_blank_line(self.bytes.get(known..).unwrap_or(&[])) {
+            return Ok(true);
+        }
+        if self.bytes.len() >= LONGEST_HEAD {
+            return Err(io::Error::from(ErrorKind::InvalidData));
         }
         Ok(false)
     }
@@ -105,11 +113,9 @@ fn has_blank_line(bytes: &[u8]) -> bool {
     bytes.windows(4).any(|part| part == b"\r\n\r\n".as_slice())
 }
 
-impl<'a, R: Wait, N: Naming, E: Epochs + Drop> Open<'a, R, N, E> {
-    /// Whether what is taken for it can be sent at once.
-    pub(crate) fn takes_more(&self) -> bool {
-        self.desk.taken.is_empty() && !self.wire.is_unflushed() && self.wire.stream().is_drained()
-    }
+/// Whether what is taken for a client can be sent at once.
+pub(crate) fn takes_more(wire: &Wire<Gather<Socket>>, taken: &VecDeque<Out>) -> bool {
+    taken.is_empty() && !wire.is_unflushed() && wire.stream().is_drained()
 }
 
 impl Member {

@@ -109,9 +109,7 @@ impl<'a, R: Wait, N: Naming, E: Epochs + Drop> Desk for SessionDesk<'a, R, N, E>
         }
         let number = self.clerk.member.number?;
         let around = self.clerk.around;
-        let mut hub = around.shared.hub.lock(around.rt);
-        self.owed = take_for(&mut hub, number, true, &mut self.taken);
-        drop(hub);
+        self.owed = around.shared.take(around.rt, number, &mut self.taken);
         self.taken.pop_front()
     }
 }

@@ -1,5 +1,5 @@
 //! The worker that serves the sockets: it turns a connection that has something to read or something to send, and no other.
-use crate::connection::{Connection, Head, Open};
+use crate::connection::{Connection, Head, Open, takes_more};
 use crate::desk::SessionDesk;
 use crate::gate::{Gate, IO_LOOP};
 use crate::node::{LISTENER, Setup, WAKER};
@@ -88,7 +88,7 @@ pub(crate) fn serve<'a, R: Wait + Clock, N: Naming, E: Epochs + Drop, G: Gate>(
         }
         turn = turn.wrapping_add(1);
         if gate.may(around.setup.node(), IO_LOOP, turn) {
-            wait(&mut poll, &mut events, io_loop.patience())?;
+            wait(&mut poll, &mut events, patience(&io_loop.owed))?;
             io_loop.turn(&poll, &listener, &events, gate.now(rt));
         } else {
             thread::yield_now();
@@ -96,6 +96,11 @@ pub(crate) fn serve<'a, R: Wait + Clock, N: Naming, E: Epochs + Drop, G: Gate>(
     }
     io_loop.shut_down();
     Ok(())
+}
+
+// How long to wait for readiness, where these places are owed something.
+fn patience(owed: &VecDeque<usize>) -> Duration {
+    Duration::from_millis(if owed.is_empty() { PATIENCE } else { 0 })
 }
 
 // Waits for readiness, at most so long. A wait that a signal interrupts has found nothing.
@@ -138,7 +143,7 @@ fn turn_open<R: Wait, N: Naming, E: Epochs + Drop>(
     }
     match end {
         TurnEnd::Idle if goes_on => {
-            if open.desk.owed && open.takes_more() {
+            if open.desk.owed && takes_more(&open.wire, &open.desk.taken) {
                 Turned::More
             } else {
                 Turned::Idle
@@ -200,11 +205,6 @@ impl<'a, R: Wait, N: Naming, E: Epochs + Drop> IoLoop<'a, R, N, E> {
             behind: false,
             now: 0,
         }
-    }
-
-    // How long to wait for readiness.
-    fn patience(&self) -> Duration {
-        Duration::from_millis(if self.owed.is_empty() { PATIENCE } else { 0 })
     }
 
     fn turn(&mut self, poll: &Poll, listener: &TcpListener, events: &Events, now: u64) {
@@ -276,30 +276,16 @@ impl<'a, R: Wait, N: Naming, E: Epochs + Drop> IoLoop<'a, R, N, E> {
     fn put(&mut self, poll: &Poll, mut head: Head) -> Result<(), AllocError> {
         let place = match self.free.pop() {
             Some(place) => place,
-            None => self.new_place()?,
+            None => new_place(&mut self.places, &mut self.owners, Connection::Empty)?,
         };
-        let registered = poll.registry().register(
-            &mut head.socket.stream,
-            Token(place),
-            Interest::READABLE | Interest::WRITABLE,
-        );
+        let is_registered = registers(poll, &mut head, place);
         match self.places.get_mut(place) {
-            Some(connection) if registered.is_ok() => *connection = Connection::Head(head),
+            Some(connection) if is_registered => *connection = Connection::Head(head),
             _ => {
                 let _ = self.free.push(place);
             }
         }
         Ok(())
-    }
-
-    // One place more, and room for the owner of one session more.
-    fn new_place(&mut self) -> Result<usize, AllocError> {
-        self.places.reserve(1)?;
-        self.owners.push(0)?;
-        let place = self.places.len();
-        // There is room for it.
-        let _ = self.places.push(Connection::Empty);
-        Ok(place)
     }
 
     // A socket is ready.
@@ -335,15 +321,14 @@ impl<'a, R: Wait, N: Naming, E: Epochs + Drop> IoLoop<'a, R, N, E> {
                     *connection = Connection::Open(open);
                     self.serve(place);
                 }
-                None => self.release(place),
+                None => {
+                    let _ = self.free.push(place);
+                }
             },
-            Err(_) => self.release(place),
+            Err(_) => {
+                let _ = self.free.push(place);
+            }
         }
-    }
-
-    // A place that stands empty is used again.
-    fn release(&mut self, place: usize) {
-        let _ = self.free.push(place);
     }
 
     // Turns the connection at a place.
@@ -376,7 +361,7 @@ impl<'a, R: Wait, N: Naming, E: Epochs + Drop> IoLoop<'a, R, N, E> {
         if let Connection::Open(open) = mem::replace(connection, Connection::Empty) {
             self.around.give_up(&open.desk.clerk.member);
         }
-        self.release(place);
+        let _ = self.free.push(place);
     }
 
     // Turns those that had more to do.
@@ -420,11 +405,6 @@ impl<'a, R: Wait, N: Naming, E: Epochs + Drop> IoLoop<'a, R, N, E> {
         take_batch(&mut hub, self);
     }
 
-    // At which place a session's connection is, if it has one.
-    fn place_of(&self, session: u32) -> usize {
-        self.owners.get(session as usize).copied().unwrap_or(0)
-    }
-
     // The session of the connection at a place, from which something is owed from now on.
     fn owes(&mut self, place: usize) -> Option<u32> {
         match self.places.get_mut(place) {
@@ -452,6 +432,34 @@ impl<'a, R: Wait, N: Naming, E: Epochs + Drop> IoLoop<'a, R, N, E> {
     }
 }
 
+// One place more, and room for the owner of one session more.
+fn new_place<T: Drop>(
+    places: &mut Vec<T>,
+    owners: &mut Vec<usize>,
+    empty: T,
+) -> Result<usize, AllocError> {
+    places.reserve(1)?;
+    owners.push(0)?;
+    let place = places.len();
+    // There is room for it.
+    let _ = places.push(empty);
+    Ok(place)
+}
+
+// Asks to be told when the socket of a connection at a place is ready. `false` where it can't be.
+fn registers(poll: &Poll, head: &mut Head, place: usize) -> bool {
+    let interest = Interest::READABLE | Interest::WRITABLE;
+    let registered = poll
+        .registry()
+        .register(&mut head.socket.stream, Token(place), interest);
+    registered.is_ok()
+}
+
+// At which place a session's connection is, if it has one.
+fn place_of(owners: &[usize], session: u32) -> usize {
+    owners.get(session as usize).copied().unwrap_or(0)
+}
+
 impl<'a, R: Wait, N: Naming, E: Epochs + Drop> Seats for IoLoop<'a, R, N, E> {
     // What a socket has room for is nothing that a contract can name.
     ghost frees = { λ _ _ _. Unit {0} };
@@ -461,9 +469,10 @@ impl<'a, R: Wait, N: Naming, E: Epochs + Drop> Seats for IoLoop<'a, R, N, E> {
     ghost gets = { λ _ _ _ _ _. Unit {0} };
 
     fn is_free(&self, session: u32) -> bool {
-        match self.places.get(self.place_of(session)) {
+        match self.places.get(place_of(&self.owners, session)) {
             Some(Connection::Open(open)) => {
-                open.desk.clerk.member.number == Some(session) && open.takes_more()
+                open.desk.clerk.member.number == Some(session)
+                    && takes_more(&open.wire, &open.desk.taken)
             }
             _ => false,
         }
@@ -471,7 +480,7 @@ impl<'a, R: Wait, N: Naming, E: Epochs + Drop> Seats for IoLoop<'a, R, N, E> {
 
     fn lend(&mut self, session: u32) -> VecDeque<Out> {
         let nothing = VecDeque::new(self.around.alloc);
-        let place = self.place_of(session);
+        let place = place_of(&self.owners, session);
         match self.places.get_mut(place) {
             Some(Connection::Open(open)) => mem::replace(&mut open.desk.taken, nothing),
             _ => nothing,
@@ -479,11 +488,11 @@ impl<'a, R: Wait, N: Naming, E: Epochs + Drop> Seats for IoLoop<'a, R, N, E> {
     }
 
     fn give(&mut self, session: u32, taken: VecDeque<Out>, more: bool) {
-        let place = self.place_of(session);
+        let place = place_of(&self.owners, session);
         let Some(Connection::Open(open)) = self.places.get_mut(place) else {
             return;
         };
-        let is_free = open.takes_more();
+        let is_free = takes_more(&open.wire, &open.desk.taken);
         open.desk.taken = taken;
         open.desk.owed = more;
         if is_free {

@@ -13,6 +13,7 @@ mod io_loop;
 mod node;
 mod passes;
 mod rounds;
+mod sessions;
 mod shared;
 mod socket;
 

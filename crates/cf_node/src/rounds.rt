@@ -3,6 +3,7 @@ use crate::connection::{Member, Present};
 use crate::io_loop::Around;
 use cf_broker::{Naming, SHARDS};
 use cf_hub::Checked;
+use cf_protocol::Namespaces;
 use cf_stream::Epochs;
 use std::sync::Wait;
 
@@ -21,7 +22,7 @@ impl<'a, R: Wait, N: Naming, E: Epochs + Drop> Around<'a, R, N, E> {
             return true;
         }
         member.looked = now;
-        if !self.looks_at(number, member) {
+        if !self.shared.looks_at(self.rt, number, member) {
             return false;
         }
         for _ in 0..member.channels.len() {
@@ -34,20 +35,6 @@ impl<'a, R: Wait, N: Naming, E: Epochs + Drop> Around<'a, R, N, E> {
                     self.broker
                         .leave(self.rt, present.channel.as_str(), member.client.as_str());
                 }
-            }
-        }
-        true
-    }
-
-    // Forgets the mark of each subscription that has ended meanwhile. `false` where the session was closed.
-    fn looks_at(&self, number: u32, member: &mut Member) -> bool {
-        let hub = self.shared.hub.lock(self.rt);
-        if hub.is_closed(number) {
-            return false;
-        }
-        for present in member.channels.iter_mut() {
-            if !hub.is_on(number, present.channel.as_str()) {
-                present.mark = None;
             }
         }
         true
@@ -84,7 +71,7 @@ impl<'a, R: Wait, N: Naming, E: Epochs + Drop> Around<'a, R, N, E> {
     /// The client is present in the channel from this moment on, where the channel's namespace keeps presence. Where memory
     /// is refused, it enters with the next round.
     pub(crate) fn enter(&self, member: &Member, channel: &str, now: u64) {
-        if self.keeps_presence(channel) {
+        if keeps_presence(self.setup.namespaces, channel) {
             let _ = self.broker.enter(
                 self.rt,
                 channel,
@@ -92,13 +79,6 @@ impl<'a, R: Wait, N: Naming, E: Epochs + Drop> Around<'a, R, N, E> {
                 member.user.as_str(),
                 now,
             );
-        }
-    }
-
-    fn keeps_presence(&self, channel: &str) -> bool {
-        match self.setup.namespaces.find(channel) {
-            Some(settings) => settings.presence,
-            None => false,
         }
     }
 
@@ -112,5 +92,12 @@ impl<'a, R: Wait, N: Naming, E: Epochs + Drop> Around<'a, R, N, E> {
             self.broker
                 .leave(self.rt, present.channel.as_str(), member.client.as_str());
         }
+    }
+}
+
+fn keeps_presence(namespaces: &Namespaces, channel: &str) -> bool {
+    match namespaces.find(channel) {
+        Some(settings) => settings.presence,
+        None => false,
     }
 }
