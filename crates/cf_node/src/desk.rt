@@ -10,7 +10,6 @@ use cf_queue::Out;
 use cf_session::{Action, Answer, Session};
 use cf_stream::Epochs;
 use cf_talk::{Node, serve_text};
-use cf_turns::take_for;
 use cf_wire::Desk;
 use std::alloc::Global;
 use std::collections::VecDeque;

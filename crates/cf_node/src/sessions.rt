@@ -1,10 +1,10 @@
 //! What a session asks of the hub alone, done under its lock.
 use crate::connection::Member;
-use crate::outlet::take_for;
 use crate::shared::Shared;
 use cf_protocol::{ErrorCode, Position};
 use cf_queue::Out;
 use cf_session::hub_error;
+use cf_turns::take_for;
 use std::alloc::{AllocError, Global};
 use std::collections::VecDeque;
 use std::sync::Wait;
