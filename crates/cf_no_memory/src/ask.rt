@@ -4,14 +4,21 @@ use crate::NoMemory;
 use crate::follow::subscribed;
 use crate::report::Report;
 use cf_hub::Hub;
+use std::alloc::Global;
+
+// A session that follows `news`, and waits for its reply in `chat`.
+fn asking(alloc: Global, hub: &mut Hub) -> Result<u32, NoMemory> {
+    let session = subscribed(alloc, hub)?;
+    match hub.begin(session, "chat", 3, None) {
+        Ok(()) => Ok(session),
+        Err(_) => Err(NoMemory),
+    }
+}
 
 /// The calls that look at a hub, those that take what waits, and `pong`.
 pub fn calls(report: &Report) -> Result<(), NoMemory> {
     let mut hub = Hub::new(report.alloc(), 0, 1);
-    let ann = subscribed(report.alloc(), &mut hub)?;
-    if hub.begin(ann, "chat", 3, None).is_err() {
-        return Err(NoMemory);
-    }
+    let ann = asking(report.alloc(), &mut hub)?;
     session_calls(report, &hub, ann);
     channel_calls(report, &hub, ann);
     output_calls(report, &hub, ann);

@@ -20,6 +20,10 @@ fn table_calls(report: &Report) {
     let followers = Followers::new(alloc);
     let hub = Hub::new(alloc, 0, 7);
     report.end();
+    say_new(report, &table, &followers, &hub);
+}
+
+fn say_new(report: &Report, table: &SubTable, followers: &Followers, hub: &Hub) {
     let rows = table.len();
     let follows = followers.len();
     let boot = hub.boot();

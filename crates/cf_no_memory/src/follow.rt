@@ -114,15 +114,21 @@ pub fn subscribed(alloc: Global, hub: &mut Hub) -> Result<u32, NoMemory> {
     Ok(session)
 }
 
+// Two sessions that follow `news`, to which something was published.
+fn delivered(alloc: Global, hub: &mut Hub) -> Result<(u32, u32), NoMemory> {
+    let ann = subscribed(alloc, hub)?;
+    let bob = subscribed(alloc, hub)?;
+    let publication = publication(alloc, 1)?;
+    hub.deliver("news", &Epoch::from_text("aaaa"), &publication);
+    Ok((ann, bob))
+}
+
 /// `leave`, `close`, `detach` and `short` of a hub.
 pub fn hub_calls(report: &Report) -> Result<(), NoMemory> {
-    let alloc = report.alloc();
-    let mut hub = Hub::new(alloc, 0, 1);
-    let ann = subscribed(alloc, &mut hub)?;
-    let bob = subscribed(alloc, &mut hub)?;
-    hub.deliver("news", &Epoch::from_text("aaaa"), &publication(alloc, 1)?);
+    let mut hub = Hub::new(report.alloc(), 0, 1);
+    let (ann, bob) = delivered(report.alloc(), &mut hub)?;
     leave_calls(report, &mut hub, ann, bob);
-    session_calls(report)
+    Ok(())
 }
 
 fn leave_calls(report: &Report, hub: &mut Hub, ann: u32, bob: u32) {
@@ -152,10 +158,17 @@ fn tables(alloc: Global) -> Result<(Namespaces, Tokens), NoMemory> {
     Ok((namespaces, tokens))
 }
 
-// `short` of a session, and `refusal_of`.
-fn session_calls(report: &Report) -> Result<(), NoMemory> {
+/// `short` of a session, and `refusal_of`.
+pub fn session_calls(report: &Report) -> Result<(), NoMemory> {
     let (namespaces, tokens) = tables(report.alloc())?;
-    let mut session = Session::new(report.alloc(), &namespaces, &tokens);
+    short_call(report, &namespaces, &tokens);
+    let request = request(report.alloc())?;
+    refusal_call(report, &namespaces, &request);
+    Ok(())
+}
+
+fn short_call(report: &Report, namespaces: &Namespaces, tokens: &Tokens) {
+    let mut session = Session::new(report.alloc(), namespaces, tokens);
     if session.is_idle() {
         session.on_text("{\"id\":1,\"connect\":{}}");
     }
@@ -163,18 +176,18 @@ fn session_calls(report: &Report) -> Result<(), NoMemory> {
     let short = session.short();
     report.end();
     report.say(format_args!("short {short}"));
-    check_calls(report, &namespaces)
 }
 
-// `refusal_of` a publish.
-fn check_calls(report: &Report, namespaces: &Namespaces) -> Result<(), NoMemory> {
-    let request = Request::Publish {
-        channel: String::from_str(report.alloc(), "news")?,
-        body: Data::Body(String::from_str(report.alloc(), "1")?),
-    };
+// A publish.
+fn request(alloc: Global) -> Result<Request, NoMemory> {
+    let channel = String::from_str(alloc, "news")?;
+    let body = Data::Body(String::from_str(alloc, "1")?);
+    Ok(Request::Publish { channel, body })
+}
+
+fn refusal_call(report: &Report, namespaces: &Namespaces, request: &Request) {
     report.begin("cf_session::refusal_of");
-    let passes = refusal_of(namespaces, &request).is_none();
+    let passes = refusal_of(namespaces, request).is_none();
     report.end();
     report.say(format_args!("passes {passes}"));
-    Ok(())
 }

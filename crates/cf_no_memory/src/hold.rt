@@ -64,13 +64,18 @@ fn trim_calls(report: &Report, stream: &mut Stream) {
     report.say(format_args!("offset {offset}, held {held}"));
 }
 
-// Streams of a hundred channels, each with three publications, the last at the moment of the channel's number.
-fn filled_all(alloc: Global) -> Result<Streams, NoMemory> {
+// Streams of no channel yet.
+fn streams(alloc: Global) -> Result<Streams, NoMemory> {
     let namespaces = match read_namespaces(alloc, "=2,300,phs") {
         Ok(namespaces) => namespaces,
         Err(_) => return Err(NoMemory),
     };
-    let mut streams = Streams::new(alloc, &namespaces)?;
+    Ok(Streams::new(alloc, &namespaces)?)
+}
+
+// Streams of a hundred channels, each with three publications, the last at the moment of the channel's number.
+fn filled_all(alloc: Global) -> Result<Streams, NoMemory> {
+    let mut streams = streams(alloc)?;
     for number in 0..100_u64 {
         let channel = format!(in alloc; "c{number}")?;
         publish_three(alloc, &mut streams, channel.as_str(), number)?;
@@ -112,6 +117,7 @@ fn due_count(streams: &Streams, now: u64) -> u64 {
 /// `position`, `last`, `held`, `trim`, `due`, `tick`, `forget` and `forget_all` of the streams of all channels.
 pub fn streams_calls(report: &Report) -> Result<(), NoMemory> {
     let mut streams = filled_all(report.alloc())?;
+    held_call(report, &streams);
     look_calls(report, &streams);
     due_calls(report, &mut streams);
     tick_calls(report, &mut streams);
@@ -119,11 +125,14 @@ pub fn streams_calls(report: &Report) -> Result<(), NoMemory> {
     Ok(())
 }
 
-fn look_calls(report: &Report, streams: &Streams) {
+fn held_call(report: &Report, streams: &Streams) {
     report.begin("Streams::held");
     let held = streams.held("c7");
     report.end();
     report.say(format_args!("held {held}"));
+}
+
+fn look_calls(report: &Report, streams: &Streams) {
     report.begin("Streams::position");
     let stands = streams.position("c7").is_some();
     report.end();

@@ -61,6 +61,7 @@ fn calls(report: &Report) -> Result<(), NoMemory> {
     wait::calls(report)?;
     follow::table_calls(report)?;
     follow::hub_calls(report)?;
+    follow::session_calls(report)?;
     log::calls(report)?;
     session_calls(report)
 }
