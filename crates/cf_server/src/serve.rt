@@ -5,8 +5,8 @@ ghost use Rattle.cf_broker.specs.Shards.{names};
 use crate::boot_epochs::BootEpochs;
 use crate::command_line::ServeOptions;
 use crate::fault::Fault;
-use cf_broker::{Broker, Naming, Passes, Words};
-use cf_link::pair;
+use cf_broker::{Broker, Delivery, Naming, Passes, Words};
+use cf_link::{Receiver, Sender, pair};
 use cf_node::{Gate, Node, Setup};
 use cf_protocol::{Namespaces, Tokens, read_namespaces, read_tokens};
 use mio::net::TcpListener;
@@ -70,14 +70,7 @@ where
     requires namespaces { namespaces.now ≡ N.namespaces }
 {
     let alloc = rt.alloc();
-    let mut senders = Vec::new(alloc);
-    let mut nodes = Vec::new(alloc);
-    for node in 0..options.nodes {
-        let (sender, receiver) = pair(alloc, LINK_CAPACITY)?;
-        senders.push(sender)?;
-        let setup = Setup::new(node, options.boot, namespaces, tokens);
-        nodes.push(Node::open(rt, setup, receiver, listen(rt, options, node)?)?)?;
-    }
+    let (senders, nodes) = open_nodes::<N, R>(rt, options, namespaces, tokens)?;
     let epochs = epochs_of(options.boot);
     let (broker, passes) = Broker::<N, BootEpochs>::new(alloc, words, namespaces, epochs, senders)?;
     let nodes = with_passes(alloc, &broker, passes, nodes)?;
@@ -86,6 +79,37 @@ where
     };
     run_nodes(rt, &broker, &gate, nodes);
     Ok(())
+}
+
+// The nodes, and the broker's ends of their links.
+fn open_nodes<'a, N: Naming, R: Print + Net + AllocGlobal>(
+    rt: &R,
+    options: ServeOptions<'_>,
+    namespaces: &'a Namespaces,
+    tokens: &'a Tokens,
+) -> Result<(Vec<Sender<Delivery>>, Vec<Node<'a, N>>), Fault>
+    requires { namespaces.now ≡ N.namespaces }
+{
+    let mut senders = Vec::new(rt.alloc());
+    let mut nodes = Vec::new(rt.alloc());
+    for number in 0..options.nodes {
+        let (sender, receiver) = pair(rt.alloc(), LINK_CAPACITY)?;
+        senders.push(sender)?;
+        let setup = Setup::new(number, options.boot, namespaces, tokens);
+        nodes.push(open_node(rt, options, setup, receiver)?)?;
+    }
+    Ok((senders, nodes))
+}
+
+// A node that listens at its port.
+fn open_node<'a, N: Naming, R: Print + Net + AllocGlobal>(
+    rt: &R,
+    options: ServeOptions<'_>,
+    setup: Setup<'a, N>,
+    receiver: Receiver<Delivery>,
+) -> Result<Node<'a, N>, Fault> {
+    let listener = listen(rt, options, setup.node())?;
+    Ok(Node::open(rt, setup, receiver, listener)?)
 }
 
 // Each node with passes of its own.
