@@ -13,6 +13,7 @@ pub struct Report {
 }
 
 impl Report {
+    /// A report to standard output, of which nothing was printed yet. It takes no memory.
     pub fn new(rt: HostRuntime) -> Report {
         Report {
             rt,
