@@ -107,8 +107,9 @@ pub(crate) fn note_opening(
     requires word { (owner.old.word ≡ word.now) × (pass.old.word ≡ word.now) }
     requires room { HasRoom stood (length owner.old.log) }
     requires whole { HasWhole pass.old owner.old.log }
-    ensures owner { owner.new ≡
-        record owner.old { log = owner.old.log ++ opening stood channel.now position.now.epoch [] } }
+    ensures owner { owner.new
+        ≡ record owner.old
+        { log = owner.old.log ++ opening stood channel.now position.now.epoch [] } }
     ensures whole { HasWhole pass.new owner.new.log }
     ensures share { KeepsShare pass.old pass.new 0 }
 {
@@ -158,10 +159,13 @@ pub(crate) fn note_publish(
     requires room { HasRoomForTwo stood (length owner.old.log) }
     requires whole { HasWhole pass.old owner.old.log }
     requires newest { IsSome (option_and_then newest_of (stream_of streams.now channel.now)) }
-    ensures owner { (d : Placed) → option_and_then newest_of (stream_of streams.now channel.now) ≡ Some d →
-        owner.new ≡ record owner.old {
-          log = owner.old.log ++
-              opening stood channel.now position.now.epoch (Publish channel.now d.datum ∷ []);
+    ensures owner { (d : Placed)
+        → option_and_then newest_of (stream_of streams.now channel.now) ≡ Some d
+        → owner.new
+        ≡ record owner.old {
+          log = owner.old.log
+              ++ opening stood channel.now position.now.epoch
+              (Publish channel.now d.datum ∷ []);
         } }
     ensures whole { HasWhole pass.new owner.new.log }
     ensures share { KeepsShare pass.old pass.new 1 }

@@ -56,7 +56,8 @@ impl Progress {
 
     /// Keeps a publication while it waits for its reply. Says whether memory was refused for it.
     pub(crate) fn keep(&mut self, epoch: &Epoch, publication: &Publication) -> bool
-        ensures { (self.new ≡ keeps epoch.now publication.now self.old) ⊎ ((result ≡ true) × (self.new ≡ loses self.old)) }
+        ensures { (self.new ≡ keeps epoch.now publication.now self.old)
+            ⊎ ((result ≡ true) × (self.new ≡ loses self.old)) }
     {
         match self {
             Progress::Asked { waiting, .. } => keep_in(waiting, epoch, publication),
@@ -68,7 +69,8 @@ impl Progress {
 
 /// Keeps a publication in a buffer. Says whether memory was refused for it now.
 fn keep_in(waiting: &mut Waiting, epoch: &Epoch, publication: &Publication) -> bool
-    ensures { (waiting.new ≡ with_arrival (arrival epoch.now publication.now) waiting.old) ⊎ ((result ≡ true) × (waiting.new ≡ given_up true)) }
+    ensures { (waiting.new ≡ with_arrival (arrival epoch.now publication.now) waiting.old)
+        ⊎ ((result ≡ true) × (waiting.new ≡ given_up true)) }
 {
     let was_short = waiting.short();
     waiting.keep(epoch, publication);
@@ -83,7 +85,12 @@ pub(crate) fn keep_at(
     epoch: &Epoch,
     publication: &Publication,
 ) -> bool
-    ensures { SetsAt subscriptions.old subscriptions.new channel.now (option_map (keeps epoch.now publication.now) (progress_at subscriptions.old channel.now)) ⊎ ((result ≡ true) × SetsAt subscriptions.old subscriptions.new channel.now (option_map loses (progress_at subscriptions.old channel.now))) }
+    ensures { SetsAt subscriptions.old subscriptions.new channel.now
+        (option_map (keeps epoch.now publication.now)
+        (progress_at subscriptions.old channel.now))
+        ⊎ ((result ≡ true)
+        × SetsAt subscriptions.old subscriptions.new channel.now
+        (option_map loses (progress_at subscriptions.old channel.now))) }
 {
     match subscriptions.get_mut(channel) {
         None => false,
@@ -98,7 +105,8 @@ pub(crate) fn replace(
     channel: &str,
     progress: Progress,
 )
-    ensures { SetsAt subscriptions.old subscriptions.new channel.now (option_map (λ _. progress) (progress_at subscriptions.old channel.now)) }
+    ensures { SetsAt subscriptions.old subscriptions.new channel.now
+        (option_map (λ _. progress) (progress_at subscriptions.old channel.now)) }
 {
     if let Some(place) = subscriptions.get_mut(channel) {
         **place = progress;
@@ -114,7 +122,8 @@ pub(crate) fn add(
     progress: Progress,
 ) -> Result<(), AllocError>
     requires { progress_at subscriptions.old channel.now ≡ None }
-    ensures ok { OnOk result (SetsAt subscriptions.old subscriptions.new channel.now (Some progress)) }
+    ensures ok { OnOk result
+        (SetsAt subscriptions.old subscriptions.new channel.now (Some progress)) }
     ensures err { OnErr result (subscriptions.new.entries ≡ subscriptions.old.entries) }
 {
     let key = String::from_str(alloc, channel)?;
