@@ -29,6 +29,3 @@ pub use read::{read_commands, read_replies};
 pub use settings::Settings;
 pub use tokens::{Tokens, read_tokens};
 pub use write::{write_command, write_publication, write_reply, write_unsubscribe};
-
-#[cfg(test)]
-mod tests;

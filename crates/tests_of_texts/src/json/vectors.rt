@@ -1,15 +1,12 @@
-// Each call once, with answers by hand.
+//! Members, items, compact texts and depths, with answers by hand.
 ghost use Rattle.std.specs.Prelude.{◌≡◌, IfSome};
 ghost use Rattle.cf_json.specs.Grammar.{Tree};
 ghost use Rattle.cf_json.specs.Spans.{IsAt};
 ghost use Rattle.cf_json.specs.Kinds.{kind_of};
 
-use crate::{
-    Fault, Kind, Span, compact, depth, items, kind, members, one_value, quote, quoting_reads_back,
-    read_signed, read_text, read_whole, scan, split_frame,
-};
+use crate::pieces::{is_debugged, repeated};
+use cf_json::{Fault, Kind, Span, compact, items, kind, members, read_text, scan, split_frame};
 use std::alloc::Global;
-use std::fmt::Debug;
 use std::process::Abort;
 
 // The span of a text's one value, where that is of the kind.
@@ -46,25 +43,9 @@ pub(super) fn text_of(alloc: Global, text: &str) -> Result<String, Fault> {
     }
 }
 
-fn whole_of(text: &str) -> Option<u64> {
-    read_whole(text, span_of(text, Kind::Number)?)
-}
-
-fn signed_of(text: &str) -> Option<i64> {
-    read_signed(text, span_of(text, Kind::Number)?)
-}
-
-// What the members or the items were found to be is shown as this text.
-fn is_shown<T: Debug>(alloc: Global, found: &T, text: &str) -> bool {
-    match format!(in alloc; "{found:?}") {
-        Ok(shown) => shown.as_str() == text,
-        Err(_) => false,
-    }
-}
-
 fn has_members(rt: &impl Abort, alloc: Global, text: &str, members: &str) {
     assert!(rt;
-        is_shown(alloc, &members_of(alloc, text), members),
+        is_debugged(alloc, &members_of(alloc, text), members),
         "{text}"
     );
 }
@@ -89,7 +70,7 @@ fn members_by_key(rt: HostRuntime) {
 }
 
 fn has_items(rt: &impl Abort, alloc: Global, text: &str, items: &str) {
-    assert!(rt; is_shown(alloc, &items_of(alloc, text), items), "{text}");
+    assert!(rt; is_debugged(alloc, &items_of(alloc, text), items), "{text}");
 }
 
 #[test]
@@ -101,31 +82,6 @@ fn items_in_order(rt: HostRuntime) {
         "Ok([Span { from: 1, to: 2 }, Span { from: 4, to: 6 }, Span { from: 8, to: 10 }])",
     );
     has_items(&rt, rt.alloc(), "[\n]", "Ok([])");
-}
-
-fn has_kind(text: &str, wanted: Kind, deep: usize) -> bool {
-    match scan(text) {
-        Ok(span) => kind(text, span) == wanted && depth(text, span) == deep,
-        Err(_) => false,
-    }
-}
-
-fn is_of(rt: &impl Abort, text: &str, wanted: Kind, deep: usize) {
-    assert!(rt; has_kind(text, wanted, deep), "{text}");
-}
-
-#[test]
-fn kinds_and_depths(rt: HostRuntime) {
-    is_of(&rt, "{}", Kind::Object, 1);
-    is_of(&rt, "[]", Kind::Array, 1);
-    is_of(&rt, "\"[\\\"[\"", Kind::Text, 0);
-    is_of(&rt, "-1", Kind::Number, 0);
-    is_of(&rt, "0", Kind::Number, 0);
-    is_of(&rt, "true", Kind::True, 0);
-    is_of(&rt, "false", Kind::False, 0);
-    is_of(&rt, "null", Kind::Null, 0);
-    is_of(&rt, "[[],{\"a\":[1]},2]", Kind::Array, 3);
-    is_of(&rt, "{\"[[\":\"[[[\"}", Kind::Object, 1);
 }
 
 // A text's compact text is this one.
@@ -148,54 +104,9 @@ fn compact_texts(rt: HostRuntime) {
     assert!(rt; compacts_to(alloc, "\n1E+05\r", "1E+05"));
 }
 
-// The laws are there to be called.
-#[test]
-fn laws() {
-    one_value();
-    quoting_reads_back();
-}
-
-fn is_whole(rt: &impl Abort, text: &str, number: Option<u64>) {
-    assert!(rt; whole_of(text) == number, "{text}");
-}
-
-#[test]
-fn whole_numbers(rt: HostRuntime) {
-    is_whole(&rt, "0", Some(0));
-    is_whole(&rt, "18446744073709551615", Some(u64::MAX));
-    is_whole(&rt, "18446744073709551616", None);
-    is_whole(&rt, "1.0", None);
-    is_whole(&rt, "1e0", None);
-    is_whole(&rt, "-1", None);
-    is_whole(&rt, "-0", None);
-    is_whole(&rt, "0.0", None);
-}
-
-fn is_signed(rt: &impl Abort, text: &str, number: Option<i64>) {
-    assert!(rt; signed_of(text) == number, "{text}");
-}
-
-#[test]
-fn signed_numbers(rt: HostRuntime) {
-    is_signed(&rt, "-1", Some(-1));
-    is_signed(&rt, "-0", Some(0));
-    is_signed(&rt, "9223372036854775807", Some(i64::MAX));
-    is_signed(&rt, "-9223372036854775808", Some(i64::MIN));
-    is_signed(&rt, "9223372036854775808", None);
-    is_signed(&rt, "-9223372036854775809", None);
-    is_signed(&rt, "-1.0", None);
-    is_signed(&rt, "1E2", None);
-}
-
-// So many opening brackets between two texts.
-fn nested(alloc: Global, front: &str, depth: usize, back: &str) -> Option<String> {
-    let opening = "[".repeat(alloc, depth).ok()?;
-    format!(in alloc; "{front}{opening}{back}").ok()
-}
-
-// What the scan of such a text answers.
+// What the scan answers of so many opening brackets between two texts.
 fn scan_nested(alloc: Global, front: &str, depth: usize, back: &str) -> Result<Span, Fault> {
-    match nested(alloc, front, depth, back) {
+    match repeated(alloc, front, "[", depth, back) {
         Some(text) => scan(text.as_str()),
         None => Err(Fault::Memory),
     }
@@ -217,7 +128,7 @@ fn depths_allowed(rt: HostRuntime) {
 
 // The place at which a frame of such a text is too deep.
 fn too_deep_at(alloc: Global, front: &str, depth: usize, back: &str) -> Option<usize> {
-    let text = nested(alloc, front, depth, back)?;
+    let text = repeated(alloc, front, "[", depth, back)?;
     match split_frame(alloc, text.as_str()) {
         Err(Fault::TooDeep(place)) => Some(place),
         _ => None,

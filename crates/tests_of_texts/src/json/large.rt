@@ -1,14 +1,10 @@
-// Each call that takes memory at its largest size: a text of 65,536 bytes, with ample memory. And the text of each fault.
+//! Each call that takes memory at its largest size: a text of 65,536 bytes, with ample memory. And
+//! the text of each fault.
 use super::vectors::{compacts_to, items_of, members_of, text_of};
-use crate::{Fault, quote, split_frame};
+use crate::pieces::{is_displayed, repeated};
+use cf_json::{Fault, quote, split_frame};
 use std::alloc::Global;
 use std::process::Abort;
-
-// A piece so many times, between two texts.
-fn repeated(alloc: Global, front: &str, piece: &str, count: usize, back: &str) -> Option<String> {
-    let pieces = piece.repeat(alloc, count).ok()?;
-    format!(in alloc; "{front}{pieces}{back}").ok()
-}
 
 // An object of so many different keys, the last `end`.
 fn object_of(alloc: Global, count: usize) -> Option<String> {
@@ -118,7 +114,8 @@ fn compacts(rt: &impl Abort, alloc: Global, count: usize, piece: &str, shorter: 
     );
 }
 
-// The first is of 65,536 bytes. The others are compact already, without a space and with one in a string.
+// The first is of 65,536 bytes. The others are compact already, without a space and with one in a
+// string.
 #[test]
 fn long_compact(rt: HostRuntime) {
     compacts(&rt, rt.alloc(), 10_922, "\" \" , ", "\" \",");
@@ -126,17 +123,10 @@ fn long_compact(rt: HostRuntime) {
     compacts(&rt, rt.alloc(), 16_000, "\" \",", "\" \",");
 }
 
-fn is_shown(alloc: Global, fault: Fault, text: &str) -> bool {
-    match format!(in alloc; "{fault}") {
-        Ok(shown) => shown.as_str() == text,
-        Err(_) => false,
-    }
-}
-
 #[test]
 fn texts_of_faults(rt: HostRuntime) {
     let alloc = rt.alloc();
-    assert!(rt; is_shown(alloc, Fault::NotJson(7), "no JSON at byte 7"));
-    assert!(rt; is_shown(alloc, Fault::TooDeep(64), "nested too deep at byte 64"));
-    assert!(rt; is_shown(alloc, Fault::Memory, "out of memory"));
+    assert!(rt; is_displayed(alloc, &Fault::NotJson(7), "no JSON at byte 7"));
+    assert!(rt; is_displayed(alloc, &Fault::TooDeep(64), "nested too deep at byte 64"));
+    assert!(rt; is_displayed(alloc, &Fault::Memory, "out of memory"));
 }

@@ -1,5 +1,5 @@
-// Texts by the rules of RFC 8259, sections 2 to 7, each with its answer by hand.
-use crate::{Fault, Span, scan, split_frame};
+//! Texts by the rules of RFC 8259, sections 2 to 7, each with its answer by hand.
+use cf_json::{Fault, Span, scan, split_frame};
 use std::alloc::Global;
 use std::process::Abort;
 
@@ -249,7 +249,8 @@ null^l
 {"a":n^il}
 {"a":1^]"#;
 
-/// Where a text is refused: the first byte at which what was read so far can't go on, or the text's end.
+/// Where a text is refused: the first byte at which what was read so far can't go on, or the text's
+/// end.
 #[test]
 fn places_of_faults(rt: HostRuntime) {
     fail_at_marks(&rt, rt.alloc(), FAULTS, '\n');

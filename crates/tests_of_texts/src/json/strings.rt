@@ -1,22 +1,11 @@
-use super::{quote, read_text};
-use crate::document::scan;
-use crate::fault::Fault;
-use crate::kinds::Kind;
-use crate::shape::kind;
+//! Strings read and written (RFC 8259, section 7), with answers by hand.
+use super::vectors::text_of;
+use cf_json::{Fault, quote};
 use std::alloc::Global;
 use std::process::Abort;
 
-// The characters of the string that the text is.
-fn read(alloc: Global, text: &str) -> Result<String, Fault> {
-    let span = scan(text)?;
-    match kind(text, span) {
-        Kind::Text => read_text(alloc, text, span),
-        _ => Err(Fault::NotJson(span.from)),
-    }
-}
-
 fn has_characters(alloc: Global, text: &str, characters: &str) -> bool {
-    match read(alloc, text) {
+    match text_of(alloc, text) {
         Ok(found) => found.as_str() == characters,
         Err(_) => false,
     }
@@ -39,7 +28,7 @@ fn reads_escapes(rt: HostRuntime) {
 }
 
 fn is_refused(alloc: Global, text: &str) -> bool {
-    match read(alloc, text) {
+    match text_of(alloc, text) {
         Ok(_) => false,
         Err(fault) => fault == Fault::NotJson(0),
     }

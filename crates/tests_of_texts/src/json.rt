@@ -1,0 +1,5 @@
+//! JSON values found in a text.
+mod grammar;
+mod large;
+mod strings;
+mod vectors;

@@ -1,0 +1,341 @@
+//! Frames of commands, among them those that nobody means well by.
+use super::{Sender, are_as_they_stand, are_refused, is_refused, nested, says};
+use cf_protocol::{Data, Epoch, Position, Request, read_commands};
+use std::alloc::Global;
+
+/// Frames that are written again as they were read.
+const KEPT: &str = r#"// what clients send
+{"connect":{},"id":1}
+{"connect":{"token":"t9"},"id":1}
+{"id":2,"subscribe":{"channel":"news","epoch":"aaaa","offset":2,"recover":true}}
+{"id":2,"subscribe":{"channel":"news","recover":true}}
+{"id":3,"publish":{"channel":"news","data":{"t":1.50}}}
+{"id":3,"publish":{"channel":"news","data":null}}
+{"id":3,"publish":{"channel":"news"}}
+{"history":{"channel":"news","limit":-1},"id":4}
+{"history":{"channel":"a","limit":-2147483648,"reverse":true,"since":{"epoch":"zzzz","offset":18446744073709551615}},"id":7}
+{"id":6,"presence":{"channel":"news"}}
+{"id":7,"presence_stats":{"channel":"news"}}
+{"id":9,"unsubscribe":{"channel":"a\"b"}}
+{"id":4294967295,"ping":{}}
+{"id":4,"rpc":{}}
+{"send":{}}
+{}
+{"id":2,"subscribe":{"channel":"news"}}
+{"id":3,"subscribe":{"channel":"chat:x"}}
+{"id":5,"subscribe":{"channel":"a"}}
+{"id":8,"subscribe":{"channel":"b"}}
+{"id":9,"unsubscribe":{"channel":"news"}}
+// numbers at their limits; an epoch has at most 32 letters or digits
+{"id":1,"ping":{}}
+{"id":7,"send":{}}
+{"id":1,"subscribe":{"channel":"a","offset":18446744073709551615,"recover":true}}
+{"id":1,"subscribe":{"channel":"a","epoch":"abcdefghijabcdefghijabcdefghijab","recover":true}}
+// null counts as absent
+{"id":1,"publish":{"channel":"a","data":null}}
+// lone surrogates in what is not read
+{"id":1,"publish":{"channel":"a","data":{"\ud800":"\udc00"}}}"#;
+
+/// Frames, and what is written again of each.
+const REWRITTEN: &str = r#"// what clients send, with keys and white space as they like
+{"id":1,"connect":{}} => {"connect":{},"id":1}
+{"id":9,"connect":{}} => {"connect":{},"id":9}
+{"id":1,"connect":{"token":"t9"}} => {"connect":{"token":"t9"},"id":1}
+{"id":3,"publish":{"channel":"news","data":{ "t" : 1.50 }}} => {"id":3,"publish":{"channel":"news","data":{"t":1.50}}}
+{"id":4,"history":{"channel":"news","limit":-1}} => {"history":{"channel":"news","limit":-1},"id":4}
+{"id":5,"history":{"channel":"news"}} => {"history":{"channel":"news"},"id":5}
+{"id":7,"history":{"channel":"a","since":{"epoch":"zzzz","offset":0}}} => {"history":{"channel":"a","since":{"epoch":"zzzz"}},"id":7}
+{"id":2,"publish":{"channel":"","data":1}} => {"id":2,"publish":{"data":1}}
+{"id":8,"ping":{}} {} => {"id":8,"ping":{}}{}
+// what is not served, passed over, escaped, or left out when it is written again
+{"id":1,"ping":{},"rpc":null,"x":7} => {"id":1,"ping":{}}
+{"id":5,"refresh":7} => {"id":5,"rpc":{}}
+{"id":5,"sub_refresh":[]} => {"id":5,"rpc":{}}
+{"send":{"data":1}} => {"send":{}}
+{"id":3,"publish":{"data":{ "t" : 1.50 },"channel":"\u006eews"}} => {"id":3,"publish":{"channel":"news","data":{"t":1.50}}}
+{"id":2,"subscribe":{"channel":"a","epoch":"aaaa","offset":7}} => {"id":2,"subscribe":{"channel":"a"}}
+{"id":2,"subscribe":{"channel":"a","epoch":"a-a","offset":7,"recover":true}} => {"id":2,"subscribe":{"channel":"a","offset":7,"recover":true}}
+{"i\u0064":5,"ping":{}} => {"id":5,"ping":{}}
+{"id":1,"id":5,"ping":{}} => {"id":5,"ping":{}}
+{"id":1,"connect":{"token":null}} => {"connect":{},"id":1}
+{"id":1,"history":{"channel":"a","since":null}} => {"history":{"channel":"a"},"id":1}
+// numbers at their limits; an epoch has at most 32 letters or digits
+{"id":0,"send":{}} => {"send":{}}
+{"id":1,"history":{"channel":"a","limit":2147483647}} => {"history":{"channel":"a","limit":2147483647},"id":1}
+{"id":1,"history":{"channel":"a","limit":-2147483648}} => {"history":{"channel":"a","limit":-2147483648},"id":1}
+{"id":1,"history":{"channel":"a","limit":-0}} => {"history":{"channel":"a"},"id":1}
+{"id":1,"subscribe":{"channel":"a","epoch":"abcdefghijabcdefghijabcdefghijabc","recover":true}} => {"id":1,"subscribe":{"channel":"a","recover":true}}
+// null counts as absent
+{"id":null,"send":{}} => {"send":{}}
+{"connect":null,"id":1,"ping":{},"rpc":null} => {"id":1,"ping":{}}
+{"id":1,"subscribe":{"channel":"a","epoch":null,"offset":null,"recover":null}} => {"id":1,"subscribe":{"channel":"a"}}
+{"id":1,"subscribe":{"channel":"a","epoch":null,"offset":null,"recover":true}} => {"id":1,"subscribe":{"channel":"a","recover":true}}
+// keys that are escaped, and keys that are repeated
+{"\u0069d":5,"p\u0069ng":{}} => {"id":5,"ping":{}}
+{"id":"x","id":5,"ping":{}} => {"id":5,"ping":{}}
+{"id":4294967296,"id":5,"ping":{}} => {"id":5,"ping":{}}
+{"ping":7,"id":5,"p\u0069ng":{}} => {"id":5,"ping":{}}
+{"id":5,"rpc":{},"ping":{},"rpc":null} => {"id":5,"ping":{}}
+{"id":1,"unsubscribe":{"channel":"\ud800","channel":"a"}} => {"id":1,"unsubscribe":{"channel":"a"}}
+{"id":1,"unsubscribe":{"ch\u0061nnel":"\u0061\/"}} => {"id":1,"unsubscribe":{"channel":"a/"}}
+// lone surrogates in what is not read
+{"id":1,"unsubscribe":{"channel":"\ud83d\ude00"}} => {"id":1,"unsubscribe":{"channel":"😀"}}
+{"id":1,"ping":{},"x":"\ud800"} => {"id":1,"ping":{}}
+{"id":1,"ping":{"x":"\ud800"}} => {"id":1,"ping":{}}
+{"id":1,"ping":{},"x":{"\ud800":1}} => {"id":1,"ping":{}}
+{"id":1,"rpc":{"\ud800":1}} => {"id":1,"rpc":{}}
+// a ping, a send, and what is not served have any value but null
+{"id":1,"ping":[]} => {"id":1,"ping":{}}
+{"id":1,"ping":1} => {"id":1,"ping":{}}
+{"id":1,"ping":true} => {"id":1,"ping":{}}
+{"id":1,"ping":""} => {"id":1,"ping":{}}
+{"id":1,"send":[]} => {"id":1,"send":{}}
+{"id":1,"ping":{"\udfff":1}} => {"id":1,"ping":{}}
+{"send":{"\ud800":1}} => {"send":{}}
+{"id":5,"ping":{},"ping":7} => {"id":5,"ping":{}}
+{"send":1} => {"send":{}}
+{"id":1,"ping":null,"send":"x"} => {"id":1,"send":{}}
+// several commands in a frame"#;
+
+/// The same, parted by bars.
+const REWRITTEN_LINES: &str =
+    "\r\n{\"id\":1,\"ping\":{}}{}\t{\"send\":{}}  => {\"id\":1,\"ping\":{}}{}{\"send\":{}}|{ \"id\":\n1,\"ping\":{} }\n{} => {\"id\":1,\"ping\":{}}{}";
+
+/// Frames that are unreadable.
+const REFUSED: &str = r#"// no frame
+{} x
+[]
+1
+{}1
+"a"
+// no command
+{"id":4294967296,"ping":{}}
+{"id":1,"ping":{},"rpc":{}}
+{"id":1,"ping":{},"send":{}}
+{"id":1}
+{"id":0,"connect":{}}
+{"connect":{}}
+{"id":-1,"ping":{}}
+{"id":1.0,"ping":{}}
+{"id":1e0,"ping":{}}
+{"id":"1","ping":{}}
+{"id":null}
+{"ping":null}
+{"id":1,"connect":{"token":1}}
+{"id":1,"subscribe":{"channel":"a","recover":1}}
+{"id":1,"subscribe":{"channel":"a","epoch":5}}
+{"id":1,"subscribe":{"channel":"a","offset":-1}}
+{"id":1,"subscribe":{"channel":"a","offset":18446744073709551616}}
+{"id":1,"subscribe":{"channel":"\ud800"}}
+{"id":1,"subscribe":{"\ud800":1}}
+{"id":1,"history":{"channel":"a","limit":2147483648}}
+{"id":1,"history":{"channel":"a","limit":-2147483649}}
+{"id":1,"history":{"channel":"a","since":1}}
+{"\ud800":1,"id":1,"ping":{}}
+{"id":1,
+// numbers past their limits
+{"id":18446744073709551616,"ping":{}}
+{"id":0,"ping":{}}
+{"id":-0,"ping":{}}
+{"id":01,"ping":{}}
+{"id":+1,"ping":{}}
+{"id":1E0,"ping":{}}
+{"id":4294967296,"send":{}}
+{"id":1,"history":{"channel":"a","limit":9223372036854775808}}
+{"id":1,"history":{"channel":"a","since":{"offset":18446744073709551616}}}
+{"id":1,"history":{"channel":"a","since":{"offset":-0}}}
+{"id":1,"subscribe":{"channel":"a","offset":18446744073709551616,"recover":true}}
+// members of another kind
+{"id":true,"ping":{}}
+{"id":[],"ping":{}}
+{"id":{},"ping":{}}
+{"id":1,"connect":1}
+{"id":1,"connect":{"token":{}}}
+{"id":1,"connect":{"token":false}}
+{"id":1,"subscribe":"a"}
+{"id":1,"subscribe":{"channel":[]}}
+{"id":1,"subscribe":{"channel":"a","recover":"true"}}
+{"id":1,"subscribe":{"channel":"a","epoch":{}}}
+{"id":1,"subscribe":{"channel":"a","offset":"1"}}
+{"id":1,"subscribe":{"channel":"a","offset":1.0}}
+{"id":1,"unsubscribe":{"channel":1}}
+{"id":1,"publish":{"channel":true,"data":1}}
+{"id":1,"publish":[1]}
+{"id":1,"presence":{"channel":{}}}
+{"id":1,"presence_stats":{"channel":0}}
+{"id":1,"history":{"channel":7}}
+{"id":1,"history":{"channel":"a","limit":"1"}}
+{"id":1,"history":{"channel":"a","limit":1.0}}
+{"id":1,"history":{"channel":"a","reverse":0}}
+{"id":1,"history":{"channel":"a","since":[]}}
+{"id":1,"history":{"channel":"a","since":{"epoch":1}}}
+{"id":1,"history":{"channel":"a","since":{"offset":true}}}
+{"id":1,"PING":{}}
+// null counts as absent
+null
+{"id":null,"ping":{}}
+{"id":1,"ping":null}
+{"id":1,"rpc":null}
+{"id":1,"x":null}
+// of a key that is repeated the last member counts
+{"id":5,"id":0,"ping":{}}
+{"id":5,"id":null,"ping":{}}
+{"id":5,"ping":{},"ping":null}
+{"id":5,"ping":{},"rpc":null,"rpc":{}}
+{"id":1,"unsubscribe":{"channel":"a","channel":1}}
+// lone surrogates in what is read
+{"id":1,"ping":{},"\ud800":1}
+{"id":1,"connect":{"token":"\ud800"}}
+{"id":1,"subscribe":{"channel":"\udc00\ud800"}}
+{"id":1,"subscribe":{"channel":"a","epoch":"\ud800"}}
+{"id":1,"publish":{"channel":"a","\ud800":1}}
+{"id":1,"history":{"channel":"a","since":{"\ud800":1}}}
+{"id":1,"history":{"channel":"a","since":{"epoch":"\ud83dx"}}}
+// frames with one bad command
+{"id":1,"ping":{}}{"id":2}{}
+{"id":2}{"id":1,"ping":{}}
+{}{}{"id":1}
+{"id":1,"ping":{}}[]
+{"id":1,"ping":{}},{}
+{"id":1,"ping":{}}{
+{"id":1,"ping":{}}}
+[{"id":1,"ping":{}}]
+{} null
+{}1 2
+{}12-3
+{"id":1,"connect":{"token":'a'}}
+{"id":1,"connect":{},}
+{id:1,"connect":{}}"#;
+
+/// The same, parted by bars.
+const REFUSED_LINES: &str = "| \n\t|\u{feff}{}|{\"id\":1,\"connect\":{\"token\":\"\n\"}}";
+
+#[test]
+fn frames_of_commands(rt: HostRuntime) {
+    are_as_they_stand(&rt, rt.alloc(), Sender::Client, KEPT, '\n');
+    are_as_they_stand(&rt, rt.alloc(), Sender::Client, REWRITTEN, '\n');
+    are_as_they_stand(&rt, rt.alloc(), Sender::Client, REWRITTEN_LINES, '|');
+    are_refused(&rt, rt.alloc(), Sender::Client, REFUSED, '\n');
+    are_refused(&rt, rt.alloc(), Sender::Client, REFUSED_LINES, '|');
+}
+
+/// Where a subscribe on the channel `news` goes on, or a history on the empty channel with no
+/// limit.
+fn since_of(request: &Request) -> Option<Position> {
+    match request {
+        Request::Subscribe { channel, since } if channel.as_str() == "news" => *since,
+        Request::History {
+            channel,
+            limit: 0,
+            since,
+            reverse: false,
+        } if channel.is_empty() => *since,
+        _ => None,
+    }
+}
+
+/// Whether a frame is one such command, which goes on from this epoch and offset.
+fn goes_on_from(alloc: Global, text: &str, epoch: &str, offset: u64) -> bool {
+    let position = Position {
+        epoch: Epoch::from_text(epoch),
+        offset,
+    };
+    match read_commands(alloc, text) {
+        Ok(commands) => commands.len() == 1 && since_of(&commands[0].request) == Some(position),
+        Err(_) => false,
+    }
+}
+
+const SUBSCRIBE: &str =
+    "{\"id\":5,\"subscribe\":{\"channel\":\"news\",\"epoch\":\"aaaa\",\"offset\":1,\"recover\":true}}";
+
+const HISTORY: &str =
+    "{\"id\":1,\"history\":{\"channel\":null,\"limit\":null,\"reverse\":null,\"since\":{\"epoch\":null,\"offset\":null}}}";
+
+#[test]
+fn positions(rt: HostRuntime) {
+    assert!(rt; goes_on_from(rt.alloc(), SUBSCRIBE, "aaaa", 1));
+    assert!(rt; goes_on_from(rt.alloc(), HISTORY, "", 0));
+}
+
+const PUBLISH: &str = "{\"id\":1,\"publish\":{\"channel\":\"a\",\"data\":";
+
+fn is_too_deep(request: &Request) -> bool {
+    match request {
+        Request::Publish {
+            channel,
+            body: Data::TooDeep,
+        } => channel.as_str() == "a",
+        _ => false,
+    }
+}
+
+/// Whether a frame is one publish to the channel `a`, whose data nest too deep.
+fn says_too_deep(alloc: Global, text: &str) -> bool {
+    match read_commands(alloc, text) {
+        Ok(commands) => commands.len() == 1 && is_too_deep(&commands[0].request),
+        Err(_) => false,
+    }
+}
+
+/// What becomes of data that nest so deep.
+#[derive(Clone, Copy, PartialEq, Eq)]
+enum Fate {
+    Kept,
+    TooDeep,
+    Refused,
+}
+
+fn meets(alloc: Global, text: &str, fate: Fate) -> bool {
+    match fate {
+        Fate::Kept => says(alloc, Sender::Client, text, text),
+        Fate::TooDeep => says_too_deep(alloc, text),
+        Fate::Refused => is_refused(alloc, Sender::Client, text),
+    }
+}
+
+/// A publish to the channel `a`, whose data are this many arrays, one in another.
+fn data_meet(alloc: Global, depth: usize, fate: Fate) -> bool {
+    match nested(alloc, PUBLISH, depth, "}}") {
+        Some(text) => meets(alloc, text.as_str(), fate),
+        None => false,
+    }
+}
+
+#[test]
+fn depth_of_data(rt: HostRuntime) {
+    let alloc = rt.alloc();
+    assert!(rt; data_meet(alloc, 1, Fate::Kept));
+    assert!(rt; data_meet(alloc, 59, Fate::Kept));
+    assert!(rt; data_meet(alloc, 60, Fate::Kept));
+    assert!(rt; data_meet(alloc, 61, Fate::TooDeep));
+    assert!(rt; data_meet(alloc, 62, Fate::TooDeep));
+    assert!(rt; data_meet(alloc, 63, Fate::Refused));
+    assert!(rt; data_meet(alloc, 64, Fate::Refused));
+    assert!(rt; data_meet(alloc, 65, Fate::Refused));
+}
+
+const WHOLE: &str = "{\"id\":1,\"connect\":{}}";
+
+/// Whether the text's beginning of so many bytes is refused.
+fn is_beginning_refused(alloc: Global, text: &str, len: usize) -> bool {
+    match text.split_at_checked(len) {
+        Some((front, _)) => is_refused(alloc, Sender::Client, front),
+        None => false,
+    }
+}
+
+#[test]
+fn prefixes(rt: HostRuntime) {
+    for len in 0..WHOLE.len() {
+        assert!(rt; is_beginning_refused(rt.alloc(), WHOLE, len), "{len}");
+    }
+    assert!(rt;
+        says(
+            rt.alloc(),
+            Sender::Client,
+            WHOLE,
+            "{\"connect\":{},\"id\":1}"
+        )
+    );
+}

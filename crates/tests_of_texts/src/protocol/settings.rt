@@ -1,0 +1,78 @@
+//! What a node is set up with.
+use cf_protocol::{ReadFault, Settings, read_namespaces, read_tokens};
+use std::alloc::Global;
+
+const ALL: Settings = Settings {
+    size: 100,
+    seconds: 300,
+    publish: true,
+    history: true,
+    presence: true,
+};
+
+const LONGEST: Settings = Settings {
+    size: 1000,
+    seconds: 2_592_000,
+    publish: false,
+    history: false,
+    presence: false,
+};
+
+const NAMESPACES: &str = "=100,300,phs;chat=1000,2592000,;a-_9=1,1,sp";
+
+/// Texts that set up no namespaces, parted by bars.
+const NO_NAMESPACES: &str =
+    "|=100,300,phs;|=0,300,|=1001,300,|=0100,300,|=+1,300,|=1,2592001,|=1,300|=1,300,x|=1,300,pp|=1,300,;=2,300,|a b=1,300,|abcdefghijabcdefghijabcdefghijabc=1,300,";
+
+fn has_settings(alloc: Global, channel: &str, settings: Option<Settings>) -> bool {
+    match read_namespaces(alloc, NAMESPACES) {
+        Ok(namespaces) => namespaces.find(channel) == settings,
+        Err(_) => false,
+    }
+}
+
+fn sets_up_none(alloc: Global, text: &str) -> bool {
+    match read_namespaces(alloc, text) {
+        Ok(_) => false,
+        Err(fault) => fault == ReadFault::Bad,
+    }
+}
+
+#[test]
+fn settings(rt: HostRuntime) {
+    assert!(rt; has_settings(rt.alloc(), "news", Some(ALL)));
+    assert!(rt; has_settings(rt.alloc(), ":1", Some(ALL)));
+    assert!(rt; has_settings(rt.alloc(), "chat:x:y", Some(LONGEST)));
+    assert!(rt; has_settings(rt.alloc(), "room:1", None));
+    for text in NO_NAMESPACES.split('|') {
+        assert!(rt; sets_up_none(rt.alloc(), text), "{text}");
+    }
+}
+
+/// Texts that set up no tokens, parted by bars.
+const NO_TOKENS: &str = ";|a|=ann|a=|a=b;a=c|a=b;|a=b c|a=b=c";
+
+fn has_user(alloc: Global, tokens: &str, token: &str, user: Option<&str>) -> bool {
+    match read_tokens(alloc, tokens) {
+        Ok(tokens) => tokens.user(token) == user,
+        Err(_) => false,
+    }
+}
+
+fn has_no_tokens(alloc: Global, text: &str) -> bool {
+    match read_tokens(alloc, text) {
+        Ok(_) => false,
+        Err(fault) => fault == ReadFault::Bad,
+    }
+}
+
+#[test]
+fn tokens(rt: HostRuntime) {
+    assert!(rt; has_user(rt.alloc(), "t9=ann;T-_=bob", "t9", Some("ann")));
+    assert!(rt; has_user(rt.alloc(), "t9=ann;T-_=bob", "", Some("")));
+    assert!(rt; has_user(rt.alloc(), "t9=ann;T-_=bob", "t8", None));
+    assert!(rt; has_user(rt.alloc(), "", "t9", None));
+    for text in NO_TOKENS.split('|') {
+        assert!(rt; has_no_tokens(rt.alloc(), text), "{text}");
+    }
+}
