@@ -10,8 +10,6 @@ mod event;
 mod fault;
 mod known;
 pub mod laws;
-#[cfg(test)]
-mod tests;
 mod text;
 
 pub use client::Client;

@@ -6,8 +6,6 @@
 mod clients;
 mod presence;
 mod refusal;
-#[cfg(test)]
-mod tests;
 mod users;
 
 pub use clients::ENTRY_SECONDS;

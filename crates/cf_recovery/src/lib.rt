@@ -5,8 +5,6 @@
 
 pub mod laws;
 mod stored;
-#[cfg(test)]
-mod tests;
 mod verdict;
 mod waiting;
 

@@ -10,8 +10,6 @@ mod refusal;
 mod ring;
 mod stream;
 mod streams;
-#[cfg(test)]
-mod tests;
 
 pub use answer::{History, Recovery};
 pub use due::{Due, DueWalk};

@@ -1,0 +1,17 @@
+//! Tests of the crates that keep what a node or a client knows: nothing stands here but tests.
+#![tactic(auto)]
+
+#[cfg(test)]
+mod client;
+#[cfg(test)]
+mod presence;
+#[cfg(test)]
+mod queue;
+#[cfg(test)]
+mod recovery;
+#[cfg(test)]
+mod shown;
+#[cfg(test)]
+mod stream;
+#[cfg(test)]
+mod subs;

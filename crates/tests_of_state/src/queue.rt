@@ -1,0 +1,37 @@
+//! A session's output.
+use crate::shown::says;
+use cf_queue::{Out, OutQueue, QueueRefusal};
+use std::alloc::Global;
+
+fn is_taken(queue: &mut OutQueue, text: &str) -> bool {
+    match queue.take() {
+        Some(Out::Text(taken)) => taken.as_str() == text,
+        _ => false,
+    }
+}
+
+/// Whether an empty queue takes a copy of a text that fills it, gives it, and takes the text
+/// itself.
+fn takes_and_gives(alloc: Global, text: String) -> bool {
+    let mut queue = OutQueue::new(alloc, text.len());
+    queue.push_copy(text.as_str()).is_ok()
+        && is_taken(&mut queue, text.as_str())
+        && queue.push(text).is_ok()
+}
+
+#[test]
+fn whole_limit(rt: HostRuntime) {
+    let holds = match "x".repeat(rt.alloc(), 1_048_576) {
+        Ok(text) => takes_and_gives(rt.alloc(), text),
+        Err(_) => false,
+    };
+    assert!(rt; holds);
+}
+
+#[test]
+fn refusals_in_words(rt: HostRuntime) {
+    let alloc = rt.alloc();
+    assert!(rt; says(alloc, &QueueRefusal::Closed, "the queue is closed"));
+    assert!(rt; says(alloc, &QueueRefusal::Slow, "the queue is at its limit"));
+    assert!(rt; says(alloc, &QueueRefusal::Memory, "out of memory"));
+}

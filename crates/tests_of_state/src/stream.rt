@@ -1,0 +1,223 @@
+//! One stream, and the streams of all channels.
+use crate::shown::says;
+use cf_protocol::{Epoch, Info, Position, read_namespaces};
+use cf_stream::{Epochs, Stream, StreamRefusal, Streams};
+use std::alloc::Global;
+
+fn aaaa() -> Epoch {
+    Epoch::from_text("aaaa")
+}
+
+fn at(offset: u64) -> Option<Position> {
+    Some(Position {
+        epoch: aaaa(),
+        offset,
+    })
+}
+
+/// A stream of epoch aaaa that holds up to 1,000 publications.
+fn started(alloc: Global) -> Option<Stream> {
+    let epoch = aaaa();
+    if epoch.is_empty() {
+        return None;
+    }
+    Stream::start(alloc, epoch, 1000).ok()
+}
+
+/// The same, after all publications but the last one that it may have.
+fn started_late(alloc: Global) -> Option<Stream> {
+    let epoch = aaaa();
+    if epoch.is_empty() {
+        return None;
+    }
+    Stream::start_at(alloc, epoch, 1000, 9_007_199_254_740_990).ok()
+}
+
+/// A publication of ann.
+fn publish_one(alloc: Global, stream: &mut Stream) -> Option<()> {
+    let body = String::from_str(alloc, "1").ok()?;
+    let user = String::from_str(alloc, "ann").ok()?;
+    let client = String::from_str(alloc, "0-1-1").ok()?;
+    stream.publish(body, Some(Info { user, client }), 0).ok()?;
+    Some(())
+}
+
+/// A stream that holds 1,000 publications.
+fn filled(alloc: Global) -> Option<Stream> {
+    let mut stream = started(alloc)?;
+    for _ in 0..1000 {
+        publish_one(alloc, &mut stream)?;
+    }
+    Some(stream)
+}
+
+/// Whether a full stream recovers, and with how many publications.
+fn recovered(alloc: Global, since: u64) -> Option<(bool, usize)> {
+    let mut stream = filled(alloc)?;
+    let found = stream.recover(at(since), 0).ok()?;
+    Some((found.recovered, found.publications.len()))
+}
+
+#[test]
+fn recovery_limit(rt: HostRuntime) {
+    assert!(rt; recovered(rt.alloc(), 1000) == Some((true, 0)));
+    assert!(rt; recovered(rt.alloc(), 999) == Some((true, 1)));
+    assert!(rt; recovered(rt.alloc(), 701) == Some((true, 299)));
+    assert!(rt; recovered(rt.alloc(), 700) == Some((true, 300)));
+    assert!(rt; recovered(rt.alloc(), 699) == Some((false, 0)));
+    assert!(rt; recovered(rt.alloc(), 1001) == Some((false, 0)));
+}
+
+/// How many publications a full stream lists.
+fn listed(alloc: Global, limit: i32) -> Option<usize> {
+    let mut stream = filled(alloc)?;
+    let found = stream.history(None, limit, 0).ok()?;
+    Some(found.publications.len())
+}
+
+#[test]
+fn history_limits(rt: HostRuntime) {
+    assert!(rt; listed(rt.alloc(), i32::MIN) == Some(300));
+    assert!(rt; listed(rt.alloc(), -1) == Some(300));
+    assert!(rt; listed(rt.alloc(), 0) == Some(0));
+    assert!(rt; listed(rt.alloc(), 1) == Some(1));
+    assert!(rt; listed(rt.alloc(), 300) == Some(300));
+    assert!(rt; listed(rt.alloc(), i32::MAX) == Some(300));
+}
+
+/// Whether a stream takes its last publication, and none behind it.
+fn ends(alloc: Global) -> Option<bool> {
+    let mut stream = started_late(alloc)?;
+    publish_one(alloc, &mut stream)?;
+    let is_full = publish_one(alloc, &mut stream).is_none();
+    Some(is_full && stream.position().offset == 9_007_199_254_740_991)
+}
+
+#[test]
+fn last_offset(rt: HostRuntime) {
+    assert!(rt; ends(rt.alloc()) == Some(true));
+}
+
+#[test]
+fn refusals_in_words(rt: HostRuntime) {
+    let alloc = rt.alloc();
+    assert!(rt;
+        says(
+            alloc,
+            &StreamRefusal::AtLastOffset,
+            "the stream is at its last offset"
+        )
+    );
+    assert!(rt;
+        says(
+            alloc,
+            &StreamRefusal::WrongEpoch,
+            "the position is of another epoch"
+        )
+    );
+    assert!(rt;
+        says(
+            alloc,
+            &StreamRefusal::NoEpoch,
+            "there is no epoch for a new stream"
+        )
+    );
+    assert!(rt; says(alloc, &StreamRefusal::Memory, "out of memory"));
+}
+
+/// Where each new stream gets the same epoch.
+#[derive(Drop)]
+struct Same(Epoch);
+
+impl Epochs for Same {
+    ghost use Rattle.std.specs.Prelude.{⊤};
+
+    ghost draws = { λ old r new. ⊤ };
+
+    fn draw(&mut self) -> Option<Epoch> {
+        Some(self.0)
+    }
+}
+
+/// The streams of one namespace, of 1,000 publications each.
+fn streams(alloc: Global) -> Option<Streams> {
+    let namespaces = read_namespaces(alloc, "=1000,300,phs").ok()?;
+    Streams::new(alloc, &namespaces).ok()
+}
+
+/// Publishes an empty body to a channel, and answers its offset.
+fn publish(alloc: Global, streams: &mut Streams, channel: &str, epoch: Epoch) -> Option<u64> {
+    if !streams.is_set_up(channel) {
+        return None;
+    }
+    let answer = streams.publish(&mut Same(epoch), channel, String::new(alloc), None, 0);
+    Some(answer.ok()?.offset)
+}
+
+/// How many publications of a channel are recovered from an offset on.
+fn read(streams: &mut Streams, channel: &str, since: u64, epoch: Epoch) -> Option<usize> {
+    if !streams.is_set_up(channel) {
+        return None;
+    }
+    let answer = streams.read(&mut Same(epoch), channel, at(since), 0).ok()?;
+    if answer.recovered {
+        Some(answer.publications.len())
+    } else {
+        None
+    }
+}
+
+/// How many publications of a channel are listed.
+fn list(streams: &mut Streams, channel: &str, epoch: Epoch) -> Option<usize> {
+    if !streams.is_set_up(channel) {
+        return None;
+    }
+    let answer = streams.history(&mut Same(epoch), channel, None, -1, 0);
+    Some(answer.ok()?.publications.len())
+}
+
+/// What becomes of the first publish, the first read and the first history of three channels.
+fn first_calls(alloc: Global, epoch: Epoch) -> Option<(Option<u64>, Option<usize>, Option<usize>)> {
+    let mut streams = streams(alloc)?;
+    Some((
+        publish(alloc, &mut streams, "a", epoch),
+        read(&mut streams, "b", 0, epoch),
+        list(&mut streams, "c", epoch),
+    ))
+}
+
+#[test]
+fn opens_in_drawn_epochs(rt: HostRuntime) {
+    let opened = Some((Some(1), Some(0), Some(0)));
+    assert!(rt; first_calls(rt.alloc(), aaaa()) == opened);
+    assert!(rt; first_calls(rt.alloc(), Epoch::none()) == Some((None, None, None)));
+}
+
+/// Whether a thousand publishes to a channel are all taken.
+fn takes_thousand(alloc: Global, streams: &mut Streams, channel: &str) -> bool {
+    for offset in 1..1001 {
+        if publish(alloc, streams, channel, aaaa()) != Some(offset) {
+            return false;
+        }
+    }
+    true
+}
+
+/// Whether a channel takes a thousand empty bodies, and gives the last 300 again.
+fn takes_and_gives(alloc: Global, streams: &mut Streams, channel: &str) -> bool {
+    takes_thousand(alloc, streams, channel)
+        && read(streams, channel, 700, aaaa()) == Some(300)
+        && read(streams, channel, 699, aaaa()) == None
+        && list(streams, channel, aaaa()) == Some(300)
+}
+
+fn takes_long_name(alloc: Global, length: usize) -> Option<bool> {
+    let mut streams = streams(alloc)?;
+    let channel = "x".repeat(alloc, length).ok()?;
+    Some(takes_and_gives(alloc, &mut streams, channel.as_str()))
+}
+
+#[test]
+fn long_names_and_empty_bodies(rt: HostRuntime) {
+    assert!(rt; takes_long_name(rt.alloc(), 65_536) == Some(true));
+}
