@@ -16,8 +16,6 @@ mod places;
 mod quarter;
 mod refusal;
 mod shard;
-#[cfg(test)]
-mod tests;
 mod words;
 
 pub use broker::{Broker, SHARDS, shard_of};

@@ -17,8 +17,6 @@ mod session;
 mod sessions;
 mod sight;
 mod subscription;
-#[cfg(test)]
-mod tests;
 mod upkeep;
 mod wording;
 

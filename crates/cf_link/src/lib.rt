@@ -6,7 +6,5 @@
 mod bell;
 pub mod ends;
 pub mod log;
-#[cfg(test)]
-mod tests;
 
 pub use ends::{Receiver, Sender, pair, settle};

@@ -11,8 +11,6 @@ mod refused;
 mod replied;
 mod session;
 mod stage;
-#[cfg(test)]
-mod tests;
 
 pub use action::{Action, Answer};
 pub use kind::Kind;

@@ -4,8 +4,6 @@
 mod fault;
 mod schedule;
 mod simulation;
-#[cfg(test)]
-mod tests;
 
 pub use fault::SimulateFault;
 pub use schedule::{Line, Schedule};

@@ -5,8 +5,6 @@ mod conversation;
 mod epochs;
 mod fault;
 mod solo;
-#[cfg(test)]
-mod tests;
 
 pub use conversation::{Setup, converse};
 pub use epochs::GivenEpochs;

@@ -4,8 +4,6 @@
 
 mod node;
 mod serve;
-#[cfg(test)]
-mod tests;
 
 pub use node::Node;
 pub use serve::{serve_lines, serve_text};

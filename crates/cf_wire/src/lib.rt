@@ -7,8 +7,6 @@ mod accept;
 mod desk;
 mod end;
 mod gather;
-#[cfg(test)]
-mod tests;
 mod wire;
 
 pub use accept::WireFault;

@@ -1,5 +1,0 @@
-use Rattle.cf_order.proofs.tests.shares_add_up.Given as goal
-
--- the word that was just made
-abbrev pub ghosts-add_up : goal.ghosts-add_up
-ghosts-add_up g a = record { word = a.word.now }

@@ -1,0 +1,13 @@
+//! Tests of a client's session: its hub, its commands, its conversations and its wire.
+#![tactic(auto)]
+
+#[cfg(test)]
+mod hub;
+#[cfg(test)]
+mod session;
+#[cfg(test)]
+mod speak;
+#[cfg(test)]
+mod talk;
+#[cfg(test)]
+mod wire;

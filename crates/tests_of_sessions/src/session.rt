@@ -1,0 +1,520 @@
+//! What sessions say and ask for, against a node that answers by a channel's name.
+ghost use Rattle.std.specs.Prelude.{◌≡◌, IfSome};
+ghost use Rattle.cf_session.specs.Shown.{answer_kind};
+
+use cf_presence::Stats;
+use cf_protocol::{
+    Epoch, ErrorCode, Info, Namespaces, Position, Publication, Tokens, read_namespaces, read_tokens,
+};
+use cf_session::{Action, Answer, Kind, Session};
+use cf_stream::History;
+use std::alloc::{AllocError, Global};
+use std::collections::BTreeMap;
+use std::process::Abort;
+
+const CONNECT: &str = r#"{"id":1,"connect":{}}"#;
+
+const CONNECTED: &str =
+    r#"attach  / {"connect":{"client":"0-1-1","ping":25,"pong":true,"version":"1.0.0"},"id":1}"#;
+
+const BAD_REQUEST: &str = "close 3501 bad request";
+
+/// The refusal with which the node answers each call on this channel.
+fn refusal(channel: &str) -> Option<ErrorCode> {
+    match channel {
+        "twice" => Some(ErrorCode::AlreadySubscribed),
+        "full" => Some(ErrorCode::LimitExceeded),
+        "old" => Some(ErrorCode::UnrecoverablePosition),
+        "spent" => Some(ErrorCode::Internal),
+        _ => None,
+    }
+}
+
+fn or_refused(channel: &str) -> Result<(), ErrorCode> {
+    match refusal(channel) {
+        Some(code) => Err(code),
+        None => Ok(()),
+    }
+}
+
+fn begun(channel: &str) -> Result<(), ErrorCode> {
+    match channel {
+        "spent" => Ok(()),
+        _ => or_refused(channel),
+    }
+}
+
+/// A publication of ann, at offset 3.
+fn publication(alloc: Global) -> Option<Publication> {
+    let user = String::from_str(alloc, "ann").ok()?;
+    let client = String::from_str(alloc, "0-1-1").ok()?;
+    Some(Publication {
+        offset: 3,
+        body: String::from_str(alloc, "{}").ok()?,
+        info: Some(Info { user, client }),
+    })
+}
+
+/// A history of one publication, of epoch aaaa.
+fn history(alloc: Global) -> Option<History> {
+    let mut publications = Vec::new(alloc);
+    publications.push(publication(alloc)?).ok()?;
+    let epoch = Epoch::from_text("aaaa");
+    Some(History {
+        position: Position { epoch, offset: 3 },
+        publications,
+    })
+}
+
+fn past(alloc: Global, channel: &str) -> Option<Result<History, ErrorCode>> {
+    match refusal(channel) {
+        Some(code) => Some(Err(code)),
+        None => Some(Ok(history(alloc)?)),
+    }
+}
+
+fn users(alloc: Global) -> Option<BTreeMap<String, String>> {
+    let mut users = BTreeMap::new(alloc);
+    let client = String::from_str(alloc, "0-1-1").ok()?;
+    users.insert(client, String::new(alloc)).ok()?;
+    Some(users)
+}
+
+/// What a call of this kind, on this channel, is answered.
+fn answer_to(alloc: Global, kind: Kind, channel: &str) -> Option<Answer>
+    ensures { IfSome result (λ a. answer_kind a ≡ kind) }
+{
+    Some(match kind {
+        Kind::Attach => Answer::Attach(Ok(String::from_str(alloc, "0-1-1").ok()?)),
+        Kind::Begin => Answer::Begin(begun(channel)),
+        Kind::Read => Answer::Read(or_refused(channel)),
+        Kind::Finish => Answer::Finish,
+        Kind::Leave => Answer::Leave,
+        Kind::Publish => Answer::Publish(or_refused(channel)),
+        Kind::History => Answer::History(past(alloc, channel)?),
+        Kind::Presence => Answer::Presence(Ok(users(alloc)?)),
+        Kind::Stats => Answer::Stats(Stats {
+            clients: 2,
+            users: 1,
+        }),
+    })
+}
+
+/// Answers the call that is out, which is on this channel.
+fn answer(alloc: Global, session: &mut Session<'_>, channel: &str) {
+    if let Some(kind) = session.awaited() {
+        if let Some(answer) = answer_to(alloc, kind, channel) {
+            session.answered(answer);
+        }
+    }
+}
+
+/// The channel that the action is on.
+fn channel_of(action: &Action) -> &str {
+    match action {
+        Action::Begin { channel, .. } => channel.as_str(),
+        Action::Read { channel, .. } => channel.as_str(),
+        Action::Finish { channel } => channel.as_str(),
+        Action::Leave { channel } => channel.as_str(),
+        Action::Publish { channel, .. } => channel.as_str(),
+        Action::History { channel, .. } => channel.as_str(),
+        Action::Presence { channel } => channel.as_str(),
+        Action::Stats { channel } => channel.as_str(),
+        _ => "",
+    }
+}
+
+fn read_words(alloc: Global, since: &Option<Position>) -> Result<String, AllocError> {
+    match since {
+        Some(since) => format!(in alloc; "read {} {}", since.epoch, since.offset),
+        None => String::from_str(alloc, "read"),
+    }
+}
+
+/// The action in words.
+fn words_of(alloc: Global, action: &Action) -> Result<String, AllocError> {
+    match action {
+        Action::Attach { user } => format!(in alloc; "attach {user}"),
+        Action::Begin { id, .. } => format!(in alloc; "begin {id}"),
+        Action::Read { since, .. } => read_words(alloc, since),
+        Action::Finish { .. } => String::from_str(alloc, "finish"),
+        Action::Leave { .. } => String::from_str(alloc, "leave"),
+        Action::Publish { body, info, .. } => {
+            format!(in alloc; "publish {body} {}", info.client)
+        }
+        Action::History { limit, .. } => format!(in alloc; "history {limit}"),
+        Action::Presence { .. } => String::from_str(alloc, "presence"),
+        Action::Stats { .. } => String::from_str(alloc, "stats"),
+        Action::Say(text) => String::from_str(alloc, text.as_str()),
+        Action::Pong => String::from_str(alloc, "pong"),
+        Action::Close(code) => format!(in alloc; "close {} {}", code.code(), code.reason()),
+    }
+}
+
+/// Adds an action's words behind ` / `.
+fn add(alloc: Global, done: &mut String, action: &Action) -> Option<()> {
+    let words = words_of(alloc, action).ok()?;
+    if !done.is_empty() {
+        done.push_str(" / ").ok()?;
+    }
+    done.push_str(words.as_str()).ok()
+}
+
+/// Serves a text, and gives what the session did, in words parted by ` / `.
+fn serve(alloc: Global, session: &mut Session<'_>, text: &str) -> Option<String> {
+    let mut done = String::new(alloc);
+    if session.is_idle() {
+        session.on_text(text);
+    }
+    for _ in 0..100_000 {
+        let Some(action) = session.next_action() else {
+            return Some(done);
+        };
+        add(alloc, &mut done, &action)?;
+        answer(alloc, session, channel_of(&action));
+    }
+    None
+}
+
+/// Whether a session does this for a text, and then is idle and has met no refused request for memory.
+fn is_served(alloc: Global, session: &mut Session<'_>, text: &str, wanted: &str) -> bool {
+    match serve(alloc, session, text) {
+        Some(done) => done.as_str() == wanted && session.is_idle() && !session.short(),
+        None => false,
+    }
+}
+
+fn does(rt: &impl Abort, alloc: Global, session: &mut Session<'_>, text: &str, done: &str) {
+    assert!(rt; is_served(alloc, session, text, done), "{text}");
+}
+
+fn connects(rt: &impl Abort, alloc: Global, session: &mut Session<'_>) {
+    does(rt, alloc, session, CONNECT, CONNECTED);
+}
+
+fn tables(alloc: Global, spec: &str, tokens: &str) -> Option<(Namespaces, Tokens)> {
+    match (read_namespaces(alloc, spec), read_tokens(alloc, tokens)) {
+        (Ok(namespaces), Ok(tokens)) => Some((namespaces, tokens)),
+        _ => None,
+    }
+}
+
+#[test]
+fn each_command(rt: HostRuntime) {
+    let (namespaces, tokens) = tables(rt.alloc(), "=100,300,phs", "").expect(&rt, "tables");
+    let mut session = Session::new(rt.alloc(), &namespaces, &tokens);
+    connects(&rt, rt.alloc(), &mut session);
+    does(
+        &rt,
+        rt.alloc(),
+        &mut session,
+        r#"{"id":2,"subscribe":{"channel":"news"}}"#,
+        "begin 2 / read / finish",
+    );
+    does(
+        &rt,
+        rt.alloc(),
+        &mut session,
+        r#"{"id":2,"subscribe":{"channel":"a","recover":true,"epoch":"zz","offset":7}}"#,
+        "begin 2 / read zz 7 / finish",
+    );
+    does(
+        &rt,
+        rt.alloc(),
+        &mut session,
+        r#"{"id":3,"publish":{"channel":"news","data":{ "t" : 1.50 }}}"#,
+        r#"publish {"t":1.50} 0-1-1 / {"id":3,"publish":{}}"#,
+    );
+    does(
+        &rt,
+        rt.alloc(),
+        &mut session,
+        r#"{"id":4,"history":{"channel":"news","limit":-1}}"#,
+        r#"history -1 / {"history":{"epoch":"aaaa","offset":3,"publications":[{"data":{},"info":{"client":"0-1-1","user":"ann"},"offset":3}]},"id":4}"#,
+    );
+    does(
+        &rt,
+        rt.alloc(),
+        &mut session,
+        r#"{"id":6,"presence":{"channel":"news"}}"#,
+        r#"presence / {"id":6,"presence":{"presence":{"0-1-1":{"client":"0-1-1"}}}}"#,
+    );
+    does(
+        &rt,
+        rt.alloc(),
+        &mut session,
+        r#"{"id":7,"presence_stats":{"channel":"news"}}"#,
+        r#"stats / {"id":7,"presence_stats":{"num_clients":2,"num_users":1}}"#,
+    );
+}
+
+/// What isn't answered, and a second connect.
+#[test]
+fn pings_and_sends(rt: HostRuntime) {
+    let (namespaces, tokens) = tables(rt.alloc(), "=100,300,phs", "").expect(&rt, "tables");
+    let mut session = Session::new(rt.alloc(), &namespaces, &tokens);
+    connects(&rt, rt.alloc(), &mut session);
+    does(&rt, rt.alloc(), &mut session, "{}", "pong");
+    does(&rt, rt.alloc(), &mut session, r#"{"send":{"data":1}}"#, "");
+    does(
+        &rt,
+        rt.alloc(),
+        &mut session,
+        r#"{"id":8,"ping":{}} {}"#,
+        r#"{"id":8,"ping":{}} / pong"#,
+    );
+    does(
+        &rt,
+        rt.alloc(),
+        &mut session,
+        r#"{"id":9,"unsubscribe":{"channel":"news"}}"#,
+        r#"leave / {"id":9,"unsubscribe":{}}"#,
+    );
+    does(
+        &rt,
+        rt.alloc(),
+        &mut session,
+        r#"{"id":1,"connect":{}}"#,
+        "close 3501 bad request",
+    );
+    does(&rt, rt.alloc(), &mut session, r#"{"id":2,"ping":{}}"#, "");
+}
+
+/// Commands of usual clients, several in a frame and parted by line feeds, with members that are passed over.
+#[test]
+fn frames_of_commands(rt: HostRuntime) {
+    let (namespaces, tokens) = tables(rt.alloc(), "=100,300,phs", "").expect(&rt, "tables");
+    let mut session = Session::new(rt.alloc(), &namespaces, &tokens);
+    let frame = "{\"id\":1,\"connect\":{\"name\":\"js\",\"version\":\"5\",\"data\":{}}}\n\
+        {\"id\":2,\"subscribe\":{\"channel\":\"\"}}\n\
+        {\"id\":3,\"subscribe\":{\"channel\":\"full\"}}\n\
+        {\"id\":4,\"ping\":7}{}{\"send\":[]}\n\
+        {\"id\":5,\"subscribe\":{\"channel\":\"spent\"}}\n\
+        {\"id\":6,\"connect\":{}}\n\
+        {\"id\":7,\"ping\":{}}";
+    let done =
+        r#"attach  / {"connect":{"client":"0-1-1","ping":25,"pong":true,"version":"1.0.0"},"id":1} / {"error":{"code":107,"message":"bad request"},"id":2} / begin 3 / {"error":{"code":106,"message":"limit exceeded"},"id":3} / {"id":4,"ping":{}} / pong / begin 5 / read / leave / {"error":{"code":100,"message":"internal server error","temporary":true},"id":5} / close 3501 bad request"#;
+    does(&rt, rt.alloc(), &mut session, frame, done);
+}
+
+#[test]
+fn speak_refusals(rt: HostRuntime) {
+    let (namespaces, tokens) = tables(rt.alloc(), "=100,300,phs;bare=1,1,", "").expect(
+        &rt, "tables",
+    );
+    let mut session = Session::new(rt.alloc(), &namespaces, &tokens);
+    connects(&rt, rt.alloc(), &mut session);
+    does(
+        &rt,
+        rt.alloc(),
+        &mut session,
+        r#"{"id":2,"publish":{"channel":"","data":1}}"#,
+        r#"{"error":{"code":107,"message":"bad request"},"id":2}"#,
+    );
+    does(
+        &rt,
+        rt.alloc(),
+        &mut session,
+        r#"{"id":2,"publish":{"channel":"bare:a"}}"#,
+        r#"{"error":{"code":107,"message":"bad request"},"id":2}"#,
+    );
+    does(
+        &rt,
+        rt.alloc(),
+        &mut session,
+        r#"{"id":3,"subscribe":{"channel":"chat:x"}}"#,
+        r#"{"error":{"code":102,"message":"unknown channel"},"id":3}"#,
+    );
+    does(
+        &rt,
+        rt.alloc(),
+        &mut session,
+        r#"{"id":3,"publish":{"channel":"bare:a","data":null}}"#,
+        r#"{"error":{"code":103,"message":"permission denied"},"id":3}"#,
+    );
+    does(
+        &rt,
+        rt.alloc(),
+        &mut session,
+        r#"{"id":3,"history":{"channel":"bare:a","reverse":true}}"#,
+        r#"{"error":{"code":103,"message":"permission denied"},"id":3}"#,
+    );
+    does(
+        &rt,
+        rt.alloc(),
+        &mut session,
+        r#"{"id":3,"history":{"channel":"a","reverse":true}}"#,
+        r#"{"error":{"code":108,"message":"not available"},"id":3}"#,
+    );
+    does(
+        &rt,
+        rt.alloc(),
+        &mut session,
+        r#"{"id":3,"presence":{"channel":"bare:a"}}"#,
+        r#"{"error":{"code":108,"message":"not available"},"id":3}"#,
+    );
+    does(
+        &rt,
+        rt.alloc(),
+        &mut session,
+        r#"{"id":4,"rpc":{}}"#,
+        r#"{"error":{"code":108,"message":"not available"},"id":4}"#,
+    );
+}
+
+/// What the hub and the streams refuse is said, and a connect that is no first closes.
+#[test]
+fn refusals_of_the_node(rt: HostRuntime) {
+    let (namespaces, tokens) = tables(rt.alloc(), "=100,300,phs;bare=1,1,", "").expect(
+        &rt, "tables",
+    );
+    let mut session = Session::new(rt.alloc(), &namespaces, &tokens);
+    connects(&rt, rt.alloc(), &mut session);
+    does(
+        &rt,
+        rt.alloc(),
+        &mut session,
+        r#"{"id":6,"subscribe":{"channel":"twice"}}"#,
+        r#"begin 6 / {"error":{"code":105,"message":"already subscribed"},"id":6}"#,
+    );
+    does(
+        &rt,
+        rt.alloc(),
+        &mut session,
+        r#"{"id":7,"history":{"channel":"old","since":{"epoch":"zzzz","offset":0}}}"#,
+        r#"history 0 / {"error":{"code":112,"message":"unrecoverable position"},"id":7}"#,
+    );
+    does(
+        &rt,
+        rt.alloc(),
+        &mut session,
+        r#"{"id":8,"subscribe":{"channel":"spent"}}"#,
+        r#"begin 8 / read / leave / {"error":{"code":100,"message":"internal server error","temporary":true},"id":8}"#,
+    );
+    does(
+        &rt,
+        rt.alloc(),
+        &mut session,
+        r#"{"id":8,"unsubscribe":{"channel":"chat:x"}}"#,
+        r#"leave / {"id":8,"unsubscribe":{}}"#,
+    );
+    does(
+        &rt,
+        rt.alloc(),
+        &mut session,
+        r#"{"id":9,"connect":{}}"#,
+        "close 3501 bad request",
+    );
+}
+
+/// The first text of a client, where these tokens are set up, has the session do this.
+fn begins(rt: &impl Abort, alloc: Global, tokens: &str, text: &str, done: &str) {
+    let (namespaces, tokens) = tables(alloc, "=100,300,phs", tokens).expect(rt, "tables");
+    let mut session = Session::new(alloc, &namespaces, &tokens);
+    does(rt, alloc, &mut session, text, done);
+}
+
+#[test]
+fn speak_first_line_closes(rt: HostRuntime) {
+    let alloc = rt.alloc();
+    begins(
+        &rt,
+        alloc,
+        "",
+        r#"{"id":1,"subscribe":{"channel":"a"}}"#,
+        BAD_REQUEST,
+    );
+    begins(&rt, alloc, "", r#"{"id":0,"connect":{}}"#, BAD_REQUEST);
+    begins(&rt, alloc, "", r#"{"id":1,"#, BAD_REQUEST);
+    begins(&rt, alloc, "", "", BAD_REQUEST);
+    begins(&rt, alloc, "", "{}", BAD_REQUEST);
+    let token = r#"{"id":1,"connect":{"token":"t9"}}"#;
+    begins(&rt, alloc, "", token, "close 3500 invalid token");
+    let connected =
+        r#"attach ann / {"connect":{"client":"0-1-1","ping":25,"pong":true,"version":"1.0.0"},"id":1}"#;
+    begins(&rt, alloc, "t9=ann", token, connected);
+}
+
+/// A publish whose data are so many brackets, one in another.
+fn nested(alloc: Global, depth: usize) -> Option<String> {
+    let opening = "[".repeat(alloc, depth).ok()?;
+    let closing = "]".repeat(alloc, depth).ok()?;
+    format!(in alloc;
+        "{{\"id\":2,\"publish\":{{\"channel\":\"a\",\"data\":{opening}{closing}}}}}"
+    ).ok()
+}
+
+/// Serves such a publish after a connect.
+fn serve_nested(alloc: Global, depth: usize) -> Option<String> {
+    let (namespaces, tokens) = tables(alloc, "=100,300,phs", "")?;
+    let mut session = Session::new(alloc, &namespaces, &tokens);
+    serve(alloc, &mut session, CONNECT)?;
+    serve(alloc, &mut session, nested(alloc, depth)?.as_str())
+}
+
+fn nests(rt: &impl Abort, alloc: Global, depth: usize, end: &str) {
+    let done = serve_nested(alloc, depth).expect(rt, "memory");
+    assert!(rt; done.as_str().ends_with(end), "at {depth}");
+}
+
+#[test]
+fn data_depth(rt: HostRuntime) {
+    let refused = r#"{"error":{"code":107,"message":"bad request"},"id":2}"#;
+    nests(&rt, rt.alloc(), 60, r#"{"id":2,"publish":{}}"#);
+    nests(&rt, rt.alloc(), 61, refused);
+    nests(&rt, rt.alloc(), 62, refused);
+    nests(&rt, rt.alloc(), 63, BAD_REQUEST);
+}
+
+/// A publish to a channel whose stream is at its last offset, for which the node answers so.
+#[test]
+fn last_offset(rt: HostRuntime) {
+    let (namespaces, tokens) = tables(rt.alloc(), "=100,300,phs", "").expect(&rt, "tables");
+    let mut session = Session::new(rt.alloc(), &namespaces, &tokens);
+    connects(&rt, rt.alloc(), &mut session);
+    does(
+        &rt,
+        rt.alloc(),
+        &mut session,
+        r#"{"id":2,"publish":{"channel":"full","data":1}}"#,
+        r#"publish 1 0-1-1 / {"error":{"code":106,"message":"limit exceeded"},"id":2}"#,
+    );
+}
+
+/// Whether a publish to a channel whose name has so many bytes is refused as a bad request.
+fn is_bad_name(alloc: Global, session: &mut Session<'_>, bytes: usize) -> Option<bool> {
+    let name = "x".repeat(alloc, bytes).ok()?;
+    let text = format!(in alloc; "{{\"id\":2,\"publish\":{{\"channel\":\"{name}\",\"data\":1}}}}");
+    Some(
+        serve(alloc, session, text.ok()?.as_str())?
+            .as_str()
+            .contains("107"),
+    )
+}
+
+/// Whether a frame of so many empty commands is answered by as many pongs.
+fn is_ponged(alloc: Global, session: &mut Session<'_>, count: usize) -> Option<bool> {
+    let frame = "{}".repeat(alloc, count).ok()?;
+    let pongs = "pong / ".repeat(alloc, count).ok()?;
+    let done = serve(alloc, session, frame.as_str())?;
+    Some(pongs.as_str().strip_suffix(" / ") == Some(done.as_str()))
+}
+
+/// Whether a frame of so many empty commands and a space closes.
+fn is_too_long(alloc: Global, session: &mut Session<'_>, count: usize) -> Option<bool> {
+    let frame = "{}".repeat(alloc, count).ok()?;
+    let frame = format!(in alloc; "{frame} ").ok()?;
+    Some(is_served(alloc, session, frame.as_str(), BAD_REQUEST))
+}
+
+/// A frame of 65,536 bytes has all its commands carried out, and one byte more closes; names of 255 and 256 bytes.
+#[test]
+fn limits(rt: HostRuntime) {
+    let (namespaces, tokens) = tables(rt.alloc(), "=100,300,phs", "").expect(&rt, "tables");
+    let mut session = Session::new(rt.alloc(), &namespaces, &tokens);
+    connects(&rt, rt.alloc(), &mut session);
+    assert!(rt; is_bad_name(rt.alloc(), &mut session, 255) == Some(false));
+    assert!(rt; is_bad_name(rt.alloc(), &mut session, 256) == Some(true));
+    assert!(rt; is_ponged(rt.alloc(), &mut session, 32_768) == Some(true));
+    assert!(rt; is_too_long(rt.alloc(), &mut session, 32_768) == Some(true));
+}

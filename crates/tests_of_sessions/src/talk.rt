@@ -1,0 +1,144 @@
+//! A client's texts, carried out on a node that stands in for a real one.
+ghost use Rattle.std.specs.Prelude.{◌≡◌};
+
+use cf_presence::Stats;
+use cf_protocol::{ErrorCode, Namespaces, Tokens, read_namespaces, read_tokens};
+use cf_session::{Action, Answer, Session};
+use cf_talk::{Node, serve_lines};
+use std::alloc::{AllocError, Global};
+use std::collections::BTreeMap;
+
+/// A node that keeps what is said, refuses what it has no answer for, and closes the session after so many acts.
+#[derive(Drop)]
+struct Stand<'a> {
+    namespaces: &'a Namespaces,
+    said: String,
+    left: usize,
+    alloc: Global,
+}
+
+impl Stand<'_> {
+    fn write(&mut self, words: &str) -> Result<(), AllocError>
+        ensures { self.new.namespaces.now ≡ self.old.namespaces.now }
+    {
+        self.said.push_str(words)?;
+        self.said.push('\n')
+    }
+}
+
+impl Node for Stand<'_> {
+    ghost use Rattle.std.specs.Prelude.{◌==◌};
+
+    ghost namespaces = { λ n. n.namespaces.now };
+
+    ghost closed = { λ n. n.left == 0 };
+
+    ghost does = { λ _ _ _ _. Unit {0} };
+
+    fn is_closed(&self) -> bool {
+        self.left == 0
+    }
+
+    fn act(&mut self, action: Action) -> Option<Answer> {
+        self.left = self.left.saturating_sub(1);
+        match action {
+            Action::Attach { .. } => match String::from_str(self.alloc, "0-1-1") {
+                Ok(client) => Some(Answer::Attach(Ok(client))),
+                Err(_) => Some(Answer::Attach(Err(ErrorCode::Internal))),
+            },
+            Action::Begin { .. } => Some(Answer::Begin(Ok(()))),
+            Action::Read { .. } => Some(Answer::Read(Err(ErrorCode::Internal))),
+            Action::Finish { .. } => Some(Answer::Finish),
+            Action::Leave { .. } => Some(Answer::Leave),
+            Action::Publish { .. } => Some(Answer::Publish(Ok(()))),
+            Action::History { .. } => Some(Answer::History(Err(ErrorCode::Internal))),
+            Action::Presence { .. } => Some(Answer::Presence(Ok(BTreeMap::new(self.alloc)))),
+            Action::Stats { .. } => Some(Answer::Stats(Stats {
+                clients: 1,
+                users: 1,
+            })),
+            Action::Say(text) => {
+                let _ = self.write(text.as_str());
+                None
+            }
+            Action::Pong => None,
+            Action::Close(code) => {
+                let _ = self.write(code.reason());
+                None
+            }
+        }
+    }
+}
+
+fn tables(alloc: Global) -> Option<(Namespaces, Tokens)> {
+    match (
+        read_namespaces(alloc, "=100,300,phs"),
+        read_tokens(alloc, ""),
+    ) {
+        (Ok(namespaces), Ok(tokens)) => Some((namespaces, tokens)),
+        _ => None,
+    }
+}
+
+fn lines_of(alloc: Global, text: &str) -> Option<Vec<String>> {
+    let mut lines = Vec::new(alloc);
+    for line in text.lines() {
+        lines.push(String::from_str(alloc, line).ok()?).ok()?;
+    }
+    Some(lines)
+}
+
+/// What a node that closes the session after so many acts says to these lines.
+fn said(
+    alloc: Global,
+    namespaces: &Namespaces,
+    tokens: &Tokens,
+    lines: &[String],
+    acts: usize,
+) -> String {
+    let mut session = Session::new(alloc, namespaces, tokens);
+    let mut node = Stand {
+        namespaces,
+        said: String::new(alloc),
+        left: acts,
+        alloc,
+    };
+    serve_lines(&mut session, &mut node, lines);
+    node.said
+}
+
+const FRAMES: &str = r#"{"id":1,"connect":{}}
+{"id":2,"subscribe":{"channel":"a"}}{"id":3,"ping":{}}
+{"id":4,"publish":{"channel":"a","data":1}}"#;
+
+/// Whether a node that closes the session after so many acts says this to the frames.
+fn says(alloc: Global, acts: usize, wanted: &str) -> bool {
+    match (tables(alloc), lines_of(alloc, FRAMES)) {
+        (Some((namespaces, tokens)), Some(lines)) => {
+            said(alloc, &namespaces, &tokens, lines.as_slice(), acts).as_str() == wanted
+        }
+        _ => false,
+    }
+}
+
+const CONNECTED: &str =
+    "{\"connect\":{\"client\":\"0-1-1\",\"ping\":25,\"pong\":true,\"version\":\"1.0.0\"},\"id\":1}\n";
+
+const REFUSED: &str =
+    r#"{"connect":{"client":"0-1-1","ping":25,"pong":true,"version":"1.0.0"},"id":1}
+{"error":{"code":100,"message":"internal server error","temporary":true},"id":2}
+"#;
+
+const ALL: &str = r#"{"connect":{"client":"0-1-1","ping":25,"pong":true,"version":"1.0.0"},"id":1}
+{"error":{"code":100,"message":"internal server error","temporary":true},"id":2}
+{"id":3,"ping":{}}
+{"id":4,"publish":{}}
+"#;
+
+/// A conversation of three lines, whole, and broken off where the node has closed the session.
+#[test]
+fn lines(rt: HostRuntime) {
+    assert!(rt; says(rt.alloc(), 100, ALL));
+    assert!(rt; says(rt.alloc(), 6, REFUSED));
+    assert!(rt; says(rt.alloc(), 5, CONNECTED));
+}

@@ -1,0 +1,5 @@
+use Rattle.tests_of_threads.proofs.order.shares_add_up.Given as goal
+
+-- the word that was just made
+abbrev pub ghosts-add_up : goal.ghosts-add_up
+ghosts-add_up g a = record { word = a.word.now }
