@@ -14,9 +14,6 @@ use std::process::Abort;
 
 const CONNECT: &str = r#"{"id":1,"connect":{}}"#;
 
-const CONNECTED: &str =
-    r#"attach  / {"connect":{"client":"0-1-1","ping":25,"pong":true,"version":"1.0.0"},"id":1}"#;
-
 const BAD_REQUEST: &str = "close 3501 bad request";
 
 /// The refusal with which the node answers each call on this channel.
@@ -184,255 +181,137 @@ fn is_served(alloc: Global, session: &mut Session<'_>, text: &str, wanted: &str)
     }
 }
 
-fn does(rt: &impl Abort, alloc: Global, session: &mut Session<'_>, text: &str, done: &str) {
-    assert!(rt; is_served(alloc, session, text, done), "{text}");
-}
-
-fn connects(rt: &impl Abort, alloc: Global, session: &mut Session<'_>) {
-    does(rt, alloc, session, CONNECT, CONNECTED);
-}
-
-fn tables(alloc: Global, spec: &str, tokens: &str) -> Option<(Namespaces, Tokens)> {
-    match (read_namespaces(alloc, spec), read_tokens(alloc, tokens)) {
+fn tables(alloc: Global, tokens: &str) -> Option<(Namespaces, Tokens)> {
+    let namespaces = read_namespaces(alloc, "=100,300,phs;bare=1,1,");
+    match (namespaces, read_tokens(alloc, tokens)) {
         (Ok(namespaces), Ok(tokens)) => Some((namespaces, tokens)),
         _ => None,
     }
 }
 
+/// Whether a session does what stands behind the arrow of a row, or nothing where there is none.
+fn is_done(alloc: Global, session: &mut Session<'_>, row: &str) -> bool {
+    match row.split_once(" => ") {
+        Some((text, done)) => is_served(alloc, session, text, done),
+        None => is_served(alloc, session, row, ""),
+    }
+}
+
+/// A session does what these rows say, in their order.
+fn talks(rt: &impl Abort, alloc: Global, rows: &str) {
+    let (namespaces, tokens) = tables(alloc, "").expect(rt, "tables");
+    let mut session = Session::new(alloc, &namespaces, &tokens);
+    for row in rows.split('\n') {
+        assert!(rt; is_done(alloc, &mut session, row), "{row}");
+    }
+}
+
+const COMMANDS: &str =
+    r#"{"id":1,"connect":{}} => attach  / {"connect":{"client":"0-1-1","ping":25,"pong":true,"version":"1.0.0"},"id":1}
+{"id":2,"subscribe":{"channel":"news"}} => begin 2 / read / finish
+{"id":2,"subscribe":{"channel":"a","recover":true,"epoch":"zz","offset":7}} => begin 2 / read zz 7 / finish
+{"id":3,"publish":{"channel":"news","data":{ "t" : 1.50 }}} => publish {"t":1.50} 0-1-1 / {"id":3,"publish":{}}
+{"id":4,"history":{"channel":"news","limit":-1}} => history -1 / {"history":{"epoch":"aaaa","offset":3,"publications":[{"data":{},"info":{"client":"0-1-1","user":"ann"},"offset":3}]},"id":4}
+{"id":6,"presence":{"channel":"news"}} => presence / {"id":6,"presence":{"presence":{"0-1-1":{"client":"0-1-1"}}}}
+{"id":7,"presence_stats":{"channel":"news"}} => stats / {"id":7,"presence_stats":{"num_clients":2,"num_users":1}}"#;
+
 #[test]
 fn each_command(rt: HostRuntime) {
-    let (namespaces, tokens) = tables(rt.alloc(), "=100,300,phs", "").expect(&rt, "tables");
-    let mut session = Session::new(rt.alloc(), &namespaces, &tokens);
-    connects(&rt, rt.alloc(), &mut session);
-    does(
-        &rt,
-        rt.alloc(),
-        &mut session,
-        r#"{"id":2,"subscribe":{"channel":"news"}}"#,
-        "begin 2 / read / finish",
-    );
-    does(
-        &rt,
-        rt.alloc(),
-        &mut session,
-        r#"{"id":2,"subscribe":{"channel":"a","recover":true,"epoch":"zz","offset":7}}"#,
-        "begin 2 / read zz 7 / finish",
-    );
-    does(
-        &rt,
-        rt.alloc(),
-        &mut session,
-        r#"{"id":3,"publish":{"channel":"news","data":{ "t" : 1.50 }}}"#,
-        r#"publish {"t":1.50} 0-1-1 / {"id":3,"publish":{}}"#,
-    );
-    does(
-        &rt,
-        rt.alloc(),
-        &mut session,
-        r#"{"id":4,"history":{"channel":"news","limit":-1}}"#,
-        r#"history -1 / {"history":{"epoch":"aaaa","offset":3,"publications":[{"data":{},"info":{"client":"0-1-1","user":"ann"},"offset":3}]},"id":4}"#,
-    );
-    does(
-        &rt,
-        rt.alloc(),
-        &mut session,
-        r#"{"id":6,"presence":{"channel":"news"}}"#,
-        r#"presence / {"id":6,"presence":{"presence":{"0-1-1":{"client":"0-1-1"}}}}"#,
-    );
-    does(
-        &rt,
-        rt.alloc(),
-        &mut session,
-        r#"{"id":7,"presence_stats":{"channel":"news"}}"#,
-        r#"stats / {"id":7,"presence_stats":{"num_clients":2,"num_users":1}}"#,
-    );
+    talks(&rt, rt.alloc(), COMMANDS);
 }
+
+const PINGS: &str =
+    r#"{"id":1,"connect":{}} => attach  / {"connect":{"client":"0-1-1","ping":25,"pong":true,"version":"1.0.0"},"id":1}
+{} => pong
+{"send":{"data":1}}
+{"id":8,"ping":{}} {} => {"id":8,"ping":{}} / pong
+{"id":9,"unsubscribe":{"channel":"news"}} => leave / {"id":9,"unsubscribe":{}}
+{"id":1,"connect":{}} => close 3501 bad request
+{"id":2,"ping":{}}"#;
 
 /// What isn't answered, and a second connect.
 #[test]
 fn pings_and_sends(rt: HostRuntime) {
-    let (namespaces, tokens) = tables(rt.alloc(), "=100,300,phs", "").expect(&rt, "tables");
-    let mut session = Session::new(rt.alloc(), &namespaces, &tokens);
-    connects(&rt, rt.alloc(), &mut session);
-    does(&rt, rt.alloc(), &mut session, "{}", "pong");
-    does(&rt, rt.alloc(), &mut session, r#"{"send":{"data":1}}"#, "");
-    does(
-        &rt,
-        rt.alloc(),
-        &mut session,
-        r#"{"id":8,"ping":{}} {}"#,
-        r#"{"id":8,"ping":{}} / pong"#,
-    );
-    does(
-        &rt,
-        rt.alloc(),
-        &mut session,
-        r#"{"id":9,"unsubscribe":{"channel":"news"}}"#,
-        r#"leave / {"id":9,"unsubscribe":{}}"#,
-    );
-    does(
-        &rt,
-        rt.alloc(),
-        &mut session,
-        r#"{"id":1,"connect":{}}"#,
-        "close 3501 bad request",
-    );
-    does(&rt, rt.alloc(), &mut session, r#"{"id":2,"ping":{}}"#, "");
+    talks(&rt, rt.alloc(), PINGS);
 }
 
-/// Commands of usual clients, several in a frame and parted by line feeds, with members that are passed over.
-#[test]
-fn frames_of_commands(rt: HostRuntime) {
-    let (namespaces, tokens) = tables(rt.alloc(), "=100,300,phs", "").expect(&rt, "tables");
-    let mut session = Session::new(rt.alloc(), &namespaces, &tokens);
-    let frame = "{\"id\":1,\"connect\":{\"name\":\"js\",\"version\":\"5\",\"data\":{}}}\n\
-        {\"id\":2,\"subscribe\":{\"channel\":\"\"}}\n\
-        {\"id\":3,\"subscribe\":{\"channel\":\"full\"}}\n\
-        {\"id\":4,\"ping\":7}{}{\"send\":[]}\n\
-        {\"id\":5,\"subscribe\":{\"channel\":\"spent\"}}\n\
-        {\"id\":6,\"connect\":{}}\n\
-        {\"id\":7,\"ping\":{}}";
-    let done =
-        r#"attach  / {"connect":{"client":"0-1-1","ping":25,"pong":true,"version":"1.0.0"},"id":1} / {"error":{"code":107,"message":"bad request"},"id":2} / begin 3 / {"error":{"code":106,"message":"limit exceeded"},"id":3} / {"id":4,"ping":{}} / pong / begin 5 / read / leave / {"error":{"code":100,"message":"internal server error","temporary":true},"id":5} / close 3501 bad request"#;
-    does(&rt, rt.alloc(), &mut session, frame, done);
-}
+const REFUSALS: &str =
+    r#"{"id":1,"connect":{}} => attach  / {"connect":{"client":"0-1-1","ping":25,"pong":true,"version":"1.0.0"},"id":1}
+{"id":2,"publish":{"channel":"","data":1}} => {"error":{"code":107,"message":"bad request"},"id":2}
+{"id":2,"publish":{"channel":"bare:a"}} => {"error":{"code":107,"message":"bad request"},"id":2}
+{"id":3,"subscribe":{"channel":"chat:x"}} => {"error":{"code":102,"message":"unknown channel"},"id":3}
+{"id":3,"publish":{"channel":"bare:a","data":null}} => {"error":{"code":103,"message":"permission denied"},"id":3}
+{"id":3,"history":{"channel":"bare:a","reverse":true}} => {"error":{"code":103,"message":"permission denied"},"id":3}
+{"id":3,"history":{"channel":"a","reverse":true}} => {"error":{"code":108,"message":"not available"},"id":3}
+{"id":3,"presence":{"channel":"bare:a"}} => {"error":{"code":108,"message":"not available"},"id":3}
+{"id":4,"rpc":{}} => {"error":{"code":108,"message":"not available"},"id":4}"#;
 
 #[test]
 fn speak_refusals(rt: HostRuntime) {
-    let (namespaces, tokens) = tables(rt.alloc(), "=100,300,phs;bare=1,1,", "").expect(
-        &rt, "tables",
-    );
-    let mut session = Session::new(rt.alloc(), &namespaces, &tokens);
-    connects(&rt, rt.alloc(), &mut session);
-    does(
-        &rt,
-        rt.alloc(),
-        &mut session,
-        r#"{"id":2,"publish":{"channel":"","data":1}}"#,
-        r#"{"error":{"code":107,"message":"bad request"},"id":2}"#,
-    );
-    does(
-        &rt,
-        rt.alloc(),
-        &mut session,
-        r#"{"id":2,"publish":{"channel":"bare:a"}}"#,
-        r#"{"error":{"code":107,"message":"bad request"},"id":2}"#,
-    );
-    does(
-        &rt,
-        rt.alloc(),
-        &mut session,
-        r#"{"id":3,"subscribe":{"channel":"chat:x"}}"#,
-        r#"{"error":{"code":102,"message":"unknown channel"},"id":3}"#,
-    );
-    does(
-        &rt,
-        rt.alloc(),
-        &mut session,
-        r#"{"id":3,"publish":{"channel":"bare:a","data":null}}"#,
-        r#"{"error":{"code":103,"message":"permission denied"},"id":3}"#,
-    );
-    does(
-        &rt,
-        rt.alloc(),
-        &mut session,
-        r#"{"id":3,"history":{"channel":"bare:a","reverse":true}}"#,
-        r#"{"error":{"code":103,"message":"permission denied"},"id":3}"#,
-    );
-    does(
-        &rt,
-        rt.alloc(),
-        &mut session,
-        r#"{"id":3,"history":{"channel":"a","reverse":true}}"#,
-        r#"{"error":{"code":108,"message":"not available"},"id":3}"#,
-    );
-    does(
-        &rt,
-        rt.alloc(),
-        &mut session,
-        r#"{"id":3,"presence":{"channel":"bare:a"}}"#,
-        r#"{"error":{"code":108,"message":"not available"},"id":3}"#,
-    );
-    does(
-        &rt,
-        rt.alloc(),
-        &mut session,
-        r#"{"id":4,"rpc":{}}"#,
-        r#"{"error":{"code":108,"message":"not available"},"id":4}"#,
-    );
+    talks(&rt, rt.alloc(), REFUSALS);
 }
+
+const REFUSALS_OF_THE_NODE: &str =
+    r#"{"id":1,"connect":{}} => attach  / {"connect":{"client":"0-1-1","ping":25,"pong":true,"version":"1.0.0"},"id":1}
+{"id":2,"publish":{"channel":"full","data":1}} => publish 1 0-1-1 / {"error":{"code":106,"message":"limit exceeded"},"id":2}
+{"id":6,"subscribe":{"channel":"twice"}} => begin 6 / {"error":{"code":105,"message":"already subscribed"},"id":6}
+{"id":7,"history":{"channel":"old","since":{"epoch":"zzzz","offset":0}}} => history 0 / {"error":{"code":112,"message":"unrecoverable position"},"id":7}
+{"id":8,"subscribe":{"channel":"spent"}} => begin 8 / read / leave / {"error":{"code":100,"message":"internal server error","temporary":true},"id":8}
+{"id":8,"unsubscribe":{"channel":"chat:x"}} => leave / {"id":8,"unsubscribe":{}}
+{"id":9,"connect":{}} => close 3501 bad request"#;
 
 /// What the hub and the streams refuse is said, and a connect that is no first closes.
 #[test]
 fn refusals_of_the_node(rt: HostRuntime) {
-    let (namespaces, tokens) = tables(rt.alloc(), "=100,300,phs;bare=1,1,", "").expect(
-        &rt, "tables",
-    );
-    let mut session = Session::new(rt.alloc(), &namespaces, &tokens);
-    connects(&rt, rt.alloc(), &mut session);
-    does(
-        &rt,
-        rt.alloc(),
-        &mut session,
-        r#"{"id":6,"subscribe":{"channel":"twice"}}"#,
-        r#"begin 6 / {"error":{"code":105,"message":"already subscribed"},"id":6}"#,
-    );
-    does(
-        &rt,
-        rt.alloc(),
-        &mut session,
-        r#"{"id":7,"history":{"channel":"old","since":{"epoch":"zzzz","offset":0}}}"#,
-        r#"history 0 / {"error":{"code":112,"message":"unrecoverable position"},"id":7}"#,
-    );
-    does(
-        &rt,
-        rt.alloc(),
-        &mut session,
-        r#"{"id":8,"subscribe":{"channel":"spent"}}"#,
-        r#"begin 8 / read / leave / {"error":{"code":100,"message":"internal server error","temporary":true},"id":8}"#,
-    );
-    does(
-        &rt,
-        rt.alloc(),
-        &mut session,
-        r#"{"id":8,"unsubscribe":{"channel":"chat:x"}}"#,
-        r#"leave / {"id":8,"unsubscribe":{}}"#,
-    );
-    does(
-        &rt,
-        rt.alloc(),
-        &mut session,
-        r#"{"id":9,"connect":{}}"#,
-        "close 3501 bad request",
-    );
+    talks(&rt, rt.alloc(), REFUSALS_OF_THE_NODE);
 }
 
 /// The first text of a client, where these tokens are set up, has the session do this.
 fn begins(rt: &impl Abort, alloc: Global, tokens: &str, text: &str, done: &str) {
-    let (namespaces, tokens) = tables(alloc, "=100,300,phs", tokens).expect(rt, "tables");
+    let (namespaces, tokens) = tables(alloc, tokens).expect(rt, "tables");
     let mut session = Session::new(alloc, &namespaces, &tokens);
-    does(rt, alloc, &mut session, text, done);
+    assert!(rt; is_served(alloc, &mut session, text, done), "{text}");
 }
+
+const FRAME: &str = r#"{"id":1,"connect":{"name":"js","version":"5","data":{}}}
+{"id":2,"subscribe":{"channel":""}}
+{"id":3,"subscribe":{"channel":"full"}}
+{"id":4,"ping":7}{}{"send":[]}
+{"id":5,"subscribe":{"channel":"spent"}}
+{"id":6,"connect":{}}
+{"id":7,"ping":{}}"#;
+
+const DONE: &str =
+    r#"attach  / {"connect":{"client":"0-1-1","ping":25,"pong":true,"version":"1.0.0"},"id":1} / {"error":{"code":107,"message":"bad request"},"id":2} / begin 3 / {"error":{"code":106,"message":"limit exceeded"},"id":3} / {"id":4,"ping":{}} / pong / begin 5 / read / leave / {"error":{"code":100,"message":"internal server error","temporary":true},"id":5} / close 3501 bad request"#;
+
+/// Commands of usual clients, several in a frame and parted by line feeds, with members that are passed over.
+#[test]
+fn frames_of_commands(rt: HostRuntime) {
+    begins(&rt, rt.alloc(), "", FRAME, DONE);
+}
+
+const NO_CONNECT: &str = r#"{"id":1,"subscribe":{"channel":"a"}}
+{"id":0,"connect":{}}
+{"id":1,
+
+{}"#;
 
 #[test]
 fn speak_first_line_closes(rt: HostRuntime) {
-    let alloc = rt.alloc();
-    begins(
-        &rt,
-        alloc,
-        "",
-        r#"{"id":1,"subscribe":{"channel":"a"}}"#,
-        BAD_REQUEST,
-    );
-    begins(&rt, alloc, "", r#"{"id":0,"connect":{}}"#, BAD_REQUEST);
-    begins(&rt, alloc, "", r#"{"id":1,"#, BAD_REQUEST);
-    begins(&rt, alloc, "", "", BAD_REQUEST);
-    begins(&rt, alloc, "", "{}", BAD_REQUEST);
-    let token = r#"{"id":1,"connect":{"token":"t9"}}"#;
-    begins(&rt, alloc, "", token, "close 3500 invalid token");
-    let connected =
-        r#"attach ann / {"connect":{"client":"0-1-1","ping":25,"pong":true,"version":"1.0.0"},"id":1}"#;
-    begins(&rt, alloc, "t9=ann", token, connected);
+    for text in NO_CONNECT.split('\n') {
+        begins(&rt, rt.alloc(), "", text, BAD_REQUEST);
+    }
+}
+
+const TOKEN: &str = r#"{"id":1,"connect":{"token":"t9"}}"#;
+
+const ANN_CONNECTED: &str =
+    r#"attach ann / {"connect":{"client":"0-1-1","ping":25,"pong":true,"version":"1.0.0"},"id":1}"#;
+
+#[test]
+fn tokens(rt: HostRuntime) {
+    begins(&rt, rt.alloc(), "", TOKEN, "close 3500 invalid token");
+    begins(&rt, rt.alloc(), "t9=ann", TOKEN, ANN_CONNECTED);
 }
 
 /// A publish whose data are so many brackets, one in another.
@@ -444,41 +323,34 @@ fn nested(alloc: Global, depth: usize) -> Option<String> {
     ).ok()
 }
 
-/// Serves such a publish after a connect.
-fn serve_nested(alloc: Global, depth: usize) -> Option<String> {
-    let (namespaces, tokens) = tables(alloc, "=100,300,phs", "")?;
-    let mut session = Session::new(alloc, &namespaces, &tokens);
-    serve(alloc, &mut session, CONNECT)?;
-    serve(alloc, &mut session, nested(alloc, depth)?.as_str())
+/// A session that is connected.
+fn connected<'a>(alloc: Global, namespaces: &'a Namespaces, tokens: &'a Tokens) -> Session<'a> {
+    let mut session = Session::new(alloc, namespaces, tokens);
+    let _connected = serve(alloc, &mut session, CONNECT);
+    session
 }
 
-fn nests(rt: &impl Abort, alloc: Global, depth: usize, end: &str) {
-    let done = serve_nested(alloc, depth).expect(rt, "memory");
-    assert!(rt; done.as_str().ends_with(end), "at {depth}");
+/// Whether such a publish, after a connect, ends so.
+fn is_nested(alloc: Global, depth: usize, end: &str) -> bool {
+    match (tables(alloc, ""), nested(alloc, depth)) {
+        (Some((namespaces, tokens)), Some(publish)) => {
+            let mut session = connected(alloc, &namespaces, &tokens);
+            match serve(alloc, &mut session, publish.as_str()) {
+                Some(done) => done.as_str().ends_with(end),
+                None => false,
+            }
+        }
+        _ => false,
+    }
 }
 
 #[test]
 fn data_depth(rt: HostRuntime) {
     let refused = r#"{"error":{"code":107,"message":"bad request"},"id":2}"#;
-    nests(&rt, rt.alloc(), 60, r#"{"id":2,"publish":{}}"#);
-    nests(&rt, rt.alloc(), 61, refused);
-    nests(&rt, rt.alloc(), 62, refused);
-    nests(&rt, rt.alloc(), 63, BAD_REQUEST);
-}
-
-/// A publish to a channel whose stream is at its last offset, for which the node answers so.
-#[test]
-fn last_offset(rt: HostRuntime) {
-    let (namespaces, tokens) = tables(rt.alloc(), "=100,300,phs", "").expect(&rt, "tables");
-    let mut session = Session::new(rt.alloc(), &namespaces, &tokens);
-    connects(&rt, rt.alloc(), &mut session);
-    does(
-        &rt,
-        rt.alloc(),
-        &mut session,
-        r#"{"id":2,"publish":{"channel":"full","data":1}}"#,
-        r#"publish 1 0-1-1 / {"error":{"code":106,"message":"limit exceeded"},"id":2}"#,
-    );
+    assert!(rt; is_nested(rt.alloc(), 60, r#"{"id":2,"publish":{}}"#));
+    assert!(rt; is_nested(rt.alloc(), 61, refused));
+    assert!(rt; is_nested(rt.alloc(), 62, refused));
+    assert!(rt; is_nested(rt.alloc(), 63, BAD_REQUEST));
 }
 
 /// Whether a publish to a channel whose name has so many bytes is refused as a bad request.
@@ -510,9 +382,8 @@ fn is_too_long(alloc: Global, session: &mut Session<'_>, count: usize) -> Option
 /// A frame of 65,536 bytes has all its commands carried out, and one byte more closes; names of 255 and 256 bytes.
 #[test]
 fn limits(rt: HostRuntime) {
-    let (namespaces, tokens) = tables(rt.alloc(), "=100,300,phs", "").expect(&rt, "tables");
-    let mut session = Session::new(rt.alloc(), &namespaces, &tokens);
-    connects(&rt, rt.alloc(), &mut session);
+    let (namespaces, tokens) = tables(rt.alloc(), "").expect(&rt, "tables");
+    let mut session = connected(rt.alloc(), &namespaces, &tokens);
     assert!(rt; is_bad_name(rt.alloc(), &mut session, 255) == Some(false));
     assert!(rt; is_bad_name(rt.alloc(), &mut session, 256) == Some(true));
     assert!(rt; is_ponged(rt.alloc(), &mut session, 32_768) == Some(true));

@@ -3,92 +3,98 @@ use cf_protocol::read_namespaces;
 use cf_schedule::{Config, Event, fresh, run};
 use cf_world::Entry;
 use std::alloc::Global;
-use std::test::Fail;
 
-// The events of lines that can all be read.
-fn events_of(alloc: Global, lines: &[&str]) -> Result<Vec<Event>, Fail> {
+/// The events of lines that can all be read.
+fn events_of(alloc: Global, lines: &str) -> Option<Vec<Event>> {
     let mut events = Vec::new(alloc);
-    for line in lines {
-        if let Some(event) = Event::read(alloc, line, 1)? {
-            events.push(event)?;
-        }
+    for line in lines.split('\n') {
+        events.push(Event::read(alloc, line, 1).ok()??).ok()?;
     }
-    Ok(events)
+    Some(events)
 }
 
-fn config(alloc: Global) -> Result<Config, Fail> {
-    Ok(Config {
-        nodes: 1,
-        namespaces: read_namespaces(alloc, "=100,300,phs")?,
-    })
+fn config(alloc: Global) -> Option<Config> {
+    match read_namespaces(alloc, "=100,300,phs") {
+        Ok(namespaces) => Some(Config {
+            nodes: 1,
+            namespaces,
+        }),
+        Err(_) => None,
+    }
 }
 
-// The entries as lines, each after the number of its event.
-fn lines_of(alloc: Global, entries: &[Entry]) -> Result<String, Fail> {
+/// The entries as lines, each after the number of its event.
+fn lines_of(alloc: Global, entries: &[Entry]) -> Option<String> {
     let mut text = String::new(alloc);
     for entry in entries {
         let at = entry.at;
-        text.push_str(format!(in alloc; "{at} {entry}\n")?.as_str())?;
+        let line = format!(in alloc; "{at} {entry}\n").ok()?;
+        text.push_str(line.as_str()).ok()?;
     }
-    Ok(text)
+    Some(text)
+}
+
+/// What a run of these events shows.
+fn shown(alloc: Global, config: &Config, events: &[Event]) -> Option<String> {
+    match run(alloc, config, events) {
+        Ok(trace) => lines_of(alloc, trace.entries.as_slice()),
+        Err(_) => None,
+    }
+}
+
+/// Whether a run of these events goes to its end and shows this.
+fn shows(alloc: Global, lines: &str, wanted: &str) -> bool {
+    match (config(alloc), events_of(alloc, lines)) {
+        (Some(config), Some(events)) => match shown(alloc, &config, events.as_slice()) {
+            Some(text) => text.as_str() == wanted,
+            None => false,
+        },
+        _ => false,
+    }
+}
+
+fn is_fresh(alloc: Global, lines: &str) -> Option<bool> {
+    match events_of(alloc, lines) {
+        Some(events) => Some(fresh(events.as_slice())),
+        None => None,
+    }
 }
 
 #[test]
-fn epochs_once(rt: HostRuntime) -> Result<(), Fail> {
-    let alloc = rt.alloc();
+fn epochs_once(rt: HostRuntime) {
     assert!(rt; fresh(&[]));
-    assert!(rt; fresh(events_of(alloc, &["epoch a", "take ann", "epoch b"])?.as_slice()));
-    assert!(rt; !fresh(events_of(alloc, &["epoch a", "epoch b", "epoch a"])?.as_slice()));
-    Ok(())
+    assert!(rt; is_fresh(rt.alloc(), "epoch a\ntake ann\nepoch b") == Some(true));
+    assert!(rt; is_fresh(rt.alloc(), "epoch a\nepoch b\nepoch a") == Some(false));
 }
 
+const FIRST_PUBLICATION: &str = r#"epoch aaaa
+connect ann 0
+ask ann news
+read ann news
+finish ann news
+take ann
+publish news {"t":1}
+deliver 0 1
+take ann"#;
+
+const FIRST_LINES: &str = "6 ann news sub aaaa 0 fresh\n9 ann news pub aaaa 1 {\"t\":1}\n";
+
 #[test]
-fn first_publication(rt: HostRuntime) -> Result<(), Fail> {
-    let alloc = rt.alloc();
-    let events = events_of(
-        alloc,
-        &[
-            "epoch aaaa",
-            "connect ann 0",
-            "ask ann news",
-            "read ann news",
-            "finish ann news",
-            "take ann",
-            "publish news {\"t\":1}",
-            "deliver 0 1",
-            "take ann",
-        ],
-    )?;
-    let Ok(trace) = run(alloc, &config(alloc)?, events.as_slice()) else {
-        return Err(Fail::from("the run stopped"));
-    };
-    assert_eq!(rt;
-        lines_of(alloc, trace.entries.as_slice())?.as_str(),
-        "6 ann news sub aaaa 0 fresh\n9 ann news pub aaaa 1 {\"t\":1}\n"
-    );
-    Ok(())
+fn first_publication(rt: HostRuntime) {
+    assert!(rt; shows(rt.alloc(), FIRST_PUBLICATION, FIRST_LINES));
 }
 
-// An epoch that comes twice waits once: the second stream finds none.
+const REPEATED: &str = "epoch aaaa
+epoch aaaa
+publish news 1
+connect ann 0
+ask ann other
+read ann other
+finish ann other
+take ann";
+
+/// An epoch that comes twice waits once: the second stream finds none.
 #[test]
-fn repeated_epoch_waits_once(rt: HostRuntime) -> Result<(), Fail> {
-    let alloc = rt.alloc();
-    let events = events_of(
-        alloc,
-        &[
-            "epoch aaaa",
-            "epoch aaaa",
-            "publish news 1",
-            "connect ann 0",
-            "ask ann other",
-            "read ann other",
-            "finish ann other",
-            "take ann",
-        ],
-    )?;
-    let Ok(trace) = run(alloc, &config(alloc)?, events.as_slice()) else {
-        return Err(Fail::from("the run stopped"));
-    };
-    assert!(rt; trace.entries.is_empty());
-    Ok(())
+fn repeated_epoch_waits_once(rt: HostRuntime) {
+    assert!(rt; shows(rt.alloc(), REPEATED, ""));
 }

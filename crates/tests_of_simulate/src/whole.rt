@@ -3,12 +3,10 @@ ghost use Rattle.std.specs.Prelude.{◌≤◌, length, IfOk};
 
 use cf_protocol::read_namespaces;
 use cf_schedule::Config;
-use cf_simulate::simulate;
+use cf_simulate::{SimulateFault, simulate};
 use std::alloc::Global;
 use std::io;
 use std::io::{Read, Write};
-use std::process::Abort;
-use std::test::Fail;
 
 /// What a simulation runs with.
 #[derive(Clone, Copy)]
@@ -24,51 +22,65 @@ pub(crate) const DEFAULTS: Options<'static> = Options {
     explains: false,
 };
 
-fn config_of(alloc: Global, options: Options<'_>) -> Result<Config, Fail> {
+const TWO_NODES: Options<'static> = Options {
+    nodes: 2,
+    namespaces: "=100,300,phs",
+    explains: false,
+};
+
+const CHAT_TOO: Options<'static> = Options {
+    nodes: 1,
+    namespaces: "=100,300,phs;chat=2,300,",
+    explains: false,
+};
+
+fn config_of(alloc: Global, options: Options<'_>) -> Option<Config> {
     let nodes = options.nodes;
     if nodes < 1 || nodes > 8 {
-        return Err(Fail::from("a run has 1 to 8 nodes"));
+        return None;
     }
-    Ok(Config {
-        nodes,
-        namespaces: read_namespaces(alloc, options.namespaces)?,
-    })
+    match read_namespaces(alloc, options.namespaces) {
+        Ok(namespaces) => Some(Config { nodes, namespaces }),
+        Err(_) => None,
+    }
 }
 
-// What a schedule's run with the default options writes, its status, and what it says on standard error.
-fn ran(alloc: Global, input: &[u8]) -> Result<(String, u8, String), Fail> {
-    ran_with(alloc, DEFAULTS, input)
-}
-
-// The same with these options.
-pub(crate) fn ran_with(
+/// What a schedule's run writes, and the fault that stopped it.
+fn ran(
     alloc: Global,
     options: Options<'_>,
     input: &[u8],
-) -> Result<(String, u8, String), Fail> {
+) -> Option<(Vec<u8>, Option<SimulateFault>)> {
     let config = config_of(alloc, options)?;
     let mut reader = input;
     let mut writer = Vec::new(alloc);
-    let (status, fault) = match simulate(
-        alloc,
-        &mut reader,
-        &mut writer,
-        &config,
-        options.explains,
-    ) {
-        Ok(()) => (0, String::new(alloc)),
-        Err(fault) => (fault.status(), fault.to_string(alloc)?),
-    };
-    Ok((String::from_utf8(writer)?, status, fault))
+    let done = simulate(alloc, &mut reader, &mut writer, &config, options.explains);
+    Some((writer, done.err()))
 }
 
-// A schedule runs to its end with the default options, and these are the lines that it writes.
-fn prints(rt: &impl Abort, alloc: Global, input: &str, lines: &str) -> Result<(), Fail> {
-    let (written, status, fault) = ran(alloc, input.as_bytes())?;
-    assert_eq!(rt; written.as_str(), lines);
-    assert_eq!(rt; status, 0);
-    assert_eq!(rt; fault.as_str(), "");
-    Ok(())
+/// Whether a schedule runs to its end and writes these lines.
+pub(crate) fn prints(alloc: Global, options: Options<'_>, input: &str, lines: &str) -> bool {
+    match ran(alloc, options, input.as_bytes()) {
+        Some((written, None)) => written.as_slice() == lines.as_bytes(),
+        _ => false,
+    }
+}
+
+/// Whether a schedule can't be used, so that nothing is written and these words are said.
+fn is_refused(alloc: Global, options: Options<'_>, input: &[u8], words: &str) -> bool {
+    match ran(alloc, options, input) {
+        Some((written, Some(fault))) => {
+            written.is_empty() && fault.status() == 2 && is_told(alloc, fault, words)
+        }
+        _ => false,
+    }
+}
+
+fn is_told(alloc: Global, fault: SimulateFault, words: &str) -> bool {
+    match fault.to_string(alloc) {
+        Ok(told) => told.as_str() == words,
+        Err(_) => false,
+    }
 }
 
 const FIRST_PUBLICATION: &str = "epoch aaaa
@@ -82,66 +94,74 @@ deliver 0 1
 take ann
 ";
 
-#[test]
-fn first_publication(rt: HostRuntime) -> Result<(), Fail> {
-    prints(&rt, rt.alloc(), FIRST_PUBLICATION, FIRST_LINES)
-}
+const FIRST_LINE: &str = "ann news sub aaaa 0 fresh\n";
+
+const FIRST_LINES: &str = "ann news sub aaaa 0 fresh\nann news pub aaaa 1 {\"t\":1}\n";
 
 #[test]
-fn schedule_faults(rt: HostRuntime) -> Result<(), Fail> {
-    let cases = [
-        ("", 0, ""),
-        (
-            "epoch aaaa\nepoch aaaa\n",
-            2,
-            "line 2: epoch aaaa is used twice",
-        ),
-        (
-            "epoch aaaa\n# one\n\nepoch bbbb\nepoch aaaa",
-            2,
-            "line 5: epoch aaaa is used twice",
-        ),
-        ("connect ann", 2, "line 1: unreadable"),
-        ("connect ann 0\nconnect ann 0 \n", 2, "line 2: unreadable"),
-        ("connect ann 1", 2, "line 1: unreadable"),
-        ("# a comment\n\nconnect ann 00\n", 2, "line 3: unreadable"),
-        ("epoch aaaa\r\n", 2, "line 1: unreadable"),
-        (" # no comment", 2, "line 1: unreadable"),
-        ("break ann bob", 2, "line 1: unreadable"),
-        ("restart 1", 2, "line 1: unreadable"),
-        ("put ann news", 2, "line 1: unreadable"),
-        ("list ann news", 2, "line 1: unreadable"),
-        ("list ann news 2147483648", 2, "line 1: unreadable"),
-        ("list ann news -2147483648", 0, ""),
-        ("deliver 0 18446744073709551616", 2, "line 1: unreadable"),
-        ("trim news 10001", 2, "line 1: unreadable"),
-        ("forget news 0", 2, "line 1: unreadable"),
-        ("brokerrestart\nbrokerrestart 0", 2, "line 2: unreadable"),
-        ("publish news {\"t\":1", 2, "line 1: unreadable"),
-    ];
-    for (input, status, fault) in cases {
-        let (written, got, said) = ran(rt.alloc(), input.as_bytes())?;
-        assert_eq!(rt; written.as_str(), "", "at {input:?}");
-        assert_eq!(rt; got, status, "at {input:?}");
-        assert_eq!(rt; said.as_str(), fault, "at {input:?}");
+fn first_publication(rt: HostRuntime) {
+    assert!(rt; prints(rt.alloc(), DEFAULTS, FIRST_PUBLICATION, FIRST_LINES));
+}
+
+/// Schedules, with ` / ` for the end of a line, and what is said of each.
+const FAULTS: &str = r#"epoch aaaa / epoch aaaa /  => line 2: epoch aaaa is used twice
+epoch aaaa / # one /  / epoch bbbb / epoch aaaa => line 5: epoch aaaa is used twice
+connect ann => line 1: unreadable
+connect ann 0 / connect ann 0  /  => line 2: unreadable
+connect ann 1 => line 1: unreadable
+# a comment /  / connect ann 00 /  => line 3: unreadable
+ # no comment => line 1: unreadable
+break ann bob => line 1: unreadable
+restart 1 => line 1: unreadable
+put ann news => line 1: unreadable
+list ann news => line 1: unreadable
+list ann news 2147483648 => line 1: unreadable
+deliver 0 18446744073709551616 => line 1: unreadable
+trim news 10001 => line 1: unreadable
+forget news 0 => line 1: unreadable
+brokerrestart / brokerrestart 0 => line 2: unreadable
+publish news {"t":1 => line 1: unreadable"#;
+
+fn is_fault(alloc: Global, row: &str) -> bool {
+    let Some((schedule, words)) = row.split_once(" => ") else {
+        return false;
+    };
+    match schedule.replace(alloc, " / ", "\n") {
+        Ok(input) => is_refused(alloc, DEFAULTS, input.as_bytes(), words),
+        Err(_) => false,
     }
-    Ok(())
 }
 
-// What isn't UTF-8 is looked for in the whole input first.
 #[test]
-fn not_utf8(rt: HostRuntime) -> Result<(), Fail> {
-    let (written, status, fault) = ran(rt.alloc(), b"connect ann\ntake ann\xff\n")?;
-    assert_eq!(rt; written.as_str(), "");
-    assert_eq!(rt; status, 2);
-    assert_eq!(rt; fault.as_str(), "not UTF-8");
-    Ok(())
+fn schedule_faults(rt: HostRuntime) {
+    for row in FAULTS.split('\n') {
+        assert!(rt; is_fault(rt.alloc(), row), "{row}");
+    }
 }
 
-// A stream that is trimmed goes on in its epoch. One that is forgotten is opened again in a new one, from offset 0.
+/// A line that ends with a carriage return, and what is just not a fault.
 #[test]
-fn trim_and_forget(rt: HostRuntime) -> Result<(), Fail> {
-    let input = "trim news 0
+fn ends_of_lines(rt: HostRuntime) {
+    assert!(rt;
+        is_refused(
+            rt.alloc(),
+            DEFAULTS,
+            b"epoch aaaa\r\n",
+            "line 1: unreadable"
+        )
+    );
+    assert!(rt; prints(rt.alloc(), DEFAULTS, "", ""));
+    assert!(rt; prints(rt.alloc(), DEFAULTS, "list ann news -2147483648", ""));
+}
+
+/// What isn't UTF-8 is looked for in the whole input first.
+#[test]
+fn not_utf8(rt: HostRuntime) {
+    let input = b"connect ann\ntake ann\xff\n";
+    assert!(rt; is_refused(rt.alloc(), DEFAULTS, input, "not UTF-8"));
+}
+
+const TRIM_AND_FORGET: &str = "trim news 0
 forget news
 epoch aaaa
 epoch bbbb
@@ -163,18 +183,15 @@ read bob news
 finish bob news
 take bob
 ";
-    prints(
-        &rt,
-        rt.alloc(),
-        input,
-        "ann news sub aaaa 3 fresh\nbob news sub bbbb 1 fresh\n",
-    )
+
+/// A stream that is trimmed goes on in its epoch. One that is forgotten is opened again in a new one, from offset 0.
+#[test]
+fn trim_and_forget(rt: HostRuntime) {
+    let lines = "ann news sub aaaa 3 fresh\nbob news sub bbbb 1 fresh\n";
+    assert!(rt; prints(rt.alloc(), DEFAULTS, TRIM_AND_FORGET, lines));
 }
 
-// A publish to a channel whose namespace isn't set up changes nothing, and has no number.
-#[test]
-fn namespaces(rt: HostRuntime) -> Result<(), Fail> {
-    let input = "epoch aaaa
+const TWO_NAMESPACES: &str = "epoch aaaa
 epoch bbbb
 publish chat:x 1
 publish news 2
@@ -189,31 +206,17 @@ deliver 0 2
 deliver 0 3
 take ann
 ";
-    let set_up = Options {
-        nodes: 1,
-        namespaces: "=100,300,phs;chat=2,300,",
-        explains: false,
-    };
-    let cases = [
-        (
-            DEFAULTS,
-            "ann news sub aaaa 1 fresh\nann news pub aaaa 2 4\n",
-        ),
-        (set_up, "ann news sub bbbb 1 fresh\n"),
-    ];
-    for (options, lines) in cases {
-        let (written, status, fault) = ran_with(rt.alloc(), options, input.as_bytes())?;
-        assert_eq!(rt; fault.as_str(), "");
-        assert_eq!(rt; status, 0);
-        assert_eq!(rt; written.as_str(), lines);
-    }
-    Ok(())
+
+/// A publish to a channel whose namespace isn't set up changes nothing, and has no number.
+#[test]
+fn namespaces(rt: HostRuntime) {
+    let lines = "ann news sub aaaa 1 fresh\nann news pub aaaa 2 4\n";
+    assert!(rt; prints(rt.alloc(), DEFAULTS, TWO_NAMESPACES, lines));
+    let lines = "ann news sub bbbb 1 fresh\n";
+    assert!(rt; prints(rt.alloc(), CHAT_TOO, TWO_NAMESPACES, lines));
 }
 
-// Each client gets what its own node is given.
-#[test]
-fn two_nodes(rt: HostRuntime) -> Result<(), Fail> {
-    let input = "epoch aaaa
+const ANN_AND_BOB: &str = "epoch aaaa
 connect ann 0
 connect bob 1
 ask ann news
@@ -229,23 +232,21 @@ deliver 1 1
 take ann
 take bob
 ";
-    let two = Options {
-        nodes: 2,
-        namespaces: DEFAULTS.namespaces,
-        explains: false,
-    };
-    let (written, status, _) = ran_with(rt.alloc(), two, input.as_bytes())?;
-    assert_eq!(rt;
-        written.as_str(),
-        "ann news sub aaaa 0 fresh\nbob news sub aaaa 0 fresh\nbob news pub aaaa 1 1\n"
-    );
-    assert_eq!(rt; status, 0);
-    let (_, _, fault) = ran(rt.alloc(), input.as_bytes())?;
-    assert_eq!(rt; fault.as_str(), "line 3: unreadable");
-    Ok(())
+
+const BOB_ALONE: &str = "ann news sub aaaa 0 fresh
+bob news sub aaaa 0 fresh
+bob news pub aaaa 1 1
+";
+
+/// Each client gets what its own node is given.
+#[test]
+fn two_nodes(rt: HostRuntime) {
+    assert!(rt; prints(rt.alloc(), TWO_NODES, ANN_AND_BOB, BOB_ALONE));
+    let input = ANN_AND_BOB.as_bytes();
+    assert!(rt; is_refused(rt.alloc(), DEFAULTS, input, "line 3: unreadable"));
 }
 
-// An input or output that fails.
+/// An input or output that fails.
 #[derive(Drop)]
 struct Failing;
 
@@ -287,7 +288,7 @@ struct Awkward {
 }
 
 impl Awkward {
-    // Takes the first of these bytes.
+    /// Takes the first of these bytes.
     fn take_one(&mut self, bytes: &[u8]) -> io::Result<usize>
         ensures { IfOk result (λ count. count ≤ length bytes.now) }
     {
@@ -326,50 +327,55 @@ impl Write for Awkward {
     }
 }
 
-const FIRST_LINE: &str = "ann news sub aaaa 0 fresh\n";
-
-const FIRST_LINES: &str = "ann news sub aaaa 0 fresh\nann news pub aaaa 1 {\"t\":1}\n";
-
-#[test]
-fn awkward_writers(rt: HostRuntime) -> Result<(), Fail> {
-    let alloc = rt.alloc();
-    let config = config_of(alloc, DEFAULTS)?;
-    for (manner, status, lines) in [
-        (Manner::FailsAtFlush, 4, FIRST_LINES),
-        (Manner::TakesNothing, 4, ""),
-        (Manner::TakesOneWrite, 4, FIRST_LINE),
-        (Manner::IsInterrupted, 0, FIRST_LINES),
-    ] {
-        let mut writer = Awkward {
-            manner,
-            taken: Vec::new(alloc),
-            is_interrupted: false,
-        };
-        let mut reader = FIRST_PUBLICATION.as_bytes();
-        let got = match simulate(alloc, &mut reader, &mut writer, &config, false) {
-            Ok(()) => 0,
-            Err(fault) => fault.status(),
-        };
-        assert_eq!(rt; got, status);
-        assert_eq!(rt; String::from_utf8(writer.taken)?.as_str(), lines);
-    }
-    Ok(())
+/// Whether a run into such a writer ends with this status, after it took these lines.
+fn ends(alloc: Global, manner: Manner, status: u8, lines: &str) -> bool {
+    let Some(config) = config_of(alloc, DEFAULTS) else {
+        return false;
+    };
+    let mut writer = Awkward {
+        manner,
+        taken: Vec::new(alloc),
+        is_interrupted: false,
+    };
+    let mut reader = FIRST_PUBLICATION.as_bytes();
+    let ended = match simulate(alloc, &mut reader, &mut writer, &config, false) {
+        Ok(()) => 0,
+        Err(fault) => fault.status(),
+    };
+    ended == status && writer.taken.as_slice() == lines.as_bytes()
 }
 
 #[test]
-fn failed_input_and_output(rt: HostRuntime) -> Result<(), Fail> {
-    let alloc = rt.alloc();
-    let config = config_of(alloc, DEFAULTS)?;
+fn awkward_writers(rt: HostRuntime) {
+    assert!(rt; ends(rt.alloc(), Manner::FailsAtFlush, 4, FIRST_LINES));
+    assert!(rt; ends(rt.alloc(), Manner::TakesNothing, 4, ""));
+    assert!(rt; ends(rt.alloc(), Manner::TakesOneWrite, 4, FIRST_LINE));
+    assert!(rt; ends(rt.alloc(), Manner::IsInterrupted, 0, FIRST_LINES));
+}
+
+/// Whether a run is told to have failed by its input or output.
+fn is_failed(alloc: Global, done: Result<(), SimulateFault>) -> bool {
+    match done {
+        Ok(()) => false,
+        Err(fault) => fault.status() == 4 && is_told(alloc, fault, "input or output failed"),
+    }
+}
+
+fn fails_to_read(alloc: Global, config: &Config) -> bool {
     let mut writer = Vec::new(alloc);
-    let Err(fault) = simulate(alloc, &mut Failing, &mut writer, &config, false) else {
-        return Err(Fail::from("a failed read is no end of the input"));
-    };
-    assert_eq!(rt; fault.status(), 4);
+    let done = simulate(alloc, &mut Failing, &mut writer, config, false);
+    is_failed(alloc, done)
+}
+
+fn fails_to_write(alloc: Global, config: &Config) -> bool {
     let mut reader = FIRST_PUBLICATION.as_bytes();
-    let Err(fault) = simulate(alloc, &mut reader, &mut Failing, &config, false) else {
-        return Err(Fail::from("a failed write is no success"));
-    };
-    assert_eq!(rt; fault.status(), 4);
-    assert_eq!(rt; fault.to_string(alloc)?.as_str(), "input or output failed");
-    Ok(())
+    let done = simulate(alloc, &mut reader, &mut Failing, config, false);
+    is_failed(alloc, done)
+}
+
+#[test]
+fn failed_input_and_output(rt: HostRuntime) {
+    let config = config_of(rt.alloc(), DEFAULTS).expect(&rt, "namespaces");
+    assert!(rt; fails_to_read(rt.alloc(), &config));
+    assert!(rt; fails_to_write(rt.alloc(), &config));
 }
