@@ -1,3 +1,4 @@
+//! The broker's calls on one thread, and by two threads in two shards.
 ghost use Rattle.std.specs.Prelude.{◌≡◌, IsSome};
 ghost use Rattle.cf_protocol.specs.Settings.{settings_of};
 ghost use Rattle.cf_broker.specs.Shards.{names, number_of};
@@ -5,16 +6,14 @@ ghost use Rattle.cf_broker.specs.Shards.{names, number_of};
 mod threads;
 
 use cf_broker::{Broker, Delivery, Naming, Passes, Refused, Words, shard_of};
-use cf_link::{Receiver, pair};
+use cf_link::{Receiver, Sender, pair};
 use cf_order::Pass;
 use cf_protocol::{Epoch, Info, Namespaces, Position, read_namespaces};
 use cf_stream::Epochs;
 use std::alloc::Global;
 use std::marker::Brand;
-use std::process::Abort;
 use std::sync::Wait;
 use std::sync::atomic::{AtomicU64, Ordering};
-use std::test::Fail;
 use std::thread;
 use std::thread::Threads;
 
@@ -68,234 +67,325 @@ impl<'a> Epochs for Meeting<'a> {
     }
 }
 
-/// The offset of what comes next over a link.
-fn next_offset(rt: &impl Wait, link: &mut Receiver<Delivery>) -> Option<u64> {
-    let delivery = link.receive(rt)?;
-    let publication = delivery.publication;
-    let offset = publication.offset;
-    Some(offset)
+fn namespaces_of(alloc: Global) -> Option<Namespaces> {
+    read_namespaces(alloc, "=100,100,phs").ok()
 }
 
-/// So many publications come over a link, from the first on, and no more.
-fn brings<R: Wait + Abort>(rt: &R, link: &mut Receiver<Delivery>, most: u64) -> Result<(), Fail> {
-    for offset in 1..=most {
-        assert_eq!(rt; next_offset(rt, link), Some(offset));
+/// A broker whose every stream has the epoch `aaaa`, and its passes.
+fn opened<N: Naming>(
+    alloc: Global,
+    words: Words,
+    namespaces: &Namespaces,
+    links: Vec<Sender<Delivery>>,
+) -> Option<(Broker<N, Same>, Passes<N>)>
+    requires words { words ≡ names N.words 16 }
+    requires namespaces { namespaces.now ≡ N.namespaces }
+{
+    Broker::<N, Same>::new(alloc, words, namespaces, [Same; 16], links).ok()
+}
+
+fn position_at(offset: u64) -> Position {
+    Position {
+        epoch: Epoch::from_text("aaaa"),
+        offset,
     }
-    assert_eq!(rt; next_offset(rt, link), None);
-    Ok(())
 }
 
-fn info(alloc: Global) -> Result<Info, Fail> {
-    Ok(Info {
-        user: String::from_str(alloc, "ann")?,
-        client: String::from_str(alloc, "0-1-1")?,
-    })
+fn info(alloc: Global) -> Option<Info> {
+    match (
+        String::from_str(alloc, "ann"),
+        String::from_str(alloc, "0-1-1"),
+    ) {
+        (Ok(user), Ok(client)) => Some(Info { user, client }),
+        _ => None,
+    }
 }
 
-/// Publishes, and is told the offset.
-fn publishes_at<N: Naming, R: Wait + Abort>(
+/// Whether a publish is told this offset.
+fn publishes_at<N: Naming, R: Wait>(
     rt: &R,
     alloc: Global,
     broker: &Broker<N, Same>,
     pass: &mut Pass,
     channel: &str,
     offset: u64,
-) -> Result<(), Fail>
+) -> bool
     requires pass { pass.old.word ≡ N.words (number_of channel.now) }
     requires set_up { IsSome (settings_of N.namespaces channel.now) }
     ensures { pass.new.word ≡ pass.old.word }
 {
-    let body = String::from_str(alloc, "1")?;
-    let position = broker.publish(rt, pass, channel, body, Some(info(alloc)?), 0)?;
-    assert_eq!(rt; position.offset, offset);
-    Ok(())
+    let Ok(body) = String::from_str(alloc, "1") else {
+        return false;
+    };
+    match broker.publish(rt, pass, channel, body, info(alloc), 0) {
+        Ok(position) => position.offset == offset,
+        Err(_) => false,
+    }
 }
 
-/// Publishes three times.
-fn publishes_thrice<N: Naming, R: Wait + Abort>(
+fn publishes_thrice<N: Naming, R: Wait>(
     rt: &R,
     alloc: Global,
     broker: &Broker<N, Same>,
     pass: &mut Pass,
     channel: &str,
-) -> Result<(), Fail>
+) -> bool
     requires pass { pass.old.word ≡ N.words (number_of channel.now) }
     requires set_up { IsSome (settings_of N.namespaces channel.now) }
     ensures { pass.new.word ≡ pass.old.word }
 {
-    publishes_at(rt, alloc, broker, pass, channel, 1)?;
-    publishes_at(rt, alloc, broker, pass, channel, 2)?;
-    publishes_at(rt, alloc, broker, pass, channel, 3)?;
-    let (at, mark) = broker.position(rt, pass, channel);
-    assert_eq!(rt; (at.map(|position| position.offset), mark), (Some(3), 4));
-    Ok(())
+    publishes_at(rt, alloc, broker, pass, channel, 1)
+        && publishes_at(rt, alloc, broker, pass, channel, 2)
+        && publishes_at(rt, alloc, broker, pass, channel, 3)
 }
 
-/// Reads what follows the first of three publications.
-fn reads_two<N: Naming, R: Wait + Abort>(
+/// Whether a channel stands at this offset, or has no stream, and its shard's log is so long.
+fn stands_at<N: Naming, R: Wait>(
     rt: &R,
     broker: &Broker<N, Same>,
     pass: &mut Pass,
     channel: &str,
-) -> Result<(), Fail>
+    offset: Option<u64>,
+    mark: u64,
+) -> bool
+    requires pass { pass.old.word ≡ N.words (number_of channel.now) }
+    ensures { pass.new.word ≡ pass.old.word }
+{
+    let (at, found) = broker.position(rt, pass, channel);
+    match at {
+        Some(position) => Some(position.offset) == offset && found == mark,
+        None => offset.is_none() && found == mark,
+    }
+}
+
+/// Whether a read after an offset recovers so many publications.
+fn recovers<N: Naming, R: Wait>(
+    rt: &R,
+    broker: &Broker<N, Same>,
+    pass: &mut Pass,
+    channel: &str,
+    offset: u64,
+    count: usize,
+) -> bool
     requires pass { pass.old.word ≡ N.words (number_of channel.now) }
     requires set_up { IsSome (settings_of N.namespaces channel.now) }
     ensures { pass.new.word ≡ pass.old.word }
 {
-    let since = Position {
-        epoch: Epoch::from_text("aaaa"),
-        offset: 1,
-    };
-    let answer = broker.read(rt, pass, channel, Some(since), 0)?;
-    assert!(rt; answer.recovery.recovered);
-    assert_eq!(rt; (answer.recovery.publications.len(), answer.mark), (2, 4));
-    Ok(())
+    match broker.read(rt, pass, channel, Some(position_at(offset)), 0) {
+        Ok(answer) => answer.recovery.recovered && answer.recovery.publications.len() == count,
+        Err(_) => false,
+    }
 }
 
-/// How many publications the history has, at a moment.
-fn held<N: Naming, R: Wait>(
+/// Whether the history has so many publications, at a moment.
+fn holds<N: Naming, R: Wait>(
     rt: &R,
     broker: &Broker<N, Same>,
     pass: &mut Pass,
     channel: &str,
     limit: i32,
     now: u64,
-) -> Result<usize, Fail>
+    count: usize,
+) -> bool
     requires pass { pass.old.word ≡ N.words (number_of channel.now) }
     requires set_up { IsSome (settings_of N.namespaces channel.now) }
     ensures { pass.new.word ≡ pass.old.word }
 {
-    let history = broker.history(rt, pass, channel, None, limit, now)?;
-    Ok(history.publications.len())
-}
-
-/// Trims the three publications to one, and waits until that one has gone too.
-fn cuts<N: Naming, R: Wait + Abort>(
-    rt: &R,
-    broker: &Broker<N, Same>,
-    pass: &mut Pass,
-    channel: &str,
-) -> Result<(), Fail>
-    requires pass { pass.old.word ≡ N.words (number_of channel.now) }
-    requires set_up { IsSome (settings_of N.namespaces channel.now) }
-    ensures { pass.new.word ≡ pass.old.word }
-{
-    assert_eq!(rt; held(rt, broker, pass, channel, 1, 0)?, 1);
-    broker.trim(rt, pass, channel, 1)?;
-    assert_eq!(rt; held(rt, broker, pass, channel, -1, 0)?, 1);
-    broker.tick(rt, pass, shard_of(channel), 100)?;
-    assert_eq!(rt; held(rt, broker, pass, channel, -1, 100)?, 0);
-    Ok(())
-}
-
-/// Forgets the stream, after which its epoch is another one's.
-fn forgets<N: Naming, R: Wait + Abort>(
-    rt: &R,
-    broker: &Broker<N, Same>,
-    pass: &mut Pass,
-    channel: &str,
-) -> Result<(), Fail>
-    requires pass { pass.old.word ≡ N.words (number_of channel.now) }
-    requires set_up { IsSome (settings_of N.namespaces channel.now) }
-{
-    broker.forget(rt, pass, channel)?;
-    let (gone, mark) = broker.position(rt, pass, channel);
-    assert_eq!(rt; (gone.is_none(), mark), (true, 7));
-    let since = Position {
-        epoch: Epoch::from_text("aaaa"),
-        offset: 1,
-    };
-    let refused = broker.history(rt, pass, channel, Some(since), -1, 0);
-    assert!(rt; matches!(refused, Err(Refused::WrongEpoch)));
-    assert_eq!(rt; pass.share(), 3);
-    Ok(())
-}
-
-/// Publishes three times to a channel and reads, trims, ticks and forgets it.
-fn streams_of<N: Naming, R: Wait + Abort>(
-    rt: &R,
-    alloc: Global,
-    broker: &Broker<N, Same>,
-    namespaces: &Namespaces,
-    pass: &mut Pass,
-    channel: &str,
-) -> Result<(), Fail>
-    requires namespaces { namespaces.now ≡ N.namespaces }
-    requires pass { pass.old.word ≡ N.words (number_of channel.now) }
-{
-    if namespaces.find(channel).is_none() {
-        return Ok(());
+    match broker.history(rt, pass, channel, None, limit, now) {
+        Ok(history) => history.publications.len() == count,
+        Err(_) => false,
     }
-    publishes_thrice(rt, alloc, broker, pass, channel)?;
-    reads_two(rt, broker, pass, channel)?;
-    cuts(rt, broker, pass, channel)?;
-    forgets(rt, broker, pass, channel)
 }
 
-fn streams_called<N: Naming, R: Wait + Abort>(
+/// Whether three publications are trimmed to one, which goes too once its time is over.
+fn cuts<N: Naming, R: Wait>(
+    rt: &R,
+    broker: &Broker<N, Same>,
+    pass: &mut Pass,
+    channel: &str,
+) -> bool
+    requires pass { pass.old.word ≡ N.words (number_of channel.now) }
+    requires set_up { IsSome (settings_of N.namespaces channel.now) }
+    ensures { pass.new.word ≡ pass.old.word }
+{
+    holds(rt, broker, pass, channel, 1, 0, 1)
+        && broker.trim(rt, pass, channel, 1).is_ok()
+        && holds(rt, broker, pass, channel, -1, 0, 1)
+        && broker.tick(rt, pass, shard_of(channel), 100).is_ok()
+        && holds(rt, broker, pass, channel, -1, 100, 0)
+}
+
+/// Whether a stream is forgotten, after which a position in it is one of another epoch.
+fn forgets<N: Naming, R: Wait>(
+    rt: &R,
+    broker: &Broker<N, Same>,
+    pass: &mut Pass,
+    channel: &str,
+) -> bool
+    requires pass { pass.old.word ≡ N.words (number_of channel.now) }
+    requires set_up { IsSome (settings_of N.namespaces channel.now) }
+    ensures { pass.new.word ≡ pass.old.word }
+{
+    if broker.forget(rt, pass, channel).is_err() || !stands_at(rt, broker, pass, channel, None, 7) {
+        return false;
+    }
+    matches!(
+        broker.history(rt, pass, channel, Some(position_at(1)), -1, 0),
+        Err(Refused::WrongEpoch)
+    )
+}
+
+/// Whether a channel is published to three times and read, trimmed, ticked and forgotten.
+fn has_stream<N: Naming, R: Wait>(
+    rt: &R,
+    alloc: Global,
+    broker: &Broker<N, Same>,
+    namespaces: &Namespaces,
+    pass: &mut Pass,
+    channel: &str,
+) -> bool
+    requires namespaces { namespaces.now ≡ N.namespaces }
+    requires pass { pass.old.word ≡ N.words (number_of channel.now) }
+{
+    namespaces.find(channel).is_some()
+        && publishes_thrice(rt, alloc, broker, pass, channel)
+        && stands_at(rt, broker, pass, channel, Some(3), 4)
+        && recovers(rt, broker, pass, channel, 1, 2)
+        && cuts(rt, broker, pass, channel)
+        && forgets(rt, broker, pass, channel)
+        && pass.share() == 3
+}
+
+fn streams_called<N: Naming, R: Wait>(
     rt: &R,
     alloc: Global,
     words: Words,
     namespaces: &Namespaces,
-) -> Result<(), Fail>
+    links: Vec<Sender<Delivery>>,
+) -> bool
     requires words { words ≡ names N.words 16 }
     requires namespaces { namespaces.now ≡ N.namespaces }
 {
-    let (narrow, mut lossy) = pair(alloc, 1)?;
-    let (wide, mut whole) = pair(alloc, 8)?;
-    let links = Vec::from_array(alloc, [narrow, wide])?;
-    let (broker, mut passes) = Broker::<N, Same>::new(alloc, words, namespaces, [Same; 16], links)?;
-    let mut pass = passes.take(&broker, shard_of("news"));
-    streams_of(rt, alloc, &broker, namespaces, &mut pass, "news")?;
-    brings(rt, &mut lossy, 1)?;
-    brings(rt, &mut whole, 3)
+    match opened::<N>(alloc, words, namespaces, links) {
+        Some((broker, mut passes)) => {
+            let mut pass = passes.take(&broker, shard_of("news"));
+            has_stream(rt, alloc, &broker, namespaces, &mut pass, "news")
+        }
+        None => false,
+    }
 }
 
+type Links = (
+    Vec<Sender<Delivery>>,
+    Receiver<Delivery>,
+    Receiver<Delivery>,
+);
+
+/// A link with one place and one with eight.
+fn two_links(alloc: Global) -> Option<Links> {
+    let (narrow, lossy) = pair(alloc, 1).ok()?;
+    let (wide, whole) = pair(alloc, 8).ok()?;
+    let senders = Vec::from_array(alloc, [narrow, wide]).ok()?;
+    Some((senders, lossy, whole))
+}
+
+/// The offset of what comes next over a link.
+fn next_offset(rt: &impl Wait, link: &mut Receiver<Delivery>) -> Option<u64> {
+    match link.receive(rt) {
+        Some(delivery) => Some(delivery.publication.offset),
+        None => None,
+    }
+}
+
+/// Whether so many publications come over a link, from the first on, and no more.
+fn brings(rt: &impl Wait, link: &mut Receiver<Delivery>, most: u64) -> bool {
+    for offset in 1..=most {
+        if next_offset(rt, link) != Some(offset) {
+            return false;
+        }
+    }
+    next_offset(rt, link).is_none()
+}
+
+/// A link of one place loses the second of three publications and the third.
 #[test]
-fn streams_and_links(rt: HostRuntime) -> Result<(), Fail> {
-    let namespaces = read_namespaces(rt.alloc(), "=100,100,phs")?;
-    streams_called::<Brand, _>(&rt, rt.alloc(), Words::new(rt.alloc())?, &namespaces)
+fn streams_and_links(rt: HostRuntime) {
+    let alloc = rt.alloc();
+    let namespaces = namespaces_of(alloc).expect(&rt, "namespaces");
+    let words = Words::new(alloc).expect(&rt, "memory");
+    let (links, mut lossy, mut whole) = two_links(alloc).expect(&rt, "memory");
+    assert!(rt; streams_called::<Brand, _>(&rt, alloc, words, &namespaces, links));
+    assert!(rt; brings(&rt, &mut lossy, 1));
+    assert!(rt; brings(&rt, &mut whole, 3));
 }
 
-fn presence_called<N: Naming, R: Wait + Abort>(
-    rt: &R,
-    alloc: Global,
-    words: Words,
-    namespaces: &Namespaces,
-) -> Result<(), Fail>
-    requires words { words ≡ names N.words 16 }
-    requires namespaces { namespaces.now ≡ N.namespaces }
-{
-    let links = Vec::new(alloc);
-    let (broker, mut passes) = Broker::<N, Same>::new(alloc, words, namespaces, [Same; 16], links)?;
-    broker.enter(rt, "news", "0-1-1", "ann", 0)?;
+/// Whether so many clients of so many users are there.
+fn has<N: Naming>(rt: &impl Wait, broker: &Broker<N, Same>, clients: u64, users: u64) -> bool {
     let stats = broker.stats(rt, "news");
-    assert_eq!(rt; stats.clients, 1);
-    assert_eq!(rt; stats.users, 1);
-    let users = broker.list(rt, "news")?;
-    assert_eq!(rt; users.len(), 1);
-    assert_eq!(rt; users.get("0-1-1").map(|user| user.as_str()), Some("ann"));
+    stats.clients == clients && stats.users == users
+}
+
+/// Whether a client that entered is there.
+fn enters<N: Naming, R: Wait>(rt: &R, broker: &Broker<N, Same>) -> bool {
+    if broker.enter(rt, "news", "0-1-1", "ann", 0).is_err() || !has(rt, broker, 1, 1) {
+        return false;
+    }
+    match broker.list(rt, "news") {
+        Ok(users) => match users.get("0-1-1") {
+            Some(user) => users.len() == 1 && user.as_str() == "ann",
+            None => false,
+        },
+        Err(_) => false,
+    }
+}
+
+/// Whether a client that left is no longer there.
+fn leaves<N: Naming, R: Wait>(rt: &R, broker: &Broker<N, Same>) -> bool {
     broker.leave(rt, "news", "0-1-1");
-    assert!(rt; broker.list(rt, "news")?.is_empty());
-    broker.enter(rt, "news", "0-1-2", "bob", 0)?;
-    let mut pass = passes.take(&broker, 13);
-    broker.tick(rt, &mut pass, 13, 60)?;
-    assert_eq!(rt; broker.stats(rt, "news").clients, 0);
-    Ok(())
+    match broker.list(rt, "news") {
+        Ok(users) => users.is_empty(),
+        Err(_) => false,
+    }
+}
+
+/// Whether a client is let go of 60 seconds after it entered.
+fn lets_go<N: Naming, R: Wait>(rt: &R, broker: &Broker<N, Same>, pass: &mut Pass) -> bool
+    requires { pass.old.word ≡ N.words 13 }
+{
+    broker.enter(rt, "news", "0-1-2", "bob", 0).is_ok()
+        && broker.tick(rt, pass, 13, 60).is_ok()
+        && has(rt, broker, 0, 0)
+}
+
+fn presence_called<N: Naming, R: Wait>(
+    rt: &R,
+    alloc: Global,
+    words: Words,
+    namespaces: &Namespaces,
+) -> bool
+    requires words { words ≡ names N.words 16 }
+    requires namespaces { namespaces.now ≡ N.namespaces }
+{
+    match opened::<N>(alloc, words, namespaces, Vec::new(alloc)) {
+        Some((broker, mut passes)) => {
+            let mut pass = passes.take(&broker, 13);
+            enters(rt, &broker) && leaves(rt, &broker) && lets_go(rt, &broker, &mut pass)
+        }
+        None => false,
+    }
 }
 
 #[test]
-fn presence(rt: HostRuntime) -> Result<(), Fail> {
-    let namespaces = read_namespaces(rt.alloc(), "=100,100,phs")?;
-    presence_called::<Brand, _>(&rt, rt.alloc(), Words::new(rt.alloc())?, &namespaces)
+fn presence(rt: HostRuntime) {
+    let alloc = rt.alloc();
+    let namespaces = namespaces_of(alloc).expect(&rt, "namespaces");
+    let words = Words::new(alloc).expect(&rt, "memory");
+    assert!(rt; presence_called::<Brand, _>(&rt, alloc, words, &namespaces));
 }
 
 #[test]
-fn shards_of_channels(rt: HostRuntime) -> Result<(), Fail> {
-    assert_eq!(rt; shard_of("news"), 13);
-    assert_eq!(rt; shard_of("b"), 2);
-    assert_eq!(rt; shard_of(""), 0);
-    Ok(())
+fn shards_of_channels(rt: HostRuntime) {
+    assert!(rt; shard_of("news") == 13 && shard_of("b") == 2 && shard_of("") == 0);
 }
 
 /// Publishes to a channel that is set up, and answers whether it was accepted, and the pass.
@@ -374,35 +464,37 @@ fn publish_both<N: Naming + Send + Sync, E: Epochs + Drop + Send, R: Threads + W
     news && other
 }
 
-fn two_publish<N: Naming + Send + Sync, R: Threads + Wait + Abort + Sync>(
+/// Whether two threads publish to new channels in two shards, each with passes of its own.
+fn two_publish<N: Naming + Send + Sync, R: Threads + Wait + Sync>(
     rt: &R,
     alloc: Global,
     words: Words,
     namespaces: &Namespaces,
-) -> Result<(), Fail>
+    epochs: [Meeting<'_>; 16],
+) -> bool
     requires words { words ≡ names N.words 16 }
     requires namespaces { namespaces.now ≡ N.namespaces }
 {
+    let links = Vec::new(alloc);
+    match Broker::<N, Meeting<'_>>::new(alloc, words, namespaces, epochs, links) {
+        Ok((broker, mut ours)) => match ours.lend(alloc, &broker) {
+            Ok(theirs) => publish_both(rt, alloc, &broker, namespaces, ours, theirs),
+            Err(_) => false,
+        },
+        Err(_) => false,
+    }
+}
+
+/// Each of them draws its epoch while the other holds its shard.
+#[test]
+fn two_shards(rt: HostRuntime) {
+    let alloc = rt.alloc();
+    let namespaces = namespaces_of(alloc).expect(&rt, "namespaces");
+    let words = Words::new(alloc).expect(&rt, "memory");
     let flags = Flags {
         first: AtomicU64::new(0),
         second: AtomicU64::new(0),
     };
-    let links = Vec::new(alloc);
-    let (broker, mut ours) = Broker::<N, Meeting<'_>>::new(
-        alloc,
-        words,
-        namespaces,
-        epochs_that_meet(&flags),
-        links,
-    )?;
-    let theirs = ours.lend(alloc, &broker)?;
-    assert!(rt; publish_both(rt, alloc, &broker, namespaces, ours, theirs));
-    Ok(())
-}
-
-/// Two threads publish to new channels in two shards, and each draws its epoch while the other holds its shard.
-#[test]
-fn two_shards(rt: HostRuntime) -> Result<(), Fail> {
-    let namespaces = read_namespaces(rt.alloc(), "=100,100,phs")?;
-    two_publish::<Brand, _>(&rt, rt.alloc(), Words::new(rt.alloc())?, &namespaces)
+    let epochs = epochs_that_meet(&flags);
+    assert!(rt; two_publish::<Brand, _>(&rt, alloc, words, &namespaces, epochs));
 }

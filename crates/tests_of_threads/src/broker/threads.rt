@@ -1,17 +1,16 @@
 //! Two threads at one shard, with passes that are lent, handed over, met and joined.
-ghost use Rattle.std.specs.Prelude.{◌≡◌};
+ghost use Rattle.std.specs.Prelude.{◌≡◌, IsSome};
+ghost use Rattle.cf_protocol.specs.Settings.{settings_of};
 ghost use Rattle.cf_broker.specs.Shards.{names, number_of};
 
-use super::Same;
+use super::{Same, holds, namespaces_of, opened, position_at, stands_at};
 use cf_broker::{Broker, Naming, Words, shard_of};
 use cf_order::Pass;
-use cf_protocol::{Epoch, Namespaces, Position, read_namespaces};
+use cf_protocol::Namespaces;
 use cf_stream::Epochs;
 use std::alloc::Global;
 use std::marker::Brand;
-use std::process::Abort;
 use std::sync::Wait;
-use std::test::Fail;
 use std::thread;
 use std::thread::Threads;
 
@@ -52,8 +51,50 @@ fn is_quiet<N: Naming, E: Epochs + Drop>(
     broker.quiet_since(pass, channel, mark) && counted
 }
 
-/// Reads what another thread published, and is told when it publishes again.
-fn reads_on<N: Naming, R: Wait + Abort>(
+/// The mark of a read that gets the one publication of another thread.
+fn mark_of_read<N: Naming, R: Wait>(
+    rt: &R,
+    broker: &Broker<N, Same>,
+    pass: &mut Pass,
+    channel: &str,
+) -> Option<u64>
+    requires pass { pass.old.word ≡ N.words (number_of channel.now) }
+    requires set_up { IsSome (settings_of N.namespaces channel.now) }
+    ensures { pass.new.word ≡ pass.old.word }
+{
+    match broker.read(rt, pass, channel, Some(position_at(0)), 0) {
+        Ok(answer) if answer.recovery.recovered && answer.recovery.publications.len() == 1 => {
+            Some(answer.mark)
+        }
+        _ => None,
+    }
+}
+
+/// Whether a shard is quiet since a mark until another thread publishes again, which the pass then meets.
+fn is_told<N: Naming, R: Wait>(
+    rt: &R,
+    alloc: Global,
+    broker: &Broker<N, Same>,
+    ours: &mut Pass,
+    theirs: &mut Pass,
+    channel: &str,
+    mark: u64,
+) -> bool
+    requires ours { ours.old.word ≡ N.words (number_of channel.now) }
+    requires theirs { theirs.old.word ≡ N.words (number_of channel.now) }
+    requires set_up { IsSome (settings_of N.namespaces channel.now) }
+{
+    let was_quiet = is_quiet(broker, ours, channel, mark);
+    let published = broker.publish(rt, theirs, channel, String::new(alloc), None, 0);
+    if !was_quiet || published.is_err() || is_quiet(broker, ours, channel, mark) {
+        return false;
+    }
+    broker.word(shard_of(channel)).meet(ours, theirs);
+    !broker.quiet_since(ours, channel, mark)
+}
+
+/// Whether a pass that met another one reads what was published with that, and is told when more is.
+fn reads_on<N: Naming, R: Wait>(
     rt: &R,
     alloc: Global,
     broker: &Broker<N, Same>,
@@ -61,29 +102,21 @@ fn reads_on<N: Naming, R: Wait + Abort>(
     ours: &mut Pass,
     theirs: &mut Pass,
     channel: &str,
-) -> Result<(), Fail>
+) -> bool
     requires namespaces { namespaces.now ≡ N.namespaces }
     requires ours { ours.old.word ≡ N.words (number_of channel.now) }
     requires theirs { theirs.old.word ≡ N.words (number_of channel.now) }
 {
     if namespaces.find(channel).is_none() {
-        return Ok(());
+        return false;
     }
-    let since = Position {
-        epoch: Epoch::from_text("aaaa"),
-        offset: 0,
-    };
-    let answer = broker.read(rt, ours, channel, Some(since), 0)?;
-    assert!(rt; answer.recovery.recovered);
-    assert_eq!(rt; answer.recovery.publications.len(), 1);
-    let held = broker.history(rt, ours, channel, None, -1, 0)?;
-    assert_eq!(rt; held.publications.len(), 1);
-    assert!(rt; is_quiet(broker, ours, channel, answer.mark));
-    broker.publish(rt, theirs, channel, String::new(alloc), None, 0)?;
-    assert!(rt; !is_quiet(broker, ours, channel, answer.mark));
-    broker.word(shard_of(channel)).meet(ours, theirs);
-    assert!(rt; !broker.quiet_since(ours, channel, answer.mark));
-    Ok(())
+    match mark_of_read(rt, broker, ours, channel) {
+        Some(mark) => {
+            holds(rt, broker, ours, channel, -1, 0, 1)
+                && is_told(rt, alloc, broker, ours, theirs, channel, mark)
+        }
+        None => false,
+    }
 }
 
 /// Another thread publishes once with a pass, and hands it back.
@@ -110,26 +143,25 @@ fn publish_elsewhere<N: Naming + Send + Sync, R: Threads + Wait + Sync>(
     theirs
 }
 
-fn handed_over<N: Naming + Send + Sync, R: Threads + Wait + Abort + Sync>(
+/// Whether one thread reads what another one published with a pass that was lent to it.
+fn is_handed_over<N: Naming + Send + Sync, R: Threads + Wait + Sync>(
     rt: &R,
     alloc: Global,
-    words: Words,
+    broker: &Broker<N, Same>,
     namespaces: &Namespaces,
-) -> Result<(), Fail>
-    requires words { words ≡ names N.words 16 }
+    mut ours: Pass,
+    channel: &str,
+) -> bool
     requires namespaces { namespaces.now ≡ N.namespaces }
+    requires pass { ours.word ≡ N.words (number_of channel.now) }
 {
-    let channel = "news";
-    let links = Vec::new(alloc);
-    let (broker, mut passes) = Broker::<N, Same>::new(alloc, words, namespaces, [Same; 16], links)?;
-    let mut ours = passes.take(&broker, shard_of(channel));
     let lent = broker.word(shard_of(channel)).lend(&mut ours);
-    let mut theirs = publish_elsewhere(rt, alloc, &broker, namespaces, lent, channel);
+    let mut theirs = publish_elsewhere(rt, alloc, broker, namespaces, lent, channel);
     broker.word(shard_of(channel)).meet(&mut ours, &mut theirs);
     reads_on(
         rt,
         alloc,
-        &broker,
+        broker,
         namespaces,
         &mut ours,
         &mut theirs,
@@ -137,12 +169,31 @@ fn handed_over<N: Naming + Send + Sync, R: Threads + Wait + Abort + Sync>(
     )
 }
 
+fn handed_over<N: Naming + Send + Sync, R: Threads + Wait + Sync>(
+    rt: &R,
+    alloc: Global,
+    words: Words,
+    namespaces: &Namespaces,
+) -> bool
+    requires words { words ≡ names N.words 16 }
+    requires namespaces { namespaces.now ≡ N.namespaces }
+{
+    match opened::<N>(alloc, words, namespaces, Vec::new(alloc)) {
+        Some((broker, mut passes)) => {
+            let ours = passes.take(&broker, shard_of("news"));
+            is_handed_over(rt, alloc, &broker, namespaces, ours, "news")
+        }
+        None => false,
+    }
+}
+
 /// A thread publishes and hands its pass over; the other one meets it, and reads what was published.
 #[test]
-fn pass_handed_over(rt: HostRuntime) -> Result<(), Fail> {
-    let namespaces = read_namespaces(rt.alloc(), "=100,100,phs")?;
-    let words = Words::new(rt.alloc())?;
-    handed_over::<Brand, _>(&rt, rt.alloc(), words, &namespaces)
+fn pass_handed_over(rt: HostRuntime) {
+    let alloc = rt.alloc();
+    let namespaces = namespaces_of(alloc).expect(&rt, "namespaces");
+    let words = Words::new(alloc).expect(&rt, "memory");
+    assert!(rt; handed_over::<Brand, _>(&rt, alloc, words, &namespaces));
 }
 
 /// Two threads publish 100 times each, and hand their passes back.
@@ -174,47 +225,49 @@ fn publish_beside<N: Naming + Send + Sync, R: Threads + Wait + Sync>(
     )
 }
 
-/// The passes have 200 publishes of their own, and the channel stands at 200.
-fn stands_at_200<N: Naming, R: Wait + Abort>(
+/// Whether two threads publish 100 times each with passes that are lent to them, which have 200 publishes of their own when
+/// they are joined, and the channel stands at 200.
+fn adds_up<N: Naming + Send + Sync, R: Threads + Wait + Sync>(
     rt: &R,
+    alloc: Global,
     broker: &Broker<N, Same>,
-    pass: &mut Pass,
+    namespaces: &Namespaces,
+    mut pass: Pass,
     channel: &str,
-) -> Result<(), Fail>
-    requires { pass.old.word ≡ N.words (number_of channel.now) }
+) -> bool
+    requires namespaces { namespaces.now ≡ N.namespaces }
+    requires pass { pass.word ≡ N.words (number_of channel.now) }
 {
-    assert_eq!(rt; pass.share(), 200);
-    let (at, _) = broker.position(rt, pass, channel);
-    assert_eq!(rt; at.map(|position| position.offset), Some(200));
-    Ok(())
+    let one = broker.word(shard_of(channel)).lend(&mut pass);
+    let two = broker.word(shard_of(channel)).lend(&mut pass);
+    let (one, two) = publish_beside(rt, alloc, broker, namespaces, one, two, channel);
+    broker.word(shard_of(channel)).join(&mut pass, one);
+    broker.word(shard_of(channel)).join(&mut pass, two);
+    pass.share() == 200 && stands_at(rt, broker, &mut pass, channel, Some(200), 201)
 }
 
-fn add_up<N: Naming + Send + Sync, R: Threads + Wait + Abort + Sync>(
+fn add_up<N: Naming + Send + Sync, R: Threads + Wait + Sync>(
     rt: &R,
     alloc: Global,
     words: Words,
     namespaces: &Namespaces,
-) -> Result<(), Fail>
+) -> bool
     requires words { words ≡ names N.words 16 }
     requires namespaces { namespaces.now ≡ N.namespaces }
 {
-    let channel = "news";
-    let links = Vec::new(alloc);
-    let (broker, mut passes) = Broker::<N, Same>::new(alloc, words, namespaces, [Same; 16], links)?;
-    let mut pass = passes.take(&broker, shard_of(channel));
-    let one = broker.word(shard_of(channel)).lend(&mut pass);
-    let two = broker.word(shard_of(channel)).lend(&mut pass);
-    let (one, two) = publish_beside(rt, alloc, &broker, namespaces, one, two, channel);
-    broker.word(shard_of(channel)).join(&mut pass, one);
-    broker.word(shard_of(channel)).join(&mut pass, two);
-    stands_at_200(rt, &broker, &mut pass, channel)
+    match opened::<N>(alloc, words, namespaces, Vec::new(alloc)) {
+        Some((broker, mut passes)) => {
+            let pass = passes.take(&broker, shard_of("news"));
+            adds_up(rt, alloc, &broker, namespaces, pass, "news")
+        }
+        None => false,
+    }
 }
 
-/// Two threads publish 100 times each with passes that are lent to them. Joined, they have 200 publishes of their own, and the
-/// channel stands at 200.
 #[test]
-fn shares_add_up(rt: HostRuntime) -> Result<(), Fail> {
-    let namespaces = read_namespaces(rt.alloc(), "=100,100,phs")?;
-    let words = Words::new(rt.alloc())?;
-    add_up::<Brand, _>(&rt, rt.alloc(), words, &namespaces)
+fn shares_add_up(rt: HostRuntime) {
+    let alloc = rt.alloc();
+    let namespaces = namespaces_of(alloc).expect(&rt, "namespaces");
+    let words = Words::new(alloc).expect(&rt, "memory");
+    assert!(rt; add_up::<Brand, _>(&rt, alloc, words, &namespaces));
 }
