@@ -1,3 +1,4 @@
+//! A hub's sessions, and what is said to their clients.
 use cf_hub::{Checked, Delivered, Hub, HubRefusal, Said};
 use cf_protocol::{Epoch, Position, Publication};
 use cf_queue::Out;
@@ -149,16 +150,6 @@ fn refusals(rt: HostRuntime) -> Result<(), Fail> {
     begins_with_128(&rt, alloc, &mut hub)?;
     begins_with_no_more(&rt, &mut hub);
     begins_with_none(&rt, &mut hub);
-    Ok(())
-}
-
-#[test]
-fn names(rt: HostRuntime) -> Result<(), Fail> {
-    let alloc = rt.alloc();
-    let mut hub = Hub::new(alloc, 0, 1);
-    assert_eq!(rt; attach(&mut hub, alloc)?, 0);
-    assert_eq!(rt; hub.client_id(0), Some("0-1-1"));
-    assert_eq!(rt; hub.user(0), Some("ann"));
     Ok(())
 }
 

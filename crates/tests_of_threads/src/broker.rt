@@ -292,7 +292,10 @@ fn two_links(alloc: Global) -> Option<Links> {
 /// The offset of what comes next over a link.
 fn next_offset(rt: &impl Wait, link: &mut Receiver<Delivery>) -> Option<u64> {
     match link.receive(rt) {
-        Some(delivery) => Some(delivery.publication.offset),
+        Some(delivery) => {
+            let publication = delivery.publication;
+            Some(publication.offset)
+        }
         None => None,
     }
 }
