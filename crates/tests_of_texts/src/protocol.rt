@@ -6,7 +6,7 @@ mod settings;
 
 use crate::pieces::repeated;
 use cf_protocol::{ReadFault, read_commands, read_replies, write_command, write_reply};
-use std::alloc::Global;
+use std::alloc::{AllocError, Global};
 use std::process::Abort;
 
 /// Who sends a frame: commands come from a client, replies and pushes from the server.
@@ -16,12 +16,18 @@ enum Sender {
     Server,
 }
 
+/// Adds a text where it was written.
+fn add(again: &mut String, written: Result<String, AllocError>) -> Result<(), ReadFault> {
+    again.push_str(written?.as_str())?;
+    Ok(())
+}
+
 /// The commands of a frame, written again one behind another.
 fn commands_again(alloc: Global, text: &str) -> Result<String, ReadFault> {
     let commands = read_commands(alloc, text)?;
     let mut again = String::new(alloc);
     for command in &commands {
-        again.push_str(write_command(alloc, command)?.as_str())?;
+        add(&mut again, write_command(alloc, command))?;
     }
     Ok(again)
 }
@@ -31,7 +37,7 @@ fn replies_again(alloc: Global, text: &str) -> Result<String, ReadFault> {
     let replies = read_replies(alloc, text)?;
     let mut again = String::new(alloc);
     for reply in &replies {
-        again.push_str(write_reply(alloc, reply)?.as_str())?;
+        add(&mut again, write_reply(alloc, reply))?;
     }
     Ok(again)
 }

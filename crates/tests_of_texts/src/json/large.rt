@@ -6,12 +6,17 @@ use cf_json::{Fault, quote, split_frame};
 use std::alloc::Global;
 use std::process::Abort;
 
+// Adds a member with a key of this number.
+fn add_member(alloc: Global, text: &mut String, number: usize) -> Option<()> {
+    let member = format!(in alloc; "\"k{number}\":1,").ok()?;
+    text.push_str(member.as_str()).ok()
+}
+
 // An object of so many different keys, the last `end`.
 fn object_of(alloc: Global, count: usize) -> Option<String> {
     let mut text = String::from_str(alloc, "{").ok()?;
     for number in 1..count {
-        let member = format!(in alloc; "\"k{number}\":1,").ok()?;
-        text.push_str(member.as_str()).ok()?;
+        add_member(alloc, &mut text, number)?;
     }
     text.push_str("\"end\":1}").ok()?;
     Some(text)

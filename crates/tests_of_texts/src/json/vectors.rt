@@ -115,15 +115,31 @@ fn scan_nested(alloc: Global, front: &str, depth: usize, back: &str) -> Result<S
 // 64 closing brackets.
 const CLOSING: &str = "]]]]]]]]]]]]]]]]]]]]]]]]]]]]]]]]]]]]]]]]]]]]]]]]]]]]]]]]]]]]]]]]";
 
+fn answers(rt: &impl Abort, found: Result<Span, Fault>, wanted: Result<Span, Fault>) {
+    assert!(rt; found == wanted, "{wanted:?}");
+}
+
 #[test]
 fn depths_allowed(rt: HostRuntime) {
     let alloc = rt.alloc();
     let whole = Span { from: 0, to: 128 };
-    assert!(rt; scan_nested(alloc, "", 64, CLOSING) == Ok(whole));
-    assert!(rt; scan_nested(alloc, "[", 64, CLOSING) == Err(Fault::TooDeep(64)));
-    assert!(rt; scan_nested(alloc, "", 65, "") == Err(Fault::TooDeep(64)));
-    assert!(rt; scan_nested(alloc, "", 65, "}") == Err(Fault::TooDeep(64)));
-    assert!(rt; scan_nested(alloc, "[}", 65, "}") == Err(Fault::NotJson(1)));
+    answers(&rt, scan_nested(alloc, "", 64, CLOSING), Ok(whole));
+    answers(
+        &rt,
+        scan_nested(alloc, "[", 64, CLOSING),
+        Err(Fault::TooDeep(64)),
+    );
+    answers(&rt, scan_nested(alloc, "", 65, ""), Err(Fault::TooDeep(64)));
+    answers(
+        &rt,
+        scan_nested(alloc, "", 65, "}"),
+        Err(Fault::TooDeep(64)),
+    );
+    answers(
+        &rt,
+        scan_nested(alloc, "[}", 65, "}"),
+        Err(Fault::NotJson(1)),
+    );
 }
 
 // The place at which a frame of such a text is too deep.

@@ -2,6 +2,7 @@
 use super::{Sender, are_as_they_stand, are_refused, is_refused, nested, says};
 use cf_protocol::{Data, Epoch, Position, Request, read_commands};
 use std::alloc::Global;
+use std::process::Abort;
 
 /// Frames that are written again as they were read.
 const KEPT: &str = r#"// what clients send
@@ -302,17 +303,17 @@ fn data_meet(alloc: Global, depth: usize, fate: Fate) -> bool {
     }
 }
 
+fn all_meet(rt: &impl Abort, alloc: Global, depths: &[usize], fate: Fate) {
+    for depth in depths {
+        assert!(rt; data_meet(alloc, *depth, fate), "{depth}");
+    }
+}
+
 #[test]
 fn depth_of_data(rt: HostRuntime) {
-    let alloc = rt.alloc();
-    assert!(rt; data_meet(alloc, 1, Fate::Kept));
-    assert!(rt; data_meet(alloc, 59, Fate::Kept));
-    assert!(rt; data_meet(alloc, 60, Fate::Kept));
-    assert!(rt; data_meet(alloc, 61, Fate::TooDeep));
-    assert!(rt; data_meet(alloc, 62, Fate::TooDeep));
-    assert!(rt; data_meet(alloc, 63, Fate::Refused));
-    assert!(rt; data_meet(alloc, 64, Fate::Refused));
-    assert!(rt; data_meet(alloc, 65, Fate::Refused));
+    all_meet(&rt, rt.alloc(), &[1, 59, 60], Fate::Kept);
+    all_meet(&rt, rt.alloc(), &[61, 62], Fate::TooDeep);
+    all_meet(&rt, rt.alloc(), &[63, 64, 65], Fate::Refused);
 }
 
 const WHOLE: &str = "{\"id\":1,\"connect\":{}}";

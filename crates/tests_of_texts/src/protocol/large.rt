@@ -6,15 +6,32 @@ use cf_protocol::{
     read_tokens, write_publication, write_unsubscribe,
 };
 use std::alloc::{AllocError, Global};
+use std::fmt::Display;
 use std::process::Abort;
+
+fn count_commands(alloc: Global, frame: &str) -> Option<usize> {
+    Some(read_commands(alloc, frame).ok()?.len())
+}
+
+fn count_replies(alloc: Global, frame: &str) -> Option<usize> {
+    Some(read_replies(alloc, frame).ok()?.len())
+}
 
 /// How many commands, or replies, a frame of so many of these pieces has.
 fn count(alloc: Global, sender: Sender, piece: &str, times: usize) -> Option<usize> {
     let frame = piece.repeat(alloc, times).ok()?;
     match sender {
-        Sender::Client => Some(read_commands(alloc, frame.as_str()).ok()?.len()),
-        Sender::Server => Some(read_replies(alloc, frame.as_str()).ok()?.len()),
+        Sender::Client => count_commands(alloc, frame.as_str()),
+        Sender::Server => count_replies(alloc, frame.as_str()),
     }
+}
+
+/// A frame of so many pieces has as many commands, or replies.
+fn reads(rt: &impl Abort, alloc: Global, sender: Sender, piece: &str, times: usize) {
+    assert!(rt;
+        count(alloc, sender, piece, times) == Some(times),
+        "{piece}"
+    );
 }
 
 const PUBLISH: &str = "{\"id\":7,\"publish\":{\"channel\":\"news\",\"data\":[1]}}";
@@ -23,10 +40,10 @@ const PUSH: &str = "{\"push\":{\"channel\":\"a\",\"pub\":{\"data\":1}}}";
 
 #[test]
 fn longest_frames(rt: HostRuntime) {
-    assert!(rt; count(rt.alloc(), Sender::Client, "{}", 32_768) == Some(32_768));
-    assert!(rt; count(rt.alloc(), Sender::Server, "{}", 32_768) == Some(32_768));
-    assert!(rt; count(rt.alloc(), Sender::Client, PUBLISH, 1_300) == Some(1_300));
-    assert!(rt; count(rt.alloc(), Sender::Server, PUSH, 1_500) == Some(1_500));
+    reads(&rt, rt.alloc(), Sender::Client, "{}", 32_768);
+    reads(&rt, rt.alloc(), Sender::Server, "{}", 32_768);
+    reads(&rt, rt.alloc(), Sender::Client, PUBLISH, 1_300);
+    reads(&rt, rt.alloc(), Sender::Server, PUSH, 1_500);
 }
 
 /// Whether a frame of so many of these pieces between two texts is written again as it is.
@@ -101,54 +118,70 @@ fn longest_texts(rt: HostRuntime) {
     );
 }
 
-/// So many entries, each with a number of its own in the places of the stars.
-fn entries(alloc: Global, count: u32, entry: &str) -> Option<String> {
+/// Adds an entry with this number in the places of its stars.
+fn add_entry(alloc: Global, text: &mut String, entry: &str, number: u32) -> Option<()> {
+    let number = format!(in alloc; "{number}").ok()?;
+    let next = entry.replace(alloc, '*', number.as_str()).ok()?;
+    text.push_str(next.as_str()).ok()
+}
+
+/// Entries, each with a number from 1,000 up to an end in the places of its stars, and one more.
+fn entries(alloc: Global, end: u32, entry: &str, last: &str) -> Option<String> {
     let mut text = String::new(alloc);
-    for number in 0..count {
-        let number = format!(in alloc; "{}", number + 1000).ok()?;
-        let next = entry.replace(alloc, '*', number.as_str()).ok()?;
-        text.push_str(next.as_str()).ok()?;
+    for number in 1000..end {
+        add_entry(alloc, &mut text, entry, number)?;
     }
+    text.push_str(last).ok()?;
     Some(text)
 }
 
-/// Whether a presence of so many clients is written again as it is.
-fn keeps_clients(alloc: Global, count: u32) -> Option<bool> {
-    let clients = entries(
-        alloc,
-        count,
-        "\"0-1-*\":{\"client\":\"0-1-*\",\"user\":\"user*\"},",
-    )?;
+const CLIENT: &str = "\"0-1-*\":{\"client\":\"0-1-*\",\"user\":\"user*\"},";
+
+/// Whether a presence of a thousand clients and one more is written again as it is.
+fn keeps_clients(alloc: Global) -> bool {
     let front = "{\"id\":6,\"presence\":{\"presence\":{";
-    let back = "\"1\":{\"client\":\"1\"}}}}";
-    Some(is_kept(alloc, Sender::Server, (front, clients.as_str(), back), 1))
+    match entries(alloc, 2000, CLIENT, "\"1\":{\"client\":\"1\"}") {
+        Some(clients) => is_kept(alloc, Sender::Server, (front, clients.as_str(), "}}}"), 1),
+        None => false,
+    }
 }
 
 #[test]
 fn longest_presence(rt: HostRuntime) {
-    assert!(rt; keeps_clients(rt.alloc(), 1000) == Some(true));
+    assert!(rt; keeps_clients(rt.alloc()));
 }
 
-/// Whether a channel of the last of so many namespaces is set up, also in a copy.
-fn is_last_set_up(alloc: Global, count: u32) -> Option<bool> {
-    let text = entries(alloc, count, "n*=1000,2592000,phs;")?;
-    let text = format!(in alloc; "{text}last=1,1,").ok()?;
-    let copied = read_namespaces(alloc, text.as_str()).ok()?.copied().ok()?;
+/// Whether a channel of the last namespace is set up, also in a copy.
+fn is_last_set_up(alloc: Global, text: &str) -> Option<bool> {
+    let copied = read_namespaces(alloc, text).ok()?.copied().ok()?;
     Some(copied.find("last:x").is_some())
 }
 
-/// Whether the last of so many tokens is one.
-fn is_last_token(alloc: Global, count: u32) -> Option<bool> {
-    let text = entries(alloc, count, "n*=ann;")?;
-    let text = format!(in alloc; "{text}last=bob").ok()?;
-    let tokens = read_tokens(alloc, text.as_str()).ok()?;
+/// Whether the last token is one.
+fn is_last_token(alloc: Global, text: &str) -> Option<bool> {
+    let tokens = read_tokens(alloc, text).ok()?;
     Some(tokens.user("last") == Some("bob"))
 }
 
+fn takes_namespaces(alloc: Global) -> bool {
+    match entries(alloc, 1099, "n*=1000,2592000,phs;", "last=1,1,") {
+        Some(text) => is_last_set_up(alloc, text.as_str()) == Some(true),
+        None => false,
+    }
+}
+
+fn takes_tokens(alloc: Global) -> bool {
+    match entries(alloc, 1099, "n*=ann;", "last=bob") {
+        Some(text) => is_last_token(alloc, text.as_str()) == Some(true),
+        None => false,
+    }
+}
+
+/// A hundred namespaces, and a hundred tokens.
 #[test]
 fn many_settings(rt: HostRuntime) {
-    assert!(rt; is_last_set_up(rt.alloc(), 99) == Some(true));
-    assert!(rt; is_last_token(rt.alloc(), 99) == Some(true));
+    assert!(rt; takes_namespaces(rt.alloc()));
+    assert!(rt; takes_tokens(rt.alloc()));
 }
 
 fn is_written(written: Result<String, AllocError>, text: &str) -> bool {
@@ -195,25 +228,31 @@ const WITH_INFO: &str =
 const INSUFFICIENT: &str =
     "{\"push\":{\"channel\":\"news\",\"unsubscribe\":{\"code\":2500,\"reason\":\"insufficient state\"}}}";
 
+fn writes(rt: &impl Abort, written: Result<String, AllocError>, text: &str) {
+    assert!(rt; is_written(written, text), "{text}");
+}
+
 #[test]
 fn lent_parts(rt: HostRuntime) {
     let alloc = rt.alloc();
     assert!(rt; is_lent_again(alloc, WITH_INFO));
     assert!(rt; longest_push(alloc) == Some(65_054));
-    assert!(rt; is_written(write_unsubscribe(alloc, "news", 2500), INSUFFICIENT));
-    assert!(rt;
-        is_written(
-            write_unsubscribe(alloc, "", 1),
-            "{\"push\":{\"unsubscribe\":{\"code\":1}}}"
-        )
+    writes(&rt, write_unsubscribe(alloc, "news", 2500), INSUFFICIENT);
+    writes(
+        &rt,
+        write_unsubscribe(alloc, "", 1),
+        "{\"push\":{\"unsubscribe\":{\"code\":1}}}",
     );
-    assert!(rt; is_written(write_unsubscribe(alloc, "", 0), "{}"));
+    writes(&rt, write_unsubscribe(alloc, "", 0), "{}");
+}
+
+fn prints<T: Display>(rt: &impl Abort, alloc: Global, value: &T, text: &str) {
+    assert!(rt; is_displayed(alloc, value, text), "{text}");
 }
 
 #[test]
 fn printed(rt: HostRuntime) {
-    let alloc = rt.alloc();
-    assert!(rt; is_displayed(alloc, &ReadFault::Bad, "unreadable"));
-    assert!(rt; is_displayed(alloc, &ReadFault::Memory, "out of memory"));
-    assert!(rt; is_displayed(alloc, &Epoch::from_text("aZ9"), "aZ9"));
+    prints(&rt, rt.alloc(), &ReadFault::Bad, "unreadable");
+    prints(&rt, rt.alloc(), &ReadFault::Memory, "out of memory");
+    prints(&rt, rt.alloc(), &Epoch::from_text("aZ9"), "aZ9");
 }

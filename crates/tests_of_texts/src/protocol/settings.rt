@@ -1,6 +1,7 @@
 //! What a node is set up with.
 use cf_protocol::{ReadFault, Settings, read_namespaces, read_tokens};
 use std::alloc::Global;
+use std::process::Abort;
 
 const ALL: Settings = Settings {
     size: 100,
@@ -38,15 +39,23 @@ fn sets_up_none(alloc: Global, text: &str) -> bool {
     }
 }
 
+fn finds(rt: &impl Abort, alloc: Global, channel: &str, settings: Option<Settings>) {
+    assert!(rt; has_settings(alloc, channel, settings), "{channel}");
+}
+
+fn set_up_none(rt: &impl Abort, alloc: Global, texts: &str) {
+    for text in texts.split('|') {
+        assert!(rt; sets_up_none(alloc, text), "{text}");
+    }
+}
+
 #[test]
 fn settings(rt: HostRuntime) {
-    assert!(rt; has_settings(rt.alloc(), "news", Some(ALL)));
-    assert!(rt; has_settings(rt.alloc(), ":1", Some(ALL)));
-    assert!(rt; has_settings(rt.alloc(), "chat:x:y", Some(LONGEST)));
-    assert!(rt; has_settings(rt.alloc(), "room:1", None));
-    for text in NO_NAMESPACES.split('|') {
-        assert!(rt; sets_up_none(rt.alloc(), text), "{text}");
-    }
+    finds(&rt, rt.alloc(), "news", Some(ALL));
+    finds(&rt, rt.alloc(), ":1", Some(ALL));
+    finds(&rt, rt.alloc(), "chat:x:y", Some(LONGEST));
+    finds(&rt, rt.alloc(), "room:1", None);
+    set_up_none(&rt, rt.alloc(), NO_NAMESPACES);
 }
 
 /// Texts that set up no tokens, parted by bars.
@@ -66,13 +75,21 @@ fn has_no_tokens(alloc: Global, text: &str) -> bool {
     }
 }
 
+fn connects(rt: &impl Abort, alloc: Global, tokens: &str, token: &str, user: Option<&str>) {
+    assert!(rt; has_user(alloc, tokens, token, user), "{token}");
+}
+
+fn have_no_tokens(rt: &impl Abort, alloc: Global, texts: &str) {
+    for text in texts.split('|') {
+        assert!(rt; has_no_tokens(alloc, text), "{text}");
+    }
+}
+
 #[test]
 fn tokens(rt: HostRuntime) {
-    assert!(rt; has_user(rt.alloc(), "t9=ann;T-_=bob", "t9", Some("ann")));
-    assert!(rt; has_user(rt.alloc(), "t9=ann;T-_=bob", "", Some("")));
-    assert!(rt; has_user(rt.alloc(), "t9=ann;T-_=bob", "t8", None));
-    assert!(rt; has_user(rt.alloc(), "", "t9", None));
-    for text in NO_TOKENS.split('|') {
-        assert!(rt; has_no_tokens(rt.alloc(), text), "{text}");
-    }
+    connects(&rt, rt.alloc(), "t9=ann;T-_=bob", "t9", Some("ann"));
+    connects(&rt, rt.alloc(), "t9=ann;T-_=bob", "", Some(""));
+    connects(&rt, rt.alloc(), "t9=ann;T-_=bob", "t8", None);
+    connects(&rt, rt.alloc(), "", "t9", None);
+    have_no_tokens(&rt, rt.alloc(), NO_TOKENS);
 }
