@@ -7,8 +7,6 @@ use std::process::Abort;
 const SUBSCRIBED: &str =
     r#"{"id":2,"subscribe":{"epoch":"aaaa","offset":0,"positioned":true,"recoverable":true}}"#;
 
-const PUBLISHED: &str = r#"{"push":{"channel":"news","pub":{"data":{"t":1},"offset":1}}}"#;
-
 /// An event as a line.
 fn line_of(alloc: Global, event: &AppEvent) -> Result<String, AllocError> {
     match event {
@@ -169,8 +167,16 @@ const CONVERSATION: &str = r#"{"id":2,"subscribe":{"epoch":"aaaa","offset":0}}
 fn a_conversation(rt: HostRuntime) {
     let mut client = Client::new(rt.alloc());
     is_live(&rt, rt.alloc(), &mut client);
-    assert!(rt; client.put("news", "1").is_ok());
-    assert!(rt; client.list("news", -1).is_ok());
+    sends(
+        &rt,
+        client.put("news", "1"),
+        r#"{"id":3,"publish":{"channel":"news","data":1}}"#,
+    );
+    sends(
+        &rt,
+        client.list("news", -1),
+        r#"{"history":{"channel":"news","limit":-1},"id":4}"#,
+    );
     are_told(&rt, rt.alloc(), &mut client, CONVERSATION);
 }
 
@@ -193,9 +199,17 @@ const EVERY_KIND: &str = r#"{"connect":{"client":"0-1-1"},"id":1}
 fn every_kind(rt: HostRuntime) {
     let mut client = Client::new(rt.alloc());
     is_live(&rt, rt.alloc(), &mut client);
-    assert!(rt; client.list("news", -1).is_ok());
+    sends(
+        &rt,
+        client.list("news", -1),
+        r#"{"history":{"channel":"news","limit":-1},"id":3}"#,
+    );
     are_told(&rt, rt.alloc(), &mut client, EVERY_KIND);
-    assert!(rt; client.is_idle("news") && client.ask("news").is_ok());
+    sends(
+        &rt,
+        client.ask("news"),
+        r#"{"id":4,"subscribe":{"channel":"news"}}"#,
+    );
     are_told(
         &rt,
         rt.alloc(),
@@ -260,8 +274,14 @@ fn many_channels(rt: HostRuntime) {
     }
 }
 
+const PUBLISHED: &str =
+    r#"{"push":{"channel":"news","pub":{"data":1,"offset":1}}} => published news aaaa 1 1;"#;
+
 const ASKING_FROM: &str =
     r#"{"id":2,"subscribe":{"channel":"news","epoch":"aaaa","offset":1,"recover":true}}"#;
+
+const ASKING_AGAIN: &str =
+    r#"{"id":4,"subscribe":{"channel":"news","epoch":"aaaa","offset":1,"recover":true}}"#;
 
 const RECOVERED: &str =
     r#"{"id":4,"subscribe":{"epoch":"aaaa","offset":2,"publications":[{"data":2,"offset":2}],"recovered":true,"was_recovering":true}} => subscribed news true true aaaa 2;published news aaaa 2 2;"#;
@@ -271,27 +291,28 @@ const RECOVERED: &str =
 fn comes_back(rt: HostRuntime) {
     let mut client = Client::new(rt.alloc());
     is_live(&rt, rt.alloc(), &mut client);
-    assert!(rt;
-        tells(
-            rt.alloc(),
-            &mut client,
-            PUBLISHED,
-            "published news aaaa 1 {\"t\":1};"
-        )
-    );
+    are_told(&rt, rt.alloc(), &mut client, PUBLISHED);
     client.reconnect();
     connects(&rt, &mut client, ASKING_FROM);
-    assert!(rt; client.leave("news").is_ok());
+    sends(
+        &rt,
+        client.leave("news"),
+        r#"{"id":3,"unsubscribe":{"channel":"news"}}"#,
+    );
     are_told(&rt, rt.alloc(), &mut client, SUBSCRIBED);
-    assert!(rt; client.ask_from("news").is_ok());
+    sends(&rt, client.ask_from("news"), ASKING_AGAIN);
     are_told(&rt, rt.alloc(), &mut client, RECOVERED);
 }
 
 #[test]
 fn faults_in_words(rt: HostRuntime) {
-    let alloc = rt.alloc();
-    assert!(rt; says(alloc, &ClientFault::Bad, "unreadable"));
-    assert!(rt; says(alloc, &ClientFault::NotNow, "not now"));
-    assert!(rt; says(alloc, &ClientFault::AtLastId, "no command id is left"));
-    assert!(rt; says(alloc, &ClientFault::Memory, "out of memory"));
+    says(&rt, rt.alloc(), &ClientFault::Bad, "unreadable");
+    says(&rt, rt.alloc(), &ClientFault::NotNow, "not now");
+    says(
+        &rt,
+        rt.alloc(),
+        &ClientFault::AtLastId,
+        "no command id is left",
+    );
+    says(&rt, rt.alloc(), &ClientFault::Memory, "out of memory");
 }

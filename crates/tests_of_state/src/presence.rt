@@ -35,14 +35,16 @@ const THOUSAND: Stats = Stats {
     users: 10,
 };
 
+/// Whether a thousand clients enter `news`, or enter again, and are listed.
+fn is_entered(alloc: Global, presence: &mut Presence) -> bool {
+    enter_all(alloc, presence) && are_there(presence, THOUSAND)
+}
+
 #[test]
 fn a_thousand_clients(rt: HostRuntime) {
     let mut presence = Presence::new(rt.alloc());
-    assert!(rt; enter_all(rt.alloc(), &mut presence));
-    assert!(rt; are_there(&presence, THOUSAND));
-    // they come again
-    assert!(rt; enter_all(rt.alloc(), &mut presence));
-    assert!(rt; are_there(&presence, THOUSAND));
+    assert!(rt; is_entered(rt.alloc(), &mut presence));
+    assert!(rt; is_entered(rt.alloc(), &mut presence));
 }
 
 /// Whether a client enters a hundred channels.
@@ -67,5 +69,5 @@ fn a_hundred_channels(rt: HostRuntime) {
 
 #[test]
 fn text_of_the_refusal(rt: HostRuntime) {
-    assert!(rt; says(rt.alloc(), &PresenceRefusal::Memory, "out of memory"));
+    says(&rt, rt.alloc(), &PresenceRefusal::Memory, "out of memory");
 }

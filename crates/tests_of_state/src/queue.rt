@@ -30,8 +30,17 @@ fn whole_limit(rt: HostRuntime) {
 
 #[test]
 fn refusals_in_words(rt: HostRuntime) {
-    let alloc = rt.alloc();
-    assert!(rt; says(alloc, &QueueRefusal::Closed, "the queue is closed"));
-    assert!(rt; says(alloc, &QueueRefusal::Slow, "the queue is at its limit"));
-    assert!(rt; says(alloc, &QueueRefusal::Memory, "out of memory"));
+    says(
+        &rt,
+        rt.alloc(),
+        &QueueRefusal::Closed,
+        "the queue is closed",
+    );
+    says(
+        &rt,
+        rt.alloc(),
+        &QueueRefusal::Slow,
+        "the queue is at its limit",
+    );
+    says(&rt, rt.alloc(), &QueueRefusal::Memory, "out of memory");
 }

@@ -4,16 +4,19 @@ ghost use Rattle.std.specs.Prelude.{◌<◌, ◌≤◌};
 use cf_protocol::{Epoch, Info, Position, Publication};
 use cf_recovery::Waiting;
 use std::alloc::Global;
+use std::process::Abort;
+
+fn ann(alloc: Global) -> Option<Info> {
+    let user = String::from_str(alloc, "ann").ok()?;
+    let client = String::from_str(alloc, "0-1-1").ok()?;
+    Some(Info { user, client })
+}
 
 /// A publication of ann.
 fn publication(alloc: Global, offset: u64) -> Option<Publication> {
-    let user = String::from_str(alloc, "ann").ok()?;
-    let client = String::from_str(alloc, "0-1-1").ok()?;
-    Some(Publication {
-        offset,
-        body: String::from_str(alloc, "1").ok()?,
-        info: Some(Info { user, client }),
-    })
+    let info = Some(ann(alloc)?);
+    let body = String::from_str(alloc, "1").ok()?;
+    Some(Publication { offset, body, info })
 }
 
 /// Keeps this publication of an epoch.
@@ -33,6 +36,14 @@ fn keep_all(alloc: Global, waiting: &mut Waiting, epoch: &str, last: u64) -> Opt
     Some(())
 }
 
+/// The same, with memory for each.
+fn keeps(rt: &impl Abort, alloc: Global, waiting: &mut Waiting, epoch: &str, last: u64)
+    requires { last ≤ 1001 }
+{
+    let kept = keep_all(alloc, waiting, epoch, last);
+    assert!(rt; kept.is_some() && !waiting.short(), "{epoch} {last}");
+}
+
 /// Whether so many are released at the start of an epoch, and nothing else came.
 fn is_released(waiting: Waiting, epoch: &str, count: usize, is_all: bool) -> bool {
     let start = Position {
@@ -46,24 +57,21 @@ fn is_released(waiting: Waiting, epoch: &str, count: usize, is_all: bool) -> boo
 #[test]
 fn buffer_limit(rt: HostRuntime) {
     let mut waiting = Waiting::new(rt.alloc());
-    assert!(rt; keep_all(rt.alloc(), &mut waiting, "aaaa", 1000).is_some());
-    assert!(rt; !waiting.short());
+    keeps(&rt, rt.alloc(), &mut waiting, "aaaa", 1000);
     assert!(rt; is_released(waiting, "aaaa", 1000, true));
 }
 
 #[test]
 fn past_the_limit(rt: HostRuntime) {
     let mut waiting = Waiting::new(rt.alloc());
-    assert!(rt; keep_all(rt.alloc(), &mut waiting, "aaaa", 1001).is_some());
-    assert!(rt; !waiting.short());
+    keeps(&rt, rt.alloc(), &mut waiting, "aaaa", 1001);
     assert!(rt; is_released(waiting, "aaaa", 0, false));
 }
 
 #[test]
 fn two_epochs_with_info(rt: HostRuntime) {
     let mut waiting = Waiting::new(rt.alloc());
-    assert!(rt; keep_all(rt.alloc(), &mut waiting, "aaaa", 500).is_some());
-    assert!(rt; keep_all(rt.alloc(), &mut waiting, "bbbb", 500).is_some());
-    assert!(rt; !waiting.short());
+    keeps(&rt, rt.alloc(), &mut waiting, "aaaa", 500);
+    keeps(&rt, rt.alloc(), &mut waiting, "bbbb", 500);
     assert!(rt; is_released(waiting, "bbbb", 500, false));
 }

@@ -3,6 +3,7 @@ use crate::shown::says;
 use cf_protocol::{Epoch, Info, Position, read_namespaces};
 use cf_stream::{Epochs, Stream, StreamRefusal, Streams};
 use std::alloc::Global;
+use std::process::Abort;
 
 fn aaaa() -> Epoch {
     Epoch::from_text("aaaa")
@@ -33,12 +34,17 @@ fn started_late(alloc: Global) -> Option<Stream> {
     Stream::start_at(alloc, epoch, 1000, 9_007_199_254_740_990).ok()
 }
 
-/// A publication of ann.
-fn publish_one(alloc: Global, stream: &mut Stream) -> Option<()> {
-    let body = String::from_str(alloc, "1").ok()?;
+fn ann(alloc: Global) -> Option<Info> {
     let user = String::from_str(alloc, "ann").ok()?;
     let client = String::from_str(alloc, "0-1-1").ok()?;
-    stream.publish(body, Some(Info { user, client }), 0).ok()?;
+    Some(Info { user, client })
+}
+
+/// A publication of ann.
+fn publish_one(alloc: Global, stream: &mut Stream) -> Option<()> {
+    let info = ann(alloc)?;
+    let body = String::from_str(alloc, "1").ok()?;
+    stream.publish(body, Some(info), 0).ok()?;
     Some(())
 }
 
@@ -58,14 +64,18 @@ fn recovered(alloc: Global, since: u64) -> Option<(bool, usize)> {
     Some((found.recovered, found.publications.len()))
 }
 
+fn recovers(rt: &impl Abort, alloc: Global, since: u64, answer: (bool, usize)) {
+    assert!(rt; recovered(alloc, since) == Some(answer), "{since}");
+}
+
 #[test]
 fn recovery_limit(rt: HostRuntime) {
-    assert!(rt; recovered(rt.alloc(), 1000) == Some((true, 0)));
-    assert!(rt; recovered(rt.alloc(), 999) == Some((true, 1)));
-    assert!(rt; recovered(rt.alloc(), 701) == Some((true, 299)));
-    assert!(rt; recovered(rt.alloc(), 700) == Some((true, 300)));
-    assert!(rt; recovered(rt.alloc(), 699) == Some((false, 0)));
-    assert!(rt; recovered(rt.alloc(), 1001) == Some((false, 0)));
+    recovers(&rt, rt.alloc(), 1000, (true, 0));
+    recovers(&rt, rt.alloc(), 999, (true, 1));
+    recovers(&rt, rt.alloc(), 701, (true, 299));
+    recovers(&rt, rt.alloc(), 700, (true, 300));
+    recovers(&rt, rt.alloc(), 699, (false, 0));
+    recovers(&rt, rt.alloc(), 1001, (false, 0));
 }
 
 /// How many publications a full stream lists.
@@ -75,14 +85,18 @@ fn listed(alloc: Global, limit: i32) -> Option<usize> {
     Some(found.publications.len())
 }
 
+fn lists(rt: &impl Abort, alloc: Global, limit: i32, count: usize) {
+    assert!(rt; listed(alloc, limit) == Some(count), "limit {limit}");
+}
+
 #[test]
 fn history_limits(rt: HostRuntime) {
-    assert!(rt; listed(rt.alloc(), i32::MIN) == Some(300));
-    assert!(rt; listed(rt.alloc(), -1) == Some(300));
-    assert!(rt; listed(rt.alloc(), 0) == Some(0));
-    assert!(rt; listed(rt.alloc(), 1) == Some(1));
-    assert!(rt; listed(rt.alloc(), 300) == Some(300));
-    assert!(rt; listed(rt.alloc(), i32::MAX) == Some(300));
+    lists(&rt, rt.alloc(), i32::MIN, 300);
+    lists(&rt, rt.alloc(), -1, 300);
+    lists(&rt, rt.alloc(), 0, 0);
+    lists(&rt, rt.alloc(), 1, 1);
+    lists(&rt, rt.alloc(), 300, 300);
+    lists(&rt, rt.alloc(), i32::MAX, 300);
 }
 
 /// Whether a stream takes its last publication, and none behind it.
@@ -100,29 +114,25 @@ fn last_offset(rt: HostRuntime) {
 
 #[test]
 fn refusals_in_words(rt: HostRuntime) {
-    let alloc = rt.alloc();
-    assert!(rt;
-        says(
-            alloc,
-            &StreamRefusal::AtLastOffset,
-            "the stream is at its last offset"
-        )
+    says(
+        &rt,
+        rt.alloc(),
+        &StreamRefusal::AtLastOffset,
+        "the stream is at its last offset",
     );
-    assert!(rt;
-        says(
-            alloc,
-            &StreamRefusal::WrongEpoch,
-            "the position is of another epoch"
-        )
+    says(
+        &rt,
+        rt.alloc(),
+        &StreamRefusal::WrongEpoch,
+        "the position is of another epoch",
     );
-    assert!(rt;
-        says(
-            alloc,
-            &StreamRefusal::NoEpoch,
-            "there is no epoch for a new stream"
-        )
+    says(
+        &rt,
+        rt.alloc(),
+        &StreamRefusal::NoEpoch,
+        "there is no epoch for a new stream",
     );
-    assert!(rt; says(alloc, &StreamRefusal::Memory, "out of memory"));
+    says(&rt, rt.alloc(), &StreamRefusal::Memory, "out of memory");
 }
 
 /// Where each new stream gets the same epoch.

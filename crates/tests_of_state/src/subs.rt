@@ -178,8 +178,12 @@ fn table_may_be_sent(rt: HostRuntime) {
 
 #[test]
 fn refusals_in_words(rt: HostRuntime) {
-    let alloc = rt.alloc();
-    assert!(rt; says(alloc, &SubRefusal::Full, "the table is full"));
-    assert!(rt; says(alloc, &SubRefusal::Memory, "out of memory"));
-    assert!(rt; says(alloc, &SubRefusal::from(AllocError), "out of memory"));
+    says(&rt, rt.alloc(), &SubRefusal::Full, "the table is full");
+    says(&rt, rt.alloc(), &SubRefusal::Memory, "out of memory");
+    says(
+        &rt,
+        rt.alloc(),
+        &SubRefusal::from(AllocError),
+        "out of memory",
+    );
 }
