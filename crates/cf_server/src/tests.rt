@@ -1,15 +1,17 @@
-//! The program's words, a simulation, and what its parts do in tests of their own.
+//! The program's words, the texts of its faults, and what its parts do in tests of their own.
 mod beats;
 mod dispatching;
+mod nodes;
+mod peer;
 mod serving;
 mod speaking;
 
 use crate::command_line::{self, DEFAULT_NAMESPACES, Job, Options, ServeOptions};
 use crate::config_of;
 use crate::fault::Fault;
-use cf_simulate::simulate;
+use cf_simulate::SimulateFault;
 use std::alloc::Global;
-use std::test::Fail;
+use std::process::Abort;
 
 const DEFAULTS: Options<'static> = Options {
     nodes: 1,
@@ -17,86 +19,89 @@ const DEFAULTS: Options<'static> = Options {
     explains: false,
 };
 
-// A simulation's fault is the program's, with its status and its text.
+fn is_shown(alloc: Global, fault: &Fault, text: &str) -> bool {
+    match fault.to_string(alloc) {
+        Ok(shown) => shown.as_str() == text,
+        Err(_) => false,
+    }
+}
+
+// A simulation's fault is shown as its own text.
 #[test]
-fn simulation_fault(rt: HostRuntime) -> Result<(), Fail> {
-    let alloc = rt.alloc();
-    let config = config_of(alloc, DEFAULTS)?;
-    let mut reader = "connect ann".as_bytes();
-    let mut writer = Vec::new(alloc);
-    let Err(fault) = simulate(alloc, &mut reader, &mut writer, &config, false) else {
-        return Err(Fail::from("the line says nothing"));
-    };
-    let fault = Fault::from(fault);
-    assert_eq!(rt; fault.status(), 2);
-    assert_eq!(rt; fault.to_string(alloc)?.as_str(), "line 1: unreadable");
-    Ok(())
+fn simulation_fault(rt: HostRuntime) {
+    let unreadable = Fault::from(SimulateFault::Unreadable { line: 1 });
+    assert!(rt; is_shown(rt.alloc(), &unreadable, "line 1: unreadable"));
+    assert!(rt; is_shown(rt.alloc(), &Fault::Setting, "unusable setting"));
+    assert!(rt; is_shown(rt.alloc(), &Fault::NotUtf8, "not UTF-8"));
 }
 
 // The words of a line.
-fn words_of(alloc: Global, line: &str) -> Result<Vec<String>, Fail> {
+fn words_of(alloc: Global, line: &str) -> Option<Vec<String>> {
     let mut words = Vec::new(alloc);
     for word in line.split(' ') {
-        words.push(String::from_str(alloc, word)?)?;
+        words.push(String::from_str(alloc, word).ok()?).ok()?;
     }
-    Ok(words)
+    Some(words)
 }
 
-// Words that can't be used, and settings that can't, end the program with status 2.
+// Whether a line's words ask for this job, or, where there is none, can't be used.
+fn asks_for(alloc: Global, line: &str, wanted: Option<Job<'_>>) -> bool {
+    match words_of(alloc, line) {
+        Some(words) => command_line::read(alloc, words.as_slice()).ok() == wanted,
+        None => false,
+    }
+}
+
+fn asks(rt: &impl Abort, alloc: Global, line: &str, wanted: Option<Job<'_>>) {
+    assert!(rt; asks_for(alloc, line, wanted), "{line}");
+}
+
+const EIGHT_NODES: Options<'static> = Options {
+    nodes: 8,
+    namespaces: "chat=3,300,ph",
+    explains: true,
+};
+
+const SEVENTH_START: ServeOptions<'static> = ServeOptions {
+    boot: 7,
+    nodes: 2,
+    port: 0,
+    namespaces: DEFAULT_NAMESPACES,
+    tokens: "t=ann",
+};
+
 #[test]
-fn options(rt: HostRuntime) -> Result<(), Fail> {
+fn options(rt: HostRuntime) {
     let alloc = rt.alloc();
-    let given = words_of(
-        alloc,
-        "cf_server simulate --explain --ns chat=3,300,ph --nodes 8",
-    )?;
-    let wanted = Options {
-        nodes: 8,
-        namespaces: "chat=3,300,ph",
-        explains: true,
+    let line = "cf_server simulate --explain --ns chat=3,300,ph --nodes 8";
+    asks(&rt, alloc, line, Some(Job::Simulate(EIGHT_NODES)));
+    asks(&rt, alloc, "cf_server", Some(Job::Simulate(DEFAULTS)));
+    let line = "cf_server serve --boot 7 --nodes 2 --tokens t=ann";
+    asks(&rt, alloc, line, Some(Job::Serve(SEVENTH_START)));
+}
+
+#[test]
+fn options_refused(rt: HostRuntime) {
+    let alloc = rt.alloc();
+    asks(&rt, alloc, "cf_server simulate --nodes 9", None);
+    asks(&rt, alloc, "cf_server simulate --nodes 0", None);
+    asks(&rt, alloc, "cf_server --ns =1,1,", None);
+    asks(&rt, alloc, "cf_server serve", None);
+    asks(&rt, alloc, "cf_server serve --boot 0", None);
+    asks(&rt, alloc, "cf_server serve --boot 1 --port 65536", None);
+}
+
+fn are_unusable(alloc: Global, namespaces: &str) -> bool {
+    let options = Options {
+        namespaces,
+        ..DEFAULTS
     };
-    let job = command_line::read(alloc, given.as_slice()).ok();
-    assert_eq!(rt; job, Some(Job::Simulate(wanted)));
-    let given = words_of(alloc, "cf_server")?;
-    let job = command_line::read(alloc, given.as_slice()).ok();
-    assert_eq!(rt; job, Some(Job::Simulate(DEFAULTS)));
-    let given = words_of(alloc, "cf_server serve --boot 7 --nodes 2 --tokens t=ann")?;
-    let wanted = ServeOptions {
-        boot: 7,
-        nodes: 2,
-        port: 0,
-        namespaces: DEFAULT_NAMESPACES,
-        tokens: "t=ann",
-    };
-    let job = command_line::read(alloc, given.as_slice()).ok();
-    assert_eq!(rt; job, Some(Job::Serve(wanted)));
-    for line in [
-        "cf_server simulate --nodes 9",
-        "cf_server simulate --nodes 0",
-        "cf_server --ns =1,1,",
-        "cf_server serve",
-        "cf_server serve --boot 0",
-        "cf_server serve --boot 1 --port 65536",
-    ] {
-        let given = words_of(alloc, line)?;
-        assert!(rt;
-            command_line::read(alloc, given.as_slice()).is_err(),
-            "at {line}"
-        );
-    }
-    for namespaces in ["", "=0,300,phs", "chat=3,300,ph;"] {
-        let Err(fault) = config_of(
-            alloc,
-            Options {
-                nodes: 1,
-                namespaces,
-                explains: false,
-            },
-        ) else {
-            return Err(Fail::from("these namespaces can't be used"));
-        };
-        assert_eq!(rt; fault.status(), 2);
-        assert_eq!(rt; fault.to_string(alloc)?.as_str(), "unusable setting");
-    }
-    Ok(())
+    matches!(&config_of(alloc, options), Err(Fault::Setting))
+}
+
+#[test]
+fn namespaces_refused(rt: HostRuntime) {
+    assert!(rt; are_unusable(rt.alloc(), ""));
+    assert!(rt; are_unusable(rt.alloc(), "=0,300,phs"));
+    assert!(rt; are_unusable(rt.alloc(), "chat=3,300,ph;"));
 }

@@ -2,21 +2,20 @@
 ghost use Rattle.std.specs.Prelude.{◌≡◌};
 ghost use Rattle.cf_broker.specs.Shards.{names};
 
-use super::serving::{Peer, connect, listen};
+use super::nodes::{broker_to, open};
+use super::peer::{Peer, connect};
 use crate::boot_epochs::BootEpochs;
 use crate::command_line::DEFAULT_NAMESPACES;
-use crate::serve::epochs_of;
 use cf_broker::{Broker, Naming, Passes, Words, shard_of};
-use cf_link::pair;
-use cf_node::{DISPATCHER, Gate, Node, Setup};
+use cf_node::{DISPATCHER, Gate, Node};
 use cf_protocol::{Namespaces, Tokens, read_namespaces, read_tokens};
 use std::alloc::Global;
 use std::io::{Read, Write};
 use std::marker::Brand;
 use std::net::{Net, SocketAddr};
+use std::process::Abort;
 use std::sync::Wait;
 use std::sync::atomic::{AtomicU64, Ordering};
-use std::test::Fail;
 use std::thread;
 use std::thread::Threads;
 use std::time::Clock;
@@ -94,22 +93,7 @@ impl Gate for Hand {
     }
 }
 
-// What happens next.
-#[derive(Clone, Copy)]
-enum Step<'a> {
-    // The client says this.
-    Say(&'a str),
-    // The client hears this.
-    Hear(&'a str),
-    // Two publications come at once, over a link that has room for one.
-    TwoAtOnce,
-    // The IO loop begins two turns more.
-    TwoTurns,
-    // It is this moment from now on.
-    Moment(u64),
-}
-
-// What the steps are done with.
+// What a test of the seconds is done with.
 #[derive(Drop)]
 struct Stage<'a, N: Naming> {
     alloc: Global,
@@ -119,140 +103,114 @@ struct Stage<'a, N: Naming> {
     ghost named: { namespaces.now ≡ N.namespaces },
 }
 
-fn publish<N: Naming, R: Wait>(
+// Whether a publication is made.
+fn publishes<N: Naming, R: Wait>(
     rt: &R,
     stage: &Stage<'_, N>,
     passes: &mut Passes<N>,
     body: &str,
-) -> Result<(), Fail> {
+) -> bool {
     let channel = "news";
+    let Ok(body) = String::from_str(stage.alloc, body) else {
+        return false;
+    };
     if stage.namespaces.find(channel).is_none() {
-        return Err(Fail::new("no namespace"));
+        return false;
     }
-    let body = String::from_str(stage.alloc, body)?;
     let shard = shard_of(channel);
     let mut pass = passes.take(stage.broker, shard);
     let published = stage.broker.publish(rt, &mut pass, channel, body, None, 0);
     passes.put(shard, pass);
-    match published {
-        Ok(_) => Ok(()),
-        Err(_) => Err(Fail::new("not published")),
-    }
+    published.is_ok()
 }
 
-// While the dispatcher is held, two publications are made.
-fn publish_two<N: Naming, R: Wait>(
-    rt: &R,
-    stage: &Stage<'_, N>,
-    passes: &mut Passes<N>,
-) -> Result<(), Fail> {
-    if !stage.hand.hold() {
-        return Err(Fail::new("not held"));
-    }
-    publish(rt, stage, passes, "1")?;
-    publish(rt, stage, passes, "2")?;
+// While the dispatcher is held, two publications are made, over a link that has room for one.
+fn publishes_two<N: Naming, R: Wait>(rt: &R, stage: &Stage<'_, N>, passes: &mut Passes<N>) -> bool {
+    let published = stage.hand.hold()
+        && publishes(rt, stage, passes, "1")
+        && publishes(rt, stage, passes, "2");
     stage.hand.let_go();
-    Ok(())
+    published
 }
 
-fn take_step<N: Naming, R: Wait, S: Read + Write>(
+const NEWS: &str = "{\"id\":2,\"subscribe\":{\"channel\":\"news\"}}";
+
+const ON_NEWS: &str =
+    "{\"id\":2,\"subscribe\":{\"epoch\":\"7x13x1\",\"positioned\":true,\"recoverable\":true}}";
+
+const B: &str = "{\"id\":3,\"subscribe\":{\"channel\":\"b\"}}";
+
+const ON_B: &str =
+    "{\"id\":3,\"subscribe\":{\"epoch\":\"7x2x1\",\"positioned\":true,\"recoverable\":true}}";
+
+const PUSH: &str = "{\"push\":{\"channel\":\"news\",\"pub\":{\"data\":1,\"offset\":1}}}";
+
+// The client subscribes at 0, and misses the second of two publications.
+fn misses_one<N: Naming, R: Wait, S: Read + Write>(
     rt: &R,
     stage: &Stage<'_, N>,
     passes: &mut Passes<N>,
     peer: &mut Peer<S>,
-    step: Step<'_>,
-) -> Result<(), Fail> {
-    match step {
-        Step::Say(text) => peer.say(text),
-        Step::Hear(text) => {
-            if peer.hear(stage.alloc)?.as_str() == text {
-                Ok(())
-            } else {
-                Err(Fail::new(text))
-            }
-        }
-        Step::TwoAtOnce => publish_two(rt, stage, passes),
-        Step::TwoTurns if stage.hand.two_turns() => Ok(()),
-        Step::TwoTurns => Err(Fail::new("no two turns")),
-        Step::Moment(moment) => {
-            stage.hand.moment.store(moment, Ordering::SeqCst);
-            Ok(())
-        }
-    }
+) -> bool {
+    peer.asks(NEWS, ON_NEWS)
+        && peer.asks(B, ON_B)
+        && publishes_two(rt, stage, passes)
+        && peer.hears(PUSH)
 }
 
 const PING: &str = "{\"id\":9,\"ping\":{}}";
 
-// Takes these steps, one after another.
-fn take_steps<N: Naming, R: Wait, S: Read + Write>(
-    rt: &R,
-    stage: &Stage<'_, N>,
-    passes: &mut Passes<N>,
-    peer: &mut Peer<S>,
-    steps: &[Step<'_>],
-) -> Result<(), Fail> {
-    for step in steps {
-        take_step(rt, stage, passes, peer, *step)?;
-    }
-    Ok(())
+// What the client said before is done, and the IO loop begins two turns more.
+fn settles<S: Read + Write>(hand: &Hand, peer: &mut Peer<S>) -> bool {
+    peer.asks(PING, PING) && hand.two_turns()
 }
 
-// The client subscribes at 0, and misses the second of two publications.
-fn miss_one<N: Naming, R: Wait, S: Read + Write>(
-    rt: &R,
-    stage: &Stage<'_, N>,
-    passes: &mut Passes<N>,
-    peer: &mut Peer<S>,
-) -> Result<(), Fail> {
-    let steps = [
-        Step::Say("{\"id\":2,\"subscribe\":{\"channel\":\"news\"}}"),
-        Step::Hear(
-            "{\"id\":2,\"subscribe\":{\"epoch\":\"7x13x1\",\"positioned\":true,\"recoverable\":true}}",
-        ),
-        Step::Say("{\"id\":3,\"subscribe\":{\"channel\":\"b\"}}"),
-        Step::Hear(
-            "{\"id\":3,\"subscribe\":{\"epoch\":\"7x2x1\",\"positioned\":true,\"recoverable\":true}}",
-        ),
-        Step::TwoAtOnce,
-        Step::Hear("{\"push\":{\"channel\":\"news\",\"pub\":{\"data\":1,\"offset\":1}}}"),
-    ];
-    take_steps(rt, stage, passes, peer, steps.as_slice())
+// It is this moment from now on, at which the client is pinged, and answers.
+fn is_pinged<S: Read + Write>(hand: &Hand, peer: &mut Peer<S>, moment: u64) -> bool {
+    if !settles(hand, peer) {
+        return false;
+    }
+    hand.moment.store(moment, Ordering::SeqCst);
+    peer.hears("{}") && peer.say("{}")
+}
+
+const ENDED: &str =
+    "{\"push\":{\"channel\":\"news\",\"unsubscribe\":{\"code\":2500,\"reason\":\"insufficient state\"}}}";
+
+const PRESENCE: &str = "{\"id\":4,\"presence\":{\"channel\":\"b\"}}";
+
+const PRESENT: &str = "{\"id\":4,\"presence\":{\"presence\":{\"0-7-1\":{\"client\":\"0-7-1\"}}}}";
+
+// At 70 it is still present.
+fn is_present<S: Read + Write>(hand: &Hand, peer: &mut Peer<S>) -> bool {
+    if !settles(hand, peer) {
+        return false;
+    }
+    hand.moment.store(70, Ordering::SeqCst);
+    settles(hand, peer) && peer.asks(PRESENCE, PRESENT)
 }
 
 // At 25 and 50 it is pinged, and its position is checked; at 70 it is still present.
-fn see_seconds<N: Naming, R: Wait, S: Read + Write>(
+fn sees_seconds<S: Read + Write>(hand: &Hand, peer: &mut Peer<S>) -> bool {
+    is_pinged(hand, peer, 25)
+        && is_pinged(hand, peer, 50)
+        && peer.hears(ENDED)
+        && is_present(hand, peer)
+}
+
+// Whether a client at this address misses one and sees the seconds.
+fn sees<N: Naming, R: Wait + Net>(
     rt: &R,
     stage: &Stage<'_, N>,
     passes: &mut Passes<N>,
-    peer: &mut Peer<S>,
-) -> Result<(), Fail> {
-    let steps = [
-        Step::Say(PING),
-        Step::Hear(PING),
-        Step::TwoTurns,
-        Step::Moment(25),
-        Step::Hear("{}"),
-        Step::Say("{}"),
-        Step::Say(PING),
-        Step::Hear(PING),
-        Step::TwoTurns,
-        Step::Moment(50),
-        Step::Hear("{}"),
-        Step::Hear(
-            "{\"push\":{\"channel\":\"news\",\"unsubscribe\":{\"code\":2500,\"reason\":\"insufficient state\"}}}",
-        ),
-        Step::Say("{}"),
-        Step::Say(PING),
-        Step::Hear(PING),
-        Step::TwoTurns,
-        Step::Moment(70),
-        Step::Say(PING),
-        Step::Hear(PING),
-        Step::TwoTurns,
-        Step::Say("{\"id\":4,\"presence\":{\"channel\":\"b\"}}"),
-        Step::Hear("{\"id\":4,\"presence\":{\"presence\":{\"0-7-1\":{\"client\":\"0-7-1\"}}}}"),
-    ];
-    take_steps(rt, stage, passes, peer, steps.as_slice())
+    address: SocketAddr,
+) -> bool {
+    match connect(rt, stage.alloc, address) {
+        Some(mut peer) => {
+            misses_one(rt, stage, passes, &mut peer) && sees_seconds(stage.hand, &mut peer)
+        }
+        None => false,
+    }
 }
 
 // Runs a node while its client sees 70 seconds.
@@ -263,7 +221,7 @@ fn run_one<N, R>(
     passes: Passes<N>,
     mut own: Passes<N>,
     address: SocketAddr,
-) -> Result<(), Fail>
+) -> bool
 where
     N: Naming + Send + Sync,
     R: Threads + Wait + Clock + Net + AllocGlobal + Sync,
@@ -276,56 +234,37 @@ where
         let _ = scope.spawn(move || {
             let _ = node.run(rt, broker, passes, hand, stop);
         });
-        let seen = match connect(rt, stage.alloc, address) {
-            Ok(mut peer) => match miss_one(rt, stage, &mut own, &mut peer) {
-                Ok(()) => see_seconds(rt, stage, &mut own, &mut peer),
-                Err(fail) => Err(fail),
-            },
-            Err(fail) => Err(fail),
-        };
+        let seen = sees(rt, stage, &mut own, address);
         stop.store(1, Ordering::SeqCst);
         seen
     })
 }
 
-fn one_node<N, R>(
-    rt: &R,
-    words: Words,
-    namespaces: &Namespaces,
-    tokens: &Tokens,
-) -> Result<(), Fail>
+fn one_node<N, R>(rt: &R, words: Words, namespaces: &Namespaces, tokens: &Tokens) -> bool
 where
     N: Naming + Send + Sync,
-    R: Threads + Wait + Clock + Net + AllocGlobal + Sync,
+    R: Threads + Wait + Clock + Net + Abort + AllocGlobal + Sync,
     requires words { words ≡ names N.words 16 }
     requires namespaces { namespaces.now ≡ N.namespaces }
 {
-    let alloc = rt.alloc();
-    let (sender, receiver) = pair(alloc, 1)?;
-    let (listener, address) = listen(rt)?;
-    let node = Node::open(rt, Setup::new(0, 7, namespaces, tokens), receiver, listener)?;
-    let senders = Vec::from_array(alloc, [sender])?;
-    let (broker, mut passes) = Broker::<N, BootEpochs>::new(
-        alloc,
-        words,
-        namespaces,
-        epochs_of(7),
-        senders,
-    )?;
-    let lent = passes.lend(alloc, &broker)?;
+    let opened = open::<N, R>(rt, 0, 1, namespaces, tokens);
+    let senders = Vec::from_array(rt.alloc(), [opened.sender]).expect(rt, "memory");
+    let (broker, mut passes) = broker_to::<N, R>(rt, words, namespaces, senders);
+    let lent = passes.lend(rt.alloc(), &broker).expect(rt, "memory");
     let stage = Stage {
-        alloc,
+        alloc: rt.alloc(),
         broker: &broker,
         namespaces,
         hand: &Hand::new(),
     };
-    run_one(rt, &stage, node, lent, passes, address)
+    run_one(rt, &stage, opened.node, lent, passes, opened.address)
 }
 
 // A client that missed a publication is told so at its second check, is pinged every 25 seconds, and is present 70 seconds on.
 #[test]
-fn beats(rt: HostRuntime) -> Result<(), Fail> {
-    let namespaces = read_namespaces(rt.alloc(), DEFAULT_NAMESPACES)?;
-    let tokens = read_tokens(rt.alloc(), "")?;
-    one_node::<Brand, HostRuntime>(&rt, Words::new(rt.alloc())?, &namespaces, &tokens)
+fn beats(rt: HostRuntime) {
+    let namespaces = read_namespaces(rt.alloc(), DEFAULT_NAMESPACES).expect(&rt, "namespaces");
+    let tokens = read_tokens(rt.alloc(), "").expect(&rt, "tokens");
+    let words = Words::new(rt.alloc()).expect(&rt, "memory");
+    assert!(rt; one_node::<Brand, HostRuntime>(&rt, words, &namespaces, &tokens));
 }

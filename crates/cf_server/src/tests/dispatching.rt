@@ -9,7 +9,6 @@ use std::alloc::Global;
 use std::collections::VecDeque;
 use std::mem;
 use std::process::Abort;
-use std::test::Fail;
 
 // What comes, the hub to which it is brought, and whether the other worker was woken.
 #[derive(Drop)]
@@ -57,23 +56,23 @@ fn position(offset: u64) -> Position {
     }
 }
 
-fn delivery(alloc: Global, offset: u64, body: &str) -> Result<Delivery, Fail> {
-    Ok(Delivery {
-        channel: String::from_str(alloc, "news")?,
+fn delivery(rt: &impl Abort, alloc: Global, offset: u64, body: &str) -> Delivery {
+    Delivery {
+        channel: String::from_str(alloc, "news").expect(rt, "memory"),
         epoch: Epoch::from_text("aaaa"),
         publication: Publication {
             offset,
-            body: String::from_str(alloc, body)?,
+            body: String::from_str(alloc, body).expect(rt, "memory"),
             info: None,
         },
-    })
+    }
 }
 
 // A hub with one session, which follows `news` from offset 0 on and was told so.
-fn hub_of_one(alloc: Global) -> Result<(Hub, u32), Fail> {
+fn hub_of_one(rt: &impl Abort, alloc: Global) -> (Hub, u32) {
     let mut hub = Hub::new(alloc, 0, 1);
-    let session = hub.attach(String::new(alloc), 0)?;
-    hub.begin(session, "news", 1, None)?;
+    let session = hub.attach(String::new(alloc), 0).expect(rt, "memory");
+    hub.begin(session, "news", 1, None).expect(rt, "a channel");
     let recovery = Recovery {
         position: position(0),
         recovered: false,
@@ -82,7 +81,7 @@ fn hub_of_one(alloc: Global) -> Result<(Hub, u32), Fail> {
     hub.read_done(session, "news", recovery);
     hub.finish(session, "news");
     let _reply = hub.take(session);
-    Ok((hub, session))
+    (hub, session)
 }
 
 // These texts were taken, in this order.
@@ -94,36 +93,51 @@ fn are_texts(taken: &VecDeque<Out>, texts: &[&str]) -> bool {
         })
 }
 
-// What comes is pushed in order and wakes the other worker; what comes again wakes nobody; a blocked wire is given nothing.
+// A publication comes to a lane.
+fn send(rt: &impl Abort, alloc: Global, lane: &mut Lane, offset: u64, body: &str) {
+    let sent = lane.coming.push_back(delivery(rt, alloc, offset, body));
+    assert!(rt; sent.is_ok());
+}
+
+// Two publications come, and the second comes again.
+fn send_three(rt: &impl Abort, alloc: Global, lane: &mut Lane) {
+    send(rt, alloc, lane, 1, "1");
+    send(rt, alloc, lane, 2, "2");
+    send(rt, alloc, lane, 2, "2");
+}
+
+// Whether two turns wake the other worker.
+fn wakes(lane: &mut Lane) -> bool {
+    lane.woken = false;
+    pass_on(lane);
+    pass_on(lane);
+    lane.woken
+}
+
+// All that waits for the session are these texts.
+fn gets(alloc: Global, hub: &mut Hub, session: u32, texts: &[&str]) -> bool {
+    let mut taken = VecDeque::new(alloc);
+    !take_for(hub, session, true, &mut taken) && are_texts(&taken, texts)
+}
+
+const PUSHES: [&str; 2] = [
+    "{\"push\":{\"channel\":\"news\",\"pub\":{\"data\":1,\"offset\":1}}}",
+    "{\"push\":{\"channel\":\"news\",\"pub\":{\"data\":2,\"offset\":2}}}",
+];
+
+// What comes is pushed in order and wakes the other worker; what comes again wakes nobody.
 #[test]
-fn dispatched_in_order(rt: HostRuntime) -> Result<(), Fail> {
-    let alloc = rt.alloc();
-    let (hub, session) = hub_of_one(alloc)?;
+fn dispatched_in_order(rt: HostRuntime) {
+    let (hub, session) = hub_of_one(&rt, rt.alloc());
     let mut lane = Lane {
-        coming: VecDeque::new(alloc),
+        coming: VecDeque::new(rt.alloc()),
         hub,
         woken: false,
     };
-    for (offset, body) in [(1, "1"), (2, "2"), (2, "2")] {
-        lane.coming.push_back(delivery(alloc, offset, body)?)?;
-    }
-    pass_on(&mut lane);
-    pass_on(&mut lane);
-    assert!(rt; lane.woken);
-    lane.woken = false;
-    pass_on(&mut lane);
-    pass_on(&mut lane);
-    assert!(rt; !lane.woken);
-    let mut taken = VecDeque::new(alloc);
-    assert!(rt; take_for(&mut lane.hub, session, false, &mut taken));
-    assert!(rt; taken.is_empty());
-    assert!(rt; !take_for(&mut lane.hub, session, true, &mut taken));
-    let pushes = [
-        "{\"push\":{\"channel\":\"news\",\"pub\":{\"data\":1,\"offset\":1}}}",
-        "{\"push\":{\"channel\":\"news\",\"pub\":{\"data\":2,\"offset\":2}}}",
-    ];
-    assert!(rt; are_texts(&taken, pushes.as_slice()));
-    Ok(())
+    send_three(&rt, rt.alloc(), &mut lane);
+    assert!(rt; wakes(&mut lane));
+    assert!(rt; !wakes(&mut lane));
+    assert!(rt; gets(rt.alloc(), &mut lane.hub, session, PUSHES.as_slice()));
 }
 
 // What was taken for a client, whether its wire is free, and whether more may wait for it.
@@ -179,35 +193,55 @@ fn has_taken(bench: &Bench, session: usize, texts: &[&str]) -> bool {
     }
 }
 
+// Says a text to a session's client.
+fn say(rt: &impl Abort, alloc: Global, hub: &mut Hub, session: u32, text: &str) {
+    hub.say(session, String::from_str(alloc, text).expect(rt, "memory"));
+}
+
+// A client more, to which two texts were said, and whose wire is free or isn't.
+fn join(rt: &impl Abort, alloc: Global, hub: &mut Hub, bench: &mut Bench, is_free: bool) {
+    let session = hub.attach(String::new(alloc), 0).expect(rt, "memory");
+    say(rt, alloc, hub, session, "first");
+    say(rt, alloc, hub, session, "second");
+    let joined = bench.seats.push(Seat {
+        taken: VecDeque::new(alloc),
+        is_free,
+        owes: false,
+    });
+    assert!(rt; joined.is_ok());
+}
+
+// Frees the wire of the second client, and says whether something was owed to it.
+fn frees_second(bench: &mut Bench) -> bool {
+    match bench.seats.get_mut(1) {
+        Some(seat) => {
+            seat.is_free = true;
+            seat.owes
+        }
+        None => false,
+    }
+}
+
+// Once the sessions had their turns, these texts were taken for the two clients.
+fn take_two(hub: &mut Hub, bench: &mut Bench, first: &[&str], second: &[&str]) -> bool {
+    take_batch(hub, bench);
+    has_taken(bench, 0, first) && has_taken(bench, 1, second)
+}
+
+const SAID: [&str; 3] = ["first", "second", "third"];
+
 // Of two clients one is blocked: what waits for it stays, and comes once it is free and named again.
 #[test]
-fn taken_in_turn(rt: HostRuntime) -> Result<(), Fail> {
-    let alloc = rt.alloc();
-    let mut hub = Hub::new(alloc, 0, 1);
+fn taken_in_turn(rt: HostRuntime) {
+    let mut hub = Hub::new(rt.alloc(), 0, 1);
     let mut bench = Bench {
-        seats: Vec::new(alloc),
-        alloc,
+        seats: Vec::new(rt.alloc()),
+        alloc: rt.alloc(),
     };
-    for is_free in [true, false] {
-        let session = hub.attach(String::new(alloc), 0)?;
-        hub.say(session, String::from_str(alloc, "first")?);
-        hub.say(session, String::from_str(alloc, "second")?);
-        bench.seats.push(Seat {
-            taken: VecDeque::new(alloc),
-            is_free,
-            owes: false,
-        })?;
-    }
-    take_batch(&mut hub, &mut bench);
-    assert!(rt; has_taken(&bench, 0, ["first", "second"].as_slice()));
-    assert!(rt; has_taken(&bench, 1, [].as_slice()));
-    if let Some(seat) = bench.seats.get_mut(1) {
-        assert!(rt; seat.owes);
-        seat.is_free = true;
-    }
-    hub.say(1, String::from_str(alloc, "third")?);
-    take_batch(&mut hub, &mut bench);
-    assert!(rt; has_taken(&bench, 0, ["first", "second"].as_slice()));
-    assert!(rt; has_taken(&bench, 1, ["first", "second", "third"].as_slice()));
-    Ok(())
+    join(&rt, rt.alloc(), &mut hub, &mut bench, true);
+    join(&rt, rt.alloc(), &mut hub, &mut bench, false);
+    assert!(rt; take_two(&mut hub, &mut bench, &SAID[..2], &[]));
+    assert!(rt; frees_second(&mut bench));
+    say(&rt, rt.alloc(), &mut hub, 1, "third");
+    assert!(rt; take_two(&mut hub, &mut bench, &SAID[..2], &SAID[..]));
 }
