@@ -130,32 +130,23 @@ pub struct ServeOptions<'a> {
     pub tokens: &'a str,
 }
 
-// How many nodes there are.
+// An option of this name, which takes a value.
+fn value_option<'a>(alloc: Global, name: &'a str, value: &'a str, help: &'a str) -> Arg<'a> {
+    Arg::new(alloc, name)
+        .long(name)
+        .value_name(value)
+        .help(help)
+}
+
 fn nodes_option<'a>(alloc: Global) -> Arg<'a> {
-    Arg::new(alloc, "nodes")
-        .long("nodes")
-        .value_name("N")
-        .help("How many nodes there are, 1 to 8")
+    value_option(alloc, "nodes", "N", "How many nodes there are, 1 to 8")
         .value_parser(value_parser!(u8).range(1..=8))
         .default_value("1")
 }
 
-// Which namespaces are set up.
 fn namespaces_option<'a>(alloc: Global) -> Arg<'a> {
-    Arg::new(alloc, "ns")
-        .long("ns")
-        .value_name("SPEC")
-        .help("The namespaces that are set up, as NAME=SIZE,SECONDS,FLAGS parted by `;`")
-        .default_value(DEFAULT_NAMESPACES)
-}
-
-fn simulate_command<'a>(alloc: Global) -> Result<Command<'a>, AllocError> {
-    let command = Command::new(alloc, "simulate")
-        .about(SIMULATE)
-        .after_help(SCHEDULE_NOTES);
-    let command = command.arg(nodes_option(alloc))?;
-    let command = command.arg(namespaces_option(alloc))?;
-    command.arg(explain_option(alloc))
+    let help = "The namespaces that are set up, as NAME=SIZE,SECONDS,FLAGS parted by `;`";
+    value_option(alloc, "ns", "SPEC", help).default_value(DEFAULT_NAMESPACES)
 }
 
 fn explain_option<'a>(alloc: Global) -> Arg<'a> {
@@ -165,68 +156,92 @@ fn explain_option<'a>(alloc: Global) -> Arg<'a> {
         .action(ArgAction::SetTrue)
 }
 
-// Which users the tokens stand for.
 fn tokens_option<'a>(alloc: Global) -> Arg<'a> {
-    Arg::new(alloc, "tokens")
-        .long("tokens")
-        .value_name("SPEC")
-        .help("Who connects by which token, as TOKEN=USER parted by `;`")
-        .default_value("")
+    let help = "Who connects by which token, as TOKEN=USER parted by `;`";
+    value_option(alloc, "tokens", "SPEC", help).default_value("")
 }
 
 fn epochs_option<'a>(alloc: Global) -> Arg<'a> {
-    Arg::new(alloc, "epochs")
-        .long("epochs")
-        .value_name("E1,E2,..")
-        .help("The epochs of the streams that open, in order, parted by `,`")
-        .default_value(DEFAULT_EPOCHS)
-}
-
-fn speak_command<'a>(alloc: Global) -> Result<Command<'a>, AllocError> {
-    let command = Command::new(alloc, "speak")
-        .about(SPEAK)
-        .after_help(SPEAK_NOTES);
-    let command = command.arg(namespaces_option(alloc))?;
-    let command = command.arg(tokens_option(alloc))?;
-    command.arg(epochs_option(alloc))
+    let help = "The epochs of the streams that open, in order, parted by `,`";
+    value_option(alloc, "epochs", "E1,E2,..", help).default_value(DEFAULT_EPOCHS)
 }
 
 fn boot_option<'a>(alloc: Global) -> Arg<'a> {
-    Arg::new(alloc, "boot")
-        .long("boot")
-        .value_name("B")
-        .help("The number of this start, 1 to 999999999999999, never used before")
+    let help = "The number of this start, 1 to 999999999999999, never used before";
+    value_option(alloc, "boot", "B", help)
         .value_parser(value_parser!(u64).range(1..=999_999_999_999_999))
         .required(true)
 }
 
 fn port_option<'a>(alloc: Global) -> Arg<'a> {
-    Arg::new(alloc, "port")
-        .long("port")
-        .value_name("P")
-        .help("Node i listens at port P + i; 0: each at a port that is free")
+    let help = "Node i listens at port P + i; 0: each at a port that is free";
+    value_option(alloc, "port", "P", help)
         .value_parser(value_parser!(u16))
         .default_value("0")
 }
 
+fn simulate_command<'a>(alloc: Global) -> Result<Command<'a>, AllocError> {
+    let mut command = Command::new(alloc, "simulate")
+        .about(SIMULATE)
+        .after_help(SCHEDULE_NOTES);
+    for option in [
+        nodes_option(alloc),
+        namespaces_option(alloc),
+        explain_option(alloc),
+    ] {
+        command = command.arg(option)?;
+    }
+    Ok(command)
+}
+
+fn speak_command<'a>(alloc: Global) -> Result<Command<'a>, AllocError> {
+    let mut command = Command::new(alloc, "speak")
+        .about(SPEAK)
+        .after_help(SPEAK_NOTES);
+    for option in [
+        namespaces_option(alloc),
+        tokens_option(alloc),
+        epochs_option(alloc),
+    ] {
+        command = command.arg(option)?;
+    }
+    Ok(command)
+}
+
 fn serve_command<'a>(alloc: Global) -> Result<Command<'a>, AllocError> {
-    let command = Command::new(alloc, "serve")
+    let mut command = Command::new(alloc, "serve")
         .about(SERVE)
         .after_help(SERVE_NOTES);
-    let command = command.arg(boot_option(alloc))?;
-    let command = command.arg(nodes_option(alloc))?;
-    let command = command.arg(port_option(alloc))?;
-    let command = command.arg(namespaces_option(alloc))?;
-    command.arg(tokens_option(alloc))
+    for option in [
+        boot_option(alloc),
+        nodes_option(alloc),
+        port_option(alloc),
+        namespaces_option(alloc),
+        tokens_option(alloc),
+    ] {
+        command = command.arg(option)?;
+    }
+    Ok(command)
+}
+
+// The program with one command more.
+fn with_command<'a>(
+    program: Command<'a>,
+    command: Result<Command<'a>, AllocError>,
+) -> Result<Command<'a>, AllocError> {
+    match command {
+        Ok(command) => program.subcommand(command),
+        Err(refused) => Err(refused),
+    }
 }
 
 fn program<'a>(alloc: Global) -> Result<Command<'a>, AllocError> {
     let program = Command::new(alloc, "cf_server")
         .about(ABOUT)
         .after_help(PROGRAM_NOTES);
-    let program = program.subcommand(simulate_command(alloc)?)?;
-    let program = program.subcommand(speak_command(alloc)?)?;
-    program.subcommand(serve_command(alloc)?)
+    let program = with_command(program, simulate_command(alloc))?;
+    let program = with_command(program, speak_command(alloc))?;
+    with_command(program, serve_command(alloc))
 }
 
 /// Reads the program's words. With none but the program's name they ask for `simulate`. An error is what is to be shown:
