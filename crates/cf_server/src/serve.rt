@@ -93,12 +93,24 @@ fn open_nodes<'a, N: Naming, R: Print + Net + AllocGlobal>(
     let mut senders = Vec::new(rt.alloc());
     let mut nodes = Vec::new(rt.alloc());
     for number in 0..options.nodes {
-        let (sender, receiver) = pair(rt.alloc(), LINK_CAPACITY)?;
-        senders.push(sender)?;
         let setup = Setup::new(number, options.boot, namespaces, tokens);
-        nodes.push(open_node(rt, options, setup, receiver)?)?;
+        add_node(rt, options, setup, &mut senders, &mut nodes)?;
     }
     Ok((senders, nodes))
+}
+
+// Puts one more node, and the broker's end of its link, behind the others.
+fn add_node<'a, N: Naming, R: Print + Net + AllocGlobal>(
+    rt: &R,
+    options: ServeOptions<'_>,
+    setup: Setup<'a, N>,
+    senders: &mut Vec<Sender<Delivery>>,
+    nodes: &mut Vec<Node<'a, N>>,
+) -> Result<(), Fault> {
+    let (sender, receiver) = pair(rt.alloc(), LINK_CAPACITY)?;
+    senders.push(sender)?;
+    nodes.push(open_node(rt, options, setup, receiver)?)?;
+    Ok(())
 }
 
 // A node that listens at its port.
