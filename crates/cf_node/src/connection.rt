@@ -1,27 +1,25 @@
 //! One connection: a socket whose head is collected, and then a wire and its session.
 use crate::desk::SessionDesk;
+use crate::house::House;
 use crate::socket::Socket;
-use cf_broker::Naming;
 use cf_queue::Out;
-use cf_stream::Epochs;
 use cf_wire::{Gather, Wire};
 use mio::net::TcpStream;
 use std::alloc::Global;
 use std::collections::VecDeque;
 use std::io;
 use std::io::{ErrorKind, Read};
-use std::sync::Wait;
 
 /// The most bytes that a head may have.
 const LONGEST_HEAD: usize = 16_384;
 
 /// What stands at one place of the IO loop.
 #[derive(Drop)]
-pub(crate) enum Connection<'a, R: Wait, N: Naming, E: Epochs + Drop> {
+pub(crate) enum Connection<'a, H: House> {
     Empty,
     /// The head has not come whole.
     Head(Head),
-    Open(Box<Open<'a, R, N, E>>),
+    Open(Box<Open<'a, H>>),
 }
 
 /// A socket, and what came of its head.
@@ -33,32 +31,9 @@ pub(crate) struct Head {
 
 /// A connection that speaks: its wire, and the desk at which its session sits.
 #[derive(Drop)]
-pub(crate) struct Open<'a, R: Wait, N: Naming, E: Epochs + Drop> {
+pub(crate) struct Open<'a, H: House> {
     pub(crate) wire: Wire<Gather<Socket>>,
-    pub(crate) desk: SessionDesk<'a, R, N, E>,
-}
-
-/// A channel in which a client is present.
-#[derive(Drop)]
-pub(crate) struct Present {
-    pub(crate) channel: String,
-    /// How many entries its shard's log had at the last check of the subscription's position, where that was fine.
-    pub(crate) mark: Option<u64>,
-}
-
-/// What the node keeps of a client.
-#[derive(Drop)]
-pub(crate) struct Member {
-    /// The number of its session in the hub, once it is attached.
-    pub(crate) number: Option<u32>,
-    pub(crate) user: String,
-    pub(crate) client: String,
-    /// The code of a close before it was attached.
-    pub(crate) refused: Option<u16>,
-    /// The channels in which it is present, each once.
-    pub(crate) channels: VecDeque<Present>,
-    /// When its presence and positions were looked after last, in seconds.
-    pub(crate) looked: u64,
+    pub(crate) desk: SessionDesk<'a, H>,
 }
 
 impl Head {
@@ -116,37 +91,4 @@ fn has_blank_line(bytes: &[u8]) -> bool {
 /// Whether what is taken for a client can be sent at once.
 pub(crate) fn takes_more(wire: &Wire<Gather<Socket>>, taken: &VecDeque<Out>) -> bool {
     taken.is_empty() && !wire.is_unflushed() && wire.stream().is_drained()
-}
-
-impl Member {
-    /// Nobody yet, at this moment.
-    pub(crate) fn new(alloc: Global, now: u64) -> Member {
-        Member {
-            number: None,
-            user: String::new(alloc),
-            client: String::new(alloc),
-            refused: None,
-            channels: VecDeque::new(alloc),
-            looked: now,
-        }
-    }
-
-    /// The client is present in one channel more. Where memory is refused, it isn't noted, and its presence ends by itself.
-    pub(crate) fn add(&mut self, channel: String) {
-        if !self
-            .channels
-            .iter()
-            .any(|one| one.channel.as_str() == channel.as_str())
-        {
-            let _ = self.channels.push_back(Present {
-                channel,
-                mark: None,
-            });
-        }
-    }
-
-    /// The client is present in a channel no more.
-    pub(crate) fn remove(&mut self, channel: &str) {
-        self.channels.retain(|one| one.channel.as_str() != channel);
-    }
 }

@@ -1,19 +1,15 @@
 //! The worker that serves the sockets: it turns a connection that has something to read or something to send, and no other.
 use crate::connection::{Connection, Head, Open, takes_more};
 use crate::desk::SessionDesk;
+use crate::door::{Accepted, Door, LISTENER, WAKER};
 use crate::gate::{Gate, IO_LOOP};
-use crate::node::{LISTENER, Setup, WAKER};
-use crate::shared::Shared;
+use crate::house::House;
 use crate::socket::Socket;
-use cf_broker::{Broker, Naming, Passes};
 use cf_queue::Out;
-use cf_stream::Epochs;
 use cf_turns::{SESSIONS_AT_ONCE, Seats, take_batch};
 use cf_wire::{Gather, TurnEnd, Wire};
-use mio::net::TcpListener;
-use mio::{Events, Interest, Poll, Token};
-use std::alloc::{AllocError, Global};
-use std::cell::RefCell;
+use mio::Events;
+use std::alloc::AllocError;
 use std::collections::VecDeque;
 use std::io::ErrorKind;
 use std::sync::Wait;
@@ -39,22 +35,11 @@ const PATIENCE: u64 = 1000;
 /// The close of a program that ends.
 const SHUTDOWN: u16 = 3001;
 
-/// What a node's connections are served with.
 #[derive(Drop)]
-pub(crate) struct Around<'a, R, N: Naming, E: Epochs + Drop> {
-    pub(crate) rt: &'a R,
-    pub(crate) alloc: Global,
-    pub(crate) setup: Setup<'a, N>,
-    pub(crate) shared: &'a Shared,
-    pub(crate) broker: &'a Broker<N, E>,
-    /// What the node knows of the logs of the broker's shards.
-    pub(crate) passes: RefCell<Passes<N>>,
-}
-
-#[derive(Drop)]
-struct IoLoop<'a, R: Wait, N: Naming, E: Epochs + Drop> {
-    around: &'a Around<'a, R, N, E>,
-    places: Vec<Connection<'a, R, N, E>>,
+struct IoLoop<'a, H: House> {
+    house: &'a H,
+    door: Door,
+    places: Vec<Connection<'a, H>>,
     // The places that stand empty.
     free: Vec<usize>,
     // At which place each session of the hub is.
@@ -71,47 +56,31 @@ struct IoLoop<'a, R: Wait, N: Naming, E: Epochs + Drop> {
 }
 
 /// Serves until `stop` isn't 0, and then closes all sessions with 3001.
-pub(crate) fn serve<'a, R: Wait + Clock, N: Naming, E: Epochs + Drop, G: Gate>(
-    around: &'a Around<'a, R, N, E>,
-    mut poll: Poll,
-    listener: TcpListener,
+pub(crate) fn serve<R: Wait + Clock, H: House, G: Gate>(
+    rt: &R,
+    node: u8,
+    house: &H,
+    door: Door,
     gate: &G,
     stop: &AtomicU64,
 ) -> io::Result<()> {
-    let rt = around.rt;
-    let mut events = Events::with_capacity(around.alloc, 512)?;
-    let mut io_loop = IoLoop::new(around);
+    let mut events = Events::with_capacity(house.alloc(), 512)?;
+    let mut io_loop = IoLoop::new(house, door);
     let mut turn: u64 = 0;
     for _ in rt.forever() {
         if stop.load(Ordering::SeqCst) != 0 {
             break;
         }
         turn = turn.wrapping_add(1);
-        if gate.may(around.setup.node(), IO_LOOP, turn) {
-            wait(&mut poll, &mut events, patience(&io_loop.owed))?;
-            io_loop.turn(&poll, &listener, &events, gate.now(rt));
+        if gate.may(node, IO_LOOP, turn) {
+            io_loop.wait(&mut events)?;
+            io_loop.turn(&events, gate.now(rt));
         } else {
             thread::yield_now();
         }
     }
     io_loop.shut_down();
     Ok(())
-}
-
-// How long to wait for readiness, where these places are owed something.
-fn patience(owed: &VecDeque<usize>) -> Duration {
-    Duration::from_millis(if owed.is_empty() { PATIENCE } else { 0 })
-}
-
-// Waits for readiness, at most so long. A wait that a signal interrupts has found nothing.
-fn wait(poll: &mut Poll, events: &mut Events, patience: Duration) -> io::Result<()> {
-    match poll.poll(events, Some(patience)) {
-        Err(error) if error.kind() == ErrorKind::Interrupted => {
-            events.clear();
-            Ok(())
-        }
-        waited => waited,
-    }
 }
 
 // Whether a connection goes on, and whether it has more to do at once.
@@ -123,11 +92,7 @@ enum Turned {
 }
 
 // Turns a connection: reads what came, and sends what waits while its socket takes it.
-fn turn_open<R: Wait, N: Naming, E: Epochs + Drop>(
-    buffer: &mut Vec<u8>,
-    open: &mut Open<'_, R, N, E>,
-    now: u64,
-) -> Turned {
+fn turn_open<H: House>(buffer: &mut Vec<u8>, open: &mut Open<'_, H>, now: u64) -> Turned {
     if !drains(&mut open.wire) {
         return Turned::Over;
     }
@@ -137,21 +102,25 @@ fn turn_open<R: Wait, N: Naming, E: Epochs + Drop>(
     open.wire.stream_mut().lend(buffer);
     open.desk.clerk.now = now;
     let end = turn_wire(&mut open.wire, &mut open.desk);
-    let goes_on = drains(&mut open.wire);
-    if open.wire.stream().is_drained() {
-        open.wire.stream_mut().lend(buffer);
+    if !gives_back(&mut open.wire, buffer) {
+        return Turned::Over;
     }
     match end {
-        TurnEnd::Idle if goes_on => {
-            if open.desk.owed && takes_more(&open.wire, &open.desk.taken) {
-                Turned::More
-            } else {
-                Turned::Idle
-            }
-        }
-        TurnEnd::More if goes_on => Turned::More,
+        TurnEnd::Idle if open.desk.owed && takes_more(&open.wire, &open.desk.taken) => Turned::More,
+        TurnEnd::Idle => Turned::Idle,
+        TurnEnd::More => Turned::More,
         _ => Turned::Over,
     }
+}
+
+// Writes what a turn gathered, and takes the buffer back that was lent to it, where all of it is written. `false` where the
+// socket fails.
+fn gives_back(wire: &mut Wire<Gather<Socket>>, buffer: &mut Vec<u8>) -> bool {
+    let goes_on = drains(wire);
+    if wire.stream().is_drained() {
+        wire.stream_mut().lend(buffer);
+    }
+    goes_on
 }
 
 // Writes what was gathered, as far as the socket takes it. `false` where the socket fails.
@@ -166,10 +135,7 @@ fn drains(wire: &mut Wire<Gather<Socket>>) -> bool {
 }
 
 // Up to 16 turns of a wire in a row.
-fn turn_wire<R: Wait, N: Naming, E: Epochs + Drop>(
-    wire: &mut Wire<Gather<Socket>>,
-    desk: &mut SessionDesk<'_, R, N, E>,
-) -> TurnEnd {
+fn turn_wire<H: House>(wire: &mut Wire<Gather<Socket>>, desk: &mut SessionDesk<'_, H>) -> TurnEnd {
     for _ in 1..MOST_TURNS {
         let end = wire.turn(desk);
         if end != TurnEnd::More {
@@ -180,22 +146,26 @@ fn turn_wire<R: Wait, N: Naming, E: Epochs + Drop>(
 }
 
 // A connection whose head is whole: the handshake is answered. None where it is refused.
-fn opened<'a, R: Wait, N: Naming, E: Epochs + Drop>(
-    around: &'a Around<'a, R, N, E>,
-    head: Head,
+fn opened<'a, H: House>(
+    house: &'a H,
+    connection: Connection<'a, H>,
     now: u64,
-) -> Option<Box<Open<'a, R, N, E>>> {
-    let gather = Gather::new(around.alloc, head.into_socket(), GATHERED);
-    let wire = Wire::accept(around.alloc, gather).ok()?;
-    let desk = SessionDesk::new(around, now);
-    Box::new(around.alloc, Open { wire, desk }).ok()
+) -> Option<Box<Open<'a, H>>> {
+    let Connection::Head(head) = connection else {
+        return None;
+    };
+    let gather = Gather::new(house.alloc(), head.into_socket(), GATHERED);
+    let wire = Wire::accept(house.alloc(), gather).ok()?;
+    let desk = SessionDesk::new(house, now);
+    Box::new(house.alloc(), Open { wire, desk }).ok()
 }
 
-impl<'a, R: Wait, N: Naming, E: Epochs + Drop> IoLoop<'a, R, N, E> {
-    fn new(around: &'a Around<'a, R, N, E>) -> IoLoop<'a, R, N, E> {
-        let alloc = around.alloc;
+impl<'a, H: House> IoLoop<'a, H> {
+    fn new(house: &'a H, door: Door) -> IoLoop<'a, H> {
+        let alloc = house.alloc();
         IoLoop {
-            around,
+            house,
+            door,
             places: Vec::new(alloc),
             free: Vec::new(alloc),
             owners: Vec::new(alloc),
@@ -207,16 +177,22 @@ impl<'a, R: Wait, N: Naming, E: Epochs + Drop> IoLoop<'a, R, N, E> {
         }
     }
 
-    fn turn(&mut self, poll: &Poll, listener: &TcpListener, events: &Events, now: u64) {
-        self.around.shared.look();
+    // Waits for readiness, where no place is owed anything.
+    fn wait(&mut self, events: &mut Events) -> io::Result<()> {
+        let patience = if self.owed.is_empty() { PATIENCE } else { 0 };
+        self.door.wait(events, Duration::from_millis(patience))
+    }
+
+    fn turn(&mut self, events: &Events, now: u64) {
+        self.house.look();
         if now != self.now {
             self.now = now;
-            self.beat(poll, listener);
+            self.beat();
         }
         for event in events {
             let token = event.token();
             if token == LISTENER {
-                self.accept_all(poll, listener);
+                self.accept_all();
             } else if token != WAKER {
                 let ended = event.is_read_closed() || event.is_error();
                 self.notice(token.0, event.is_readable(), ended);
@@ -227,44 +203,42 @@ impl<'a, R: Wait, N: Naming, E: Epochs + Drop> IoLoop<'a, R, N, E> {
     }
 
     // What comes with each new second: pings, rounds, and at node 0 the broker's time.
-    fn beat(&mut self, poll: &Poll, listener: &TcpListener) {
-        let now = self.now;
-        self.around.shared.hub.lock(self.around.rt).tick(now);
+    fn beat(&mut self) {
+        self.house.hub().tick(self.now);
         for place in 0..self.places.len() {
             if !self.looks_after(place) {
                 self.end(place);
             }
         }
-        if self.around.setup.node() == 0 {
-            self.around.tick_broker(now);
-        }
+        self.house.tick(self.now);
         if self.behind {
-            self.accept_all(poll, listener);
+            self.accept_all();
         }
     }
 
     // The round of the client at a place. `false` where its connection is over.
     fn looks_after(&mut self, place: usize) -> bool {
         match self.places.get_mut(place) {
-            Some(Connection::Open(open)) => self
-                .around
-                .look_after(&mut open.desk.clerk.member, self.now),
+            Some(Connection::Open(open)) => open.desk.clerk.look_after(self.now),
             _ => true,
         }
     }
 
     // Accepts what waits to be. Where that fails it is tried again with the next second.
-    fn accept_all(&mut self, poll: &Poll, listener: &TcpListener) {
+    fn accept_all(&mut self) {
         for _ in 0..MOST_ACCEPTED {
-            match listener.accept() {
-                Ok((stream, _)) => {
-                    let _ = stream.set_nodelay(true);
-                    let head = Head::new(self.around.alloc, stream);
-                    self.behind = self.put(poll, head).is_err();
+            match self.door.accept() {
+                Accepted::Stream(stream) => {
+                    let head = Head::new(self.house.alloc(), stream);
+                    self.behind = self.put(head).is_err();
                 }
-                Err(error) if error.kind() == ErrorKind::ConnectionAborted => {}
-                Err(error) => {
-                    self.behind = error.kind() != ErrorKind::WouldBlock;
+                Accepted::Gone => {}
+                Accepted::Nothing => {
+                    self.behind = false;
+                    return;
+                }
+                Accepted::Failed => {
+                    self.behind = true;
                     return;
                 }
             }
@@ -273,12 +247,9 @@ impl<'a, R: Wait, N: Naming, E: Epochs + Drop> IoLoop<'a, R, N, E> {
     }
 
     // Gives a new connection its place. Where that fails the connection is dropped.
-    fn put(&mut self, poll: &Poll, mut head: Head) -> Result<(), AllocError> {
-        let place = match self.free.pop() {
-            Some(place) => place,
-            None => new_place(&mut self.places, &mut self.owners, Connection::Empty)?,
-        };
-        let is_registered = registers(poll, &mut head, place);
+    fn put(&mut self, mut head: Head) -> Result<(), AllocError> {
+        let place = self.empty_place()?;
+        let is_registered = self.door.registers(&mut head.socket.stream, place);
         match self.places.get_mut(place) {
             Some(connection) if is_registered => *connection = Connection::Head(head),
             _ => {
@@ -288,46 +259,57 @@ impl<'a, R: Wait, N: Naming, E: Epochs + Drop> IoLoop<'a, R, N, E> {
         Ok(())
     }
 
+    // A place that stands empty: a free one, or one more, with room for the owner of one session more.
+    fn empty_place(&mut self) -> Result<usize, AllocError> {
+        if let Some(place) = self.free.pop() {
+            return Ok(place);
+        }
+        self.places.reserve(1)?;
+        self.owners.push(0)?;
+        let place = self.places.len();
+        // There is room for it.
+        let _ = self.places.push(Connection::Empty);
+        Ok(place)
+    }
+
     // A socket is ready.
     fn notice(&mut self, place: usize, readable: bool, ended: bool) {
-        let Some(connection) = self.places.get_mut(place) else {
-            return;
-        };
-        match connection {
-            Connection::Empty => {}
-            Connection::Head(head) => {
+        match self.places.get_mut(place) {
+            Some(Connection::Head(head)) => {
                 head.socket.notice(readable, ended);
                 self.collect(place);
             }
-            Connection::Open(open) => {
+            Some(Connection::Open(open)) => {
                 open.wire.stream_mut().stream_mut().notice(readable, ended);
                 self.serve(place);
             }
+            _ => {}
         }
     }
 
     // Reads a head on, and opens the connection where it is whole.
     fn collect(&mut self, place: usize) {
+        if let Some(Connection::Head(head)) = self.places.get_mut(place) {
+            match head.read_on() {
+                Ok(false) => {}
+                Ok(true) => self.open(place),
+                Err(_) => self.end(place),
+            }
+        }
+    }
+
+    // Opens a connection whose head is whole. Where the handshake is refused it is over.
+    fn open(&mut self, place: usize) {
         let Some(connection) = self.places.get_mut(place) else {
             return;
         };
-        let Connection::Head(mut head) = mem::replace(connection, Connection::Empty) else {
-            return;
-        };
-        match head.read_on() {
-            Ok(false) => *connection = Connection::Head(head),
-            Ok(true) => match opened(self.around, head, self.now) {
-                Some(open) => {
-                    *connection = Connection::Open(open);
-                    self.serve(place);
-                }
-                None => {
-                    let _ = self.free.push(place);
-                }
-            },
-            Err(_) => {
-                let _ = self.free.push(place);
+        let head = mem::replace(connection, Connection::Empty);
+        match opened(self.house, head, self.now) {
+            Some(open) => {
+                *connection = Connection::Open(open);
+                self.serve(place);
             }
+            None => self.end(place),
         }
     }
 
@@ -359,7 +341,7 @@ impl<'a, R: Wait, N: Naming, E: Epochs + Drop> IoLoop<'a, R, N, E> {
             return;
         };
         if let Connection::Open(open) = mem::replace(connection, Connection::Empty) {
-            self.around.give_up(&open.desk.clerk.member);
+            open.desk.clerk.give_up();
         }
         let _ = self.free.push(place);
     }
@@ -389,7 +371,7 @@ impl<'a, R: Wait, N: Naming, E: Epochs + Drop> IoLoop<'a, R, N, E> {
 
     // Turns those for which something was taken. The room for the next ones is kept.
     fn serve_batch(&mut self) {
-        let mut batch = mem::replace(&mut self.batch, Vec::new(self.around.alloc));
+        let mut batch = mem::replace(&mut self.batch, Vec::new(self.house.alloc()));
         for place in batch.iter() {
             self.serve(*place);
         }
@@ -400,8 +382,7 @@ impl<'a, R: Wait, N: Naming, E: Epochs + Drop> IoLoop<'a, R, N, E> {
     // Takes what waits for some sessions under one lock of the hub, and notes their places. What a socket has no room for stays
     // in the hub.
     fn take_some(&mut self) {
-        let around = self.around;
-        let mut hub = around.shared.hub.lock(around.rt);
+        let mut hub = self.house.hub();
         take_batch(&mut hub, self);
     }
 
@@ -420,11 +401,7 @@ impl<'a, R: Wait, N: Naming, E: Epochs + Drop> IoLoop<'a, R, N, E> {
     fn shut_down(&mut self) {
         for place in 0..self.places.len() {
             if let Some(number) = self.owes(place) {
-                self.around
-                    .shared
-                    .hub
-                    .lock(self.around.rt)
-                    .close(number, SHUTDOWN);
+                self.house.hub().close(number, SHUTDOWN);
             }
             self.serve(place);
             self.end(place);
@@ -432,35 +409,12 @@ impl<'a, R: Wait, N: Naming, E: Epochs + Drop> IoLoop<'a, R, N, E> {
     }
 }
 
-// One place more, and room for the owner of one session more.
-fn new_place<T: Drop>(
-    places: &mut Vec<T>,
-    owners: &mut Vec<usize>,
-    empty: T,
-) -> Result<usize, AllocError> {
-    places.reserve(1)?;
-    owners.push(0)?;
-    let place = places.len();
-    // There is room for it.
-    let _ = places.push(empty);
-    Ok(place)
-}
-
-// Asks to be told when the socket of a connection at a place is ready. `false` where it can't be.
-fn registers(poll: &Poll, head: &mut Head, place: usize) -> bool {
-    let interest = Interest::READABLE | Interest::WRITABLE;
-    let registered = poll
-        .registry()
-        .register(&mut head.socket.stream, Token(place), interest);
-    registered.is_ok()
-}
-
 // At which place a session's connection is, if it has one.
 fn place_of(owners: &[usize], session: u32) -> usize {
     owners.get(session as usize).copied().unwrap_or(0)
 }
 
-impl<'a, R: Wait, N: Naming, E: Epochs + Drop> Seats for IoLoop<'a, R, N, E> {
+impl<'a, H: House> Seats for IoLoop<'a, H> {
     // What a socket has room for is nothing that a contract can name.
     ghost frees = { λ _ _ _. Unit {0} };
 
@@ -479,7 +433,7 @@ impl<'a, R: Wait, N: Naming, E: Epochs + Drop> Seats for IoLoop<'a, R, N, E> {
     }
 
     fn lend(&mut self, session: u32) -> VecDeque<Out> {
-        let nothing = VecDeque::new(self.around.alloc);
+        let nothing = VecDeque::new(self.house.alloc());
         let place = place_of(&self.owners, session);
         match self.places.get_mut(place) {
             Some(Connection::Open(open)) => mem::replace(&mut open.desk.taken, nothing),

@@ -4,16 +4,18 @@
 //! subscription's position takes none where its shard's log is as it was at the last one.
 #![tactic(auto)]
 
-mod calls;
+mod around;
+mod clerk;
 mod connection;
 mod desk;
 mod dispatcher;
+mod door;
 mod gate;
+mod house;
 mod io_loop;
+mod member;
 mod node;
-mod passes;
 mod rounds;
-mod sessions;
 mod shared;
 mod socket;
 

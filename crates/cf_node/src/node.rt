@@ -1,9 +1,11 @@
 //! A node, and what it is set up with.
 ghost use Rattle.std.specs.Prelude.{◌≡◌};
 
+use crate::around::Around;
 use crate::dispatcher::{NodePost, dispatch};
+use crate::door::Door;
 use crate::gate::Gate;
-use crate::io_loop::{Around, serve};
+use crate::io_loop::serve;
 use crate::shared::Shared;
 use cf_broker::{Broker, Delivery, Naming, Passes};
 use cf_hub::Hub;
@@ -11,7 +13,6 @@ use cf_link::Receiver;
 use cf_protocol::{Namespaces, Tokens};
 use cf_stream::Epochs;
 use mio::net::TcpListener;
-use mio::{Interest, Poll, Token, Waker};
 use std::cell::RefCell;
 use std::marker::PhantomData;
 use std::net::Net;
@@ -20,12 +21,6 @@ use std::sync::atomic::AtomicU64;
 use std::thread::Threads;
 use std::time::Clock;
 use std::{io, thread};
-
-/// The token of the listener's readiness.
-pub(crate) const LISTENER: Token = Token(usize::MAX);
-
-/// The token of a wake by the dispatcher.
-pub(crate) const WAKER: Token = Token(usize::MAX - 1);
 
 /// What a node is set up with. Its namespaces are those that `N` names.
 #[derive(Drop)]
@@ -64,8 +59,7 @@ impl<'a, N: Naming> Setup<'a, N> {
 #[derive(Drop)]
 pub struct Node<'a, N: Naming> {
     setup: Setup<'a, N>,
-    poll: Poll,
-    listener: TcpListener,
+    door: Door,
     receiver: Receiver<Delivery>,
     shared: Shared,
 }
@@ -76,24 +70,20 @@ impl<'a, N: Naming> Node<'a, N> {
         rt: &R,
         setup: Setup<'a, N>,
         receiver: Receiver<Delivery>,
-        mut listener: TcpListener,
+        listener: TcpListener,
     ) -> io::Result<Node<'a, N>> {
-        let poll = Poll::new(rt)?;
-        poll.registry()
-            .register(&mut listener, LISTENER, Interest::READABLE)?;
-        let waker = Waker::new(poll.registry(), WAKER)?;
-        let shared = Shared::new(Hub::new(rt.alloc(), setup.node, setup.boot), waker);
+        let door = Door::open(rt, listener)?;
+        let shared = Shared::new(Hub::new(rt.alloc(), setup.node, setup.boot), door.waker()?);
         Ok(Node {
             setup,
-            poll,
-            listener,
+            door,
             receiver,
             shared,
         })
     }
 
-    /// Serves the clients that connect, with these passes of the broker's shards, until `stop` isn't 0: then all sessions are closed with 3001 and both workers end. An
-    /// error where waiting for readiness fails, or memory for it is refused.
+    /// Serves the clients that connect, with these passes of the broker's shards, until `stop` isn't 0: then all sessions are
+    /// closed with 3001 and both workers end. An error where waiting for readiness fails, or memory for it is refused.
     pub fn run<R, E, G>(
         self,
         rt: &'a R,
@@ -110,8 +100,7 @@ impl<'a, N: Naming> Node<'a, N> {
     {
         let Node {
             setup,
-            poll,
-            listener,
+            door,
             receiver,
             shared,
         } = self;
@@ -133,7 +122,7 @@ impl<'a, N: Naming> Node<'a, N> {
                 shared,
             };
             let _ = scope.spawn(move || dispatch(rt, node, &mut post, gate, stop));
-            serve(around, poll, listener, gate, stop)
+            serve(rt, node, around, door, gate, stop)
         })
     }
 }
