@@ -1,4 +1,5 @@
-//! A node's hub and the broker, each under its locks. Only the IO loop calls the broker, so no pass is ever out when it is asked for.
+//! A node's hub and the broker, each under its locks. Only the IO loop calls the broker, so no pass
+//! is ever out when it is asked for.
 ghost use Rattle.std.specs.Prelude.{◌≡◌, ◌<◌, IfSome};
 
 use crate::house::House;
@@ -169,7 +170,8 @@ impl<'a, R: Wait, N: Naming, E: Epochs + Drop> House for Around<'a, R, N, E> {
 }
 
 impl<'a, R: Wait, N: Naming, E: Epochs + Drop> Around<'a, R, N, E> {
-    // Brings a moment to a shard of the broker. Where its log is full, its streams stay as they are.
+    // Brings a moment to a shard of the broker. Where its log is full, its streams stay as they
+    // are.
     fn tick_shard(&self, shard: usize, now: u64)
         requires { shard < SHARDS }
     {

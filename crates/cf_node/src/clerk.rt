@@ -93,7 +93,8 @@ impl<'a, H: House> Node for Clerk<'a, H> {
 }
 
 impl<'a, H: House> Clerk<'a, H> {
-    /// Takes what waits for the client, and puts it behind what was taken for it before. Whether more may wait.
+    /// Takes what waits for the client, and puts it behind what was taken for it before. Whether
+    /// more may wait.
     pub(crate) fn take(&self, taken: &mut VecDeque<Out>) -> bool {
         match self.member.number {
             Some(number) => take_for(&mut self.house.hub(), number, true, taken),
@@ -134,7 +135,8 @@ impl<'a, H: House> Clerk<'a, H> {
         }
     }
 
-    /// The client is present in the channel from this moment on. Where memory is refused, it enters with the next round.
+    /// The client is present in the channel from this moment on. Where memory is refused, it enters
+    /// with the next round.
     pub(crate) fn enter(&self, channel: &str) {
         self.house.enter(
             channel,

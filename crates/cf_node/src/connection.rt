@@ -44,7 +44,8 @@ impl Head {
         }
     }
 
-    /// Reads on. Whether the head is whole; an error where the connection is over, or the head too long.
+    /// Reads on. Whether the head is whole; an error where the connection is over, or the head too
+    /// long.
     pub(crate) fn read_on(&mut self) -> io::Result<bool> {
         let mut chunk = [0u8; 1024];
         for _ in 0..LONGEST_HEAD {
@@ -60,7 +61,8 @@ impl Head {
         Ok(false)
     }
 
-    // Keeps what was read, and says whether the head is whole; an error where nothing was, or the head is too long.
+    // Keeps what was read, and says whether the head is whole; an error where nothing was, or the
+    // head is too long.
     fn keep(&mut self, part: &[u8]) -> io::Result<bool> {
         if part.is_empty() {
             return Err(io::Error::from(ErrorKind::UnexpectedEof));

@@ -1,4 +1,5 @@
-//! What stands between a wire and its session: texts are heard, and what the hub has for the client is handed out.
+//! What stands between a wire and its session: texts are heard, and what the hub has for the client
+//! is handed out.
 ghost use Rattle.std.specs.Prelude.{◌≡◌, true};
 ghost use Rattle.cf_session.specs.Standing.{is_idle, tables_of};
 
@@ -53,7 +54,8 @@ pub(crate) struct SessionDesk<'a, H: House> {
 impl<'a, H: House> Desk for SessionDesk<'a, H> {
     ghost use Rattle.cf_node.specs.Desk.{Hears};
 
-    ghost hears = { λ old text new. Hears old.talk.session old.clerk text new.talk.session new.clerk };
+    ghost hears = { λ old text new.
+        Hears old.talk.session old.clerk text new.talk.session new.clerk };
 
     // What waits in the hub lies under its lock.
     ghost gives = { λ old out new. Unit {0} };

@@ -12,7 +12,8 @@ use std::sync::atomic::{AtomicU64, Ordering};
 use std::thread;
 use std::time::{Clock, Duration};
 
-// How long it sleeps at most where nothing comes, in milliseconds: a program that ends waits for it as long.
+// How long it sleeps at most where nothing comes, in milliseconds: a program that ends waits for it
+// as long.
 const LONGEST_SLEEP: u64 = 500;
 
 /// The dispatcher's end of the node's link, and the hub under its lock.
@@ -29,7 +30,8 @@ impl<'a, R: Wait + Clock> Post for NodePost<'a, R> {
 
     ghost receives = { λ old came new.
         IsSameLink new.receiver old.receiver
-        × MatchOption came (new.receiver.items ≡ old.receiver.items) (λ d. new.receiver.items ≡ old.receiver.items ++ d ∷ []) };
+        × MatchOption came (new.receiver.items ≡ old.receiver.items)
+        (λ d. new.receiver.items ≡ old.receiver.items ++ d ∷ []) };
 
     // Between two workers no more can be said of the hub.
     ghost brings = { λ old _ _ new. new ≡ old };

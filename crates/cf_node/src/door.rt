@@ -32,17 +32,14 @@ pub(crate) enum Accepted {
 }
 
 impl Door {
-    /// The door of this listener. An error where its readiness can't be set up.
-    pub(crate) fn open<R: Net>(rt: &R, mut listener: TcpListener) -> io::Result<Door> {
+    /// The door of this listener, and what ends a wait at it. An error where its readiness can't be
+    /// set up.
+    pub(crate) fn open<R: Net>(rt: &R, mut listener: TcpListener) -> io::Result<(Door, Waker)> {
         let poll = Poll::new(rt)?;
         poll.registry()
             .register(&mut listener, LISTENER, Interest::READABLE)?;
-        Ok(Door { poll, listener })
-    }
-
-    /// What ends a wait for readiness.
-    pub(crate) fn waker(&self) -> io::Result<Waker> {
-        Waker::new(self.poll.registry(), WAKER)
+        let waker = Waker::new(poll.registry(), WAKER)?;
+        Ok((Door { poll, listener }, waker))
     }
 
     /// Waits for readiness, at most so long. A wait that a signal interrupts has found nothing.
@@ -71,7 +68,8 @@ impl Door {
         }
     }
 
-    /// Asks to be told when a connection's socket is ready, by the number of its place. `false` where it can't be.
+    /// Asks to be told when a connection's socket is ready, by the number of its place. `false`
+    /// where it can't be.
     pub(crate) fn registers(&self, stream: &mut TcpStream, place: usize) -> bool {
         let interest = Interest::READABLE | Interest::WRITABLE;
         let registered = self

@@ -9,8 +9,8 @@ pub const IO_LOOP: usize = 1;
 
 /// Says when a worker takes its next turn, and at which moment.
 pub trait Gate {
-    /// Whether a worker of a node may take the turn of this number, counted from 1. One that may not skips the turn; it can
-    /// also be held inside.
+    /// Whether a worker of a node may take the turn of this number, counted from 1. One that may
+    /// not skips the turn; it can also be held inside.
     fn may(&self, node: u8, worker: usize, turn: u64) -> bool;
 
     /// The moment of a turn, in seconds. It is asked once a turn, after `may`.

@@ -13,8 +13,8 @@ use std::alloc::Global;
 use std::collections::BTreeMap;
 use std::sync::MutexGuard;
 
-/// The node's hub, and the broker with the node's own passes. Each call may wait for a lock, and leaves none taken but the hub's
-/// while it is lent.
+/// The node's hub, and the broker with the node's own passes. Each call may wait for a lock, and
+/// leaves none taken but the hub's while it is lent.
 pub(crate) trait House {
     ghost use Rattle.cf_protocol.specs.Settings.{NamespaceTable};
 
@@ -62,14 +62,15 @@ pub(crate) trait House {
     /// Where a channel's stream stands, and the length of its shard's log.
     fn position(&self, channel: &str) -> (Option<Position>, u64);
 
-    /// Whether nothing happened in a channel's shard since its log had so many entries. It takes no lock.
+    /// Whether nothing happened in a channel's shard since its log had so many entries. It takes no
+    /// lock.
     fn is_quiet_since(&self, channel: &str, mark: u64) -> bool;
 
     /// Brings a moment to all shards of the broker, where this is the node that does.
     fn tick(&self, now: u64);
 
-    /// A client is present in a channel from this moment on, where the channel's namespace keeps presence. Where memory is
-    /// refused, it isn't.
+    /// A client is present in a channel from this moment on, where the channel's namespace keeps
+    /// presence. Where memory is refused, it isn't.
     fn enter(&self, channel: &str, client: &str, user: &str, now: u64);
 
     /// A client is present in a channel no more.

@@ -1,4 +1,5 @@
-//! The worker that serves the sockets: it turns a connection that has something to read or something to send, and no other.
+//! The worker that serves the sockets: it turns a connection that has something to read or
+//! something to send, and no other.
 use crate::connection::{Connection, Head, Open, takes_more};
 use crate::desk::SessionDesk;
 use crate::door::{Accepted, Door, LISTENER, WAKER};
@@ -29,7 +30,8 @@ const MOST_TURNS: usize = 16;
 /// The most times that sessions are asked for in one turn of the loop.
 const MOST_BATCHES: usize = 1024;
 
-/// How long the loop waits for readiness where nothing is left to do, in milliseconds, so that it sees each new second.
+/// How long the loop waits for readiness where nothing is left to do, in milliseconds, so that it
+/// sees each new second.
 const PATIENCE: u64 = 1000;
 
 /// The close of a program that ends.
@@ -64,27 +66,14 @@ pub(crate) fn serve<R: Wait + Clock, H: House, G: Gate>(
     gate: &G,
     stop: &AtomicU64,
 ) -> io::Result<()> {
-    let mut events = Events::with_capacity(house.alloc(), 512)?;
     let mut io_loop = IoLoop::new(house, door);
-    let mut turn: u64 = 0;
-    for _ in rt.forever() {
-        if stop.load(Ordering::SeqCst) != 0 {
-            break;
-        }
-        turn = turn.wrapping_add(1);
-        if gate.may(node, IO_LOOP, turn) {
-            io_loop.wait(&mut events)?;
-            io_loop.turn(&events, gate.now(rt));
-        } else {
-            thread::yield_now();
-        }
-    }
+    io_loop.run(rt, node, gate, stop)?;
     io_loop.shut_down();
     Ok(())
 }
 
 // Whether a connection goes on, and whether it has more to do at once.
-#[derive(Clone, Copy, Debug, PartialEq, Eq)]
+#[derive(Drop)]
 enum Turned {
     Idle,
     More,
@@ -113,8 +102,8 @@ fn turn_open<H: House>(buffer: &mut Vec<u8>, open: &mut Open<'_, H>, now: u64) -
     }
 }
 
-// Writes what a turn gathered, and takes the buffer back that was lent to it, where all of it is written. `false` where the
-// socket fails.
+// Writes what a turn gathered, and takes the buffer back that was lent to it, where all of it is
+// written. `false` where the socket fails.
 fn gives_back(wire: &mut Wire<Gather<Socket>>, buffer: &mut Vec<u8>) -> bool {
     let goes_on = drains(wire);
     if wire.stream().is_drained() {
@@ -175,6 +164,31 @@ impl<'a, H: House> IoLoop<'a, H> {
             behind: false,
             now: 0,
         }
+    }
+
+    // Takes turns until `stop` isn't 0.
+    fn run<R: Wait + Clock, G: Gate>(
+        &mut self,
+        rt: &R,
+        node: u8,
+        gate: &G,
+        stop: &AtomicU64,
+    ) -> io::Result<()> {
+        let mut events = Events::with_capacity(self.house.alloc(), 512)?;
+        let mut turn: u64 = 0;
+        for _ in rt.forever() {
+            if stop.load(Ordering::SeqCst) != 0 {
+                break;
+            }
+            turn = turn.wrapping_add(1);
+            if gate.may(node, IO_LOOP, turn) {
+                self.wait(&mut events)?;
+                self.turn(&events, gate.now(rt));
+            } else {
+                thread::yield_now();
+            }
+        }
+        Ok(())
     }
 
     // Waits for readiness, where no place is owed anything.
@@ -259,7 +273,8 @@ impl<'a, H: House> IoLoop<'a, H> {
         Ok(())
     }
 
-    // A place that stands empty: a free one, or one more, with room for the owner of one session more.
+    // A place that stands empty: a free one, or one more, with room for the owner of one session
+    // more.
     fn empty_place(&mut self) -> Result<usize, AllocError> {
         if let Some(place) = self.free.pop() {
             return Ok(place);
@@ -379,8 +394,8 @@ impl<'a, H: House> IoLoop<'a, H> {
         self.batch = batch;
     }
 
-    // Takes what waits for some sessions under one lock of the hub, and notes their places. What a socket has no room for stays
-    // in the hub.
+    // Takes what waits for some sessions under one lock of the hub, and notes their places. What a
+    // socket has no room for stays in the hub.
     fn take_some(&mut self) {
         let mut hub = self.house.hub();
         take_batch(&mut hub, self);

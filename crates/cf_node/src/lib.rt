@@ -1,7 +1,9 @@
-//! A node: a dispatcher that brings what the broker published to the hub, and an IO loop that serves the clients' sockets.
+//! A node: a dispatcher that brings what the broker published to the hub, and an IO loop that
+//! serves the clients' sockets.
 //!
-//! Locks are taken in this order: a shard of the broker, then a link; the hub's lock is held with no other. The check of a
-//! subscription's position takes none where its shard's log is as it was at the last one.
+//! Locks are taken in this order: a shard of the broker, then a link; the hub's lock is held with
+//! no other. The check of a subscription's position takes none where its shard's log is as it was
+//! at the last one.
 #![tactic(auto)]
 
 mod around;

@@ -9,7 +9,8 @@ use std::collections::VecDeque;
 #[derive(Drop)]
 pub(crate) struct Present {
     pub(crate) channel: String,
-    /// How many entries its shard's log had at the last check of the subscription's position, where that was fine.
+    /// How many entries its shard's log had at the last check of the subscription's position, where
+    /// that was fine.
     pub(crate) mark: Option<u64>,
 }
 
@@ -41,18 +42,18 @@ impl Member {
         }
     }
 
-    /// The client is present in one channel more. Where memory is refused, it isn't noted, and its presence ends by itself.
+    /// The client is present in one channel more. Where memory is refused, it isn't noted, and its
+    /// presence ends by itself.
     pub(crate) fn add(&mut self, channel: String) {
-        if !self
-            .channels
-            .iter()
-            .any(|one| one.channel.as_str() == channel.as_str())
-        {
-            let _ = self.channels.push_back(Present {
-                channel,
-                mark: None,
-            });
+        for present in self.channels.iter() {
+            if present.channel.as_str() == channel.as_str() {
+                return;
+            }
         }
+        let _ = self.channels.push_back(Present {
+            channel,
+            mark: None,
+        });
     }
 
     /// The client is present in a channel no more.
@@ -124,7 +125,8 @@ impl Member {
         }
     }
 
-    /// Forgets the mark of each subscription that has ended meanwhile. `false` where the session was closed.
+    /// Forgets the mark of each subscription that has ended meanwhile. `false` where the session
+    /// was closed.
     pub(crate) fn looks_at(&mut self, hub: &Hub, number: u32) -> bool {
         if hub.is_closed(number) {
             return false;

@@ -34,7 +34,8 @@ pub struct Setup<'a, N: Naming> {
 }
 
 impl<'a, N: Naming> Setup<'a, N> {
-    /// A node of this number, from 0, at this start of the program, whose number stands in the ids of its clients.
+    /// A node of this number, from 0, at this start of the program, whose number stands in the ids
+    /// of its clients.
     pub fn new(node: u8, boot: u64, namespaces: &'a Namespaces, tokens: &'a Tokens) -> Setup<'a, N>
         requires { namespaces.now ≡ N.namespaces }
     {
@@ -65,15 +66,17 @@ pub struct Node<'a, N: Naming> {
 }
 
 impl<'a, N: Naming> Node<'a, N> {
-    /// A node at this listener, at this end of its link from the broker. An error where its readiness can't be set up.
+    /// A node at this listener, at this end of its link from the broker. An error where its
+    /// readiness can't be set up.
     pub fn open<R: Net + AllocGlobal>(
         rt: &R,
         setup: Setup<'a, N>,
         receiver: Receiver<Delivery>,
         listener: TcpListener,
     ) -> io::Result<Node<'a, N>> {
-        let door = Door::open(rt, listener)?;
-        let shared = Shared::new(Hub::new(rt.alloc(), setup.node, setup.boot), door.waker()?);
+        let (door, waker) = Door::open(rt, listener)?;
+        let hub = Hub::new(rt.alloc(), setup.node, setup.boot);
+        let shared = Shared::new(hub, waker);
         Ok(Node {
             setup,
             door,
@@ -82,8 +85,9 @@ impl<'a, N: Naming> Node<'a, N> {
         })
     }
 
-    /// Serves the clients that connect, with these passes of the broker's shards, until `stop` isn't 0: then all sessions are
-    /// closed with 3001 and both workers end. An error where waiting for readiness fails, or memory for it is refused.
+    /// Serves the clients that connect, with these passes of the broker's shards, until `stop`
+    /// isn't 0: then all sessions are closed with 3001 and both workers end. An error where waiting
+    /// for readiness fails, or memory for it is refused.
     pub fn run<R, E, G>(
         self,
         rt: &'a R,

@@ -1,4 +1,5 @@
-//! What is looked after every 25 seconds for each client: where its subscriptions stand, and that it is present.
+//! What is looked after every 25 seconds for each client: where its subscriptions stand, and that
+//! it is present.
 use crate::clerk::Clerk;
 use crate::house::House;
 use crate::member::Present;
@@ -8,9 +9,9 @@ use cf_hub::Checked;
 const ROUND: u64 = 25;
 
 impl<'a, H: House> Clerk<'a, H> {
-    /// A round of the client, where its last was 25 seconds ago: the position of each of its subscriptions is checked, and it
-    /// is present again in each channel that it still has. `false` where its session was closed meanwhile, and the
-    /// connection still stands.
+    /// A round of the client, where its last was 25 seconds ago: the position of each of its
+    /// subscriptions is checked, and it is present again in each channel that it still has. `false`
+    /// where its session was closed meanwhile, and the connection still stands.
     pub(crate) fn look_after(&mut self, now: u64) -> bool {
         self.now = now;
         let Some(number) = self.member.number else {
@@ -43,8 +44,8 @@ impl<'a, H: House> Clerk<'a, H> {
         }
     }
 
-    // Checks the position of a subscription, and says whether it goes on. Where its last check was fine, and its shard's log is
-    // as it was then, this one would be fine too, and is left out.
+    // Checks the position of a subscription, and says whether it goes on. Where its last check was
+    // fine, and its shard's log is as it was then, this one would be fine too, and is left out.
     fn stands(&self, number: u32, present: &mut Present) -> bool {
         let channel = present.channel.as_str();
         if let Some(mark) = present.mark {

@@ -1,4 +1,5 @@
-//! A client's socket: what came with its head is read first, and a read is tried only where it may find something.
+//! A client's socket: what came with its head is read first, and a read is tried only where it may
+//! find something.
 ghost use Rattle.std.specs.Prelude.{◌≤◌, length};
 
 use mio::net::TcpStream;
