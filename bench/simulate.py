@@ -4,7 +4,7 @@
     cd crates/cf_server && rt run < stdin && cd ../.. && bench/simulate.py [LINES ..]
 
 For each kind of schedule and each number of lines (50,000, 100,000 and 400,000 by default) the proved program runs a schedule of
-so many lines. The best time of three runs is printed, the most memory of them, and how many times the time before it took.
+so many lines. The best time of fifteen runs is printed, the most memory of them, and how many times the time before it took.
 
     one     one client takes each of many publications
     many    1,000 clients on 8 nodes, ten to a channel, take what is published there
@@ -19,6 +19,7 @@ runs another program beside it, in turns, on the kinds without breaks.
 
 prints such a schedule.
 """
+import contextlib
 import os
 import random
 import subprocess
@@ -31,7 +32,7 @@ WORDS = ["simulate", "--nodes", "8"]
 CLIENTS = 1_000
 CHANNELS = 100
 NODES = 8
-RUNS = 3
+RUNS = 15
 
 
 def one(count):
@@ -117,23 +118,33 @@ def run(program, lines):
         return seconds, used.ru_maxrss, sum(1 for _ in printed)
 
 
+def measured(programs, kind, counts):
+    """The runs of each program on each number of lines: all of them once, then all once more, so that a slow second of the machine
+    is none of one number alone."""
+    with contextlib.ExitStack() as stack:
+        files = {count: stack.enter_context(tempfile.TemporaryFile("w+")) for count in counts}
+        for count, lines in files.items():
+            # (a process of its own makes it: a run's memory is never counted as less than that of its parent)
+            subprocess.run([sys.executable, __file__, "--print", kind, str(count)], stdout=lines, check=True)
+        runs = {(program, count): [] for program in programs for count in counts}
+        for _ in range(RUNS):
+            for program, count in runs:
+                runs[program, count].append(run(program, files[count]))
+        return runs
+
+
 def measure(programs, kind, counts):
-    best = {}
+    runs, best = measured(programs, kind, counts), {}
     for count in counts:
-        with tempfile.TemporaryFile("w+") as lines:
-            lines.write(schedule(kind, count))
-            runs = {program: [] for program in programs}
-            for _ in range(RUNS):
-                for program in programs:
-                    runs[program].append(run(program, lines))
         for name, program in zip(["this", "other"], programs):
-            seconds = min(found[0] for found in runs[program])
-            kibibytes = max(found[1] for found in runs[program])
+            seconds = min(found[0] for found in runs[program, count])
+            kibibytes = max(found[1] for found in runs[program, count])
             before = best.get(name)
             grown = f", {seconds / before:.2f} times the time before" if before else ""
             best[name] = seconds
             label = f"{kind} ({name})" if len(programs) > 1 else kind
-            print(f"{label}: {count} lines: {seconds:.2f} s, {kibibytes} KiB, {runs[program][0][2]} lines printed{grown}", flush=True)
+            printed = runs[program, count][0][2]
+            print(f"{label}: {count} lines: {seconds:.2f} s, {kibibytes} KiB, {printed} lines printed{grown}", flush=True)
         if len(programs) > 1:
             print(f"{kind}: {count} lines: {best['this'] / best['other']:.2f} times the other's time", flush=True)
 
