@@ -173,7 +173,8 @@ fn serve(alloc: Global, session: &mut Session<'_>, text: &str) -> Option<String>
     None
 }
 
-/// Whether a session does this for a text, and then is idle and has met no refused request for memory.
+/// Whether a session does this for a text, and then is idle and has met no refused request for
+/// memory.
 fn is_served(alloc: Global, session: &mut Session<'_>, text: &str, wanted: &str) -> bool {
     match serve(alloc, session, text) {
         Some(done) => done.as_str() == wanted && session.is_idle() && !session.short(),
@@ -284,7 +285,8 @@ const FRAME: &str = r#"{"id":1,"connect":{"name":"js","version":"5","data":{}}}
 const DONE: &str =
     r#"attach  / {"connect":{"client":"0-1-1","ping":25,"pong":true,"version":"1.0.0"},"id":1} / {"error":{"code":107,"message":"bad request"},"id":2} / begin 3 / {"error":{"code":106,"message":"limit exceeded"},"id":3} / {"id":4,"ping":{}} / pong / begin 5 / read / leave / {"error":{"code":100,"message":"internal server error","temporary":true},"id":5} / close 3501 bad request"#;
 
-/// Commands of usual clients, several in a frame and parted by line feeds, with members that are passed over.
+/// Commands of usual clients, several in a frame and parted by line feeds, with members that are
+/// passed over.
 #[test]
 fn frames_of_commands(rt: HostRuntime) {
     begins(&rt, rt.alloc(), "", FRAME, DONE);
@@ -379,7 +381,8 @@ fn is_too_long(alloc: Global, session: &mut Session<'_>, count: usize) -> Option
     Some(is_served(alloc, session, frame.as_str(), BAD_REQUEST))
 }
 
-/// A frame of 65,536 bytes has all its commands carried out, and one byte more closes; names of 255 and 256 bytes.
+/// A frame of 65,536 bytes has all its commands carried out, and one byte more closes; names of 255
+/// and 256 bytes.
 #[test]
 fn limits(rt: HostRuntime) {
     let (namespaces, tokens) = tables(rt.alloc(), "").expect(&rt, "tables");

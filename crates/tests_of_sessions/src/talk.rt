@@ -8,7 +8,8 @@ use cf_talk::{Node, serve_lines};
 use std::alloc::{AllocError, Global};
 use std::collections::BTreeMap;
 
-/// A node that keeps what is said, refuses what it has no answer for, and closes the session after so many acts.
+/// A node that keeps what is said, refuses what it has no answer for, and closes the session after
+/// so many acts.
 #[derive(Drop)]
 struct Stand<'a> {
     namespaces: &'a Namespaces,

@@ -17,8 +17,8 @@ const ACCEPT_KEY: &[u8] = b"s3pPLMBiTxaQ9kYGzzhZRbK+xOo=";
 /// How many calls of a stream don't fail.
 const NEVER: usize = usize::MAX;
 
-/// A stream that moves at most `piece` bytes a call, would block at the end of its input, and fails from the call of this
-/// number on.
+/// A stream that moves at most `piece` bytes a call, would block at the end of its input, and fails
+/// from the call of this number on.
 #[derive(Drop)]
 struct Pieces {
     input: Vec<u8>,
@@ -298,7 +298,8 @@ fn blocked_writer(rt: HostRuntime) {
     assert!(rt; waits_and_goes_on(rt.alloc()));
 }
 
-/// Whether this input ends the wire, by the end of this turn and of the next, and by what stands last on the stream.
+/// Whether this input ends the wire, by the end of this turn and of the next, and by what stands
+/// last on the stream.
 fn is_ended(alloc: Global, input: &[u8], end: TurnEnd, last: &[u8]) -> bool {
     match wire_over(alloc, input, 2) {
         Some(mut wire) => {
@@ -350,7 +351,8 @@ fn pings_are_not_heard(rt: HostRuntime) {
     assert!(rt; is_answered(rt.alloc(), input, 1000, b"\x8a\x02hi\x81\x01a"));
 }
 
-/// Whether a turn over a text of so many bytes ends so, where the longest text that is heard has so many.
+/// Whether a turn over a text of so many bytes ends so, where the longest text that is heard has so
+/// many.
 fn hears(alloc: Global, bytes: usize, end: TurnEnd, longest: usize) -> bool {
     let Ok(input) = long_text(alloc, bytes) else {
         return false;
@@ -493,7 +495,8 @@ fn gathers_and_drains(alloc: Global) -> bool {
     }
 }
 
-/// What a turn sends waits in the gathering stream, and goes out by one write when it is drained, in order.
+/// What a turn sends waits in the gathering stream, and goes out by one write when it is drained,
+/// in order.
 #[test]
 fn gathered(rt: HostRuntime) {
     assert!(rt; gathers_and_drains(rt.alloc()));

@@ -194,7 +194,8 @@ bob c pub aaaa 2 0 / ann c pub aaaa 1 "LETTERS" / ann closed 3008"#;
 const SLOWER: &str = r#"TWO / publish c "LETTERS" / deliver 0 1 / take ann / take bob
 => ann c sub aaaa 0 fresh / bob c sub aaaa 0 fresh / ann closed 3008 / bob closed 3008"#;
 
-/// A push of 1,048,576 bytes may wait for a client, and nothing beside it. A push of a byte more can't wait.
+/// A push of 1,048,576 bytes may wait for a client, and nothing beside it. A push of a byte more
+/// can't wait.
 #[test]
 fn slow_consumers(rt: HostRuntime) {
     assert!(rt; is_so_with(rt.alloc(), SLOW, 1_048_523));

@@ -184,7 +184,8 @@ finish bob news
 take bob
 ";
 
-/// A stream that is trimmed goes on in its epoch. One that is forgotten is opened again in a new one, from offset 0.
+/// A stream that is trimmed goes on in its epoch. One that is forgotten is opened again in a new
+/// one, from offset 0.
 #[test]
 fn trim_and_forget(rt: HostRuntime) {
     let lines = "ann news sub aaaa 3 fresh\nbob news sub bbbb 1 fresh\n";
