@@ -61,18 +61,19 @@ fn ran(
 /// Whether a schedule runs to its end and writes these lines.
 pub(crate) fn prints(alloc: Global, options: Options<'_>, input: &str, lines: &str) -> bool {
     match ran(alloc, options, input.as_bytes()) {
-        Some((written, None)) => written.as_slice() == lines.as_bytes(),
-        _ => false,
+        Some((written, fault)) => fault.is_none() && written.as_slice() == lines.as_bytes(),
+        None => false,
     }
 }
 
 /// Whether a schedule can't be used, so that nothing is written and these words are said.
 fn is_refused(alloc: Global, options: Options<'_>, input: &[u8], words: &str) -> bool {
-    match ran(alloc, options, input) {
-        Some((written, Some(fault))) => {
-            written.is_empty() && fault.status() == 2 && is_told(alloc, fault, words)
-        }
-        _ => false,
+    let Some((written, fault)) = ran(alloc, options, input) else {
+        return false;
+    };
+    match fault {
+        Some(fault) => written.is_empty() && fault.status() == 2 && is_told(alloc, fault, words),
+        None => false,
     }
 }
 
