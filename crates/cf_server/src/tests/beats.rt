@@ -2,13 +2,12 @@
 ghost use Rattle.std.specs.Prelude.{◌≡◌};
 ghost use Rattle.cf_broker.specs.Shards.{names};
 
-use super::nodes::{broker_to, open};
+use super::nodes::{Opened, broker_to, default_settings, open};
 use super::peer::{Peer, connect};
 use crate::boot_epochs::BootEpochs;
-use crate::command_line::DEFAULT_NAMESPACES;
 use cf_broker::{Broker, Naming, Passes, Words, shard_of};
 use cf_node::{DISPATCHER, Gate, Node};
-use cf_protocol::{Namespaces, Tokens, read_namespaces, read_tokens};
+use cf_protocol::{Namespaces, Tokens};
 use std::alloc::Global;
 use std::io::{Read, Write};
 use std::marker::Brand;
@@ -240,6 +239,22 @@ where
     })
 }
 
+// The same with passes for the node and for what is published beside it.
+fn run_staged<N, R>(
+    rt: &R,
+    stage: &Stage<'_, N>,
+    node: Node<'_, N>,
+    mut passes: Passes<N>,
+    address: SocketAddr,
+) -> bool
+where
+    N: Naming + Send + Sync,
+    R: Threads + Wait + Clock + Net + Abort + AllocGlobal + Sync,
+{
+    let lent = passes.lend(stage.alloc, stage.broker).expect(rt, "memory");
+    run_one(rt, stage, node, lent, passes, address)
+}
+
 fn one_node<N, R>(rt: &R, words: Words, namespaces: &Namespaces, tokens: &Tokens) -> bool
 where
     N: Naming + Send + Sync,
@@ -247,24 +262,27 @@ where
     requires words { words ≡ names N.words 16 }
     requires namespaces { namespaces.now ≡ N.namespaces }
 {
-    let opened = open::<N, R>(rt, 0, 1, namespaces, tokens);
-    let senders = Vec::from_array(rt.alloc(), [opened.sender]).expect(rt, "memory");
-    let (broker, mut passes) = broker_to::<N, R>(rt, words, namespaces, senders);
-    let lent = passes.lend(rt.alloc(), &broker).expect(rt, "memory");
+    let Opened {
+        sender,
+        node,
+        address,
+    } = open::<N, R>(rt, 0, 1, namespaces, tokens);
+    let senders = Vec::from_array(rt.alloc(), [sender]).expect(rt, "memory");
+    let (broker, passes) = broker_to::<N, R>(rt, words, namespaces, senders);
     let stage = Stage {
         alloc: rt.alloc(),
         broker: &broker,
         namespaces,
         hand: &Hand::new(),
     };
-    run_one(rt, &stage, opened.node, lent, passes, opened.address)
+    run_staged(rt, &stage, node, passes, address)
 }
 
 // A client that missed a publication is told so at its second check, is pinged every 25 seconds, and is present 70 seconds on.
 #[test]
 fn beats(rt: HostRuntime) {
-    let namespaces = read_namespaces(rt.alloc(), DEFAULT_NAMESPACES).expect(&rt, "namespaces");
-    let tokens = read_tokens(rt.alloc(), "").expect(&rt, "tokens");
+    let settings = default_settings(&rt);
     let words = Words::new(rt.alloc()).expect(&rt, "memory");
-    assert!(rt; one_node::<Brand, HostRuntime>(&rt, words, &namespaces, &tokens));
+    let is_so = one_node::<Brand, HostRuntime>(&rt, words, &settings.namespaces, &settings.tokens);
+    assert!(rt; is_so);
 }

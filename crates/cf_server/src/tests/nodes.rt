@@ -3,17 +3,32 @@ ghost use Rattle.std.specs.Prelude.{◌≡◌, ◌<◌};
 ghost use Rattle.cf_broker.specs.Shards.{names};
 
 use crate::boot_epochs::BootEpochs;
+use crate::command_line::DEFAULT_NAMESPACES;
 use crate::serve::epochs_of;
 use cf_broker::{Broker, Delivery, Naming, Passes, Words};
 use cf_link::{Sender, pair};
 use cf_node::{Node, Setup};
-use cf_protocol::{Namespaces, Tokens};
+use cf_protocol::{Namespaces, Tokens, read_namespaces, read_tokens};
 use mio::net::TcpListener;
 use std::net::{Ipv4Addr, Net, SocketAddr};
 use std::process::Abort;
 
 /// The number of this start of the program.
 const BOOT: u64 = 7;
+
+/// What nodes are set up with.
+#[derive(Drop)]
+pub(super) struct Settings {
+    pub(super) namespaces: Namespaces,
+    pub(super) tokens: Tokens,
+}
+
+/// The default namespaces, and no tokens.
+pub(super) fn default_settings<R: Abort + AllocGlobal>(rt: &R) -> Settings {
+    let namespaces = read_namespaces(rt.alloc(), DEFAULT_NAMESPACES).expect(rt, "namespaces");
+    let tokens = read_tokens(rt.alloc(), "").expect(rt, "tokens");
+    Settings { namespaces, tokens }
+}
 
 /// A node that listens, and serves nobody yet.
 #[derive(Drop)]

@@ -2,13 +2,12 @@
 ghost use Rattle.std.specs.Prelude.{◌≡◌};
 ghost use Rattle.cf_broker.specs.Shards.{names};
 
-use super::nodes::{broker_to, open};
+use super::nodes::{Opened, broker_to, default_settings, open};
 use super::peer::{Peer, connect};
 use crate::boot_epochs::BootEpochs;
-use crate::command_line::DEFAULT_NAMESPACES;
 use cf_broker::{Broker, Naming, Passes, Words};
 use cf_node::{Gate, Node};
-use cf_protocol::{Namespaces, Tokens, read_namespaces, read_tokens};
+use cf_protocol::{Namespaces, Tokens};
 use std::io::{Read, Write};
 use std::marker::Brand;
 use std::net::{Net, SocketAddr};
@@ -104,6 +103,53 @@ fn meet<R: Net + AllocGlobal>(rt: &R, first: SocketAddr, second: SocketAddr) -> 
 // A node with its passes.
 type Ready<'a, N> = (Node<'a, N>, Passes<N>);
 
+fn serve<'a, N, R>(
+    rt: &'a R,
+    broker: &'a Broker<N, BootEpochs>,
+    gate: &'a AllFour,
+    ready: Ready<'a, N>,
+    stop: &'a AtomicU64,
+)
+where
+    N: Naming + Send + Sync,
+    R: Threads + Wait + Clock + AllocGlobal + Sync,
+{
+    let (node, passes) = ready;
+    let _ = node.run(rt, broker, passes, gate, stop);
+}
+
+// Two clients talk, and then the nodes are to stop.
+fn meet_and_stop<R: Net + AllocGlobal>(
+    rt: &R,
+    addresses: (SocketAddr, SocketAddr),
+    stop: &AtomicU64,
+) -> bool {
+    let met = meet(rt, addresses.0, addresses.1);
+    stop.store(1, Ordering::SeqCst);
+    met
+}
+
+// Runs the second node while two clients talk.
+fn run_second<N, R>(
+    rt: &R,
+    broker: &Broker<N, BootEpochs>,
+    gate: &AllFour,
+    theirs: Ready<'_, N>,
+    addresses: (SocketAddr, SocketAddr),
+    stop: &AtomicU64,
+) -> bool
+where
+    N: Naming + Send + Sync,
+    R: Threads + Wait + Clock + Net + AllocGlobal + Sync,
+{
+    let met = thread::join(
+        rt,
+        || serve(rt, broker, gate, theirs, stop),
+        || meet_and_stop(rt, addresses, stop),
+    );
+    met.1
+}
+
 // Runs two nodes while two clients talk.
 fn run_two<N, R>(
     rt: &R,
@@ -119,34 +165,31 @@ where
 {
     let stop = AtomicU64::new(0);
     let stop = &stop;
-    thread::scope(thread::scope_env(), rt, |scope| {
-        let (node, passes) = ours;
-        let _ = scope.spawn(move || {
-            let _ = node.run(rt, broker, passes, gate, stop);
-        });
-        let (node, passes) = theirs;
-        let _ = scope.spawn(move || {
-            let _ = node.run(rt, broker, passes, gate, stop);
-        });
-        let met = meet(rt, addresses.0, addresses.1);
-        stop.store(1, Ordering::SeqCst);
-        met
-    })
+    let met = thread::join(
+        rt,
+        || serve(rt, broker, gate, ours, stop),
+        || run_second(rt, broker, gate, theirs, addresses, stop),
+    );
+    met.1
 }
 
-// The same, behind a gate that lets all four workers on at once.
+// The same with passes for each, behind a gate that lets all four workers on at once.
 fn run_gated<N, R>(
     rt: &R,
     broker: &Broker<N, BootEpochs>,
-    ours: Ready<'_, N>,
-    theirs: Ready<'_, N>,
+    mut passes: Passes<N>,
+    ours: Node<'_, N>,
+    theirs: Node<'_, N>,
     addresses: (SocketAddr, SocketAddr),
 ) -> bool
 where
     N: Naming + Send + Sync,
-    R: Threads + Wait + Clock + Net + AllocGlobal + Sync,
+    R: Threads + Wait + Clock + Net + Abort + AllocGlobal + Sync,
 {
     let gate = AllFour::new();
+    let lent = passes.lend(rt.alloc(), broker).expect(rt, "memory");
+    let ours = (ours, lent);
+    let theirs = (theirs, passes);
     run_two(rt, broker, &gate, ours, theirs, addresses) && gate.failed.load(Ordering::SeqCst) == 0
 }
 
@@ -157,22 +200,26 @@ where
     requires words { words ≡ names N.words 16 }
     requires namespaces { namespaces.now ≡ N.namespaces }
 {
-    let ours = open::<N, R>(rt, 0, 1024, namespaces, tokens);
-    let theirs = open::<N, R>(rt, 1, 1024, namespaces, tokens);
-    let addresses = (ours.address, theirs.address);
-    let senders = Vec::from_array(rt.alloc(), [ours.sender, theirs.sender]).expect(rt, "memory");
-    let (broker, mut passes) = broker_to::<N, R>(rt, words, namespaces, senders);
-    let lent = passes.lend(rt.alloc(), &broker).expect(rt, "memory");
-    let ours = (ours.node, lent);
-    let theirs = (theirs.node, passes);
-    run_gated(rt, &broker, ours, theirs, addresses)
+    let Opened {
+        sender: to_ours,
+        node: ours,
+        address: ann,
+    } = open::<N, R>(rt, 0, 1024, namespaces, tokens);
+    let Opened {
+        sender: to_theirs,
+        node: theirs,
+        address: bob,
+    } = open::<N, R>(rt, 1, 1024, namespaces, tokens);
+    let senders = Vec::from_array(rt.alloc(), [to_ours, to_theirs]).expect(rt, "memory");
+    let (broker, passes) = broker_to::<N, R>(rt, words, namespaces, senders);
+    run_gated(rt, &broker, passes, ours, theirs, (ann, bob))
 }
 
 // Each of the four workers waits inside its first turn for the other three; then a publish reaches a client on each node.
 #[test]
 fn gate_two_nodes(rt: HostRuntime) {
-    let namespaces = read_namespaces(rt.alloc(), DEFAULT_NAMESPACES).expect(&rt, "namespaces");
-    let tokens = read_tokens(rt.alloc(), "").expect(&rt, "tokens");
+    let settings = default_settings(&rt);
     let words = Words::new(rt.alloc()).expect(&rt, "memory");
-    assert!(rt; two_nodes::<Brand, HostRuntime>(&rt, words, &namespaces, &tokens));
+    let is_so = two_nodes::<Brand, HostRuntime>(&rt, words, &settings.namespaces, &settings.tokens);
+    assert!(rt; is_so);
 }
