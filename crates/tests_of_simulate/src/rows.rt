@@ -70,7 +70,7 @@ fn recovered_and_lost(rt: HostRuntime) {
     are_so(&rt, rt.alloc(), THREE_HELD, THREE_HELD_ROWS);
 }
 
-const ROWS: &str = r#"# what comes before the reply is sent behind it, in order and once
+const ROWS: &str = r#"# buffered_reordering: what comes before the reply is sent behind it, in order and once
 epoch aaaa / publish news 1 / publish news 2 / connect ann 0 / ask ann news / read ann news
 publish news 3 / publish news 4 / deliver 0 4 / deliver 0 3 / deliver 0 3
 finish ann news / take ann / take ann / take ann
@@ -82,49 +82,49 @@ publish news 3 / publish news 4 / deliver 0 4
 finish ann news / take ann / take ann / take ann
 => ann news sub aaaa 2 fresh / ann news again 2500
 
-# a gap ends it
+# gap_ends_subscription
 START / publish news "a" / publish news "b" / publish news "c"
 deliver 0 1 / deliver 0 3 / deliver 0 2 / take ann / take ann / BACK / take ann
 => ann news sub aaaa 0 fresh / ann news pub aaaa 1 "a" / ann news again 2500
 ann news sub aaaa 3 recovered / ann news pub aaaa 2 "b" / ann news pub aaaa 3 "c"
 
-# a reply that was lost with its connection takes nothing with it
+# two_breaks: a reply that was lost with its connection takes nothing with it
 START / FIRST / break ann / publish news 2 / connect ann 0 / BACK
 break ann / publish news 3 / connect ann 0 / BACK / take ann
 => ann news sub aaaa 0 fresh / ann news pub aaaa 1 {"t":1}
 ann news sub aaaa 3 recovered / ann news pub aaaa 2 2 / ann news pub aaaa 3 3
 
-# what waits for a client that has left the channel is passed over
+# leave_and_return: what waits for a client that has left the channel is passed over
 START / publish news 1 / publish news 2 / deliver 0 1 / deliver 0 2 / leave ann news
 BACK / take ann / take ann / take ann
 => ann news sub aaaa 0 fresh
 
-# and what waits behind it is not
+# leave_and_return: and what waits behind it is not
 START / publish news 1 / publish news 2 / deliver 0 1 / deliver 0 2 / leave ann news
 BACK / take ann / take ann / take ann / take ann
 => ann news sub aaaa 0 fresh / ann news sub aaaa 2 recovered
 ann news pub aaaa 1 1 / ann news pub aaaa 2 2
 
-# a stream that began anew has another epoch, by which the client knows that it missed something
+# new_epoch_after_restart: by another epoch the client knows that it missed something
 START / FIRST / epoch bbbb / break ann / brokerrestart / publish news 9 / connect ann 0
 BACK / take ann
 => ann news sub aaaa 0 fresh / ann news pub aaaa 1 {"t":1}
 ann news sub bbbb 1 lost
 
-# a delivery reaches a node that was started again
+# delivery_after_node_restart
 START / publish news 1 / restart 0 / deliver 0 1 / connect ann 0 / BACK
 deliver 0 1 / take ann / take ann
 => ann news sub aaaa 0 fresh / ann news sub aaaa 1 recovered / ann news pub aaaa 1 1
 
-# the second check that finds a subscription behind at one place ends it
+# position_check: the second that finds a subscription behind at one place ends it
 START / publish news 1 / check ann news / take ann / check ann news / take ann
 => ann news sub aaaa 0 fresh / ann news again 2500
 
-# a delivery between the two saves it
+# position_check: a delivery between the two saves it
 START / publish news 1 / check ann news / deliver 0 1 / check ann news / take ann
 => ann news sub aaaa 0 fresh / ann news pub aaaa 1 1
 
-# lists, and what is refused
+# lists_and_refusals
 START / FIRST / list ann news -1 / take ann / trim news 0 / list ann news -1 / take ann
 ask ann chat:x / take ann / ask ann chat:x / take ann / put ann news 2 / take ann
 => ann news sub aaaa 0 fresh / ann news pub aaaa 1 {"t":1}
@@ -197,7 +197,7 @@ const SLOWER: &str = r#"TWO / publish c "LETTERS" / deliver 0 1 / take ann / tak
 /// A push of 1,048,576 bytes may wait for a client, and nothing beside it. A push of a byte more
 /// can't wait.
 #[test]
-fn slow_consumers(rt: HostRuntime) {
+fn slow_consumer(rt: HostRuntime) {
     assert!(rt; is_so_with(rt.alloc(), SLOW, 1_048_523));
     assert!(rt; is_so_with(rt.alloc(), SLOWER, 1_048_524));
 }
