@@ -71,17 +71,33 @@ fn namespaces_of(alloc: Global) -> Option<Namespaces> {
     read_namespaces(alloc, "=100,100,phs").ok()
 }
 
+/// A broker and its passes. It lies in a box, since a function that lends a broker of its own is dear to prove.
+fn boxed<N: Naming, E: Epochs + Drop>(
+    alloc: Global,
+    words: Words,
+    namespaces: &Namespaces,
+    epochs: [E; 16],
+    links: Vec<Sender<Delivery>>,
+) -> Option<(Box<Broker<N, E>>, Passes<N>)>
+    requires words { words ≡ names N.words 16 }
+    requires namespaces { namespaces.now ≡ N.namespaces }
+{
+    let (broker, passes) = Broker::<N, E>::new(alloc, words, namespaces, epochs, links).ok()?;
+    let broker = Box::new(alloc, broker).ok()?;
+    Some((broker, passes))
+}
+
 /// A broker whose every stream has the epoch `aaaa`, and its passes.
 fn opened<N: Naming>(
     alloc: Global,
     words: Words,
     namespaces: &Namespaces,
     links: Vec<Sender<Delivery>>,
-) -> Option<(Broker<N, Same>, Passes<N>)>
+) -> Option<(Box<Broker<N, Same>>, Passes<N>)>
     requires words { words ≡ names N.words 16 }
     requires namespaces { namespaces.now ≡ N.namespaces }
 {
-    Broker::<N, Same>::new(alloc, words, namespaces, [Same; 16], links).ok()
+    boxed::<N, Same>(alloc, words, namespaces, [Same; 16], links)
 }
 
 fn position_at(offset: u64) -> Position {
@@ -268,8 +284,9 @@ fn streams_called<N: Naming, R: Wait>(
 {
     match opened::<N>(alloc, words, namespaces, links) {
         Some((broker, mut passes)) => {
-            let mut pass = passes.take(&broker, shard_of("news"));
-            has_stream(rt, alloc, &broker, namespaces, &mut pass, "news")
+            let broker = &*broker;
+            let mut pass = passes.take(broker, shard_of("news"));
+            has_stream(rt, alloc, broker, namespaces, &mut pass, "news")
         }
         None => false,
     }
@@ -371,8 +388,9 @@ fn presence_called<N: Naming, R: Wait>(
 {
     match opened::<N>(alloc, words, namespaces, Vec::new(alloc)) {
         Some((broker, mut passes)) => {
-            let mut pass = passes.take(&broker, 13);
-            enters(rt, &broker) && leaves(rt, &broker) && lets_go(rt, &broker, &mut pass)
+            let broker = &*broker;
+            let mut pass = passes.take(broker, 13);
+            enters(rt, broker) && leaves(rt, broker) && lets_go(rt, broker, &mut pass)
         }
         None => false,
     }
@@ -478,13 +496,15 @@ fn two_publish<N: Naming + Send + Sync, R: Threads + Wait + Sync>(
     requires words { words ≡ names N.words 16 }
     requires namespaces { namespaces.now ≡ N.namespaces }
 {
-    let links = Vec::new(alloc);
-    match Broker::<N, Meeting<'_>>::new(alloc, words, namespaces, epochs, links) {
-        Ok((broker, mut ours)) => match ours.lend(alloc, &broker) {
-            Ok(theirs) => publish_both(rt, alloc, &broker, namespaces, ours, theirs),
-            Err(_) => false,
-        },
-        Err(_) => false,
+    match boxed::<N, Meeting<'_>>(alloc, words, namespaces, epochs, Vec::new(alloc)) {
+        Some((broker, mut ours)) => {
+            let broker = &*broker;
+            match ours.lend(alloc, broker) {
+                Ok(theirs) => publish_both(rt, alloc, broker, namespaces, ours, theirs),
+                Err(_) => false,
+            }
+        }
+        None => false,
     }
 }
 

@@ -180,8 +180,9 @@ fn handed_over<N: Naming + Send + Sync, R: Threads + Wait + Sync>(
 {
     match opened::<N>(alloc, words, namespaces, Vec::new(alloc)) {
         Some((broker, mut passes)) => {
-            let ours = passes.take(&broker, shard_of("news"));
-            is_handed_over(rt, alloc, &broker, namespaces, ours, "news")
+            let broker = &*broker;
+            let ours = passes.take(broker, shard_of("news"));
+            is_handed_over(rt, alloc, broker, namespaces, ours, "news")
         }
         None => false,
     }
@@ -257,8 +258,9 @@ fn add_up<N: Naming + Send + Sync, R: Threads + Wait + Sync>(
 {
     match opened::<N>(alloc, words, namespaces, Vec::new(alloc)) {
         Some((broker, mut passes)) => {
-            let pass = passes.take(&broker, shard_of("news"));
-            adds_up(rt, alloc, &broker, namespaces, pass, "news")
+            let broker = &*broker;
+            let pass = passes.take(broker, shard_of("news"));
+            adds_up(rt, alloc, broker, namespaces, pass, "news")
         }
         None => false,
     }
