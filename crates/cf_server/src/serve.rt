@@ -71,14 +71,31 @@ where
 {
     let alloc = rt.alloc();
     let (senders, nodes) = open_nodes::<N, R>(rt, options, namespaces, tokens)?;
-    let epochs = epochs_of(options.boot);
-    let (broker, passes) = Broker::<N, BootEpochs>::new(alloc, words, namespaces, epochs, senders)?;
-    let nodes = with_passes(alloc, &broker, passes, nodes)?;
+    let (broker, passes) = open_broker::<N>(alloc, options.boot, words, namespaces, senders)?;
+    let broker = &*broker;
+    let nodes = with_passes(alloc, broker, passes, nodes)?;
     let gate = RunningClock {
         start: Instant::now(rt)?,
     };
-    run_nodes(rt, &broker, &gate, nodes);
+    run_nodes(rt, broker, &gate, nodes);
     Ok(())
+}
+
+// The broker and its passes. It lies in a box, since a function that lends a broker of its own is dear to prove.
+fn open_broker<N: Naming>(
+    alloc: Global,
+    boot: u64,
+    words: Words,
+    namespaces: &Namespaces,
+    senders: Vec<Sender<Delivery>>,
+) -> Result<(Box<Broker<N, BootEpochs>>, Passes<N>), AllocError>
+    requires words { words ≡ names N.words 16 }
+    requires namespaces { namespaces.now ≡ N.namespaces }
+{
+    let epochs = epochs_of(boot);
+    let (broker, passes) = Broker::<N, BootEpochs>::new(alloc, words, namespaces, epochs, senders)?;
+    let broker = Box::new(alloc, broker)?;
+    Ok((broker, passes))
 }
 
 // The nodes, and the broker's ends of their links.

@@ -70,7 +70,8 @@ fn recovered_and_lost(rt: HostRuntime) {
     are_so(&rt, rt.alloc(), THREE_HELD, THREE_HELD_ROWS);
 }
 
-const ROWS: &str = r#"# buffered_reordering: what comes before the reply is sent behind it, in order and once
+const ROWS: &str =
+    r#"# buffered_reordering: what comes before the reply is sent behind it, in order and once
 epoch aaaa / publish news 1 / publish news 2 / connect ann 0 / ask ann news / read ann news
 publish news 3 / publish news 4 / deliver 0 4 / deliver 0 3 / deliver 0 3
 finish ann news / take ann / take ann / take ann

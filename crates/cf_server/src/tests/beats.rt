@@ -271,7 +271,7 @@ where
     let (broker, passes) = broker_to::<N, R>(rt, words, namespaces, senders);
     let stage = Stage {
         alloc: rt.alloc(),
-        broker: &broker,
+        broker: &*broker,
         namespaces,
         hand: &Hand::new(),
     };

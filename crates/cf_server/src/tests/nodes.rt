@@ -67,16 +67,18 @@ fn listen(rt: &(impl Net + Abort)) -> TcpListener {
     TcpListener::bind(rt, port).expect(rt, "a free port")
 }
 
-/// A broker that sends to nodes over these links.
+/// A broker that sends to nodes over these links. It lies in a box, since a function that lends a broker of its own is dear to
+/// prove.
 pub(super) fn broker_to<N: Naming, R: Abort + AllocGlobal>(
     rt: &R,
     words: Words,
     namespaces: &Namespaces,
     senders: Vec<Sender<Delivery>>,
-) -> (Broker<N, BootEpochs>, Passes<N>)
+) -> (Box<Broker<N, BootEpochs>>, Passes<N>)
     requires words { words ≡ names N.words 16 }
     requires namespaces { namespaces.now ≡ N.namespaces }
 {
-    let epochs = epochs_of(BOOT);
-    Broker::new(rt.alloc(), words, namespaces, epochs, senders).expect(rt, "memory")
+    let opened = Broker::new(rt.alloc(), words, namespaces, epochs_of(BOOT), senders);
+    let (broker, passes) = opened.expect(rt, "memory");
+    (Box::new(rt.alloc(), broker).expect(rt, "memory"), passes)
 }

@@ -212,7 +212,7 @@ where
     } = open::<N, R>(rt, 1, 1024, namespaces, tokens);
     let senders = Vec::from_array(rt.alloc(), [to_ours, to_theirs]).expect(rt, "memory");
     let (broker, passes) = broker_to::<N, R>(rt, words, namespaces, senders);
-    run_gated(rt, &broker, passes, ours, theirs, (ann, bob))
+    run_gated(rt, &*broker, passes, ours, theirs, (ann, bob))
 }
 
 // Each of the four workers waits inside its first turn for the other three; then a publish reaches a client on each node.
