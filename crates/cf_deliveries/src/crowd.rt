@@ -51,21 +51,27 @@ fn channels(alloc: Global, crowds: u32) -> Result<Vec<String>, AllocError> {
     Ok(channels)
 }
 
+/// A hub with nobody on it. It lies in a box, since a function that lends a hub of its own is dear to prove.
+fn empty_hub(alloc: Global) -> Result<Box<Hub>, AllocError> {
+    Ok(Box::new(alloc, Hub::new(alloc, 0, 1))?)
+}
+
 /// A hub of so many sessions. Those of the crowds stand apart, one of each crowd after the other.
-fn gather(alloc: Global, crowds: Crowds, channels: &[String]) -> Result<Hub, HubRefusal> {
-    let mut hub = Hub::new(alloc, 0, 1);
+fn gather(alloc: Global, crowds: Crowds, channels: &[String]) -> Result<Box<Hub>, HubRefusal> {
+    let mut boxed = empty_hub(alloc)?;
+    let hub = &mut *boxed;
     let followers = crowds.subscribers.saturating_mul(crowds.crowds);
     let step = (crowds.sessions / followers.max(1)).max(1);
     let mut turns = channels.iter().cycle().take(followers as usize);
     for number in 0..crowds.sessions {
-        let session = join(&mut hub, alloc, number)?;
+        let session = join(hub, alloc, number)?;
         if number % step == 0
             && let Some(channel) = turns.next()
         {
-            subscribe(&mut hub, alloc, session, channel.as_str())?;
+            subscribe(hub, alloc, session, channel.as_str())?;
         }
     }
-    Ok(hub)
+    Ok(boxed)
 }
 
 /// So many publications, one behind the other.
@@ -148,16 +154,28 @@ fn come_and_go(hub: &mut Hub, alloc: Global, last: u32, times: u32) -> Result<u3
 /// Times the crowds, and prints what they took.
 pub(crate) fn run(rt: &(impl Print + Clock), alloc: Global, crowds: Crowds) -> io::Result<()> {
     let channels = channels(alloc, crowds.crowds)?;
-    let publications = publications(alloc, crowds.times)?;
     let start = Instant::now(rt)?;
     let Ok(mut hub) = gather(alloc, crowds, channels.as_slice()) else {
         return println!(rt; "refused");
     };
     let gathered = start.elapsed(rt)?.as_nanos();
-    let spent = deliver(rt, &mut hub, channels.as_slice(), publications.as_slice())?;
+    run_gathered(rt, alloc, &mut *hub, channels.as_slice(), crowds, gathered)
+}
+
+/// The same of a hub that was gathered in so many nanoseconds.
+fn run_gathered(
+    rt: &(impl Print + Clock),
+    alloc: Global,
+    hub: &mut Hub,
+    channels: &[String],
+    crowds: Crowds,
+    gathered: u128,
+) -> io::Result<()> {
+    let publications = publications(alloc, crowds.times)?;
+    let spent = deliver(rt, hub, channels, publications.as_slice())?;
     let start = Instant::now(rt)?;
     let last = crowds.sessions.saturating_sub(1);
-    let Ok(came) = come_and_go(&mut hub, alloc, last, crowds.times) else {
+    let Ok(came) = come_and_go(hub, alloc, last, crowds.times) else {
         return println!(rt; "refused");
     };
     let moved = start.elapsed(rt)?.as_nanos();
