@@ -1,5 +1,5 @@
 -- Steps along a script.
-use Rattle.std.proofs.Common.{◌≡◌, ◌∙◌, ℕ, Bool, true, false, Option, Some, None, is_some, MatchOption, List, [], ◌∷◌, map, refl, sym, ap, subst, inl, inr, ◌⊎◌}
+use Rattle.std.proofs.Common.{◌≡◌, ◌==◌, ◌∙◌, ℕ, Bool, true, false, Option, Some, None, is_some, MatchOption, List, [], ◌∷◌, length, map, arith, refl, sym, ap, subst, inl, inr, ◌⊎◌}
 use Rattle.std.specs.declared.alloc.Global.{Global}
 use Rattle.std.specs.declared.collections.VecDeque.{VecDeque}
 use Rattle.cf_protocol.specs.Shown.{shown_command}
@@ -33,6 +33,12 @@ gives_up t id script after act new said (inr h) =
 pub falls_at_reply : (t : Tables) (id : ℕ) (o : Outcome) (after : Script) (act : Option Act) (new : Progress)
     → Falls id after act new → GivesUp t (Todo (Say id o after)) act new
 falls_at_reply t id o after act new h = gives_up t id (Say id o after) after act new (at_reply id o after) h
+
+-- a session that is ready is idle once no command is left
+pub idle_when_ready : (commands : List CodeCommand) {n : ℕ} → n ≡ length commands
+    → (n == 0) ≡ idle_at stage.Ready (map shown_command commands)
+idle_when_ready [] counted = ap (λ n. n == 0) counted
+idle_when_ready (k ∷ ks) counted = grind (arith, counted)
 
 -- an idle session that isn't closed is served
 pub idle_served : (t : Tables) (ks : List Command) (who : Option Who) (at : Stage)

@@ -1,0 +1,7 @@
+use Rattle.std.proofs.Common.{ap, ◌∙◌}
+use Rattle.cf_order.proofs.together.NamedOwner.append.Goals as goal
+
+pub returns-then-count-ge-MOST_ENTRIES-clause-log :
+    goal.returns-then-count-ge-MOST_ENTRIES-clause-log
+returns-then-count-ge-MOST_ENTRIES-clause-log g c =
+    ap (λ o. o.log) c.follow.ensures.owner ∙ c.self.view_is
