@@ -7,5 +7,5 @@ pub returns-then-number-lt4-clause-answer : goal.returns-then-number-lt4-clause-
 returns-then-number-lt4-clause-answer g c =
     let a = c.args in
     subst (λ (limit : ℤ). IfOk c.history.result (λ h. IsHistoryAnswer g.N.Naming.namespaces a.pass.now.log
-      c.history.new.pass.log a.channel.now a.since limit h.position h.publications.items))
+    c.history.new.pass.log a.channel.now a.since limit h.position h.publications.items))
     (to_z-of_z w32 a.limit c.ranges.limit) c.history.ensures.answer

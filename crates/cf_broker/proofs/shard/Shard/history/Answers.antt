@@ -15,4 +15,4 @@ returns-clause-answer g c =
     let listed = ListsAt c.self.inside.streams c.args.channel.now c.args.since in
     let same = to_z-of_z w32 c.args.limit c.ranges.limit in
     rw (← c.self.view_is)
-      (subst (λ (limit : ℤ). listed limit h.position h.publications.items) same c.in_ok-history.ensures.list_answer)
+    (subst (λ (limit : ℤ). listed limit h.position h.publications.items) same c.in_ok-history.ensures.list_answer)
