@@ -16,7 +16,7 @@ use Rattle.std.proofs.lemmas.Slice.Eq.{bytes_eq-Decides}
 use Rattle.cf_protocol.specs.Names.{with}
 use Rattle.cf_protocol.specs.Position.{Position}
 use Rattle.cf_client.specs.ClientState.{Mode, Asking, idle, last_of, without}
-use Rattle.cf_client.specs.ClientCalls.{Call, State, asked, moves, answered}
+use Rattle.cf_client.specs.ClientCalls.{Call, State, asked, answered}
 use Rattle.cf_client.specs.ClientView.{mode_in, ids_of}
 use Rattle.cf_client.specs.Shown.{Channels, modes_of, mode_or_idle, shown_mode, SetsMode, calls_of, shown_call}
 use Rattle.cf_client.specs.declared.calls.Call.{Call as CodeCall}

@@ -1,5 +1,5 @@
 -- Steps along a script.
-use Rattle.std.proofs.Common.{◌≡◌, ◌==◌, ◌∙◌, ℕ, Bool, true, false, Option, Some, None, is_some, MatchOption, List, [], ◌∷◌, length, map, arith, refl, sym, ap, subst, inl, inr, ◌⊎◌}
+use Rattle.std.proofs.Common.{◌≡◌, ◌==◌, ◌∙◌, ℕ, Bool, true, false, Option, Some, None, is_some, MatchOption, List, [], ◌∷◌, length, map, arith, refl, sym, ap, subst, inl, inr}
 use Rattle.std.specs.declared.alloc.Global.{Global}
 use Rattle.std.specs.declared.collections.VecDeque.{VecDeque}
 use Rattle.cf_protocol.specs.Shown.{shown_command}

@@ -7,10 +7,10 @@ use Rattle.cf_protocol.specs.Request.{Request, Command, Connect, Subscribe, Unsu
 use Rattle.cf_protocol.specs.Settings.{NamespaceTable, settings_of, user_of}
 use Rattle.cf_protocol.specs.declared.codes.ErrorCode.{ErrorCode}
 use Rattle.cf_protocol.specs.declared.codes.ErrorCode.TheVariants as error
-use Rattle.cf_session.specs.Calls.{Call, Answer, Refused, Done, Found, Attached}
+use Rattle.cf_session.specs.Calls.{Answer, Refused, Done, Found, Attached}
 use Rattle.cf_session.specs.Script.{Script}
 use Rattle.cf_protocol.specs.Checks.{Check, first_failed, is_bad_channel, is_bad_data, may_publish, may_list, checks}
-use Rattle.cf_session.specs.CommandScripts.{Tables, granted, unless_failed, command_script, connect_script, first_script, frame_script, replies, after_read, after_begin, after_attach, client_of}
+use Rattle.cf_session.specs.CommandScripts.{Tables, granted, unless_failed, connect_script, first_script, frame_script, replies, after_read, after_begin, after_attach, client_of}
 use Rattle.cf_session.specs.Asking.{AllAsk, HasStream, FramesHaveStreams}
 
 -- what a request needs

@@ -1,5 +1,5 @@
 -- How a session goes along its script, one act after another, and what becomes of it where memory is refused.
-use Rattle.std.specs.Prelude.{◌≡◌, ◌⊎◌, ℕ, List, [], ◌∷◌, Option, Some, None, Bool, true}
+use Rattle.std.specs.Prelude.{◌≡◌, ◌⊎◌, ℕ, List, ◌∷◌, Option, Some, None, Bool, true}
 use Rattle.cf_protocol.specs.Outgoing as outgoing
 use Rattle.cf_protocol.specs.Codes.{code_of}
 use Rattle.cf_protocol.specs.Written.{outgoing_text}

@@ -1,5 +1,5 @@
 -- How events make a turn, and how turns join.
-use Rattle.std.proofs.Common.{◌≡◌, ◌∙◌, ℕ, ◌+◌, ◌≤◌, List, [], ◌∷◌, ◌++◌, Option, None, Some, Result, Ok, Err, OnOk, IfErr, Bool, true, false, ◌⊎◌, ⊎_elim, inl, inr, refl, sym, ap, subst, arith, string_bytes}
+use Rattle.std.proofs.Common.{◌≡◌, ◌∙◌, ℕ, ◌+◌, ◌≤◌, List, [], ◌∷◌, ◌++◌, Option, None, Some, Result, Ok, Err, OnOk, IfErr, true, false, ◌⊎◌, ⊎_elim, inl, inr, refl, sym, ap, subst, arith, string_bytes}
 use Rattle.std.specs.declared.string.String.{String}
 use Rattle.std.specs.declared.alloc.Global.{Global}
 use Rattle.tungstenite.specs.Connection.{write_step, close_step}
@@ -13,9 +13,9 @@ use Rattle.cf_queue.specs.declared.queue.Out.{Out}
 use Rattle.cf_queue.specs.declared.queue.Out.TheVariants.{Text, Close}
 use Rattle.cf_wire.specs.Reason.{frame_of}
 use Rattle.cf_wire.specs.Stages.{WireState, is_open, is_over, has_failed, close_in, settled, Halts, Stops}
-use Rattle.cf_wire.specs.Turn.{Event, heard, passed, ended, rejected, failed, none, sent, held, refused, flushed, tried, reads, moves, is_stop, EndFits, is_bad, is_signal, code_in, bad_message, Puts, Lands, Waits, Settles, FlushLeaves, Place, place, DeskDoes, WireDoes, Did, Turns, least, end_in, least_in}
+use Rattle.cf_wire.specs.Turn.{Event, heard, passed, ended, rejected, failed, none, sent, held, refused, flushed, tried, reads, moves, is_stop, EndFits, is_bad, is_signal, code_in, bad_message, Puts, Settles, FlushLeaves, Place, place, DeskDoes, WireDoes, Did, Turns, least, end_in, least_in}
 use Rattle.cf_wire.specs.declared.end.Stage.{Stage}
-use Rattle.cf_wire.specs.declared.end.Stage.TheVariants.{Open, Unflushed, Over}
+use Rattle.cf_wire.specs.declared.end.Stage.TheVariants.{Open, Unflushed}
 use Rattle.cf_wire.specs.declared.end.TurnEnd.{TurnEnd}
 use Rattle.cf_wire.specs.declared.end.TurnEnd.TheVariants as turn
 

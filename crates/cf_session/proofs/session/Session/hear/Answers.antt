@@ -2,7 +2,7 @@ use Rattle.std.proofs.Common.{◌≡◌, map, false, refl, ap, inl, inr, ◌∙�
 use Rattle.cf_protocol.specs.Shown.{shown_command}
 use Rattle.cf_session.specs.CommandScripts.{frame_script}
 use Rattle.cf_session.specs.SessionMachine.{Todo}
-use Rattle.cf_session.specs.Standing.{tables_of, commands_left, progress_of, is_over}
+use Rattle.cf_session.specs.Standing.{tables_of, commands_left, is_over}
 use Rattle.cf_session.proofs.Steps.{idle_served, hears_served}
 use Rattle.cf_session.proofs.session.Session.hear.Goals as goal
 

@@ -1,4 +1,4 @@
-use Rattle.std.proofs.Common.{◌≡◌, ◌∙◌, true, not, is_some, ap, sym, subst, inr, List, Option, Some}
+use Rattle.std.proofs.Common.{◌≡◌, ◌∙◌, true, not, is_some, ap, sym, subst, inr, Some}
 use Rattle.cf_protocol.specs.Shown.{shown_command}
 use Rattle.cf_session.specs.Script.{Script}
 use Rattle.cf_session.specs.Standing.{Falls}

@@ -1,6 +1,5 @@
 use Rattle.std.proofs.Common.{ap, subst}
 use Rattle.tungstenite.specs.Content.{text}
-use Rattle.tungstenite.specs.Socket.{Socket}
 use Rattle.tungstenite.specs.declared.message.Message.TheVariants as message
 use Rattle.cf_queue.specs.declared.queue.Out.TheVariants.{Text}
 use Rattle.cf_wire.specs.Stages.{WireState}
