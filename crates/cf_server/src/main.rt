@@ -1,7 +1,6 @@
 //! The program `cf_server`: broadcast nodes that speak Centrifugo's client protocol.
 #![tactic(auto)]
 
-mod boot_epochs;
 mod command_line;
 mod fault;
 mod serve;

@@ -2,10 +2,10 @@
 ghost use Rattle.std.specs.Prelude.{◌≡◌};
 ghost use Rattle.cf_broker.specs.Shards.{names};
 
-use crate::boot_epochs::BootEpochs;
 use crate::command_line::ServeOptions;
 use crate::fault::Fault;
 use cf_broker::{Broker, Delivery, Naming, Passes, Words};
+use cf_epochs::{Boot, BootEpochs};
 use cf_link::{Receiver, Sender, pair};
 use cf_node::{Gate, Node, Setup};
 use cf_protocol::{Namespaces, Tokens, read_namespaces, read_tokens};
@@ -52,13 +52,15 @@ where
     if u32::from(options.port) + u32::from(options.nodes) > 65_536 {
         return Err(Fault::Setting);
     }
-    serve_on::<Brand, R>(rt, options, Words::new(alloc)?, &namespaces, &tokens)
+    let boot = Boot::new(options.boot).ok_or(Fault::Setting)?;
+    serve_on::<Brand, R>(rt, options, boot, Words::new(alloc)?, &namespaces, &tokens)
 }
 
 // The same over these words and namespaces, which the type names.
 fn serve_on<N, R>(
     rt: &R,
     options: ServeOptions<'_>,
+    boot: Boot,
     words: Words,
     namespaces: &Namespaces,
     tokens: &Tokens,
@@ -71,7 +73,7 @@ where
 {
     let alloc = rt.alloc();
     let (senders, nodes) = open_nodes::<N, R>(rt, options, namespaces, tokens)?;
-    let (broker, passes) = open_broker::<N>(alloc, options.boot, words, namespaces, senders)?;
+    let (broker, passes) = open_broker::<N>(alloc, boot, words, namespaces, senders)?;
     let broker = &*broker;
     let nodes = with_passes(alloc, broker, passes, nodes)?;
     let gate = RunningClock {
@@ -84,7 +86,7 @@ where
 // The broker and its passes. It lies in a box, since a function that lends a broker of its own is dear to prove.
 fn open_broker<N: Naming>(
     alloc: Global,
-    boot: u64,
+    boot: Boot,
     words: Words,
     namespaces: &Namespaces,
     senders: Vec<Sender<Delivery>>,
@@ -92,7 +94,7 @@ fn open_broker<N: Naming>(
     requires words { words ≡ names N.words 16 }
     requires namespaces { namespaces.now ≡ N.namespaces }
 {
-    let epochs = epochs_of(boot);
+    let epochs = BootEpochs::of_shards(boot);
     let (broker, passes) = Broker::<N, BootEpochs>::new(alloc, words, namespaces, epochs, senders)?;
     let broker = Box::new(alloc, broker)?;
     Ok((broker, passes))
@@ -170,28 +172,6 @@ fn listen<R: Print + Net>(
     let address = listener.local_addr()?;
     println!(rt; "node {node} {address}")?;
     Ok(listener)
-}
-
-/// The epochs of the sixteen shards.
-pub fn epochs_of(boot: u64) -> [BootEpochs; 16] {
-    [
-        BootEpochs::new(boot, 0),
-        BootEpochs::new(boot, 1),
-        BootEpochs::new(boot, 2),
-        BootEpochs::new(boot, 3),
-        BootEpochs::new(boot, 4),
-        BootEpochs::new(boot, 5),
-        BootEpochs::new(boot, 6),
-        BootEpochs::new(boot, 7),
-        BootEpochs::new(boot, 8),
-        BootEpochs::new(boot, 9),
-        BootEpochs::new(boot, 10),
-        BootEpochs::new(boot, 11),
-        BootEpochs::new(boot, 12),
-        BootEpochs::new(boot, 13),
-        BootEpochs::new(boot, 14),
-        BootEpochs::new(boot, 15),
-    ]
 }
 
 // Runs each node in a thread of its own until standard input ends.

@@ -2,10 +2,9 @@
 ghost use Rattle.std.specs.Prelude.{◌≡◌, ◌<◌};
 ghost use Rattle.cf_broker.specs.Shards.{names};
 
-use crate::boot_epochs::BootEpochs;
 use crate::command_line::DEFAULT_NAMESPACES;
-use crate::serve::epochs_of;
 use cf_broker::{Broker, Delivery, Naming, Passes, Words};
+use cf_epochs::{Boot, BootEpochs};
 use cf_link::{Sender, pair};
 use cf_node::{Node, Setup};
 use cf_protocol::{Namespaces, Tokens, read_namespaces, read_tokens};
@@ -78,7 +77,9 @@ pub(super) fn broker_to<N: Naming, R: Abort + AllocGlobal>(
     requires words { words ≡ names N.words 16 }
     requires namespaces { namespaces.now ≡ N.namespaces }
 {
-    let opened = Broker::new(rt.alloc(), words, namespaces, epochs_of(BOOT), senders);
+    let boot = Boot::new(BOOT).expect(rt, "a boot number");
+    let epochs = BootEpochs::of_shards(boot);
+    let opened = Broker::new(rt.alloc(), words, namespaces, epochs, senders);
     let (broker, passes) = opened.expect(rt, "memory");
     (Box::new(rt.alloc(), broker).expect(rt, "memory"), passes)
 }

@@ -4,8 +4,8 @@ ghost use Rattle.cf_broker.specs.Shards.{names};
 
 use super::nodes::{Opened, broker_to, default_settings, open};
 use super::peer::{Peer, connect};
-use crate::boot_epochs::BootEpochs;
 use cf_broker::{Broker, Naming, Passes, Words};
+use cf_epochs::BootEpochs;
 use cf_node::{Gate, Node};
 use cf_protocol::{Namespaces, Tokens};
 use std::io::{Read, Write};
