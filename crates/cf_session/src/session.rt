@@ -4,7 +4,7 @@ ghost use Rattle.cf_protocol.specs.Codes.{code_of};
 ghost use Rattle.cf_protocol.specs.Datum.{Who};
 ghost use Rattle.cf_protocol.specs.Shown.{shown_command, shown_outcome, shown_request};
 ghost use Rattle.cf_session.specs.Calls as call;
-ghost use Rattle.cf_session.specs.CommandScripts.{granted, after_attach, after_begin};
+ghost use Rattle.cf_session.specs.CommandScripts.{granted, replies, after_attach, after_begin};
 ghost use Rattle.cf_session.specs.Script as script;
 ghost use Rattle.cf_session.specs.SessionMachine.{Todo, Out, Calls, Closes, GoesOn, awaits};
 ghost use Rattle.cf_session.specs.Shown.{shown_action, shown_answer, answer_kind};
@@ -393,33 +393,14 @@ impl<'a> Session<'a> {
                 self.stage = Stage::Leaving { id };
                 Ok(Some(Action::Leave { channel }))
             }
-            Request::Publish { channel, body } => {
-                let info = match &self.client {
-                    Some(info) => info.copied()?,
-                    None => return Ok(None),
-                };
-                let body = match body {
-                    Data::Body(body) => body,
-                    Data::Absent => String::new(self.alloc),
-                    Data::TooDeep => String::new(self.alloc),
-                };
-                let kind = Kind::Publish;
-                self.stage = Stage::Calling { id, kind };
-                Ok(Some(Action::Publish {
-                    channel,
-                    body,
-                    info,
-                }))
-            }
+            Request::Publish { channel, body } => self.publish(id, channel, body),
             Request::Presence { channel } => {
-                let kind = Kind::Presence;
-                self.stage = Stage::Calling { id, kind };
-                Ok(Some(Action::Presence { channel }))
+                let action = Action::Presence { channel };
+                Ok(Some(self.call(id, Kind::Presence, action)))
             }
             Request::PresenceStats { channel } => {
-                let kind = Kind::Stats;
-                self.stage = Stage::Calling { id, kind };
-                Ok(Some(Action::Stats { channel }))
+                let action = Action::Stats { channel };
+                Ok(Some(self.call(id, Kind::Stats, action)))
             }
             Request::History {
                 channel,
@@ -427,13 +408,12 @@ impl<'a> Session<'a> {
                 since,
                 ..
             } => {
-                let kind = Kind::History;
-                self.stage = Stage::Calling { id, kind };
-                Ok(Some(Action::History {
+                let action = Action::History {
                     channel,
                     limit,
                     since,
-                }))
+                };
+                Ok(Some(self.call(id, Kind::History, action)))
             }
             Request::Ping => Ok(Some(self.say(id, Outcome::Pinged))),
             Request::Pong => Ok(Some(Action::Pong)),
@@ -441,6 +421,53 @@ impl<'a> Session<'a> {
             Request::Other => Ok(None),
             Request::Connect { .. } => Ok(Some(self.close(CloseCode::BadRequest))),
         }
+    }
+
+    /// A publication of the client's. A missing body is the empty text.
+    fn publish(
+        &mut self,
+        id: u32,
+        channel: String,
+        body: Data,
+    ) -> Result<Option<Action>, AllocError>
+        requires { self.old.stage ≡ Stage.Ready }
+        ensures acts { (who : Who) → self.old.client ≡ Some who
+            → IfOk result
+            (λ r. Begins self.old
+            (granted who id (shown_request (Request.Publish channel body)) (rest_of self.old))
+            r self.new) }
+        ensures err { OnErr result (self.new.stage ≡ Stage.Ready) }
+        ensures client { OnErr result (self.new.client ≡ self.old.client) }
+        ensures tables { tables_of self.new ≡ tables_of self.old }
+        ensures frame { self.new.frame ≡ self.old.frame }
+        ensures work { OnOk result (work_at self.new.stage < 7) }
+    {
+        let info = match &self.client {
+            Some(info) => info.copied()?,
+            None => return Ok(None),
+        };
+        let body = match body {
+            Data::Body(text) => text,
+            Data::Absent | Data::TooDeep => String::new(self.alloc),
+        };
+        let action = Action::Publish {
+            channel,
+            body,
+            info,
+        };
+        Ok(Some(self.call(id, Kind::Publish, action)))
+    }
+
+    /// The client's node is asked for something, whose answer is the reply to a command.
+    fn call(&mut self, id: u32, kind: Kind, action: Action) -> Action
+        ensures action { result ≡ action }
+        ensures goes { progress_of self.new ≡ Out kind (replies id (rest_of self.old)) }
+        ensures tables { tables_of self.new ≡ tables_of self.old }
+        ensures frame { self.new.frame ≡ self.old.frame }
+        ensures work { work_at self.new.stage < 7 }
+    {
+        self.stage = Stage::Calling { id, kind };
+        action
     }
 
     /// A subscription is begun.
