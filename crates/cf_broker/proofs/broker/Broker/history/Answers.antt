@@ -9,3 +9,6 @@ returns-then-number-lt4-clause-answer g c =
     subst (λ (limit : ℤ). IfOk c.history.result (λ h. IsHistoryAnswer g.N.Naming.namespaces a.pass.now.log
     c.history.new.pass.log a.channel.now a.since limit h.position h.publications.items))
     (to_z-of_z w32 a.limit c.ranges.limit) c.history.ensures.answer
+
+pub returns-then-number-lt4-clause-refusals : goal.returns-then-number-lt4-clause-refusals
+returns-then-number-lt4-clause-refusals g c = c.history.ensures.refusals

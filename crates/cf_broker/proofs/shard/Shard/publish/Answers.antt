@@ -1,3 +1,4 @@
+use Rattle.cf_broker.specs.Shard.{datum_of}
 use Rattle.cf_broker.proofs.Calls.{opening_stood, noted, kept, published_by_log, follows, stood_at, refused_alike}
 use Rattle.cf_broker.proofs.shard.Shard.publish.Goals as goal
 
@@ -25,3 +26,6 @@ pub returns-clause-own : goal.returns-clause-own
 returns-clause-own g c =
     let owner = noted _ _ _ _ _ c.follow.ensures.owner (c.note_publish.ensures.owner _ c.in_ok-position.ensures.newest) (opening_stood c.self.inside.streams c.args.channel.now _ _ _ _ c.position.ensures.position c.top_of-stood.ensures) in
     follows _ _ _ _ _ _ 1 c.follow.ensures.seen.0 c.follow.ensures.pass owner.1 c.note_publish.ensures.whole c.note_publish.ensures.share
+
+pub returns-clause-offered : goal.returns-clause-offered
+returns-clause-offered g c = c.offer_all.ensures c.args.channel.now (datum_of c.args.body c.args.info) c.in_ok-copies.ensures.copies
