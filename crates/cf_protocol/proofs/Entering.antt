@@ -1,5 +1,5 @@
 -- The entries of a settings text.
-use Rattle.std.proofs.Common.{◌≡◌, ◌≢◌, ℕ, Bool, true, false, cond, nat_le, List, [], ◌∷◌, ◌++◌, length, refl, sym, ap, ◌∙◌, subst, arith, MatchOption, ◌==◌, eqb-true}
+use Rattle.std.proofs.Common.{◌≡◌, ◌≢◌, ℕ, Bool, true, false, cond, nat_le, List, [], ◌∷◌, ◌++◌, length, refl, sym, ap, ◌∙◌, subst, arith, rules, MatchOption, ◌==◌, eqb-true}
 use Rattle.std.specs.Prelude.{Option, Some, None}
 use Rattle.std.specs.List.{list_all, All, AllZip, join_with_byte}
 use Rattle.std.specs.List.Sorted.{IsPermutation}
@@ -224,3 +224,8 @@ no_tokens [] (x ∷ t) e h = absurd (by_parts (x ∷ t) (parts_of_table tokens [
     by_parts [] z = z
     by_parts (f ∷ u) z = token_uncut [] tt f z.0
 no_tokens (b ∷ text) (x ∷ t) e h = absurd (omega (arith, eqb-true (length (b ∷ text)) 0 e))
+
+-- the empty text sets up no token
+pub no_text : (text : List ℕ) → (length text == 0) ≡ true → IsTable IsToken text []
+no_text [] e = search (rules)
+no_text (b ∷ text) e = absurd (omega (arith, eqb-true (length (b ∷ text)) 0 e))

@@ -5,10 +5,14 @@ use Rattle.std.proofs.lemmas.Iterator.Consumers.{YieldsList-so_far, YieldsList-t
 use Rattle.std.proofs.lemmas.Iterator.Splits.{YieldsList-from_str_split}
 use Rattle.std.proofs.lemmas.List.{map-append}
 use Rattle.cf_protocol.specs.Settings.{in_bytes}
-use Rattle.cf_protocol.specs.SettingsText.{IsToken}
-use Rattle.cf_protocol.proofs.Entering.{tokens, some_tokens, no_tokens}
+use Rattle.cf_protocol.specs.SettingsText.{IsTable, IsToken}
+use Rattle.cf_protocol.proofs.Entering.{tokens, some_tokens, no_tokens, no_text}
 use Rattle.cf_protocol.proofs.Listing.{part_at, table_more, table_of_parts, same_table, refused_so}
 use Rattle.cf_protocol.proofs.tokens.read_tokens.Goals as goal
+
+pub returns-then-is_empty-clause-found : goal.returns-then-is_empty-clause-found
+returns-then-is_empty-clause-found c =
+    subst (IsTable IsToken c.args.text.now) (sym (ap in_bytes c.new-entries.ensures.items)) (no_text c.args.text.now (sym c.is_empty.ensures ∙ c.if-is_empty.true))
 
 pub returns-then-is_empty-clause-only : goal.returns-then-is_empty-clause-only
 returns-then-is_empty-clause-only c = λ table h.
