@@ -48,8 +48,8 @@ impl Epochs for BootEpochs {
 }
 
 impl BootEpochs {
-    /// A shard's epochs at this start, from the first.
-    pub fn new(boot: Boot, shard: u8) -> BootEpochs
+    // A shard's epochs at this start, from the first.
+    fn new(boot: Boot, shard: u8) -> BootEpochs
         ensures { result ≡ unused boot shard }
     {
         BootEpochs {
@@ -59,7 +59,7 @@ impl BootEpochs {
         }
     }
 
-    /// Those of the sixteen shards.
+    /// The epochs of the sixteen shards at this start, from the first.
     pub fn of_shards(boot: Boot) -> [BootEpochs; 16]
         ensures { AreOfShards boot result }
     {
