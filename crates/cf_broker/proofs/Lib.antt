@@ -1,5 +1,3 @@
-pub mod Offers
-pub mod Logs
-pub mod Calls
+pub mod Seen
 pub mod Numbers
 pub mod Refusals

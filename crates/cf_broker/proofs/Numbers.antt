@@ -7,7 +7,8 @@ use mathlib.Core.Logic.{dite}
 use native.Mathlib.Decide.{dec_le}
 use Rattle.atomic_table.specs.Seated.{TableId}
 use Rattle.cf_order.specs.Passes.{PassState, first_pass}
-use Rattle.cf_broker.specs.Shards.{names, word_of, by_number, no_word, pass_at, AreOfShards, lent}
+use Rattle.cf_shard.specs.Naming.{no_word}
+use Rattle.cf_broker.specs.Shards.{names, word_of, by_number, pass_at, AreOfShards, lent}
 
 pub names_more : (t : ℕ → TableId) (i : ℕ) → names t (i + 1) ≡ names t i ++ t i ∷ []
 unfolding names

@@ -12,11 +12,10 @@ use Rattle.cf_stream.specs.PublicationList.{Life}
 use Rattle.cf_stream.specs.Stream.{Shown}
 use Rattle.cf_stream.specs.StreamState.{last_offset}
 use Rattle.cf_stream.specs.Streams.{IsOfAnother, Kept, size_at, stream_of}
-use Rattle.cf_broker.specs.LogAnswer.{HasNoRoom, HasNone, IsAtLast, IsOutside, RefusesEntry, RefusesHistory, RefusesPublish, RefusesRead, life_after}
-use Rattle.cf_broker.specs.Shard.{IsFull}
-use Rattle.cf_broker.specs.declared.refusal.Refused.{Refused}
-use Rattle.cf_broker.specs.declared.refusal.Refused.TheVariants.{AtLastOffset, WrongEpoch, NoEpoch, AtLastCount}
-use Rattle.cf_broker.proofs.Calls.{opening_alike, if_stands_alike}
+use Rattle.cf_shard.specs.LogAnswer.{HasNoRoom, HasNone, IsAtLast, IsOutside, RefusesEntry, RefusesHistory, RefusesPublish, RefusesRead, life_after}
+use Rattle.cf_shard.specs.Shard.{IsFull}
+use Rattle.cf_shard.specs.declared.refusal.Refused.{Refused}
+use Rattle.cf_shard.specs.declared.refusal.Refused.TheVariants.{AtLastOffset, WrongEpoch, NoEpoch, AtLastCount}
 
 none_shown : (size : ℕ) (s : Option Shown) (l : Option Life) → ShowsAt size s l → s ≡ None → l ≡ None
 none_shown size None None h e = refl
@@ -36,6 +35,19 @@ outside_shown size (Some s) (Some l) (Some p) h = (λ e f. e (f ∙ sym h.0.epoc
 outside_shown size (Some s) None (Some p) h = absurd h
 outside_shown size None (Some l) (Some p) h = absurd h
 
+-- entries that begin with an opening, or that stand where a stream does, have as much room by the log
+full_shown : (size : ℕ) (s : Option Shown) (l : Option Life) (log : List Entry) (c : List ℕ) (es : List Entry) → ShowsAt size s l → IsFull log (opening s c [] es) → IsFull log (opening l c [] es)
+full_shown size None None log c es h full = full
+full_shown size (Some s) (Some l) log c es h full = full
+full_shown size None (Some l) log c es h full = absurd h
+full_shown size (Some s) None log c es h full = absurd h
+
+full_entry_shown : (size : ℕ) (s : Option Shown) (l : Option Life) (log : List Entry) (x : Entry) → ShowsAt size s l → IsFull log (if_stands s x) → IsFull log (if_stands l x)
+full_entry_shown size None None log x h full = full
+full_entry_shown size (Some s) (Some l) log x h full = full
+full_entry_shown size None (Some l) log x h full = absurd h
+full_entry_shown size (Some s) None log x h full = absurd h
+
 -- one error of two
 err_same : {X : Type 0} {a b : Refused} → IsErrOf {T = X} (Err a) b → a ≡ b
 err_same e = cc (e)
@@ -51,7 +63,7 @@ module _ (t : NamespaceTable) (k : Kept) (was log : List Entry) (c : List ℕ) (
   full_by_log : (es : List Entry) → log ≡ was → IsFull was (opening (stream_of k c) c [] es) → HasNoRoom t log c es
   full_by_log es is e =
       subst (λ (l : List Entry). HasNoRoom t l c es) (sym is)
-      (subst (IsFull was) (opening_alike (size_at t c) (stream_of k c) (life_after t was c) c [] es shows) e)
+      (full_shown (size_at t c) (stream_of k c) (life_after t was c) was c es shows e)
 
   at_last_by_log : log ≡ was → IsSomeAnd (stream_of k c) (λ s. s.top ≡ last_offset) ↔ IsAtLast t log c
   at_last_by_log is = subst (λ (l : List Entry). IsSomeAnd (stream_of k c) (λ s. s.top ≡ last_offset) ↔ IsAtLast t l c) (sym is) (top_shown _ last_offset _ _ shows)
@@ -96,5 +108,5 @@ module _ (t : NamespaceTable) (k : Kept) (was log : List Entry) (c : List ℕ) (
   entry_by_log (Err e) x refused is = (
     refused.0,
     subst (λ (l : List Entry). IsFull l (if_stands (life_after t l c) x)) (sym (is refused.1))
-        (subst (IsFull was) (if_stands_alike (size_at t c) (stream_of k c) (life_after t was c) x shows) refused.2),
+        (full_entry_shown (size_at t c) (stream_of k c) (life_after t was c) was x shows refused.2),
   )

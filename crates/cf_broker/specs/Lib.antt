@@ -1,5 +1,1 @@
 pub mod Shards
-pub mod ShardLog
-pub mod LogAnswer
-pub mod Delivery
-pub mod Shard

@@ -2,14 +2,11 @@
 use Rattle.std.specs.Prelude.{◌≡◌, ℕ, zero, suc, ◌%◌, List, [], ◌∷◌, ◌++◌, map, sum, slice_index_or}
 use Rattle.atomic_table.specs.Seated.{TableId}
 use Rattle.cf_order.specs.Passes.{PassState, first_pass}
+use Rattle.cf_shard.specs.Naming.{no_word}
 
 -- the number of a channel's shard: the sum of the channel's bytes, modulo 16
 abbrev pub number_of : List ℕ → ℕ
 number_of channel = sum channel % 16
-
--- the name of no word
-abbrev pub no_word : TableId
-no_word = record { words = 0; slots = 0; views_name = 0; atom = 0; block = 0; offset = 0; slot_names = [] }
 
 -- the names of the first words, by number
 unfoldable pub names : (words : ℕ → TableId) → (count : ℕ) → List TableId

@@ -3,22 +3,19 @@ ghost use Rattle.std.specs.Prelude.{◌≡◌, ◌≢◌, ◌+◌, ◌<◌, ◌�
 ghost use mathlib.Core.List.{IsPrefix};
 ghost use Rattle.cf_protocol.specs.Settings.{settings_of};
 ghost use Rattle.cf_protocol.specs.LogEntry.Entry.{Trim, Forget};
-ghost use Rattle.cf_broker.specs.LogAnswer.{Follows, IsPosition, IsPublished, IsReadAnswer, IsHistoryAnswer, IsTrimmed, IsForgotten, IsTicked, RefusesPublish, RefusesRead, RefusesHistory, RefusesEntry};
-ghost use Rattle.cf_broker.specs.Shard.{datum_of};
+ghost use Rattle.cf_shard.specs.LogAnswer.{Follows, IsPosition, IsPublished, IsReadAnswer, IsHistoryAnswer, IsTrimmed, IsForgotten, IsTicked, RefusesPublish, RefusesRead, RefusesHistory, RefusesEntry};
+ghost use Rattle.cf_shard.specs.Shard.{datum_of};
 ghost use Rattle.cf_broker.specs.Shards.{number_of, names, first_passes};
 
-use crate::delivery::Delivery;
-use crate::naming::Naming;
 use crate::parts::parts_of;
 use crate::places::Places;
 use crate::quarter::{Quarter, at_one, last_quarter};
-use crate::refusal::Refused;
-use crate::shard::ReadAnswer;
 use crate::words::{Passes, Words};
 use cf_link::Sender;
 use cf_order::{Pass, ShardWord};
 use cf_presence::Stats;
 use cf_protocol::{Info, Namespaces, Position};
+use cf_shard::{Delivery, Naming, ReadAnswer, Refused};
 use cf_stream::{Epochs, History};
 use std::alloc::{AllocError, Global};
 use std::collections::BTreeMap;
@@ -241,7 +238,7 @@ impl<N: Naming, E: Epochs + Drop> Broker<N, E> {
 
     /// Whether the log of a channel's shard has no more entries than a mark, by one load: it waits for nobody and takes no
     /// memory. Where it says so to a pass that has seen as many entries as the mark, the log then was what the pass had seen.
-    #[tactic(auto, using(crate::proofs::Calls::still_that))]
+    #[tactic(auto, using(crate::proofs::Seen::still_that))]
     pub fn quiet_since(&self, pass: &mut Pass, channel: &str, mark: u64) -> bool
         requires { pass.old.word ≡ N.words (number_of channel.now) }
         ensures looked { pass.new ≡

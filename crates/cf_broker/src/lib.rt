@@ -7,20 +7,12 @@
 #![tactic(auto)]
 
 mod broker;
-mod delivery;
-mod entries;
-mod naming;
+mod links;
 mod parts;
 mod place;
 mod places;
 mod quarter;
-mod refusal;
-mod shard;
 mod words;
 
 pub use broker::{Broker, SHARDS, shard_of};
-pub use delivery::{Delivery, Links};
-pub use naming::Naming;
-pub use refusal::Refused;
-pub use shard::{ReadAnswer, Shard};
 pub use words::{Passes, Words};

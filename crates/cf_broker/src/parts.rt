@@ -1,12 +1,12 @@
 //! What shards are made of, and how.
 ghost use Rattle.std.specs.Prelude.{◌≡◌, ◌+◌, IfOk, vec_len};
-ghost use Rattle.cf_broker.specs.Shard.{no_streams};
+ghost use Rattle.cf_shard.specs.Shard.{no_streams};
 ghost use Rattle.cf_broker.specs.Shards.{names};
 
-use crate::naming::Naming;
 use crate::place::Place;
 use crate::words::NewWord;
 use cf_protocol::Namespaces;
+use cf_shard::Naming;
 use cf_stream::{Epochs, Streams};
 use std::alloc::{AllocError, Global};
 use std::marker::PhantomData;

@@ -1,16 +1,14 @@
 //! One shard under its lock, beside its word.
 ghost use Rattle.std.specs.Prelude.{◌≡◌, []};
-ghost use Rattle.cf_broker.specs.Shard.{no_streams};
+ghost use Rattle.cf_shard.specs.Shard.{no_streams};
 
-use crate::delivery::{Delivery, NodeLinks};
-use crate::naming::Naming;
+use crate::links::NodeLinks;
 use crate::places::Places;
-use crate::refusal::Refused;
-use crate::shard::{ReadAnswer, Shard};
 use cf_link::Sender;
 use cf_order::{Owner, Pass, ShardWord};
 use cf_presence::Stats;
 use cf_protocol::{Info, Position};
+use cf_shard::{Delivery, Naming, ReadAnswer, Refused, Shard};
 use cf_stream::{Epochs, History, Streams};
 use std::alloc::Global;
 use std::collections::BTreeMap;

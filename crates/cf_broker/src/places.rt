@@ -2,17 +2,14 @@
 ghost use Rattle.std.specs.Prelude.{◌≡◌, length, IfOk, IfErr, OnOk, OnErr, IsSome};
 ghost use Rattle.cf_protocol.specs.Settings.{settings_of};
 ghost use Rattle.cf_protocol.specs.LogEntry.Entry.{Trim, Forget};
-ghost use Rattle.cf_broker.specs.LogAnswer.{Follows, IsPosition, IsPublished, IsReadAnswer, IsHistoryAnswer, IsTrimmed, IsForgotten, IsTicked, RefusesPublish, RefusesRead, RefusesHistory, RefusesEntry};
-ghost use Rattle.cf_broker.specs.Shard.{datum_of};
+ghost use Rattle.cf_shard.specs.LogAnswer.{Follows, IsPosition, IsPublished, IsReadAnswer, IsHistoryAnswer, IsTrimmed, IsForgotten, IsTicked, RefusesPublish, RefusesRead, RefusesHistory, RefusesEntry};
+ghost use Rattle.cf_shard.specs.Shard.{datum_of};
 
-use crate::delivery::Delivery;
-use crate::naming::Naming;
-use crate::refusal::Refused;
-use crate::shard::ReadAnswer;
 use cf_link::Sender;
 use cf_order::{Pass, ShardWord};
 use cf_presence::Stats;
 use cf_protocol::{Info, Position};
+use cf_shard::{Delivery, Naming, ReadAnswer, Refused};
 use cf_stream::History;
 use std::collections::BTreeMap;
 use std::sync::{Mutex, Wait};

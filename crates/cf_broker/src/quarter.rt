@@ -2,18 +2,15 @@
 ghost use Rattle.std.specs.Prelude.{◌≡◌, ◌+◌, vec_len};
 ghost use Rattle.cf_broker.specs.Shards.{names};
 
-use crate::delivery::Delivery;
-use crate::naming::Naming;
 use crate::parts::{Part, last_place};
 use crate::place::Place;
 use crate::places::Places;
-use crate::refusal::Refused;
-use crate::shard::ReadAnswer;
 use crate::words::NewWord;
 use cf_link::Sender;
 use cf_order::{Pass, ShardWord};
 use cf_presence::Stats;
 use cf_protocol::{Info, Position};
+use cf_shard::{Delivery, Naming, ReadAnswer, Refused};
 use cf_stream::{Epochs, History};
 use std::alloc::Global;
 use std::collections::BTreeMap;

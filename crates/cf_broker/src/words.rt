@@ -4,8 +4,8 @@ ghost use Rattle.cf_order.specs.Passes.{first_pass};
 ghost use Rattle.cf_broker.specs.Shards.{by_number, names, lent, pass_at};
 
 use crate::broker::{Broker, SHARDS};
-use crate::naming::Naming;
 use cf_order::{Owner, Pass, ShardWord};
+use cf_shard::Naming;
 use cf_stream::Epochs;
 use std::alloc::{AllocError, Global};
 use std::marker::{Model, PhantomData};

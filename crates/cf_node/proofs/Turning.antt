@@ -1,6 +1,6 @@
 -- Turns of a dispatcher, one after another.
 use Rattle.std.proofs.Common.{Option, [], ◌∷◌, refl}
-use Rattle.cf_broker.specs.Delivery.{Carried}
+use Rattle.cf_shard.specs.Delivery.{Carried}
 use Rattle.cf_hub.specs.declared.delivered.Delivered.{Delivered}
 use Rattle.cf_turns.specs.Dispatch.{Dispatches, TakesTurn}
 

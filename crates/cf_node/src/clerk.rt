@@ -4,10 +4,10 @@ ghost use Rattle.cf_protocol.specs.Settings.{settings_of};
 
 use crate::house::House;
 use crate::member::Member;
-use cf_broker::Refused;
 use cf_protocol::{ErrorCode, Info, Position};
 use cf_queue::Out;
 use cf_session::{Action, Answer};
+use cf_shard::Refused;
 use cf_stream::History;
 use cf_talk::Node;
 use cf_turns::take_for;

@@ -3,9 +3,9 @@ ghost use Rattle.cf_turns.specs.Dispatch.{Dispatches};
 
 use crate::gate::{DISPATCHER, Gate};
 use crate::shared::Shared;
-use cf_broker::Delivery;
 use cf_hub::Delivered;
 use cf_link::Receiver;
+use cf_shard::Delivery;
 use cf_turns::{Post, pass_on};
 use std::sync::Wait;
 use std::sync::atomic::{AtomicU64, Ordering};

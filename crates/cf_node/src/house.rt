@@ -3,11 +3,11 @@ ghost use Rattle.std.specs.Prelude.{◌≡◌, true, IsSome};
 ghost use Rattle.cf_protocol.specs.Settings.{settings_of};
 ghost use Rattle.cf_session.specs.Standing.{is_idle, tables_of};
 
-use cf_broker::{ReadAnswer, Refused};
 use cf_hub::Hub;
 use cf_presence::Stats;
 use cf_protocol::{Info, Position};
 use cf_session::Session;
+use cf_shard::{ReadAnswer, Refused};
 use cf_stream::History;
 use std::alloc::Global;
 use std::collections::BTreeMap;

@@ -4,11 +4,12 @@ ghost use Rattle.cf_broker.specs.Shards.{names};
 
 use crate::command_line::ServeOptions;
 use crate::fault::Fault;
-use cf_broker::{Broker, Delivery, Naming, Passes, Words};
+use cf_broker::{Broker, Passes, Words};
 use cf_epochs::{Boot, BootEpochs};
 use cf_link::{Receiver, Sender, pair};
 use cf_node::{Gate, Node, Setup};
 use cf_protocol::{Namespaces, Tokens, read_namespaces, read_tokens};
+use cf_shard::{Delivery, Naming};
 use mio::net::TcpListener;
 use std::alloc::{AllocError, Global};
 use std::marker::Brand;

@@ -1,6 +1,6 @@
 -- What a dispatcher does with what comes over its link. (This project's own profile.)
 use Rattle.std.specs.Prelude.{◌≡◌, ◌+◌, ◌==◌, not, Bool, true, false, Option, Some, None, List, [], ◌∷◌}
-use Rattle.cf_broker.specs.Delivery.{Carried}
+use Rattle.cf_shard.specs.Delivery.{Carried}
 use Rattle.cf_hub.specs.declared.delivered.Delivered.{Delivered}
 
 -- a client got something by a delivery: the publication, that its subscription ended, or a close

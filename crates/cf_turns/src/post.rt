@@ -2,13 +2,13 @@
 ghost use Rattle.std.specs.Prelude.{◌≡◌};
 ghost use Rattle.cf_turns.specs.Dispatch.{TakesTurn, stirs};
 
-use cf_broker::Delivery;
 use cf_hub::Delivered;
+use cf_shard::Delivery;
 
 /// Where publications come from, and where they go. What each call does it states itself.
 pub trait Post {
     ghost use Rattle.std.specs.Prelude.{Option};
-    ghost use Rattle.cf_broker.specs.Delivery.{Carried};
+    ghost use Rattle.cf_shard.specs.Delivery.{Carried};
     ghost use Rattle.cf_hub.specs.declared.delivered.Delivered.{Delivered as Counts};
 
     /// This comes, or nothing does.

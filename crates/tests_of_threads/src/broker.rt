@@ -5,10 +5,11 @@ ghost use Rattle.cf_broker.specs.Shards.{names, number_of};
 
 mod threads;
 
-use cf_broker::{Broker, Delivery, Naming, Passes, Refused, Words, shard_of};
+use cf_broker::{Broker, Passes, Words, shard_of};
 use cf_link::{Receiver, Sender, pair};
 use cf_order::Pass;
 use cf_protocol::{Epoch, Info, Namespaces, Position, read_namespaces};
+use cf_shard::{Delivery, Naming, Refused};
 use cf_stream::Epochs;
 use std::alloc::Global;
 use std::marker::Brand;

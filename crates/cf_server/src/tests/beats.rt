@@ -4,10 +4,11 @@ ghost use Rattle.cf_broker.specs.Shards.{names};
 
 use super::nodes::{Opened, broker_to, default_settings, open};
 use super::peer::{Peer, connect};
-use cf_broker::{Broker, Naming, Passes, Words, shard_of};
+use cf_broker::{Broker, Passes, Words, shard_of};
 use cf_epochs::BootEpochs;
 use cf_node::{DISPATCHER, Gate, Node};
 use cf_protocol::{Namespaces, Tokens};
+use cf_shard::Naming;
 use std::alloc::Global;
 use std::io::{Read, Write};
 use std::marker::Brand;

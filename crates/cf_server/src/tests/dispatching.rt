@@ -1,8 +1,8 @@
 //! Turns of a dispatcher over a link and a hub in memory.
-use cf_broker::Delivery;
 use cf_hub::{Delivered, Hub};
 use cf_protocol::{Epoch, Position, Publication};
 use cf_queue::Out;
+use cf_shard::Delivery;
 use cf_stream::Recovery;
 use cf_turns::{Post, Seats, pass_on, take_batch, take_for};
 use std::alloc::Global;

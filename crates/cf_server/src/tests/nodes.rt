@@ -3,11 +3,12 @@ ghost use Rattle.std.specs.Prelude.{◌≡◌, ◌<◌};
 ghost use Rattle.cf_broker.specs.Shards.{names};
 
 use crate::command_line::DEFAULT_NAMESPACES;
-use cf_broker::{Broker, Delivery, Naming, Passes, Words};
+use cf_broker::{Broker, Passes, Words};
 use cf_epochs::{Boot, BootEpochs};
 use cf_link::{Sender, pair};
 use cf_node::{Node, Setup};
 use cf_protocol::{Namespaces, Tokens, read_namespaces, read_tokens};
+use cf_shard::{Delivery, Naming};
 use mio::net::TcpListener;
 use std::net::{Ipv4Addr, Net, SocketAddr};
 use std::process::Abort;

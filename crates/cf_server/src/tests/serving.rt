@@ -4,10 +4,11 @@ ghost use Rattle.cf_broker.specs.Shards.{names};
 
 use super::nodes::{Opened, broker_to, default_settings, open};
 use super::peer::{Peer, connect};
-use cf_broker::{Broker, Naming, Passes, Words};
+use cf_broker::{Broker, Passes, Words};
 use cf_epochs::BootEpochs;
 use cf_node::{Gate, Node};
 use cf_protocol::{Namespaces, Tokens};
+use cf_shard::Naming;
 use std::io::{Read, Write};
 use std::marker::Brand;
 use std::net::{Net, SocketAddr};

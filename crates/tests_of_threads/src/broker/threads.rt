@@ -4,9 +4,10 @@ ghost use Rattle.cf_protocol.specs.Settings.{settings_of};
 ghost use Rattle.cf_broker.specs.Shards.{names, number_of};
 
 use super::{Same, holds, namespaces_of, opened, position_at, stands_at};
-use cf_broker::{Broker, Naming, Words, shard_of};
+use cf_broker::{Broker, Words, shard_of};
 use cf_order::Pass;
 use cf_protocol::Namespaces;
+use cf_shard::Naming;
 use cf_stream::Epochs;
 use std::alloc::Global;
 use std::marker::Brand;

@@ -1,6 +1,6 @@
 use Rattle.std.proofs.Common.{ℤ, IfOk, subst, w32}
 use Rattle.std.proofs.lemmas.Int.{to_z-of_z}
-use Rattle.cf_broker.specs.LogAnswer.{IsHistoryAnswer}
+use Rattle.cf_shard.specs.LogAnswer.{IsHistoryAnswer}
 use Rattle.cf_broker.proofs.broker.Broker.history.Goals as goal
 
 pub returns-then-number-lt4-clause-answer : goal.returns-then-number-lt4-clause-answer

@@ -1,0 +1,4 @@
+use Rattle.cf_broker.proofs.broker.Broker.list.Goals as goal
+
+pub returns-then-number-lt4 : goal.returns-then-number-lt4
+returns-then-number-lt4 g c = c.list.ensures

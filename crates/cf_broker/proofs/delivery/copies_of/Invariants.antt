@@ -1,6 +1,0 @@
-use Rattle.std.proofs.Common.{◌≡◌, vec_len}
-use Rattle.cf_broker.specs.Delivery.{AreCopies}
-use Rattle.cf_broker.proofs.delivery.copies_of.Given as goal
-
-abbrev pub invariant-loop : goal.invariant-loop
-invariant-loop l = (vec_len l.copies ≡ l.counter) × AreCopies l.channel l.publication.datum l.copies.items

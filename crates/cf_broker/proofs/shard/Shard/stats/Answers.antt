@@ -1,7 +1,0 @@
-use Rattle.cf_broker.proofs.shard.Shard.stats.Goals as goal
-
-pub returns-clause-clients : goal.returns-clause-clients
-returns-clause-clients g c = rw (← c.self.view_is) c.stats.ensures.clients
-
-pub returns-clause-users : goal.returns-clause-users
-returns-clause-users g c = rw (← c.self.view_is) c.stats.ensures.users

@@ -1,0 +1,146 @@
+-- What a call makes of a shard's log and of the caller's pass.
+use Rattle.std.proofs.Common.{◌≡◌, ℕ, ◌+◌, List, [], ◌∷◌, ◌++◌, Option, Some, None, refl, sym, ap, ◌∙◌, subst, append_assoc, append-nil}
+use Rattle.std.specs.Prelude.{ℤ, Bool, IsSomeAnd, IsErrOf, Err}
+use Rattle.std.specs.Option.{option_map}
+use mathlib.Core.List.{IsPrefix}
+use Rattle.atomic_table.specs.Seated.{TableId}
+use Rattle.cf_protocol.specs.declared.position.Position.{Position}
+use Rattle.cf_protocol.specs.Datum.{Datum, Placed}
+use Rattle.cf_protocol.specs.LogEntry.{Entry}
+use Rattle.cf_protocol.specs.LogEntry.Entry.{Publish}
+use Rattle.cf_protocol.specs.Settings.{NamespaceTable}
+use Rattle.cf_order.specs.Passes.{OwnerState, PassState, caught_up}
+use Rattle.cf_stream.specs.Stream.{position_of, Shown}
+use Rattle.cf_stream.specs.Streams.{Kept, stream_of, size_at}
+use Rattle.cf_stream.specs.PublicationList.{Life, IsRead, IsListed}
+use Rattle.cf_stream.specs.ChannelLists.{ShowsAt, stands_at, StandsAt, ReadsAt, ListsAt, life_or}
+use Rattle.cf_stream.specs.LogState.{IsState, Adds, life_in, opening, if_stands}
+use Rattle.cf_shard.specs.Shard.{IsShard}
+use Rattle.cf_shard.specs.ShardLog.{HasWhole, KeepsShare}
+use Rattle.cf_shard.specs.LogAnswer.{life_after, Follows, IsCall, IsPosition, IsPublished, IsReadAnswer, IsHistoryAnswer}
+
+pub opening_map : {X Y : Type 0} (f : X → Y) (o : Option X) (c e : List ℕ) (es : List Entry) → opening (option_map f o) c e es ≡ opening o c e es
+opening_map f None c e es = refl
+opening_map f (Some x) c e es = refl
+
+pub if_stands_map : {X Y : Type 0} (f : X → Y) (o : Option X) (x : Entry) → if_stands (option_map f o) x ≡ if_stands o x
+if_stands_map f None x = refl
+if_stands_map f (Some s) x = refl
+
+pub opening_more : {X : Type 0} (o : Option X) (c e : List ℕ) (es : List Entry) → opening o c e [] ++ es ≡ opening o c e es
+opening_more None c e es = refl
+opening_more (Some x) c e es = refl
+
+pub opening_alike : (size : ℕ) (s : Option Shown) (l : Option Life) (c e : List ℕ) (es : List Entry) → ShowsAt size s l → opening s c e es ≡ opening l c e es
+opening_alike size None None c e es h = refl
+opening_alike size (Some s) (Some l) c e es h = refl
+opening_alike size None (Some l) c e es h = absurd h
+opening_alike size (Some s) None c e es h = absurd h
+
+pub if_stands_alike : (size : ℕ) (s : Option Shown) (l : Option Life) (x : Entry) → ShowsAt size s l → if_stands s x ≡ if_stands l x
+if_stands_alike size None None x h = refl
+if_stands_alike size (Some s) (Some l) x h = refl
+if_stands_alike size None (Some l) x h = absurd h
+if_stands_alike size (Some s) None x h = absurd h
+
+-- a stream stands exactly where the log says so
+pub opening_by_log : (t : NamespaceTable) (w : TableId) (k : Kept) (o : OwnerState) (c e : List ℕ) (es : List Entry) → IsShard t w k o → opening (stream_of k c) c e es ≡ opening (life_after t o.log c) c e es
+opening_by_log t w k o c e es h =
+    opening_alike (size_at k.namespaces c) (stream_of k c) (life_in (size_at k.namespaces) o.log c) c e es (h.state.at c)
+    ∙ ap (λ (t : NamespaceTable). opening (life_after t o.log c) c e es) h.settings
+
+pub if_stands_by_log : (t : NamespaceTable) (w : TableId) (k : Kept) (o : OwnerState) (c : List ℕ) (x : Entry) → IsShard t w k o → if_stands (stream_of k c) x ≡ if_stands (life_after t o.log c) x
+if_stands_by_log t w k o c x h =
+    if_stands_alike (size_at k.namespaces c) (stream_of k c) (life_in (size_at k.namespaces) o.log c) x (h.state.at c)
+    ∙ ap (λ (t : NamespaceTable). if_stands (life_after t o.log c) x) h.settings
+
+-- the entries by what was asked of the streams
+pub opening_stood : (k : Kept) (c : List ℕ) (position : Option Position) (stood : Option ℕ) (e : List ℕ) (es : List Entry) → position ≡ option_map position_of (stream_of k c) → stood ≡ option_map (λ (p : Position). p.offset) position
+    → opening stood c e es ≡ opening (stream_of k c) c e es
+opening_stood k c position stood e es at is =
+    ap (λ (o : Option ℕ). opening o c e es) is ∙ opening_map (λ (p : Position). p.offset) position c e es
+    ∙ ap (λ (o : Option Position). opening o c e es) at ∙ opening_map position_of (stream_of k c) c e es
+
+-- the streams stay the state of the log
+pub kept : (t : NamespaceTable) (w : TableId) (old new : Kept) (o o' : OwnerState) (es : List Entry) → IsShard t w old o → Adds old new es → new.namespaces ≡ old.namespaces
+    → o'.word ≡ o.word → o'.log ≡ o.log ++ es → IsShard t w new o'
+kept t w old new o o' es h adds same word log = record { named = word ∙ h.named; settings = same ∙ h.settings; state = subst (IsState new) (sym log) (adds.state o.log h.state) }
+
+-- where a channel's stream stands, read off the log
+pub position_by_log : (t : NamespaceTable) (w : TableId) (k : Kept) (o : OwnerState) (c : List ℕ) (p : Option Position) → IsShard t w k o → StandsAt k c p → IsPosition t o.log c p
+position_by_log t w k o c p h s = s.off (life_in (size_at k.namespaces) o.log) h.state ∙ ap (λ (t : NamespaceTable). option_map stands_at (life_after t o.log c)) h.settings
+
+-- each call at the point of the log that the owner has
+pub published_by_log : (t : NamespaceTable) (w : TableId) (k new : Kept) (o o' : OwnerState) (c : List ℕ) (d : Datum) (p : Position) (seen after : List Entry) → IsShard t w k o → IsShard t w new o' → StandsAt new c (Some p) → IsPrefix seen o.log
+    → o'.log ≡ o.log ++ opening (stream_of k c) c p.epoch (Publish c d ∷ []) → after ≡ o'.log → IsPublished t seen after c d p
+published_by_log t w k new o o' c d p seen after h h' stands begins log is = record {
+  before = o.log;
+  begins = begins;
+  gained = is ∙ (log ∙ ap (λ (es : List Entry). o.log ++ es) (opening_by_log t w k o c p.epoch (Publish c d ∷ []) h));
+  answered = subst (λ (l : List Entry). IsPosition t l c (Some p)) (sym is) (position_by_log t w new o' c (Some p) h' stands);
+}
+
+pub read_by_log : (t : NamespaceTable) (w : TableId) (k : Kept) (o : OwnerState) (c : List ℕ) (since : Option Position) (p : Position) (recovered : Bool) (items : List Placed) (seen after : List Entry) → IsShard t w k o → ReadsAt k c since p recovered items → IsPrefix seen o.log
+    → after ≡ o.log ++ opening (stream_of k c) c p.epoch [] → IsReadAnswer t seen after c since p recovered items
+read_by_log t w k o c since p recovered items seen after h reads begins log = record {
+  before = o.log;
+  begins = begins;
+  gained = log ∙ ap (λ (es : List Entry). o.log ++ es) (opening_by_log t w k o c p.epoch [] h);
+  answered = subst (λ (t : NamespaceTable). IsRead (life_or (life_after t o.log c) p.epoch) since p recovered items) h.settings (reads.off (life_in (size_at k.namespaces) o.log) h.state);
+}
+
+pub history_by_log : (t : NamespaceTable) (w : TableId) (k : Kept) (o : OwnerState) (c : List ℕ) (since : Option Position) (limit : ℤ) (p : Position) (items : List Placed) (seen after : List Entry) → IsShard t w k o → ListsAt k c since limit p items → IsPrefix seen o.log
+    → after ≡ o.log ++ opening (stream_of k c) c p.epoch [] → IsHistoryAnswer t seen after c since limit p items
+history_by_log t w k o c since limit p items seen after h lists begins log = record {
+  before = o.log;
+  begins = begins;
+  gained = log ∙ ap (λ (es : List Entry). o.log ++ es) (opening_by_log t w k o c p.epoch [] h);
+  answered = subst (λ (t : NamespaceTable). IsListed (life_or (life_after t o.log c) p.epoch) since limit p items) h.settings (lists.off (life_in (size_at k.namespaces) o.log) h.state);
+}
+
+pub one_by_log : (t : NamespaceTable) (w : TableId) (k : Kept) (o : OwnerState) (c : List ℕ) (x : Entry) (seen after : List Entry) → IsShard t w k o → IsPrefix seen o.log → after ≡ o.log ++ if_stands (stream_of k c) x
+    → IsCall seen after (λ log. if_stands (life_after t log c) x) (λ log. Unit {0})
+one_by_log t w k o c x seen after h begins log = record {
+  before = o.log;
+  begins = begins;
+  gained = log ∙ ap (λ (es : List Entry). o.log ++ es) (if_stands_by_log t w k o c x h);
+  answered = tt;
+}
+
+-- a channel without a stream has no entry, and stays without one
+pub none_noted : (k : Kept) (c : List ℕ) (x : Entry) (log after : List Entry) → stream_of k c ≡ None → after ≡ log → after ≡ log ++ if_stands (stream_of k c) x
+none_noted k c x log after none is = is ∙ (sym (append-nil log) ∙ ap (λ (o : Option Shown). log ++ if_stands o x) (sym none))
+
+-- the owner after a call's entries
+pub noted : (o o1 o2 : OwnerState) (es es' : List Entry) → o1 ≡ o → o2 ≡ record o1 { log = o1.log ++ es } → es ≡ es' → (o2.word ≡ o.word) × (o2.log ≡ o.log ++ es')
+noted o o1 o2 es es' at is same =
+    (ap (λ (x : OwnerState). x.word) is ∙ ap (λ (x : OwnerState). x.word) at, ap (λ (x : OwnerState). x.log) is ∙ (λ i. (at i).log ++ same i))
+
+-- the pass after a call
+pub follows : (old mid new : PassState) (log es after : List Entry) (own : ℕ) → IsPrefix old.log log → mid ≡ caught_up old log → after ≡ log ++ es → HasWhole new after → KeepsShare mid new own → Follows old new own
+follows old mid new log es after own seen is gained whole keeps = record {
+  begins = (seen.0 ++ es, sym (append_assoc old.log seen.0 es) ∙ (ap (λ (l : List Entry). l ++ es) seen.1 ∙ (sym gained ∙ sym whole.0)));
+  found = whole.1 ∙ sym whole.0;
+  word = keeps.0 ∙ ap (λ (p : PassState). p.word) is;
+  looks = keeps.1 ∙ ap (λ (p : PassState). p.looks) is;
+  share = keeps.2 ∙ ap (λ (p : PassState). p.share + own) is;
+}
+
+top_is : (o : Option Shown) (n : ℕ) → option_map (λ (p : Position). p.offset) (option_map position_of o) ≡ Some n → IsSomeAnd o (λ s. s.top ≡ n)
+top_is None n e = absurd (cc (e))
+top_is (Some s) n e = cc (e)
+
+top_was : (o : Option Shown) (n : ℕ) → IsSomeAnd o (λ s. s.top ≡ n) → option_map (λ (p : Position). p.offset) (option_map position_of o) ≡ Some n
+top_was None n h = absurd h
+top_was (Some s) n h = ap Some h
+
+-- the channel's stream has this top
+pub stood_at : (k : Kept) (c : List ℕ) (position : Option Position) (stood : Option ℕ) (n : ℕ) → position ≡ option_map position_of (stream_of k c) → stood ≡ option_map (λ (p : Position). p.offset) position
+    → (stood ≡ Some n → IsSomeAnd (stream_of k c) (λ s. s.top ≡ n)) × (IsSomeAnd (stream_of k c) (λ s. s.top ≡ n) → stood ≡ Some n)
+stood_at k c position stood n at is =
+    let same : stood ≡ option_map (λ (p : Position). p.offset) (option_map position_of (stream_of k c)) = is ∙ ap (option_map (λ (p : Position). p.offset)) at in
+    (λ e. top_is (stream_of k c) n (sym same ∙ e), λ h. same ∙ top_was (stream_of k c) n h)
+
+-- the same refusal of two calls
+pub refused_alike : {X Y E : Type 0} (a b : E) → IsErrOf {T = X} (Err a) b → IsErrOf {T = Y} (Err a) b
+refused_alike a b e = let same : a ≡ b = cc (e) in ap Err same

@@ -1,0 +1,28 @@
+use Rattle.std.proofs.Common.{ℤ, subst, w32, ◌∙◌}
+use Rattle.std.proofs.lemmas.Int.{to_z-of_z}
+use Rattle.cf_stream.specs.ChannelLists.{ListsAt}
+use Rattle.cf_shard.proofs.Calls.{opening_stood, noted, kept, history_by_log}
+use Rattle.cf_shard.proofs.shard.Shard.history.Goals as goal
+
+pub invariant_of-self-2 : goal.invariant_of-self-2
+invariant_of-self-2 g c =
+    let owner = noted _ _ _ _ _ c.follow.ensures.owner c.note_opening.ensures.owner (opening_stood c.self.inside.streams c.args.channel.now _ _ _ _ c.position.ensures.position c.top_of-stood.ensures) in
+    kept _ _ _ _ _ _ _ c.self.invariant c.in_ok-history.ensures.log c.history.ensures.namespaces owner.0 owner.1
+
+pub returns-clause-answer : goal.returns-clause-answer
+returns-clause-answer g c =
+    let h = c.in_ok-history.history in
+    let listed = ListsAt c.self.inside.streams c.args.channel.now c.args.since in
+    let same = to_z-of_z w32 c.args.limit c.ranges.limit in
+    rw (← c.self.view_is)
+    (subst (λ (limit : ℤ). listed limit h.position h.publications.items) same c.in_ok-history.ensures.list_answer)
+
+pub returns-clause-by_log : goal.returns-clause-by_log
+returns-clause-by_log g c =
+    let h = c.in_ok-history.history in
+    let listed = ListsAt c.self.inside.streams c.args.channel.now c.args.since in
+    let same = to_z-of_z w32 c.args.limit c.ranges.limit in
+    let owner = noted _ _ _ _ _ c.follow.ensures.owner c.note_opening.ensures.owner (opening_stood c.self.inside.streams c.args.channel.now _ _ _ _ c.position.ensures.position c.top_of-stood.ensures) in
+    history_by_log _ _ _ _ _ _ _ _ _ _ _ c.self.invariant
+    (subst (λ (limit : ℤ). listed limit h.position h.publications.items) same c.in_ok-history.ensures.list_answer)
+    c.follow.ensures.seen.0 (c.note_opening.ensures.whole.0 ∙ owner.1)

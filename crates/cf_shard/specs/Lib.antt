@@ -1,0 +1,5 @@
+pub mod ShardLog
+pub mod LogAnswer
+pub mod Delivery
+pub mod Shard
+pub mod Naming

@@ -1,0 +1,438 @@
+//! What lies under a shard's lock.
+ghost use Rattle.std.specs.Prelude.{◌≡◌, ◌≢◌, ◌↔◌, ◌++◌, [], length, if◌then◌else◌, IfOk, IfErr, OnOk, OnErr, IsErrOf, IsTrue, IsSome, IsSomeAnd, None, Some, List, ℕ};
+ghost use Rattle.std.specs.FinMap as fin;
+ghost use Rattle.std.specs.String.{string_bytes};
+ghost use mathlib.Core.List.{IsPrefix};
+ghost use Rattle.cf_protocol.specs.Settings.{settings_of};
+ghost use Rattle.cf_protocol.specs.Shown.{shown_users};
+ghost use Rattle.cf_presence.specs.Presence.{clients_of, entered, left, still, users_of, user_count};
+ghost use Rattle.cf_stream.specs.ChannelLists.{ReadsAt, ListsAt, StandsAt};
+ghost use Rattle.cf_stream.specs.Stream.{trimmed};
+ghost use Rattle.cf_stream.specs.Streams.{stream_of, put_at, after_tick, seconds_at, IsOfAnother};
+ghost use Rattle.std.specs.Option.{option_map};
+ghost use Rattle.cf_shard.specs.Delivery.{OfferedToAll, carried};
+ghost use Rattle.cf_shard.specs.LogAnswer.{Follows, IsPosition, IsPublished, IsReadAnswer, IsHistoryAnswer, IsTrimmed, IsForgotten, IsTicked};
+ghost use Rattle.cf_shard.specs.Shard.{no_streams, after_publish, after_use, datum_of, DrawsFor, FindsNoEpoch, IsFull, IsStateOf, LacksRoom, StreamsStay};
+ghost use Rattle.cf_shard.specs.ShardLog.{entries_of_publish, entries_of_use, entries_of_trim, entries_of_forget, entries_of_tick};
+
+use crate::delivery::{Links, copies_of, offer_all};
+use crate::entries::{
+    fits, has_room, has_room_on, note_due, note_on, note_opening, note_publish, room_to_publish,
+    top_of,
+};
+use crate::naming::Naming;
+use crate::refusal::Refused;
+use cf_order::{Entry, MOST_ENTRIES, Owner, Pass, ShardWord};
+use cf_presence::{Presence, Stats};
+use cf_protocol::{Info, Position, Publication};
+use cf_stream::{Epochs, History, LAST_OFFSET, Recovery, Streams};
+use std::alloc::Global;
+use std::collections::BTreeMap;
+use std::marker::{Model, PhantomData};
+
+/// A shard of channels: their streams, who is there, where the epochs of new streams come from, and the owner of the log that
+/// made the streams. Each method is what a call of the broker does while it holds the shard's lock. A refused call leaves
+/// streams, presence, links and log as they were; the caller's pass has then seen the log too.
+#[derive(Drop)]
+pub struct Shard<N: Naming, E: Epochs, const I: usize> {
+    streams: Streams,
+    presence: Presence,
+    epochs: Box<E>,
+    owner: Owner,
+    alloc: Global,
+    of: PhantomData<N>,
+}
+
+/// What a read answers, and the length of the log then.
+#[derive(Drop)]
+pub struct ReadAnswer {
+    pub recovery: Recovery,
+    pub mark: u64,
+}
+
+impl<N: Naming, E: Epochs, const I: usize> Model for Shard<N, E, I> {
+    ghost use Rattle.cf_shard.specs.Shard.{Lent, lent_code, IsShard};
+
+    ghost Value = { Lent E };
+
+    ghost coded = { lent_code E.code };
+
+    ghost view = { λ s. record { streams = s.streams; presence = s.presence; epochs = s.epochs.value; log = s.owner.log } };
+
+    ghost invariant = { λ s. IsShard N.namespaces (N.words I) s.streams s.owner };
+}
+
+impl<N: Naming, E: Epochs, const I: usize> Shard<N, E, I> {
+    /// A shard without streams, in which nobody is present, beside the owner of a log without entries.
+    #[tactic(auto, using(crate::proofs::Logs::no_streams_shard))]
+    pub fn new(alloc: Global, streams: Streams, epochs: Box<E>, owner: Owner) -> Shard<N, E, I>
+        requires streams { streams ≡ no_streams N.namespaces }
+        requires owner { (owner.word ≡ N.words I) × (owner.log ≡ []) }
+        ensures { result ≡
+            record { streams = streams; presence = fin.empty; epochs = epochs.value; log = [] } }
+    {
+        Shard {
+            streams,
+            presence: Presence::new(alloc),
+            epochs,
+            owner,
+            alloc,
+            of: PhantomData,
+        }
+    }
+
+    /// Publishes to a channel at a moment in seconds, offers the publication to each node, and answers its position. The
+    /// channel's stream opens where there is none. `AtLastOffset` at the stream's last offset, `NoEpoch` where a stream would
+    /// open and none was drawn, `Memory` where a growth was refused, `AtLastCount` where the log has no room. The copies for
+    /// all nodes are made first.
+    pub fn publish<L: Links>(
+        &mut self,
+        word: &ShardWord,
+        pass: &mut Pass,
+        links: &mut L,
+        channel: &str,
+        body: String,
+        info: Option<Info>,
+        now: u64,
+    ) -> Result<Position, Refused>
+        requires word { (word.now ≡ N.words I) × (pass.old.word ≡ N.words I) }
+        requires set_up { IsSome (settings_of N.namespaces channel.now) }
+        ensures streams { IfOk result (λ p. self.new.streams ≡
+            after_publish self.old.streams channel.now p.epoch (datum_of body info) now) }
+        ensures log { IfOk result (λ p. self.new.log ≡ self.old.log ++
+            entries_of_publish self.old.streams channel.now p.epoch (datum_of body info)) }
+        ensures answer { IfOk result (λ p. StandsAt self.new.streams channel.now (Some p)) }
+        ensures by_log { IfOk result (λ p. IsPublished N.namespaces
+            pass.old.log pass.new.log channel.now (datum_of body info) p) }
+        ensures own { IfOk result (λ _. Follows pass.old pass.new 1) }
+        ensures drawn { IfOk result (λ p. DrawsFor E.draws channel.now p.epoch self.old self.new) }
+        ensures offered { IfOk result (λ p. OfferedToAll L.offers (L.nodes links.old)
+            (carried channel.now p (datum_of body info)) links.old links.new) }
+        ensures presence { self.new.presence ≡ self.old.presence }
+        ensures last { IsErrOf result Refused.AtLastOffset ↔
+            IsSomeAnd (stream_of self.old.streams channel.now) (λ s. s.top ≡ LAST_OFFSET) }
+        ensures no_epoch { IsErrOf result Refused.NoEpoch →
+            FindsNoEpoch E.draws channel.now self.old self.new }
+        ensures count { IsErrOf result Refused.AtLastCount → IsFull self.old.log
+            (entries_of_publish self.old.streams channel.now [] (datum_of body info)) }
+        ensures refusals { IfErr result (λ e. e ≢ Refused.WrongEpoch) }
+        ensures undrawn { IfErr result (λ e. e ≢ Refused.NoEpoch →
+            self.new.epochs ≡ self.old.epochs) }
+        ensures err { OnErr result (StreamsStay self.old self.new × (links.new ≡ links.old)) }
+        ensures seen { OnErr result (Follows pass.old pass.new 0) }
+        ensures whole { pass.new.log ≡ self.new.log }
+        ensures state { IsStateOf N.namespaces self.old }
+    {
+        word.follow(&mut self.owner, pass);
+        let stood = top_of(self.streams.position(channel));
+        if let Err(refusal) = room_to_publish(stood, self.owner.count()) {
+            return Err(refusal);
+        }
+        let publication = Publication {
+            offset: 0,
+            body,
+            info,
+        };
+        let copies = copies_of(self.alloc, links.count(), channel, &publication)?;
+        let position = self.streams.publish(
+            &mut *self.epochs,
+            channel,
+            publication.body,
+            publication.info,
+            now,
+        )?;
+        note_publish(
+            &self.streams,
+            word,
+            &mut self.owner,
+            pass,
+            stood,
+            channel,
+            &position,
+        );
+        offer_all(links, copies, &position);
+        Ok(position)
+    }
+
+    /// The publications of a channel after a position, where all are held, at a moment in seconds, and the length of the log
+    /// then. Its stream opens where there is none. `NoEpoch`, `Memory` and `AtLastCount` as for a publish.
+    pub fn read(
+        &mut self,
+        word: &ShardWord,
+        pass: &mut Pass,
+        channel: &str,
+        since: Option<Position>,
+        now: u64,
+    ) -> Result<ReadAnswer, Refused>
+        requires word { (word.now ≡ N.words I) × (pass.old.word ≡ N.words I) }
+        requires set_up { IsSome (settings_of N.namespaces channel.now) }
+        ensures streams { IfOk result (λ r. self.new.streams ≡
+            after_use self.old.streams channel.now r.recovery.position.epoch now) }
+        ensures log { IfOk result (λ r. self.new.log ≡ self.old.log ++
+            entries_of_use self.old.streams channel.now r.recovery.position.epoch) }
+        ensures mark { IfOk result (λ r. r.mark ≡ length self.new.log) }
+        ensures answer { IfOk result (λ r. ReadsAt self.old.streams channel.now since
+            r.recovery.position r.recovery.recovered r.recovery.publications.items) }
+        ensures by_log { IfOk result (λ r. IsReadAnswer N.namespaces
+            pass.old.log pass.new.log channel.now since
+            r.recovery.position r.recovery.recovered r.recovery.publications.items) }
+        ensures drawn { IfOk result (λ r.
+            DrawsFor E.draws channel.now r.recovery.position.epoch self.old self.new) }
+        ensures presence { self.new.presence ≡ self.old.presence }
+        ensures no_epoch { IsErrOf result Refused.NoEpoch →
+            FindsNoEpoch E.draws channel.now self.old self.new }
+        ensures count { IsErrOf result Refused.AtLastCount →
+            IsFull self.old.log (entries_of_use self.old.streams channel.now []) }
+        ensures refusals { IfErr result (λ e. e ≢ Refused.AtLastOffset × e ≢ Refused.WrongEpoch) }
+        ensures undrawn { IfErr result (λ e. e ≢ Refused.NoEpoch →
+            self.new.epochs ≡ self.old.epochs) }
+        ensures err { OnErr result (StreamsStay self.old self.new) }
+        ensures seen { Follows pass.old pass.new 0 }
+        ensures whole { pass.new.log ≡ self.new.log }
+        ensures state { IsStateOf N.namespaces self.old }
+    {
+        word.follow(&mut self.owner, pass);
+        let stood = top_of(self.streams.position(channel));
+        if !has_room(stood, self.owner.count()) {
+            return Err(Refused::AtLastCount);
+        }
+        let recovery = self.streams.read(&mut *self.epochs, channel, since, now)?;
+        note_opening(
+            word,
+            &mut self.owner,
+            pass,
+            stood,
+            channel,
+            &recovery.position,
+        );
+        let mark = self.owner.count();
+        Ok(ReadAnswer { recovery, mark })
+    }
+
+    /// The first publications of a channel that are held after a position, up to a limit. Without a position its stream opens
+    /// where there is none. `WrongEpoch` where the position is of another epoch, or where there is no stream; `NoEpoch`,
+    /// `Memory` and `AtLastCount` as for a publish.
+    pub fn history(
+        &mut self,
+        word: &ShardWord,
+        pass: &mut Pass,
+        channel: &str,
+        since: Option<Position>,
+        limit: i32,
+        now: u64,
+    ) -> Result<History, Refused>
+        requires word { (word.now ≡ N.words I) × (pass.old.word ≡ N.words I) }
+        requires set_up { IsSome (settings_of N.namespaces channel.now) }
+        ensures streams { IfOk result (λ h. self.new.streams ≡
+            after_use self.old.streams channel.now h.position.epoch now) }
+        ensures log { IfOk result (λ h. self.new.log ≡ self.old.log ++
+            entries_of_use self.old.streams channel.now h.position.epoch) }
+        ensures answer { IfOk result (λ h.
+            ListsAt self.old.streams channel.now since limit h.position h.publications.items) }
+        ensures by_log { IfOk result (λ h. IsHistoryAnswer N.namespaces
+            pass.old.log pass.new.log channel.now since limit h.position h.publications.items) }
+        ensures drawn { IfOk result (λ h.
+            DrawsFor E.draws channel.now h.position.epoch self.old self.new) }
+        ensures presence { self.new.presence ≡ self.old.presence }
+        ensures wrong_epoch { IsErrOf result Refused.WrongEpoch ↔
+            IsOfAnother (stream_of self.old.streams channel.now) since }
+        ensures no_epoch { IsErrOf result Refused.NoEpoch →
+            FindsNoEpoch E.draws channel.now self.old self.new }
+        ensures count { IsErrOf result Refused.AtLastCount →
+            IsFull self.old.log (entries_of_use self.old.streams channel.now []) }
+        ensures refusals { IfErr result (λ e. e ≢ Refused.AtLastOffset) }
+        ensures undrawn { IfErr result (λ e. e ≢ Refused.NoEpoch →
+            self.new.epochs ≡ self.old.epochs) }
+        ensures err { OnErr result (StreamsStay self.old self.new) }
+        ensures seen { Follows pass.old pass.new 0 }
+        ensures whole { pass.new.log ≡ self.new.log }
+        ensures state { IsStateOf N.namespaces self.old }
+    {
+        word.follow(&mut self.owner, pass);
+        let stood = top_of(self.streams.position(channel));
+        if !has_room(stood, self.owner.count()) {
+            return Err(full_for_history(since.is_some()));
+        }
+        let history = self
+            .streams
+            .history(&mut *self.epochs, channel, since, limit, now)?;
+        note_opening(
+            word,
+            &mut self.owner,
+            pass,
+            stood,
+            channel,
+            &history.position,
+        );
+        Ok(history)
+    }
+
+    /// Where a channel's stream stands, if it has one, and the length of the log. It takes no memory and opens nothing.
+    pub fn position(
+        &mut self,
+        word: &ShardWord,
+        pass: &mut Pass,
+        channel: &str,
+    ) -> (Option<Position>, u64)
+        requires word { (word.now ≡ N.words I) × (pass.old.word ≡ N.words I) }
+        ensures answer { StandsAt self.old.streams channel.now result.0 }
+        ensures by_log { IsPosition N.namespaces pass.new.log channel.now result.0 }
+        ensures mark { result.1 ≡ length self.old.log }
+        ensures same { self.new ≡ self.old }
+        ensures seen { Follows pass.old pass.new 0 }
+        ensures whole { pass.new.log ≡ self.new.log }
+    {
+        word.follow(&mut self.owner, pass);
+        (self.streams.position(channel), self.owner.count())
+    }
+
+    /// Keeps at most the newest publications of a channel. It takes no memory. `AtLastCount` where the log has no room.
+    pub fn trim(
+        &mut self,
+        word: &ShardWord,
+        pass: &mut Pass,
+        channel: &str,
+        count: usize,
+    ) -> Result<(), Refused>
+        requires word { (word.now ≡ N.words I) × (pass.old.word ≡ N.words I) }
+        ensures streams { OnOk result (self.new.streams ≡ put_at self.old.streams channel.now
+            (option_map (trimmed count) (stream_of self.old.streams channel.now))) }
+        ensures log { OnOk result (self.new.log ≡ self.old.log ++
+            entries_of_trim self.old.streams channel.now count) }
+        ensures by_log { OnOk result (IsTrimmed N.namespaces
+            pass.old.log pass.new.log channel.now count) }
+        ensures presence { self.new.presence ≡ self.old.presence }
+        ensures epochs { self.new.epochs ≡ self.old.epochs }
+        ensures err { IfErr result (λ e. LacksRoom
+            (entries_of_trim self.old.streams channel.now count) e self.old self.new) }
+        ensures seen { Follows pass.old pass.new 0 }
+        ensures whole { pass.new.log ≡ self.new.log }
+        ensures state { IsStateOf N.namespaces self.old }
+    {
+        word.follow(&mut self.owner, pass);
+        let stood = top_of(self.streams.position(channel));
+        if !has_room_on(stood, self.owner.count()) {
+            return Err(Refused::AtLastCount);
+        }
+        self.streams.trim(channel, count);
+        let entry = Entry::Trimmed(channel, count);
+        note_on(word, &mut self.owner, pass, stood, &entry);
+        Ok(())
+    }
+
+    /// Ends a channel's stream. It takes no memory. `AtLastCount` where the log has no room.
+    pub fn forget(
+        &mut self,
+        word: &ShardWord,
+        pass: &mut Pass,
+        channel: &str,
+    ) -> Result<(), Refused>
+        requires word { (word.now ≡ N.words I) × (pass.old.word ≡ N.words I) }
+        ensures streams { OnOk result (self.new.streams ≡
+            put_at self.old.streams channel.now None) }
+        ensures log { OnOk result (self.new.log ≡ self.old.log ++
+            entries_of_forget self.old.streams channel.now) }
+        ensures by_log { OnOk result (IsForgotten N.namespaces
+            pass.old.log pass.new.log channel.now) }
+        ensures presence { self.new.presence ≡ self.old.presence }
+        ensures epochs { self.new.epochs ≡ self.old.epochs }
+        ensures err { IfErr result (λ e. LacksRoom
+            (entries_of_forget self.old.streams channel.now) e self.old self.new) }
+        ensures seen { Follows pass.old pass.new 0 }
+        ensures whole { pass.new.log ≡ self.new.log }
+        ensures state { IsStateOf N.namespaces self.old }
+    {
+        word.follow(&mut self.owner, pass);
+        let stood = top_of(self.streams.position(channel));
+        if !has_room_on(stood, self.owner.count()) {
+            return Err(Refused::AtLastCount);
+        }
+        self.streams.forget(channel);
+        let entry = Entry::Forgotten(channel);
+        note_on(word, &mut self.owner, pass, stood, &entry);
+        Ok(())
+    }
+
+    /// Empties the histories whose time is over at a moment in seconds, ends the streams that were not used for long, and lets
+    /// go of the clients that entered 60 seconds ago or more. It takes no memory. `AtLastCount` where the log has no room.
+    pub fn tick(&mut self, word: &ShardWord, pass: &mut Pass, now: u64) -> Result<(), Refused>
+        requires word { (word.now ≡ N.words I) × (pass.old.word ≡ N.words I) }
+        ensures streams { OnOk result ((q : List ℕ) → stream_of self.new.streams q ≡
+            after_tick now (seconds_at N.namespaces q) (stream_of self.old.streams q)) }
+        ensures log { OnOk result (self.new.log ≡
+            self.old.log ++ entries_of_tick self.old.streams now) }
+        ensures by_log { OnOk result (IsTicked pass.old.log pass.new.log) }
+        ensures presence { OnOk result ((q : List ℕ) →
+            clients_of self.new.presence q ≡ still now (clients_of self.old.presence q)) }
+        ensures nowhere_none { OnOk result ((q : List ℕ) →
+            fin.get self.new.presence q ≢ Some fin.empty) }
+        ensures epochs { self.new.epochs ≡ self.old.epochs }
+        ensures err { IfErr result (λ e.
+            LacksRoom (entries_of_tick self.old.streams now) e self.old self.new) }
+        ensures seen { Follows pass.old pass.new 0 }
+        ensures whole { pass.new.log ≡ self.new.log }
+    {
+        word.follow(&mut self.owner, pass);
+        let count = self.owner.count();
+        if count > MOST_ENTRIES || !fits(self.streams.due(now), MOST_ENTRIES - count) {
+            return Err(Refused::AtLastCount);
+        }
+        note_due(word, &mut self.owner, pass, self.streams.due(now));
+        self.streams.tick(now);
+        self.presence.tick(now);
+        Ok(())
+    }
+
+    /// A client of a user enters a channel at a moment in seconds, again or for the first time. `Memory` where a growth was
+    /// refused.
+    pub fn enter(
+        &mut self,
+        channel: &str,
+        client: &str,
+        user: &str,
+        now: u64,
+    ) -> Result<(), Refused>
+        ensures ok { OnOk result (self.new ≡ record self.old {
+          presence = entered self.old.presence channel.now client.now user.now now;
+        }) }
+        ensures err { IfErr result (λ e. (e ≡ Refused.Memory) × (self.new ≡ self.old)) }
+    {
+        Ok(self.presence.enter(channel, client, user, now)?)
+    }
+
+    /// A client leaves a channel. Where it isn't there nothing changes. It takes no memory.
+    pub fn leave(&mut self, channel: &str, client: &str)
+        ensures { self.new ≡
+            record self.old { presence = left self.old.presence channel.now client.now } }
+    {
+        self.presence.leave(channel, client);
+    }
+
+    /// The user of each client that is there in a channel, by the client's id. `Memory` where a growth was refused.
+    pub fn list(&self, channel: &str) -> Result<BTreeMap<String, String>, Refused>
+        ensures ok { IfOk result (λ users.
+            shown_users users ≡ users_of (clients_of self.now.presence channel.now)) }
+        ensures err { IfErr result (λ e. e ≡ Refused.Memory) }
+    {
+        Ok(self.presence.list(channel)?)
+    }
+
+    /// How many clients are there in a channel, and how many different users. It takes no memory.
+    pub fn stats(&self, channel: &str) -> Stats
+        ensures clients { result.clients ≡ fin.len (clients_of self.now.presence channel.now) }
+        ensures users { result.users ≡ user_count (clients_of self.now.presence channel.now) }
+    {
+        self.presence.stats(channel)
+    }
+}
+
+/// The refusal of a history for which the log has no room: after a position nothing would open.
+fn full_for_history(after: bool) -> Refused
+    ensures { result ≡ (if after then Refused.WrongEpoch else Refused.AtLastCount) }
+{
+    if after {
+        Refused::WrongEpoch
+    } else {
+        Refused::AtLastCount
+    }
+}
