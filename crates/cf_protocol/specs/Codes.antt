@@ -1,5 +1,5 @@
 -- The codes of errors and of closes. (Centrifugo's client protocol.)
-use Rattle.std.specs.Prelude.{ℕ, List, codes}
+use Rattle.std.specs.Prelude.{ℕ, ◌==◌, if◌then◌else◌, List, [], codes}
 use Rattle.cf_protocol.specs.declared.codes.ErrorCode.{ErrorCode}
 use Rattle.cf_protocol.specs.declared.codes.ErrorCode.TheVariants as error
 use Rattle.cf_protocol.specs.declared.codes.CloseCode.{CloseCode}
@@ -32,3 +32,13 @@ close_reason_of close.Slow = codes "slow"
 close_reason_of close.NoPong = codes "no pong"
 close_reason_of close.InvalidToken = codes "invalid token"
 close_reason_of close.BadRequest = codes "bad request"
+
+-- where this is the code's number its reason, and else what follows
+abbrev pub reason_or : CloseCode → ℕ → List ℕ → List ℕ
+reason_or c n others = if n == close_code_of c then close_reason_of c else others
+
+-- the reason of a close by its number; empty for a number that isn't one of ours
+abbrev pub close_reason_by : ℕ → List ℕ
+close_reason_by n =
+    reason_or close.Shutdown n (reason_or close.InternalError n (reason_or close.Slow n
+    (reason_or close.NoPong n (reason_or close.InvalidToken n (reason_or close.BadRequest n [])))))

@@ -1,6 +1,6 @@
 //! The codes of errors, of unsubscribe pushes and of closes, and what they say.
 ghost use Rattle.std.specs.Prelude.{◌≡◌, ◌==◌};
-ghost use Rattle.cf_protocol.specs.Codes.{code_of, close_code_of, close_reason_of};
+ghost use Rattle.cf_protocol.specs.Codes.{code_of, close_code_of, close_reason_of, close_reason_by};
 ghost use Rattle.cf_protocol.specs.Written.{message_of as message_by, reason_of};
 
 /// Why a command is refused. (Centrifugo's client protocol, error codes.)
@@ -125,4 +125,29 @@ impl CloseCode {
             CloseCode::BadRequest => "bad request",
         }
     }
+}
+
+/// The reason of a WebSocket close frame by the frame's code; empty for a code that isn't one of ours.
+pub fn close_reason(code: u16) -> &'static str
+    ensures { result.now ≡ close_reason_by code }
+{
+    if code == CloseCode::Shutdown.code() {
+        return CloseCode::Shutdown.reason();
+    }
+    if code == CloseCode::InternalError.code() {
+        return CloseCode::InternalError.reason();
+    }
+    if code == CloseCode::Slow.code() {
+        return CloseCode::Slow.reason();
+    }
+    if code == CloseCode::NoPong.code() {
+        return CloseCode::NoPong.reason();
+    }
+    if code == CloseCode::InvalidToken.code() {
+        return CloseCode::InvalidToken.reason();
+    }
+    if code == CloseCode::BadRequest.code() {
+        return CloseCode::BadRequest.reason();
+    }
+    ""
 }

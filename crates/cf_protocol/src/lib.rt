@@ -17,7 +17,7 @@ mod tokens;
 mod words;
 mod write;
 
-pub use codes::{CloseCode, ErrorCode, INSUFFICIENT};
+pub use codes::{CloseCode, ErrorCode, INSUFFICIENT, close_reason};
 pub use command::{Command, Data, Request};
 pub use epoch::Epoch;
 pub use fault::ReadFault;

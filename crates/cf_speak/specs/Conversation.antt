@@ -1,13 +1,11 @@
 -- A conversation with one client over the lines of an input, and what is written. (The form of a line that tells of a close is
 -- this project's own.)
-use Rattle.std.specs.Prelude.{◌≡◌, ◌≢◌, ◌⊎◌, ℕ, ◌==◌, if◌then◌else◌, true, false, Option, None, Some, List, [], ◌∷◌, ◌++◌, flat_map, codes}
+use Rattle.std.specs.Prelude.{◌≡◌, ◌≢◌, ◌⊎◌, ℕ, true, false, Option, None, Some, List, [], ◌∷◌, ◌++◌, flat_map, codes}
 use Rattle.std.specs.Fmt.{decimal}
 use Rattle.std.specs.Io.BufRead.{first_piece, drop_through}
 use Rattle.std.specs.Io.KnownBytes.{Appends}
 use Rattle.std.specs.Str.{IsUtf8}
-use Rattle.cf_protocol.specs.Codes.{close_code_of, close_reason_of}
-use Rattle.cf_protocol.specs.declared.codes.CloseCode.{CloseCode}
-use Rattle.cf_protocol.specs.declared.codes.CloseCode.TheVariants as close
+use Rattle.cf_protocol.specs.Codes.{close_reason_by}
 use Rattle.cf_queue.specs.OutQueue.{Item, Text, Close}
 use Rattle.cf_hub.specs.Hub.{Node, One, attached_at, moves, OthersStay}
 use Rattle.cf_hub.specs.SessionState.{takes_front}
@@ -29,20 +27,10 @@ Begins input (line ∷ lines) rest =
 
 -- ---- the output
 
--- where this is the code's number its reason, and else what follows
-abbrev pub reason_or : CloseCode → ℕ → List ℕ → List ℕ
-reason_or c n others = if n == close_code_of c then close_reason_of c else others
-
--- the reason that stands beside a close code
-abbrev pub reason_by : ℕ → List ℕ
-reason_by n =
-    reason_or close.Shutdown n (reason_or close.InternalError n (reason_or close.Slow n
-    (reason_or close.NoPong n (reason_or close.InvalidToken n (reason_or close.BadRequest n [])))))
-
 -- a text, or a close with its code and reason
 abbrev pub line_of : Item → List ℕ
 line_of (Text text) = text ++ 10 ∷ []
-line_of (Close code) = codes "close " ++ (decimal code ++ (32 ∷ (reason_by code ++ 10 ∷ [])))
+line_of (Close code) = codes "close " ++ (decimal code ++ (32 ∷ (close_reason_by code ++ 10 ∷ [])))
 
 abbrev pub lines_of : List Item → List ℕ
 lines_of items = flat_map line_of items

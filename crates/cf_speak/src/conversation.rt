@@ -3,14 +3,14 @@ ghost use Rattle.std.specs.Prelude.{◌≡◌, ◌≢◌, true, false, IfErr, If
 ghost use Rattle.std.specs.Io.KnownBytes.{Appends};
 ghost use Rattle.cf_queue.specs.Meaning.{meaning};
 ghost use Rattle.cf_session.specs.Standing.{is_idle, tables_of, progress_of};
-ghost use Rattle.cf_speak.specs.Conversation.{AnswersLine, BreaksOff, BreaksOffFrom, IsNoText, ReadsLine, Leaves, Speaks, SpeaksFrom, line_of, lines_of, reason_by};
+ghost use Rattle.cf_speak.specs.Conversation.{AnswersLine, BreaksOff, BreaksOffFrom, IsNoText, ReadsLine, Leaves, Speaks, SpeaksFrom, line_of, lines_of};
 ghost use Rattle.cf_speak.specs.Scene.{is_over, waits};
 ghost use Rattle.cf_speak.specs.Shown.{scene_of};
 
 use crate::epochs::GivenEpochs;
 use crate::fault::SpeakFault;
 use crate::solo::Solo;
-use cf_protocol::{CloseCode, Namespaces, Tokens};
+use cf_protocol::{Namespaces, Tokens, close_reason};
 use cf_queue::Out;
 use cf_session::Session;
 use cf_talk::{Node, serve_text};
@@ -167,35 +167,10 @@ fn write_one<W: Write>(alloc: Global, writer: &mut W, out: &Out) -> Result<(), S
             Ok(())
         }
         Out::Close(code) => {
-            let reason = reason_of(*code);
+            let reason = close_reason(*code);
             let line = format!(in alloc; "close {code} {reason}\n")?;
             writer.write_all(line.as_bytes())?;
             Ok(())
         }
     }
-}
-
-// The reason that stands beside a close code; empty for a code that isn't one of the protocol's.
-fn reason_of(code: u16) -> &'static str
-    ensures { result.now ≡ reason_by code }
-{
-    if code == CloseCode::Shutdown.code() {
-        return CloseCode::Shutdown.reason();
-    }
-    if code == CloseCode::InternalError.code() {
-        return CloseCode::InternalError.reason();
-    }
-    if code == CloseCode::Slow.code() {
-        return CloseCode::Slow.reason();
-    }
-    if code == CloseCode::NoPong.code() {
-        return CloseCode::NoPong.reason();
-    }
-    if code == CloseCode::InvalidToken.code() {
-        return CloseCode::InvalidToken.reason();
-    }
-    if code == CloseCode::BadRequest.code() {
-        return CloseCode::BadRequest.reason();
-    }
-    ""
 }

@@ -11,7 +11,7 @@ use Rattle.tungstenite.specs.declared.error.Error.{Error}
 use Rattle.websocket.specs.declared.protocol.frame.coding.CloseCode.{CloseCode}
 use Rattle.cf_queue.specs.declared.queue.Out.{Out}
 use Rattle.cf_queue.specs.declared.queue.Out.TheVariants.{Text, Close}
-use Rattle.cf_wire.specs.Reason.{frame_of}
+use Rattle.cf_wire.specs.CloseFrame.{frame_of}
 use Rattle.cf_wire.specs.Stages.{WireState, is_open, is_over, has_failed, close_in, settled, Halts, Stops}
 use Rattle.cf_wire.specs.Turn.{Event, heard, passed, ended, rejected, failed, none, sent, held, refused, flushed, tried, reads, moves, is_stop, EndFits, is_bad, is_signal, code_in, bad_message, Puts, Settles, FlushLeaves, Place, place, DeskDoes, WireDoes, Did, Turns, least, end_in, least_in}
 use Rattle.cf_wire.specs.declared.end.Stage.{Stage}

@@ -1,4 +1,4 @@
-pub mod Reason
+pub mod CloseFrame
 pub mod Gathered
 pub mod Stages
 pub mod Turn

@@ -14,7 +14,7 @@ use Rattle.cf_protocol.specs.Codes.{close_code_of}
 use Rattle.cf_protocol.specs.declared.codes.CloseCode.TheVariants.{BadRequest}
 use Rattle.cf_queue.specs.declared.queue.Out.{Out}
 use Rattle.cf_queue.specs.declared.queue.Out.TheVariants.{Text, Close}
-use Rattle.cf_wire.specs.Reason.{frame_of}
+use Rattle.cf_wire.specs.CloseFrame.{frame_of}
 use Rattle.cf_wire.specs.Stages.{WireState, has_failed, close_in, settled}
 use Rattle.cf_wire.specs.declared.end.Stage.{Stage}
 use Rattle.cf_wire.specs.declared.end.Stage.TheVariants.{Open, Unflushed}

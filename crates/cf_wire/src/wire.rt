@@ -4,13 +4,12 @@ ghost use Rattle.tungstenite.specs.Failure.{IsIo};
 ghost use Rattle.tungstenite.specs.Content.{close};
 ghost use Rattle.tungstenite.specs.Socket.{Flushed, close_of};
 ghost use Rattle.cf_queue.specs.declared.queue.Out.TheVariants as out;
-ghost use Rattle.cf_wire.specs.Reason.{reason_by};
 ghost use Rattle.cf_wire.specs.Stages.{is_unflushed, is_over, has_failed, settled, told, Agrees, Halts, Stops};
 ghost use Rattle.cf_wire.specs.Turn.{Turns, Settles, FlushLeaves, place, most_reads, least, least_in, taken_in, end_in, code_in};
 
 use crate::desk::Desk;
 use crate::end::{Stage, TurnEnd, WireEnd};
-use cf_protocol::CloseCode;
+use cf_protocol::{CloseCode, close_reason};
 use cf_queue::Out;
 use std::io::{ErrorKind, Read, Write};
 use std::marker::Model;
@@ -39,31 +38,6 @@ impl<S> Model for Wire<S> {
     ghost Value = { WireState S };
 
     ghost view = { λ w. record { socket = w.socket; stage = w.stage } };
-}
-
-/// The reason that stands beside a close code; empty for a code that isn't one of ours.
-fn reason_of(code: u16) -> &'static str
-    ensures { result.now ≡ reason_by code }
-{
-    if code == CloseCode::Shutdown.code() {
-        return CloseCode::Shutdown.reason();
-    }
-    if code == CloseCode::InternalError.code() {
-        return CloseCode::InternalError.reason();
-    }
-    if code == CloseCode::Slow.code() {
-        return CloseCode::Slow.reason();
-    }
-    if code == CloseCode::NoPong.code() {
-        return CloseCode::NoPong.reason();
-    }
-    if code == CloseCode::InvalidToken.code() {
-        return CloseCode::InvalidToken.reason();
-    }
-    if code == CloseCode::BadRequest.code() {
-        return CloseCode::BadRequest.reason();
-    }
-    ""
 }
 
 /// The end of a wire whose socket failed.
@@ -267,7 +241,7 @@ impl<S: Read + Write + Drop> Wire<S> {
     {
         let frame = CloseFrame {
             code: FrameCode::from(code),
-            reason: Utf8Bytes::from_static(reason_of(code)),
+            reason: Utf8Bytes::from_static(close_reason(code)),
         };
         let answer = self.socket.close(Some(frame));
         self.settle(answer, Some(code))
