@@ -1,6 +1,6 @@
 //! The members of an object, read by their keys.
-ghost use Rattle.std.specs.Prelude.{option_and_then, ◌≡◌, [], false, pos, IfOk, ◌≤◌, is_some, string_bytes};
-ghost use Rattle.cf_protocol.specs.Fields.{look_up, unless_null, read_or, as_object, as_text, as_flag, as_whole, as_limit, position, object_or_none};
+ghost use Rattle.std.specs.Prelude.{option_and_then, ◌≡◌, [], false, pos, IfOk, ◌≤◌, is_some, string_bytes, if◌then◌else◌, Some, None};
+ghost use Rattle.cf_protocol.specs.Fields.{look_up, unless_null, read_or, as_object, as_text, as_flag, as_whole, as_limit, is_limit, position, object_or_none};
 ghost use Rattle.cf_protocol.specs.Reading.{Tells, Answers, Reads, Finds, Stand, AreMembers, HasValue, IsObject, OfFields, OfValue, present_at, object_at, items_at};
 
 use crate::epoch::Epoch;
@@ -24,6 +24,16 @@ pub fn is_present(text: &str, span: Span) -> bool
     ensures { OfValue text.now span (λ t. result ≡ is_some (unless_null t)) }
 {
     kind(text, span) != Kind::Null
+}
+
+/// The number as a limit, where it fits 32 bits with a sign.
+fn limit_of(number: i64) -> Option<i32>
+    ensures { result ≡ if is_limit number then Some number else None }
+{
+    if number < i64::from(i32::MIN) || number > i64::from(i32::MAX) {
+        return None;
+    }
+    Some(number as i32)
 }
 
 impl<'a> Members<'a> {
@@ -133,10 +143,10 @@ impl<'a> Members<'a> {
         let Some(number) = read_signed(self.text, span) else {
             return Err(ReadFault::Bad);
         };
-        if number < i64::from(i32::MIN) || number > i64::from(i32::MAX) {
-            return Err(ReadFault::Bad);
+        match limit_of(number) {
+            Some(limit) => Ok(limit),
+            None => Err(ReadFault::Bad),
         }
-        Ok(number as i32)
     }
 
     /// The members of an object, where one stands.
