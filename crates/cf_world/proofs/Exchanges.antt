@@ -22,12 +22,13 @@ use Rattle.cf_world.specs.Errands.{event_by}
 use Rattle.cf_world.specs.Exchange.{IsGranted, Lists, Puts, asks_too_much}
 use Rattle.cf_world.specs.HubCalls.{Asks, AtHub, Hubs, LeftTold, who_in}
 use Rattle.cf_world.specs.NodesTie.{seated}
-use Rattle.cf_world.specs.Sending.{IsSent}
+use Rattle.cf_world.specs.Sending.{IsSent, Keeps}
 use Rattle.cf_world.specs.Tie.{AreTied}
 use Rattle.cf_world.specs.declared.broker.Broker.{Broker as Code}
 use Rattle.cf_world.specs.declared.errand.Errand.{Errand}
 use Rattle.cf_world.specs.declared.peers.Peer.{Peer}
 use Rattle.cf_world.specs.declared.sending.Granted.{Granted}
+use Rattle.cf_world.specs.declared.world.World.{World as Whole}
 use Rattle.cf_world.proofs.Going.{Stays}
 use Rattle.cf_world.proofs.Granting.{ask_granted, info_regular, leave_granted, list_granted, put_granted}
 use Rattle.cf_world.proofs.Passing.{list-set-up}
@@ -107,3 +108,9 @@ module _ {cfg : Config} {table : NamespaceTable} {b : Code} {hubs : ℕ → Opti
       happened q is new hubs'
       (list_granted t x g.seat p sent.found sent.sits c limit peers' (becomes q is) stays missing calls moves (granted q is) n refl (not-false (can_open c m.broker) (opens q is)) new hubs'
       (as_before (λ (f : Hubs). Lists cfg.namespaces m.broker g.seat c limit n new f hubs') (did n c limit (command q is) cfg.namespaces m.broker fresh (list-set-up cfg.namespaces c limit (granted q is).checked) t.broker)))
+
+-- a tie stays where what is set up and the broker do
+pub tied_still : {cfg : Config} {old new : Whole} {hubs : ℕ → Option Node} {peers : List ℕ → Option Peer} {m : World} → Keeps old new
+    → AreTied cfg old.namespaces old.broker hubs peers m → AreTied cfg new.namespaces new.broker hubs peers m
+tied_still {cfg} {old} {new} {hubs} {peers} {m} k t =
+    subst (λ (b : Code). AreTied cfg new.namespaces b hubs peers m) (sym k.broker) (subst (λ (n : NamespaceTable). AreTied cfg n old.broker hubs peers m) (sym k.namespaces) t)

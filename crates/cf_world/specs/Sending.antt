@@ -1,5 +1,6 @@
 -- A client sends a command, and its node hears it: what becomes of it before hub and broker are asked.
-use Rattle.std.specs.Prelude.{◌≡◌, ℕ, not, Bool, false, Option, Some, None, List}
+use Rattle.std.specs.Prelude.{◌≡◌, ℕ, not, Bool, false, Option, Some, None, List, slice_get}
+use Rattle.std.specs.BTreeMap.{get_by_text}
 use Rattle.cf_protocol.specs.Codes.{code_of}
 use Rattle.cf_protocol.specs.Outgoing.{Failed}
 use Rattle.cf_protocol.specs.Settings.{NamespaceTable}
@@ -25,6 +26,7 @@ use Rattle.cf_world.specs.declared.judging.Judged.TheVariants as judged
 use Rattle.cf_world.specs.declared.peers.Peer.{Peer}
 use Rattle.cf_world.specs.declared.peers.Seat.{Seat}
 use Rattle.cf_world.specs.declared.sending.Granted.{Granted}
+use Rattle.cf_world.specs.declared.world.World.{World as Whole}
 
 -- ---- a node hears a text
 
@@ -61,3 +63,14 @@ module _ (cfg : Config) (m : World) (x : List ℕ) (e : Errand) (hubs hubs' : Hu
   abbrev pub SendsAs : NamespaceTable → Code → Option Granted → Type 0
   SendsAs table b None = AreTied cfg table b hubs' peers' (happens cfg m (event_by e x))
   SendsAs table b (Some g) = IsSent g
+
+-- ---- the same of a world
+
+-- what is set up, and the broker, are as they were
+pub record Keeps (old new : Whole) : Type 0 where
+  pub namespaces : new.namespaces ≡ old.namespaces
+  pub broker : new.broker ≡ old.broker
+
+abbrev pub WorldSends : Config → World → List ℕ → Errand → Whole → Whole → Option Granted → Type 0
+WorldSends cfg m x e old new g =
+    SendsAs cfg m x e (slice_get old.hubs.items) (slice_get new.hubs.items) (get_by_text old.peers) (get_by_text new.peers) new.namespaces new.broker g

@@ -19,7 +19,7 @@ use crate::broker::Broker;
 use crate::errand::Errand;
 use crate::granted::{list_in, put_in};
 use crate::hubs::{ask_in, lose_in};
-use crate::sending::{Granted, send_in};
+use crate::sending::Granted;
 use crate::short::Short;
 use crate::world::World;
 use cf_hub::Hub;
@@ -38,16 +38,7 @@ impl World {
         what_is_said_stays();
         rows_are_counted();
         let errand = Errand::Ask { channel };
-        let Some(granted) = send_in(
-            &self.namespaces,
-            &self.broker,
-            &mut self.hubs,
-            &mut self.peers,
-            self.alloc,
-            name,
-            &errand,
-        )?
-        else {
+        let Some(granted) = self.send(name, &errand)? else {
             return Ok(());
         };
         subscribe_in(&mut self.hubs, self.alloc, granted)?;
@@ -63,16 +54,7 @@ impl World {
         what_is_said_stays();
         rows_are_counted();
         let errand = Errand::AskFrom { channel };
-        let Some(granted) = send_in(
-            &self.namespaces,
-            &self.broker,
-            &mut self.hubs,
-            &mut self.peers,
-            self.alloc,
-            name,
-            &errand,
-        )?
-        else {
+        let Some(granted) = self.send(name, &errand)? else {
             return Ok(());
         };
         subscribe_in(&mut self.hubs, self.alloc, granted)?;
@@ -87,16 +69,7 @@ impl World {
         moves_are_alike();
         what_is_said_stays();
         let errand = Errand::Leave { channel };
-        let Some(granted) = send_in(
-            &self.namespaces,
-            &self.broker,
-            &mut self.hubs,
-            &mut self.peers,
-            self.alloc,
-            name,
-            &errand,
-        )?
-        else {
+        let Some(granted) = self.send(name, &errand)? else {
             return Ok(());
         };
         unsubscribe_in(&mut self.hubs, self.alloc, granted)?;
@@ -114,16 +87,7 @@ impl World {
         what_is_said_stays();
         epochs_are_fresh();
         let errand = Errand::Put { channel, body };
-        let Some(granted) = send_in(
-            &self.namespaces,
-            &self.broker,
-            &mut self.hubs,
-            &mut self.peers,
-            self.alloc,
-            name,
-            &errand,
-        )?
-        else {
+        let Some(granted) = self.send(name, &errand)? else {
             return Ok(());
         };
         publish_in(&mut self.broker, &mut self.hubs, self.alloc, granted)?;
@@ -140,16 +104,7 @@ impl World {
         what_is_said_stays();
         epochs_are_fresh();
         let errand = Errand::List { channel, limit };
-        let Some(granted) = send_in(
-            &self.namespaces,
-            &self.broker,
-            &mut self.hubs,
-            &mut self.peers,
-            self.alloc,
-            name,
-            &errand,
-        )?
-        else {
+        let Some(granted) = self.send(name, &errand)? else {
             return Ok(());
         };
         history_in(&mut self.broker, &mut self.hubs, self.alloc, granted)?;

@@ -5,8 +5,8 @@ ghost use Rattle.cf_machine.specs.Config.{Config};
 ghost use Rattle.cf_machine.specs.World.{World as Machine};
 ghost use Rattle.cf_world.specs.Errands.{IsReadBack};
 ghost use Rattle.cf_world.specs.HubCalls.{hub_at};
-ghost use Rattle.cf_world.specs.Sending.{Hears, SendsAs};
-ghost use Rattle.cf_world.specs.Tie.{AreTied};
+ghost use Rattle.cf_world.specs.Sending.{Hears, Keeps, SendsAs, WorldSends};
+ghost use Rattle.cf_world.specs.Tie.{AreTied, Tied};
 
 use crate::broker::Broker;
 use crate::errand::Errand;
@@ -15,6 +15,7 @@ use crate::hubs::{close_in, is_closed_in, is_settled_in, refuse_in};
 use crate::judging::{Judged, judge};
 use crate::peers::{Peer, Seat, seat_of, send};
 use crate::short::Short;
+use crate::world::World;
 use cf_hub::Hub;
 use cf_hub::laws::{calls_are_alike, moves_are_alike, what_is_said_stays};
 use cf_protocol::laws::commands_read_back;
@@ -56,9 +57,29 @@ fn hear_in(
     }
 }
 
-/// A client sends a command, where it can, and its node hears it. None where hub and broker needn't be asked: nothing was sent,
-/// or nothing comes of it, or what does is done.
-pub(crate) fn send_in(
+impl World {
+    /// A client sends a command, where it can, and its node hears it. None where hub and broker needn't be asked: nothing was
+    /// sent, or nothing comes of it, or what does is done.
+    pub(crate) fn send(&mut self, name: &str, errand: &Errand<'_>) -> Result<Option<Granted>, Short>
+        ensures sends { IfOk result (λ granted. (cfg : Config) (m : Machine)
+            → IsReadBack errand.now → Tied cfg self.old m
+            → WorldSends cfg m name.now errand.now self.old self.new granted) }
+        ensures stays { Keeps self.old self.new }
+    {
+        send_in(
+            &self.namespaces,
+            &self.broker,
+            &mut self.hubs,
+            &mut self.peers,
+            self.alloc,
+            name,
+            errand,
+        )
+    }
+}
+
+/// The same, over the parts of the world.
+fn send_in(
     namespaces: &Namespaces,
     broker: &Broker,
     hubs: &mut Vec<Hub>,

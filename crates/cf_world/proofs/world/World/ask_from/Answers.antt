@@ -2,27 +2,27 @@ use Rattle.std.proofs.Common.{rules, ◌≡◌, Option, Some, None, refl, slice_
 use Rattle.std.specs.BTreeMap.{get_by_text}
 use Rattle.cf_machine.specs.IntervalMachine.{run}
 use Rattle.cf_machine.specs.World.{World, start}
-use Rattle.cf_world.specs.Sending.{IsSent, SendsAs}
+use Rattle.cf_world.specs.Sending.{IsSent, WorldSends}
 use Rattle.cf_world.specs.declared.errand.Errand.{Errand}
 use Rattle.cf_world.specs.declared.errand.Errand.TheVariants as errand
 use Rattle.cf_world.specs.declared.sending.Granted.{Granted}
-use Rattle.cf_world.proofs.Exchanges.{asks_done}
+use Rattle.cf_world.proofs.Exchanges.{asks_done, tied_still}
 use Rattle.cf_world.proofs.world.World.ask_from.Goals as goal
 
 pub returns-in_default : goal.returns-in_default
 returns-in_default c = λ cfg past t.
     let none : c.in_ok-granted.field-0 ≡ None = search rules in
-    subst (λ (o : Option Granted). SendsAs cfg (run cfg start past) c.args.name.now (errand.AskFrom c.args.channel) (slice_get c.args.self.now.hubs.items) (slice_get c.send_in.new.hubs.items) (get_by_text c.args.self.now.peers) (get_by_text c.send_in.new.peers) c.args.self.now.namespaces c.args.self.now.broker o) none
-    (c.in_ok-granted.ensures cfg (run cfg start past) tt t)
+    subst (λ (o : Option Granted). WorldSends cfg (run cfg start past) c.args.name.now (errand.AskFrom c.args.channel) c.args.self.now c.send.new.self o) none
+    (c.in_ok-granted.ensures.sends cfg (run cfg start past) tt t)
 
 pub returns : goal.returns
 returns c = λ cfg past t.
     let w : World = run cfg start past in
     let e : Errand = errand.AskFrom c.args.channel in
     let some : c.in_ok-granted.field-0 ≡ Some c.in-Some.granted = search rules in
-    let sent : IsSent cfg w c.args.name.now e (slice_get c.args.self.now.hubs.items) (slice_get c.send_in.new.hubs.items) (get_by_text c.args.self.now.peers) (get_by_text c.send_in.new.peers) c.in-Some.granted =
-    subst (λ (o : Option Granted). SendsAs cfg w c.args.name.now e (slice_get c.args.self.now.hubs.items) (slice_get c.send_in.new.hubs.items) (get_by_text c.args.self.now.peers) (get_by_text c.send_in.new.peers) c.args.self.now.namespaces c.args.self.now.broker o) some
-    (c.in_ok-granted.ensures cfg w tt t) in
-    asks_done t c.args.name.now e (slice_get c.send_in.new.hubs.items) (get_by_text c.send_in.new.peers) c.in-Some.granted sent
+    let sent : IsSent cfg w c.args.name.now e (slice_get c.args.self.now.hubs.items) (slice_get c.send.new.self.hubs.items) (get_by_text c.args.self.now.peers) (get_by_text c.send.new.self.peers) c.in-Some.granted =
+    subst (λ (o : Option Granted). WorldSends cfg w c.args.name.now e c.args.self.now c.send.new.self o) some
+    (c.in_ok-granted.ensures.sends cfg w tt t) in
+    asks_done (tied_still c.send.ensures.stays t) c.args.name.now e (slice_get c.send.new.self.hubs.items) (get_by_text c.send.new.self.peers) c.in-Some.granted sent
     c.what_is_said_stays.ensures.grows c.calls_are_alike.ensures c.moves_are_alike.ensures
     c.args.channel.now _ refl c.rows_are_counted.ensures.session c.rows_are_counted.ensures.all (slice_get c.subscribe_in.new.hubs.items) c.in_ok-subscribe_in.ensures
