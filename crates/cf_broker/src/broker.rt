@@ -1,12 +1,14 @@
 //! The sixteen shards, each under a lock of its own, beside its word.
-ghost use Rattle.std.specs.Prelude.{◌≡◌, ◌≢◌, ◌+◌, ◌<◌, ◌≤◌, ◌↔◌, length, IfOk, IfErr, OnOk, OnErr, IsSome, IsTrue};
+ghost use Rattle.std.specs.Prelude.{◌≡◌, ◌≢◌, ◌+◌, ◌<◌, ◌≤◌, ◌↔◌, length, IfOk, IfErr, OnOk, OnErr, IsSome, IsTrue, vec_len};
 ghost use mathlib.Core.List.{IsPrefix};
 ghost use Rattle.cf_protocol.specs.Settings.{settings_of};
 ghost use Rattle.cf_protocol.specs.LogEntry.Entry.{Trim, Forget};
 ghost use Rattle.cf_shard.specs.LogAnswer.{Follows, IsPosition, IsPublished, IsReadAnswer, IsHistoryAnswer, IsTrimmed, IsForgotten, IsTicked, RefusesPublish, RefusesRead, RefusesHistory, RefusesEntry};
 ghost use Rattle.cf_shard.specs.Shard.{datum_of};
+ghost use Rattle.cf_broker.specs.Nodes.{node_count};
 ghost use Rattle.cf_broker.specs.Shards.{number_of, names, first_passes};
 
+use crate::links::NodeLink;
 use crate::parts::parts_of;
 use crate::places::Places;
 use crate::quarter::{Quarter, at_one, last_quarter};
@@ -20,7 +22,7 @@ use cf_stream::{Epochs, History};
 use std::alloc::{AllocError, Global};
 use std::collections::BTreeMap;
 use std::marker::PhantomData;
-use std::sync::{Mutex, Wait};
+use std::sync::Wait;
 
 /// How many shards there are.
 pub const SHARDS: usize = 16;
@@ -45,7 +47,7 @@ pub struct Broker<N: Naming, E: Epochs> {
     second: Quarter<N, E, 4, 5, 6, 7>,
     third: Quarter<N, E, 8, 9, 10, 11>,
     fourth: Quarter<N, E, 12, 13, 14, 15>,
-    senders: Vec<Mutex<Sender<Delivery>>>,
+    links: Vec<NodeLink>,
 }
 
 impl<N: Naming, E: Epochs + Drop> Broker<N, E> {
@@ -61,10 +63,11 @@ impl<N: Naming, E: Epochs + Drop> Broker<N, E> {
     ) -> Result<(Broker<N, E>, Passes<N>), AllocError>
         requires words { words ≡ names N.words 16 }
         requires namespaces { namespaces.now ≡ N.namespaces }
-        ensures { IfOk result (λ r. r.1 ≡ first_passes N.words) }
+        ensures passes { IfOk result (λ r. r.1 ≡ first_passes N.words) }
+        ensures nodes { IfOk result (λ r. node_count r.0 ≡ vec_len links) }
     {
         let epochs = Vec::from_array(alloc, epochs)?;
-        let senders = locked(alloc, links)?;
+        let links = locked(alloc, links)?;
         let mut parts = parts_of(alloc, namespaces, epochs)?;
         let Words { mut list, passes } = words;
         let fourth = last_quarter(alloc, &mut parts, &mut list);
@@ -76,7 +79,7 @@ impl<N: Naming, E: Epochs + Drop> Broker<N, E> {
             second,
             third,
             fourth,
-            senders,
+            links,
         };
         Ok((
             broker,
@@ -85,6 +88,22 @@ impl<N: Naming, E: Epochs + Drop> Broker<N, E> {
                 of: PhantomData,
             },
         ))
+    }
+
+    /// How many nodes it has a link to.
+    pub fn nodes(&self) -> usize
+        ensures { result ≡ node_count self.now }
+    {
+        self.links.len()
+    }
+
+    /// How many publications a node lost since the broker was made, as its link had no room for them; 0 where there is no such
+    /// node. What other threads counted is nothing that a contract names: this is tested.
+    pub fn lost(&self, node: usize) -> u64 {
+        match self.links.get(node) {
+            Some(link) => link.lost(),
+            None => 0,
+        }
     }
 
     /// The word of a shard, by which passes are lent, met and joined.
@@ -117,9 +136,9 @@ impl<N: Naming, E: Epochs + Drop> Broker<N, E> {
             (RefusesPublish N.namespaces pass.new.log channel.now (datum_of body info)) }
         ensures seen { OnErr result (Follows pass.old pass.new 0) }
     {
-        let senders = self.senders.as_slice();
+        let links = self.links.as_slice();
         let number = shard_of(channel);
-        at_one!(self, number, 4, 8, 12, quarter => quarter.publish(rt, number, pass, senders, channel, body, info, now))
+        at_one!(self, number, 4, 8, 12, quarter => quarter.publish(rt, number, pass, links, channel, body, info, now))
     }
 
     /// The publications of a channel after a position, where all are held, at a moment in seconds, and the length of the
@@ -289,13 +308,12 @@ impl<N: Naming, E: Epochs + Drop> Broker<N, E> {
 }
 
 /// Each sender under a lock of its own.
-fn locked(
-    alloc: Global,
-    links: Vec<Sender<Delivery>>,
-) -> Result<Vec<Mutex<Sender<Delivery>>>, AllocError> {
-    let mut senders = Vec::new(alloc);
-    for sender in links {
-        senders.push(Mutex::new(sender))?;
+fn locked(alloc: Global, senders: Vec<Sender<Delivery>>) -> Result<Vec<NodeLink>, AllocError>
+    ensures { IfOk result (λ v. vec_len v ≡ vec_len senders) }
+{
+    let mut links = Vec::new(alloc);
+    for sender in senders {
+        links.push(NodeLink::new(sender))?;
     }
-    Ok(senders)
+    Ok(links)
 }

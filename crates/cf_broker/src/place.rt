@@ -2,13 +2,12 @@
 ghost use Rattle.std.specs.Prelude.{◌≡◌, []};
 ghost use Rattle.cf_shard.specs.Shard.{no_streams};
 
-use crate::links::NodeLinks;
+use crate::links::{NodeLink, NodeLinks};
 use crate::places::Places;
-use cf_link::Sender;
 use cf_order::{Owner, Pass, ShardWord};
 use cf_presence::Stats;
 use cf_protocol::{Info, Position};
-use cf_shard::{Delivery, Naming, ReadAnswer, Refused, Shard};
+use cf_shard::{Naming, ReadAnswer, Refused, Shard};
 use cf_stream::{Epochs, History, Streams};
 use std::alloc::Global;
 use std::collections::BTreeMap;
@@ -53,15 +52,15 @@ impl<N: Naming, E: Epochs, const I: usize> Places<N> for Place<N, E, I> {
         rt: &R,
         _number: usize,
         pass: &mut Pass,
-        senders: &[Mutex<Sender<Delivery>>],
+        links: &[NodeLink],
         channel: &str,
         body: String,
         info: Option<Info>,
         now: u64,
     ) -> Result<Position, Refused> {
         let mut shard = self.lock.lock(rt);
-        let mut links = NodeLinks { rt, senders };
-        shard.publish(&self.word, pass, &mut links, channel, body, info, now)
+        let mut lent = NodeLinks { rt, links };
+        shard.publish(&self.word, pass, &mut lent, channel, body, info, now)
     }
 
     fn read<R: Wait>(

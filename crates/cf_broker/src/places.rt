@@ -5,14 +5,14 @@ ghost use Rattle.cf_protocol.specs.LogEntry.Entry.{Trim, Forget};
 ghost use Rattle.cf_shard.specs.LogAnswer.{Follows, IsPosition, IsPublished, IsReadAnswer, IsHistoryAnswer, IsTrimmed, IsForgotten, IsTicked, RefusesPublish, RefusesRead, RefusesHistory, RefusesEntry};
 ghost use Rattle.cf_shard.specs.Shard.{datum_of};
 
-use cf_link::Sender;
+use crate::links::NodeLink;
 use cf_order::{Pass, ShardWord};
 use cf_presence::Stats;
 use cf_protocol::{Info, Position};
-use cf_shard::{Delivery, Naming, ReadAnswer, Refused};
+use cf_shard::{Naming, ReadAnswer, Refused};
 use cf_stream::History;
 use std::collections::BTreeMap;
-use std::sync::{Mutex, Wait};
+use std::sync::Wait;
 
 /// Shards by their numbers, each under a lock. Each call is that of the same name of the shard of a number, while its lock is
 /// held.
@@ -32,7 +32,7 @@ pub(crate) trait Places<N: Naming> {
         rt: &R,
         number: usize,
         pass: &mut Pass,
-        senders: &[Mutex<Sender<Delivery>>],
+        links: &[NodeLink],
         channel: &str,
         body: String,
         info: Option<Info>,

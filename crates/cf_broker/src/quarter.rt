@@ -2,19 +2,19 @@
 ghost use Rattle.std.specs.Prelude.{◌≡◌, ◌+◌, vec_len};
 ghost use Rattle.cf_broker.specs.Shards.{names};
 
+use crate::links::NodeLink;
 use crate::parts::{Part, last_place};
 use crate::place::Place;
 use crate::places::Places;
 use crate::words::NewWord;
-use cf_link::Sender;
 use cf_order::{Pass, ShardWord};
 use cf_presence::Stats;
 use cf_protocol::{Info, Position};
-use cf_shard::{Delivery, Naming, ReadAnswer, Refused};
+use cf_shard::{Naming, ReadAnswer, Refused};
 use cf_stream::{Epochs, History};
 use std::alloc::Global;
 use std::collections::BTreeMap;
-use std::sync::{Mutex, Wait};
+use std::sync::Wait;
 
 /// Four shards, of which each has the number that follows the one before.
 #[derive(Drop)]
@@ -95,13 +95,13 @@ impl<N: Naming, E: Epochs, const A: usize, const B: usize, const C: usize, const
         rt: &R,
         number: usize,
         pass: &mut Pass,
-        senders: &[Mutex<Sender<Delivery>>],
+        links: &[NodeLink],
         channel: &str,
         body: String,
         info: Option<Info>,
         now: u64,
     ) -> Result<Position, Refused> {
-        at_one!(self, number, B, C, D, place => place.publish(rt, number, pass, senders, channel, body, info, now))
+        at_one!(self, number, B, C, D, place => place.publish(rt, number, pass, links, channel, body, info, now))
     }
 
     fn read<R: Wait>(

@@ -1,5 +1,5 @@
 -- The values of the code as the definitions' values, texts by their bytes.
-use Rattle.std.specs.Prelude.{◌≡◌, ℕ, Bool, true, false, Option, Some, None, List, ◌++◌, map}
+use Rattle.std.specs.Prelude.{◌≡◌, ⊤, ℕ, Bool, false, Option, Some, None, List, ◌++◌, map}
 use Rattle.std.specs.BTreeMap.{BTreeMap}
 use Rattle.std.specs.String.{string_bytes}
 use Rattle.std.specs.declared.string.String.{String}
@@ -66,12 +66,12 @@ known_state k = state_of (view_of k)
 abbrev pub SetsMode : Channels → Channels → List ℕ → Mode → Type 0
 SetsMode old new c m = (d : List ℕ) → modes_of new d ≡ with (modes_of old) c m d
 
--- why a text is refused: it is none of a node's, or the client isn't connected, or there is no memory
+-- why a text is refused: it is none of a node's; or it is one, and the client isn't connected; or there is no memory
 abbrev pub TextRefused : List ℕ → Bool → ClientFault → Type 0
 TextRefused text connected Bad = (os : List Outgoing) → IsReplies text os → ⊥
-TextRefused text connected NotNow = connected ≡ false
+TextRefused text connected NotNow = (connected ≡ false) × (os : List Outgoing) × IsReplies text os
 TextRefused text connected AtLastId = ⊥
-TextRefused text connected Memory = connected ≡ true
+TextRefused text connected Memory = ⊤
 
 -- what was told is told after what was told before
 abbrev pub TellsAlso : (List AppItem → Type 0) → List AppEvent → List AppEvent → Type 0

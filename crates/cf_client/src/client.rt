@@ -266,8 +266,9 @@ impl Client {
     ///
     /// # Errors
     ///
-    /// `Bad` where the text is no frame of replies and pushes; `NotNow` while not connected; `Memory`, which leaves the client
-    /// as it was too: what takes memory comes before the first change.
+    /// `Bad` where the text is no frame of replies and pushes, whether the client is connected or not; `NotNow` where it is one,
+    /// while not connected; `Memory`, which leaves the client as it was too: what takes memory comes before the first change. A
+    /// text for which memory is refused while it is read is `Memory`, since nobody knows then whether it is `Bad`.
     pub fn on_text(&mut self, text: &str) -> Result<Vec<AppEvent>, ClientFault>
         ensures takes { IfOk result
             (λ es. (os : List sent.Outgoing) → IsReplies text.now os
@@ -295,12 +296,7 @@ impl Client {
     {
         match read_replies(self.alloc, text) {
             Err(ReadFault::Bad) => Err(ClientFault::Bad),
-            Err(ReadFault::Memory) => {
-                if !self.known.is_connected {
-                    return Err(ClientFault::NotNow);
-                }
-                Err(ClientFault::Memory)
-            }
+            Err(ReadFault::Memory) => Err(ClientFault::Memory),
             Ok(outgoings) => {
                 if !self.known.is_connected {
                     return Err(ClientFault::NotNow);

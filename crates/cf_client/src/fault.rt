@@ -5,7 +5,8 @@ ghost use Rattle.cf_client.specs.declared.fault.ClientFault.TheVariants.{Memory}
 use std::alloc::{AllocError, AllocFailed};
 use thiserror::Error;
 
-/// Why a call of a client is refused. Of several causes the first named here is given. A refused call changes nothing.
+/// Why a call of a client is refused. Of several causes the first named here is given, but that a text is `Memory` where memory
+/// is refused while it is read. A refused call changes nothing.
 #[derive(Clone, Copy, PartialEq, Eq, Debug, Drop, Error)]
 pub enum ClientFault {
     /// The text is none of a node's.

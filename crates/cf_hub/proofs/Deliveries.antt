@@ -30,6 +30,7 @@ pub record IsOnItsWay (p : Placed) (c e : List ℕ) (old : Node) (now : Sessions
   pub hit : List ℕ
   pub requests : ℕ
   pub few_hit : length hit ≤ requests
+  pub hit_met : (k : ℕ) → is_in k hit ≡ true → has k done ≡ true
   pub count : refused ≡ counted requests old.refused
   pub all : sessions_of old.rows c ≡ done ++ todo
   pub untouched : (k : ℕ) → has k done ≡ false → now k ≡ attached_at old k
@@ -52,6 +53,10 @@ no_subscriber : (refused : Bool) (p : Placed) (c e : List ℕ) (o : Option Attac
 no_subscriber refused p c e None h = tt
 no_subscriber refused p c e (Some a) h = (inl (on_none p c (at_offset e p) (a.state.subs c) a.state refl h), refl)
 
+is_not : (b : Bool) → not b ≡ true → b ≡ false
+is_not true h = absurd (cc)
+is_not false h = refl
+
 un_not : (b : Bool) → not b ≡ false → b ≡ true
 un_not true h = refl
 un_not false h = absurd (cc)
@@ -66,6 +71,7 @@ starts p c e old now refused listed is was had agrees small =
       hit = [];
       requests = 0;
       few_hit = omega arith;
+      hit_met = λ k m. absurd (cc);
       count = within refused small ∙ ap (counted 0) was;
       all = refl;
       untouched = λ k m. ap (λ (g : Sessions). g k) (sym is);
@@ -98,6 +104,10 @@ pub hit_few : (r : Bool) (k : ℕ) (hit : List ℕ) (n : ℕ) → length hit ≤
 hit_few true k hit n h = omega (arith, h)
 hit_few false k hit n h = omega (arith, h)
 
+pub hit_before : (r : Bool) (k j : ℕ) (hit : List ℕ) → is_in j (hit_more r k hit) ≡ true → (j == k) ≡ false → is_in j hit ≡ true
+hit_before true k j hit m e = grind (arith, nat_tests, m, e)
+hit_before false k j hit m e = m
+
 pub wider : (p : Placed) (c e : List ℕ) (s t : Bool) → (s ≡ true → t ≡ true) → (a b : Option Attached) → Both (Brings s c e p) a b → Both (Brings t c e p) a b
 wider p c e s t w None None h = tt
 wider p c e s t w None (Some b) h = absurd h
@@ -115,6 +125,9 @@ quiet_before fate.Closed d h = absurd (omega (arith, h))
 
 in_more : (j k : ℕ) (ks : List ℕ) → (j == k) ≡ false → has j (ks ++ k ∷ []) ≡ has j ks
 in_more j k ks e = let joined = has_append j ks (k ∷ []) in grind (arith, nat_tests, joined, e)
+
+is_last : (j k : ℕ) (ks : List ℕ) → (j == k) ≡ true → has j (ks ++ k ∷ []) ≡ true
+is_last j k ks e = let joined = has_append j ks (k ∷ []) in grind (arith, nat_tests, joined, e)
 
 not_last : (j k : ℕ) (ks : List ℕ) → has j (ks ++ k ∷ []) ≡ false → (j == k) ≡ false
 not_last j k ks h = let joined = has_append j ks (k ∷ []) in grind (arith, nat_tests, joined, h)
@@ -151,6 +164,7 @@ module _ (p : Placed) (c e : List ℕ) (old : Node) (now new : Sessions) (k : �
         hit = hit_more hit k w.hit;
         requests = w.requests + one_if hit;
         few_hit = hit_few hit k w.hit w.requests w.few_hit;
+        hit_met = λ j m. meet w j m (j == k) refl;
         count = count ∙ ap (counted (one_if hit)) w.count ∙ counted_both w.requests (one_if hit) old.refused;
         all = w.all ∙ sym (middle k done rest);
         untouched = λ j m. let apart_from = not_last j k done m in others j (other j apart_from) ∙ w.untouched j (sym (in_more j k done apart_from) ∙ m);
@@ -161,6 +175,10 @@ module _ (p : Placed) (c e : List ℕ) (old : Node) (now new : Sessions) (k : �
         quiet = λ h. let q = quiet_before f counts h in stays_quiet (w.quiet q.0) q.1;
       }
     where
+      meet : (w : IsOnItsWay p c e old now refused listed counts done (k ∷ rest)) → (j : ℕ) → is_in j (hit_more hit k w.hit) ≡ true → (t : Bool) → (j == k) ≡ t → has j (done ++ k ∷ []) ≡ true
+      meet w j m true same = is_last j k done same
+      meet w j m false same = in_more j k done same ∙ w.hit_met j (hit_before hit k j w.hit m same)
+
       serve : (w : IsOnItsWay p c e old now refused listed counts done (k ∷ rest)) → now k ≡ attached_at old k → (j : ℕ) → has j (done ++ k ∷ []) ≡ true → (t : Bool) → (j == k) ≡ t → Both (Brings (is_in j (hit_more hit k w.hit)) c e p) (attached_at old j) (new j)
       serve w was j m true same =
           subst (λ i. Both (Brings (is_in i (hit_more hit k w.hit)) c e p) (attached_at old i) (new i)) (sym ((Decides-eqb j k).0 same))
@@ -195,6 +213,7 @@ module _ (p : Placed) (c e : List ℕ) (old : Node) (now : Sessions) (refused : 
   ends_served new is count =
       record {
         hit = w.hit;
+        hit_follow = λ k m. is_not (is_off (sub_in (attached_at old k) c)) (sym (agrees c k) ∙ follows_done k ∙ w.hit_met k m);
         each = λ k. subst (λ (g : Sessions). Both (Brings (is_in k w.hit) c e p) (attached_at old k) (g k)) (sym is) (served_each k (has k done) refl);
         requests = w.requests;
         few_hit = w.few_hit;
@@ -249,6 +268,7 @@ pub noted : (p : Placed) (c e : List ℕ) (n : ℕ) (old mid new : Node) → mid
 noted p c e n old mid new is d =
     record {
       hit = d.hit;
+      hit_follow = λ k m. subst (λ (h : Node). is_off (sub_in (attached_at h k) c) ≡ false) is (d.hit_follow k m);
       each = λ k. subst (λ (h : Node). Both (Brings (is_in k d.hit) c e p) (attached_at h k) (attached_at new k)) is (d.each k);
       requests = n + d.requests;
       few_hit = omega (arith, d.few_hit);

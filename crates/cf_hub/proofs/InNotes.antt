@@ -150,7 +150,7 @@ says_ping lists = record { said = Ping; stays = λ later g. refl; regular = tt; 
 pub says_place : (lists : Lists) (c e : List ℕ) (p : Placed) → IsListed lists c e p → SaysNote lists (Text (push_text c p)) (Pub c (at_offset e p))
 says_place lists c e p h = record { said = Push c (Publication p); stays = λ later g. ap (option_map (λ d. Push c (Publication d))) (h.stands later g); regular = h.regular; text = refl }
 
-says_reply : (lists : Lists) (c : List ℕ) (id : ℕ) (was : Bool) (r : Reading) (ps : List Placed) → IsCode id → AreMissed lists c r ps → SaysNote lists (Text (reply_text id was r ps)) (Reply c id was r)
+pub says_reply : (lists : Lists) (c : List ℕ) (id : ℕ) (was : Bool) (r : Reading) (ps : List Placed) → IsCode id → AreMissed lists c r ps → SaysNote lists (Text (reply_text id was r ps)) (Reply c id was r)
 says_reply lists c id was r ps code h = record {
   said = Answer id (Subscribed (record { epoch = r.epoch; offset = r.top }) ps r.recovered was);
   stays = λ later g. ap (λ xs. Some (Answer id (Subscribed (record { epoch = r.epoch; offset = r.top }) xs r.recovered was))) (h.listed later g);
@@ -231,10 +231,10 @@ module _
   tail t n = if t then n ∷ [] else []
 
   module _ (id : ℕ) (was : Bool) (r : Reading) (h : Held) (arrived : List Position) (kept : IsKept lists c id (Some r) h arrived) (run : List Placed) (is_run : IsRun h.kept (record { epoch = r.epoch; offset = r.top }) run) where
-    many : length run ≡ run_length arrived r
+    pub many : length run ≡ run_length arrived r
     many = is_run.counted ∙ counted h.kept arrived r kept.within kept.stands kept.whole
 
-    falls : (h.kept.overflow || falls_short (places h.kept.arrived) r) ≡ falls_short arrived r
+    pub falls : (h.kept.overflow || falls_short (places h.kept.arrived) r) ≡ falls_short arrived r
     falls = short h.kept arrived r kept.within kept.stands kept.whole
 
     all_listed : AllByRecursion (IsListed lists c r.epoch) run
@@ -248,7 +248,7 @@ module _
     tails true false e = absurd (cc)
     tails false true e = absurd (cc)
 
-    all_said : AllZip (SaysNote lists) (finish_notes (releasing run) c id was r h) (finish_notes (spoken lists) c id was r arrived)
+    pub all_said : AllZip (SaysNote lists) (finish_notes (releasing run) c id was r h) (finish_notes (spoken lists) c id was r arrived)
     all_said = (
       says_reply lists c id was r h.missed kept.is_code kept.missed,
       zip_both (IsKept lists) (SaysNote lists) (map (λ x. Text (push_text c x)) run) (pushes c (record { epoch = r.epoch; offset = r.top }) (run_length arrived r))

@@ -127,10 +127,11 @@ one_if b = if b then 1 else 0
 abbrev pub Brings : Bool → List ℕ → List ℕ → Placed → Attached → Attached → Type 0
 Brings refused c e p = InState (Serves refused (delivering p) c (comes (delivering p) c (at_offset e p)))
 
--- A delivery meets each session: the ones that are hit, for which memory was refused, are as many as the refused requests at
--- most, and all others go to what the machine makes of them.
+-- A delivery meets each session: the ones that are hit, for which memory was refused, follow the channel and are as many as the
+-- refused requests at most, and all others go to what the machine makes of them.
 pub record Delivers (c e : List ℕ) (p : Placed) (old new : Node) : Type 0 where
   pub hit : List ℕ
+  pub hit_follow : (k : ℕ) → is_in k hit ≡ true → is_off (sub_at old k c) ≡ false
   pub each : (k : ℕ) → Both (Brings (is_in k hit) c e p) (attached_at old k) (attached_at new k)
   pub requests : ℕ
   pub few_hit : length hit ≤ requests

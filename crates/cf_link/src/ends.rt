@@ -10,14 +10,14 @@ use std::marker::Model;
 use std::sync::{Arc, Wait};
 use std::time::{Clock, Duration};
 
-type Line<T> = RuledArrayQueue<T, Log<T>, InOrder>;
+pub(crate) type Line<T> = RuledArrayQueue<T, Log<T>, InOrder>;
 
-/// The end that sends. Contracts see the link, its capacity and all that was sent.
+/// The end that sends. Contracts see the link, its capacity, all that was sent, and what it was told to have been received.
 #[derive(Drop)]
 pub struct Sender<T> {
-    line: Arc<Line<T>>,
-    bell: Arc<Bell>,
-    pass: Pass<T, Log<T>>,
+    pub(crate) line: Arc<Line<T>>,
+    pub(crate) bell: Arc<Bell>,
+    pub(crate) pass: Pass<T, Log<T>>,
 }
 
 impl<T> Model for Sender<T> {
@@ -32,17 +32,18 @@ impl<T> Model for Sender<T> {
       link = (arc_value s.line).table.shared.table_id;
       capacity = ruled_capacity (arc_value s.line);
       items = (known s.pass).sent;
+      told = (known s.pass).received;
     } };
 
     ghost invariant = { λ s. IsPassOf (arc_value s.line) s.pass × ((known s.pass).pushes ≡ true) };
 }
 
-/// The end that receives. Contracts see the link, its capacity and all that was received.
+/// The end that receives. Contracts see the link, its capacity, all that was received, and what it was told to have been sent.
 #[derive(Drop)]
 pub struct Receiver<T> {
-    line: Arc<Line<T>>,
-    bell: Arc<Bell>,
-    pass: Pass<T, Log<T>>,
+    pub(crate) line: Arc<Line<T>>,
+    pub(crate) bell: Arc<Bell>,
+    pub(crate) pass: Pass<T, Log<T>>,
 }
 
 impl<T> Model for Receiver<T> {
@@ -57,6 +58,7 @@ impl<T> Model for Receiver<T> {
       link = (arc_value s.line).table.shared.table_id;
       capacity = ruled_capacity (arc_value s.line);
       items = (known s.pass).received;
+      told = (known s.pass).sent;
     } };
 
     ghost invariant = { λ s. IsPassOf (arc_value s.line) s.pass × ((known s.pass).pops ≡ true) };
@@ -68,6 +70,7 @@ pub fn pair<T: Drop>(alloc: Global, capacity: usize) -> Result<(Sender<T>, Recei
     ensures link { IfOk result (λ ends. IsSameLink ends.0 ends.1) }
     ensures capacity { IfOk result (λ ends. ends.0.capacity ≡ capacity) }
     ensures nothing { IfOk result (λ ends. (ends.0.items ≡ []) × (ends.1.items ≡ [])) }
+    ensures told { IfOk result (λ ends. (ends.0.told ≡ []) × (ends.1.told ≡ [])) }
 {
     let (line, mut first) = Line::ruled(alloc, capacity)?;
     let second = line.another::<Ends>(&mut first);
@@ -89,13 +92,14 @@ pub fn pair<T: Drop>(alloc: Global, capacity: usize) -> Result<(Sender<T>, Recei
 }
 
 impl<T> Sender<T> {
-    /// Sends an item, and wakes a receiver that sleeps. The item comes back where the link was full at one moment of the call.
-    /// It takes no memory.
+    /// Sends an item, and wakes a receiver that sleeps. The item comes back where the link was full at one moment of the call: as
+    /// many as it has room for were sent behind those that this end was told to have been received. It takes no memory.
     pub fn send(&mut self, rt: &impl Wait, item: T) -> Result<(), T>
         ensures same { IsSameLink self.new self.old }
         ensures sent { OnOk result (self.new.items ≡ self.old.items ++ item ∷ []) }
+        ensures told { self.new.told ≡ self.old.told }
         ensures refused { IfErr result (λ x. (x ≡ item) × (self.new.items ≡ self.old.items)) }
-        ensures full { OnErr result (WasFull self.old.capacity self.old.items) }
+        ensures full { OnErr result (WasFull self.old) }
     {
         let sent = self.line.push_as::<Sends, _>(rt, &mut self.pass, item);
         if sent.is_ok() {
@@ -106,23 +110,26 @@ impl<T> Sender<T> {
 }
 
 impl<T> Receiver<T> {
-    /// The oldest item that waits. `None` where the link was empty at one moment of the call. It takes no memory.
+    /// The oldest item that waits. `None` where the link was empty at one moment of the call, and never before all was received
+    /// that this end was told to have been sent. It takes no memory.
     pub fn receive(&mut self, rt: &impl Wait) -> Option<T>
         ensures same { IsSameLink self.new self.old }
         ensures received { MatchOption result (self.new.items ≡ self.old.items)
             (λ x. self.new.items ≡ self.old.items ++ x ∷ []) }
-        ensures empty { IfNone result (WasEmpty self.old.items) }
+        ensures told { self.new.told ≡ self.old.told }
+        ensures empty { IfNone result (WasEmpty self.old) }
     {
         self.line.pop_as::<Receives, _>(rt, &mut self.pass)
     }
 
     /// The oldest item that waits. Where none does it sleeps until one is sent, or for so long at most, and looks again; it may
-    /// wake sooner. `None` where the link was empty at one moment of the call. It takes no memory.
+    /// wake sooner. `None` as for `receive`. It takes no memory.
     pub fn receive_within<R: Wait + Clock>(&mut self, rt: &R, most: Duration) -> Option<T>
         ensures same { IsSameLink self.new self.old }
         ensures received { MatchOption result (self.new.items ≡ self.old.items)
             (λ x. self.new.items ≡ self.old.items ++ x ∷ []) }
-        ensures empty { IfNone result (WasEmpty self.old.items) }
+        ensures told { self.new.told ≡ self.old.told }
+        ensures empty { IfNone result (WasEmpty self.old) }
     {
         if let Some(item) = self.receive(rt) {
             return Some(item);

@@ -6,5 +6,7 @@
 mod bell;
 pub mod ends;
 pub mod log;
+mod told;
 
 pub use ends::{Receiver, Sender, pair, settle};
+pub use told::Told;

@@ -2,7 +2,8 @@
 use crossbeam_queue::protocol::{Join, Lesson, Outcome, Protocol, Split};
 use std::collections::LinkedList;
 
-/// What an end may do (push, pop), what it has sent and what it has received. No value of it is made.
+/// What a pass may do (push, pop), and what it knows to have been sent and received. The end that pushes knows all that was
+/// sent, the one that pops all that was received, and else a pass knows what it was told. No value of it is made.
 pub struct Log<T> {
     pub pushes: bool,
     pub pops: bool,
@@ -54,10 +55,9 @@ impl<T> Outcome<T, Log<T>> for Sends {
 }
 
 impl<T> Lesson<T, Log<T>> for Sends {
-    ghost use Rattle.std.specs.Prelude.{List};
-    ghost use Rattle.cf_link.specs.Link.{Stood};
+    ghost use Rattle.std.specs.Prelude.{◌+◌, ◌≤◌, length};
 
-    ghost fact = { λ v items. (received : List T) × Stood v.sent received items };
+    ghost fact = { λ v items. length v.received + length items ≤ length v.sent };
 }
 
 /// A pop by the end that receives.
@@ -71,10 +71,46 @@ impl<T> Outcome<T, Log<T>> for Receives {
 }
 
 impl<T> Lesson<T, Log<T>> for Receives {
-    ghost use Rattle.std.specs.Prelude.{List};
-    ghost use Rattle.cf_link.specs.Link.{Stood};
+    ghost use Rattle.std.specs.Prelude.{◌≡◌, length};
+    ghost use mathlib.Core.List.{IsPrefix};
 
-    ghost fact = { λ v items. (sent : List T) × Stood sent v.received items };
+    ghost fact = { λ v items. length items ≡ 0 → IsPrefix v.sent v.received };
+}
+
+/// An end tells what it knows: a pass that may do nothing knows it too.
+pub struct Tells;
+
+impl<T> Split<Log<T>> for Tells {
+    ghost use Rattle.std.specs.Prelude.{false};
+    ghost use Rattle.cf_link.specs.Rule.{log};
+
+    ghost left = { λ v. v };
+
+    ghost right = { λ v. log false false v.sent v.received };
+}
+
+/// The end that receives is told what was sent.
+pub struct HearsSent;
+
+impl<T> Join<Log<T>> for HearsSent {
+    ghost use Rattle.std.specs.Prelude.{false, []};
+    ghost use Rattle.cf_link.specs.Rule.{log};
+
+    ghost both = { λ v w. log false v.pops w.sent v.received };
+
+    ghost spent = { log false false [] [] };
+}
+
+/// The end that sends is told what was received.
+pub struct HearsReceived;
+
+impl<T> Join<Log<T>> for HearsReceived {
+    ghost use Rattle.std.specs.Prelude.{false, []};
+    ghost use Rattle.cf_link.specs.Rule.{log};
+
+    ghost both = { λ v w. log v.pushes false v.sent w.received };
+
+    ghost spent = { log false false [] [] };
 }
 
 /// What is left, as it shows once both ends are one again.

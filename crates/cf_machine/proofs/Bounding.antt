@@ -1,5 +1,5 @@
 -- Each move of a link keeps its positions within the lists.
-use Rattle.std.proofs.Common.{◌≡◌, drop, ℕ, zero, suc, ◌+◌, ◌≤◌, ◌==◌, ◌&&◌, ◌||◌, Bool, true, Option, Some, None, List, [], ◌∷◌, ◌++◌, refl, sym, subst, arith, append_assoc, ◌⊎◌, inl, inr, nat_lt, nat_le, sum_by, not, is_some}
+use Rattle.std.proofs.Common.{◌≡◌, drop, ℕ, zero, suc, ◌+◌, ◌≤◌, ◌==◌, ◌&&◌, ◌||◌, Bool, true, false, Option, Some, None, List, [], ◌∷◌, ◌++◌, refl, sym, subst, arith, append_assoc, ◌⊎◌, inl, inr, nat_lt, nat_le, sum_by, not, is_some}
 use Rattle.std.proofs.lemmas.Bool.Decides.{nat_tests}
 use Rattle.std.specs.Str.{bytes_eq}
 use Rattle.cf_protocol.specs.Position.{Position}
@@ -15,10 +15,10 @@ use Rattle.cf_machine.specs.Session.{Sub, Session}
 use Rattle.cf_client.specs.ClientState.{Mode, Idle, Asking, Live, last_of, takes, read_to, hears as takes_note}
 use Rattle.cf_machine.specs.ClientRequest.{ClientRequest, SentCommand, Subscribe, Unsubscribe, Publish, History, channel_of}
 use Rattle.cf_machine.specs.Weights.{wording}
-use Rattle.cf_machine.specs.ClientLink.{ClientLink, with_session, sends, hears_subscribe, hears_request, hears, is_waiting, errs, find, errs_for, errs_late, says, fail_at, fails, over_at, finishes_over, closes_with, breaks, gets, hold_first, holds, receive_first}
+use Rattle.cf_machine.specs.ClientLink.{ClientLink, with_session, sends, hears_subscribe, hears_request, hears, is_waiting, errs, find, errs_for, errs_late, says, fail_at, fails, over_at, amid_at, finishes_over, finishes_amid, closes_with, breaks, gets, hold_first, holds, receive_first}
 use Rattle.cf_machine.specs.Leading.{coming}
 use Rattle.cf_machine.proofs.Within.{IsWithin, LastWithin, AreWithin, ModeWithin, SubWithin, NoteWithin, NotesWithin, RequestWithin, UpsWithin, IsBoundedWith, IsBounded}
-use Rattle.cf_machine.proofs.Stepwise.{pass_at, passes, end_at, ends, finish_steps, over_steps}
+use Rattle.cf_machine.proofs.Stepwise.{pass_at, passes, end_at, ends, finish_steps, over_steps, amid_run, amid, amid_cases}
 use Rattle.cf_machine.proofs.Names.{text_tells, by_two, by_test, with-all, with-same}
 use Rattle.cf_machine.proofs.Leading.{IsNext, own-epoch}
 use Rattle.cf_machine.proofs.Keeping.{by_verdict_lem}
@@ -213,6 +213,39 @@ module _ (tops : List ℕ → List ℕ → ℕ) (lists : Lists) where
 
   pub bounded-closes_with : (l : ClientLink) (code : ℕ) → IsBounded tops l → IsBounded tops (closes_with code l)
   bounded-closes_with l code g = by_test (λ (v : Session). IsBounded tops (with_session v l)) l.session.closed _ _ (λ h. g) (λ h. bounded-closes l code g)
+
+  -- a finish that is broken off
+  bounded-amid_run : (short : Bool) (run m : ℕ) (l : ClientLink) (c : List ℕ) → IsBounded tops l → Room (tops c) run (l.session.subs c)
+      → IsBounded tops (with_session (amid_run lists c short run m l.session) l)
+  bounded-amid_run short run zero l c g r = g
+  bounded-amid_run true zero (suc m) l c g r = bounded-ends l c g
+  bounded-amid_run false zero (suc m) l c g r = g
+  bounded-amid_run short (suc run) (suc m) l c g r =
+      bounded-amid_run short run m (with_session (pass_at lists c (l.session.subs c) l.session) l) c
+      (bounded-pass_at l c (l.session.subs c) g (room-less (tops c) (l.session.subs c) run r))
+      (room-passed l.session c (l.session.subs c) run refl r)
+
+  bounded-amid : (n : ℕ) (l : ClientLink) (c : List ℕ) (k : ℕ) (was : Bool) (r : Reading) (arrived : List Position) → IsBounded tops l → l.session.subs c ≡ Ready k was r arrived
+      → IsBounded tops (with_session (amid lists c n k was r arrived l.session) l)
+  bounded-amid zero l c k was r arrived g e = g
+  bounded-amid (suc m) l c k was r arrived g e =
+      let a : IsWithin (tops c) (read_to r) × AreWithin (tops c) arrived = subst (SubWithin (tops c)) e (g.subs c) in
+      let put : Session = put_sub c (On (read_to r) None) l.session in
+      bounded-amid_run (falls_short arrived r) (run_length arrived r) m (with_session (push (wording lists) (Reply c k was r) put) l) c
+      (bounded-say l c (On (read_to r) None) (Reply c k was r) g a.0 a.0)
+      (room-pushed put (Reply c k was r) c (run_length arrived r)
+      (subst (Room (tops c) (run_length arrived r)) (sym (with-same l.session.subs c (On (read_to r) None))) (within-run (tops c) arrived r a.1 a.0)))
+
+  bounded-amid_at : (n code : ℕ) (l : ClientLink) (c : List ℕ) (s : Sub) → IsBounded tops l → l.session.subs c ≡ s → IsBounded tops (with_session (amid_at (wording lists) c n code s l.session) l)
+  bounded-amid_at n code l c Off g e = g
+  bounded-amid_at n code l c (Asked k since arrived) g e = g
+  bounded-amid_at n code l c (On p mark) g e = g
+  bounded-amid_at n code l c (Ready k was r arrived) g e =
+      amid_cases lists c (λ (v : Session). IsBounded tops (with_session v l)) code n k was r arrived l.session g
+      (λ h. bounded-closes_with (with_session (amid lists c n k was r arrived l.session) l) code (bounded-amid n l c k was r arrived g e))
+
+  pub bounded-finishes_amid : (n code : ℕ) (l : ClientLink) (c : List ℕ) → IsBounded tops l → IsBounded tops (with_session (finishes_amid (wording lists) c n code l.session) l)
+  bounded-finishes_amid n code l c g = bounded-amid_at n code l c (l.session.subs c) g refl
 
   -- commands
   ups-more : (ks : List SentCommand) (k : SentCommand) → UpsWithin tops ks → RequestWithin tops k.request → UpsWithin tops (ks ++ k ∷ [])

@@ -14,10 +14,10 @@ use Rattle.cf_machine.specs.Session.{Sub, Session, Words}
 use Rattle.cf_client.specs.ClientState.{Mode, Idle, Asking, Live, read_to}
 use Rattle.cf_machine.specs.ClientRequest.{ClientRequest, Subscribe, Unsubscribe, Publish, History}
 use Rattle.cf_machine.specs.Weights.{wording}
-use Rattle.cf_machine.specs.ClientLink.{ClientLink, with_session, sends, over_at, finishes_over, closes_with}
+use Rattle.cf_machine.specs.ClientLink.{ClientLink, with_session, sends, over_at, amid_at, finishes_over, finishes_amid, closes_with}
 use Rattle.cf_machine.specs.Leading.{coming}
 use Rattle.cf_machine.proofs.Standing.{Agrees, due, IsOld, AreOld, IsNoClose, IsOpen, Leads, Stands, IsSubOld, IsGoodWith, IsGood}
-use Rattle.cf_machine.proofs.Stepwise.{pass_at, passes, end_at, ends, finish_steps, over_steps}
+use Rattle.cf_machine.proofs.Stepwise.{pass_at, passes, end_at, ends, finish_steps, over_steps, amid_run, amid, amid_cases}
 use Rattle.cf_machine.proofs.Names.{text_tells, itself, not_this, by_test, with-all}
 use Rattle.cf_machine.proofs.Leading.{Leads-turn, Leads-pub, Leads-end, Leads-reply, Leads-close, IsElsewhere, Leads-elsewhere, due-more, stands-on, Rises-more}
 
@@ -239,6 +239,32 @@ module _ (found : List ℕ → Option StreamState) (lists : Lists) where
 
   pub good-finishes_over : (l : ClientLink) (c : List ℕ) → IsGood found l → IsGood found (with_session (finishes_over (wording lists) c l.session) l)
   good-finishes_over l c g = good-over_at l c (l.session.subs c) g refl
+
+  -- a finish that is broken off
+  good-amid_run : (short : Bool) (run m : ℕ) (l : ClientLink) (c : List ℕ) → IsGood found l → IsGood found (with_session (amid_run lists c short run m l.session) l)
+  good-amid_run short run zero l c g = g
+  good-amid_run true zero (suc m) l c g = good-ends l c g
+  good-amid_run false zero (suc m) l c g = g
+  good-amid_run short (suc run) (suc m) l c g =
+      good-amid_run short run m (with_session (pass_at lists c (l.session.subs c) l.session) l) c (good-pass_at l c (l.session.subs c) g refl)
+
+  good-amid : (n : ℕ) (l : ClientLink) (c : List ℕ) (k : ℕ) (was : Bool) (r : Reading) (arrived : List Position) → IsGood found l → l.session.subs c ≡ Ready k was r arrived
+      → IsGood found (with_session (amid lists c n k was r arrived l.session) l)
+  good-amid zero l c k was r arrived g e = g
+  good-amid (suc m) l c k was r arrived g e =
+      good-amid_run (falls_short arrived r) (run_length arrived r) m (with_session (push (wording lists) (Reply c k was r) (put_sub c (On (read_to r) None) l.session)) l) c
+      (good-reply l c k was r arrived g e)
+
+  good-amid_at : (n code : ℕ) (l : ClientLink) (c : List ℕ) (s : Sub) → IsGood found l → l.session.subs c ≡ s → IsGood found (with_session (amid_at (wording lists) c n code s l.session) l)
+  good-amid_at n code l c Off g e = g
+  good-amid_at n code l c (Asked k since arrived) g e = g
+  good-amid_at n code l c (On p mark) g e = g
+  good-amid_at n code l c (Ready k was r arrived) g e =
+      amid_cases lists c (λ (v : Session). IsGood found (with_session v l)) code n k was r arrived l.session g
+      (λ h. good-closes_with (with_session (amid lists c n k was r arrived l.session) l) code (good-amid n l c k was r arrived g e))
+
+  pub good-finishes_amid : (n code : ℕ) (l : ClientLink) (c : List ℕ) → IsGood found l → IsGood found (with_session (finishes_amid (wording lists) c n code l.session) l)
+  good-finishes_amid n code l c g = good-amid_at n code l c (l.session.subs c) g refl
 
   -- the client sends a command
   pub good-sends : (l : ClientLink) (e : ClientRequest) → IsGood found l → IsGood found (sends e l)

@@ -1,5 +1,5 @@
 -- In every run each id of a connection is of one channel, so that answers are matched by id alone.
-use Rattle.std.proofs.Common.{◌≡◌, ℕ, ℤ, suc, ◌∙◌, Bool, Option, Some, None, List, [], ◌∷◌, refl, sym, ap, subst}
+use Rattle.std.proofs.Common.{◌≡◌, ℕ, ℤ, suc, ◌∙◌, Option, Some, None, List, [], ◌∷◌, refl, sym, ap, subst}
 use Rattle.cf_protocol.specs.Names.{with}
 use Rattle.cf_protocol.specs.Position.{Position}
 use Rattle.cf_protocol.specs.Note.{Put as PutDone, Left, Listed}
@@ -13,17 +13,17 @@ use Rattle.cf_machine.specs.Event.{Event, Epoch, Connect, Ask, AskFrom, Read, Fi
 use Rattle.cf_machine.specs.ClientRequest.{ClientRequest, SentCommand, Subscribe, Unsubscribe, Publish as PublishRequest, History, channel_of}
 use Rattle.cf_machine.specs.PublicationList.{Place, Broker, publication, opened, stands_at}
 use Rattle.cf_machine.specs.Weights.{wording}
-use Rattle.cf_machine.specs.ClientLink.{ClientLink, with_session, sends, hears, errs_late, says, fails, finishes_over, closes_with, holds, receives}
+use Rattle.cf_machine.specs.ClientLink.{ClientLink, with_session, sends, hears, errs_late, says, fails, finishes_over, finishes_amid, closes_with, holds, receives}
 use Rattle.cf_machine.specs.World.{World, start, link_with, broker_with, on_node}
-use Rattle.cf_machine.specs.Refusals.{Judgement, Unheard, TooLong, Refused, Accepted, judged, bad_message}
+use Rattle.cf_machine.specs.Refusals.{Judgement, Unheard, TooLong, Refused, Accepted, bad_message}
 use Rattle.cf_machine.specs.IntervalMachine.{sent, closes_by, is_refused, heard_as, listing, answer_to, answer_by, answered, command_by, judgement, exchange, read_found, read_at, delivered, effect, run}
-use Rattle.cf_machine.specs.LooseRun.{Happening, Scheduled, SendAsk, SendAskFrom, SendLeave, SendPublish, SendHistory, Hear, Hold, Receive, ErrorEnters, NoteEnters, Fail, FinishOver, CloseNow, CheckAgainst, Join, PublishAny, OpenIn, failed_if, hear_first, loose_effect, loosely_allows, befalls, loose_run, lines}
+use Rattle.cf_machine.specs.LooseRun.{Happening, Scheduled, SendAsk, SendAskFrom, SendLeave, SendPublish, SendHistory, HearAs, Hold, Receive, ErrorEnters, NoteEnters, Fail, FinishOver, FinishAmid, CloseNow, CheckAgainst, Join, PublishAny, OpenIn, hear_as, loose_effect, loosely_allows, befalls, loose_run, lines}
 use Rattle.cf_machine.specs.Leading.{coming}
 use Rattle.cf_machine.specs.AnswersById.{AreForChannel}
 use Rattle.cf_machine.proofs.Names.{by_test, with-all, with-both, with-same}
 use Rattle.cf_machine.proofs.Stepping.{client-hears, closes_by-client}
 use Rattle.cf_machine.proofs.Schedules.{run_of_lines}
-use Rattle.cf_machine.proofs.Owning.{IsOwn, OwnUps, IsOwned, own-comes, own-finishes, own-finishes_over, own-fails, own-checks, own-closes_with, own-reads, own-hears, own-errs, own-errs_late, own-says, own-breaks, own-holds, own-receives, owner_with, own_fresh, own-sends, for_channel}
+use Rattle.cf_machine.proofs.Owning.{IsOwn, OwnUps, IsOwned, own-comes, own-finishes, own-finishes_over, own-finishes_amid, own-fails, own-checks, own-closes_with, own-reads, own-hears, own-errs, own-errs_late, own-says, own-breaks, own-holds, own-receives, owner_with, own_fresh, own-sends, for_channel}
 
 AreOwned : (List ℕ → ℕ → List ℕ) → World → Type 0
 AreOwned owners w = (y : List ℕ) → IsOwned (owners y) (w.links y)
@@ -150,12 +150,12 @@ owned-sent x e w g = (
   with-both (λ y o l. IsOwned o l) g.0 w.links x (owner_with (g.0 x) (w.links x).client.fresh (channel_of e)) (sends e (w.links x)) (own-sends (g.0 x) (w.links x) e (g.1 x)) (λ y ne. g.1 y),
 )
 
-owned-hear : (cfg : Config) (x : List ℕ) (failing : Bool) (w : World) → HasOwners w → (ks : List SentCommand) → (w.links x).up ≡ ks → HasOwners (hear_first cfg x failing ks w)
+owned-hear_as : (cfg : Config) (x : List ℕ) (j : Judgement) (w : World) → HasOwners w → (ks : List SentCommand) → (w.links x).up ≡ ks → HasOwners (hear_as cfg x j ks w)
 unfolding HasOwners
-owned-hear cfg x failing w g [] e = g
-owned-hear cfg x failing w g (k ∷ ks) e =
+owned-hear_as cfg x j w g [] e = g
+owned-hear_as cfg x j w g (k ∷ ks) e =
     let u : OwnUps (g.0 x) (w.links x).client.fresh (k ∷ ks) = subst (OwnUps (g.0 x) (w.links x).client.fresh) e (g.1 x).ups in
-    (g.0, owned-heard g.0 w g.1 cfg x k ks (failed_if failing (judged cfg w (w.links x) k)) u.0 u.1)
+    (g.0, owned-heard g.0 w g.1 cfg x k ks j u.0 u.1)
 
 -- one link changes
 owned-link : (x : List ℕ) (w : World) → (g : HasOwners w) → (f : ClientLink → ClientLink) → ((o : ℕ → List ℕ) → IsOwned o (w.links x) → IsOwned o (f (w.links x))) → HasOwners (link_with x (f (w.links x)) w)
@@ -170,13 +170,14 @@ owned-loose cfg w g (SendAskFrom x c) = owned-sent x _ w g
 owned-loose cfg w g (SendLeave x c) = owned-sent x _ w g
 owned-loose cfg w g (SendPublish x c body) = owned-sent x _ w g
 owned-loose cfg w g (SendHistory x c limit) = owned-sent x _ w g
-owned-loose cfg w g (Hear x failing) = owned-hear cfg x failing w g (w.links x).up refl
+owned-loose cfg w g (HearAs x j) = owned-hear_as cfg x j w g (w.links x).up refl
 owned-loose cfg w g (Hold x) = owned-link x w g holds (λ o. own-holds o w.broker.lists (w.links x))
 owned-loose cfg w g (Receive x) = owned-link x w g receives (λ o. own-receives o w.broker.lists (w.links x))
 owned-loose cfg w g (ErrorEnters x id code) = owned-link x w g (errs_late (wording w.broker.lists) id code) (λ o. own-errs_late o w.broker.lists (w.links x) id code)
 owned-loose cfg w g (NoteEnters x n) = owned-link x w g (says (wording w.broker.lists) n) (λ o. own-says o w.broker.lists (w.links x) n)
 owned-loose cfg w g (Fail x c) = owned-link x w g (fails c) (λ o. own-fails o w.broker.lists (w.links x) c)
 owned-loose cfg w g (FinishOver x c) = owned-link x w g (λ l. with_session (finishes_over (wording w.broker.lists) c l.session) l) (λ o. own-finishes_over o w.broker.lists (w.links x) c)
+owned-loose cfg w g (FinishAmid x c count code) = owned-link x w g (λ l. with_session (finishes_amid (wording w.broker.lists) c count code l.session) l) (λ o. own-finishes_amid o w.broker.lists count code (w.links x) c)
 owned-loose cfg w g (CloseNow x code) = owned-link x w g (closes_with code) (λ o. own-closes_with o w.broker.lists (w.links x) code)
 owned-loose cfg w g (CheckAgainst x c top) = owned-link x w g (λ l. with_session (checks (wording w.broker.lists) c top l.session) l) (λ o. own-checks o w.broker.lists (w.links x) c top)
 owned-loose cfg w g (Join x n) = owned-effect cfg w g (Connect x n)

@@ -1,5 +1,5 @@
 -- Each id of a connection is of one command, and so of one channel.
-use Rattle.std.proofs.Common.{◌≡◌, drop, ℕ, zero, suc, ◌+◌, ◌<◌, ◌==◌, ◌&&◌, ◌||◌, ◌∙◌, Bool, Option, Some, None, List, [], ◌∷◌, ◌++◌, refl, sym, subst, arith, append_assoc, inl, inr, if◌then◌else◌, nat_lt, nat_le, sum_by, not, is_some}
+use Rattle.std.proofs.Common.{◌≡◌, drop, ℕ, zero, suc, ◌+◌, ◌<◌, ◌==◌, ◌&&◌, ◌||◌, ◌∙◌, Bool, true, false, Option, Some, None, List, [], ◌∷◌, ◌++◌, refl, sym, subst, arith, append_assoc, inl, inr, if◌then◌else◌, nat_lt, nat_le, sum_by, not, is_some}
 use Rattle.std.proofs.lemmas.Bool.Decides.{eqb_tells}
 use Rattle.std.specs.Str.{bytes_eq}
 use Rattle.cf_protocol.specs.Position.{Position}
@@ -13,10 +13,10 @@ use Rattle.cf_machine.specs.Session.{Sub, Session}
 use Rattle.cf_client.specs.ClientState.{Mode, Idle, Asking, Live, idle, takes, read_to, hears as takes_note}
 use Rattle.cf_machine.specs.ClientRequest.{ClientRequest, SentCommand, Subscribe, Unsubscribe, Publish as PublishRequest, History, channel_of}
 use Rattle.cf_machine.specs.Weights.{wording}
-use Rattle.cf_machine.specs.ClientLink.{ClientLink, with_session, sends, hears_subscribe, hears_request, hears, is_waiting, errs, find, errs_for, errs_late, says, fail_at, fails, over_at, finishes_over, closes_with, breaks, gets, hold_first, holds, receive_first, receives}
+use Rattle.cf_machine.specs.ClientLink.{ClientLink, with_session, sends, hears_subscribe, hears_request, hears, is_waiting, errs, find, errs_for, errs_late, says, fail_at, fails, over_at, amid_at, finishes_over, finishes_amid, closes_with, breaks, gets, hold_first, holds, receive_first, receives}
 use Rattle.cf_machine.specs.Leading.{coming}
 use Rattle.cf_machine.specs.AnswersById.{IsForChannel, AreForChannel}
-use Rattle.cf_machine.proofs.Stepwise.{pass_at, passes, end_at, ends, finish_steps, over_steps}
+use Rattle.cf_machine.proofs.Stepwise.{pass_at, passes, end_at, ends, finish_steps, over_steps, amid_run, amid, amid_cases}
 use Rattle.cf_machine.proofs.Names.{by_test, with-all}
 use Rattle.cf_machine.proofs.Keeping.{by_verdict_lem}
 
@@ -186,6 +186,31 @@ module _ (owner : ℕ → List ℕ) (lists : Lists) where
   own-closes_with l code g =
       by_test (λ (v : Session). IsOwned owner (with_session v l)) l.session.closed _ _ (λ h. g)
       (λ h. own-more l (closes (Close code) l.session) (Close code) refl g tt (λ c. tt))
+
+  -- a finish that is broken off
+  own-amid_run : (short : Bool) (run m : ℕ) (l : ClientLink) (c : List ℕ) → IsOwned owner l → IsOwned owner (with_session (amid_run lists c short run m l.session) l)
+  own-amid_run short run zero l c g = g
+  own-amid_run true zero (suc m) l c g = own-ends l c g
+  own-amid_run false zero (suc m) l c g = g
+  own-amid_run short (suc run) (suc m) l c g = own-amid_run short run m (with_session (pass_at lists c (l.session.subs c) l.session) l) c (own-pass_at l c (l.session.subs c) g)
+
+  own-amid : (n : ℕ) (l : ClientLink) (c : List ℕ) (k : ℕ) (was : Bool) (r : Reading) (arrived : List Position) → IsOwned owner l → l.session.subs c ≡ Ready k was r arrived
+      → IsOwned owner (with_session (amid lists c n k was r arrived l.session) l)
+  own-amid zero l c k was r arrived g e = g
+  own-amid (suc m) l c k was r arrived g e =
+      own-amid_run (falls_short arrived r) (run_length arrived r) m (with_session (push (wording lists) (Reply c k was r) (put_sub c (On (read_to r) None) l.session)) l) c
+      (own-say l c (On (read_to r) None) (Reply c k was r) g tt (subst (OwnSub owner l.client.fresh c) e (g.subs c)))
+
+  own-amid_at : (n code : ℕ) (l : ClientLink) (c : List ℕ) (s : Sub) → IsOwned owner l → l.session.subs c ≡ s → IsOwned owner (with_session (amid_at (wording lists) c n code s l.session) l)
+  own-amid_at n code l c Off g e = g
+  own-amid_at n code l c (Asked k since arrived) g e = g
+  own-amid_at n code l c (On p mark) g e = g
+  own-amid_at n code l c (Ready k was r arrived) g e =
+      amid_cases lists c (λ (v : Session). IsOwned owner (with_session v l)) code n k was r arrived l.session g
+      (λ h. own-closes_with (with_session (amid lists c n k was r arrived l.session) l) code (own-amid n l c k was r arrived g e))
+
+  pub own-finishes_amid : (n code : ℕ) (l : ClientLink) (c : List ℕ) → IsOwned owner l → IsOwned owner (with_session (finishes_amid (wording lists) c n code l.session) l)
+  own-finishes_amid n code l c g = own-amid_at n code l c (l.session.subs c) g refl
 
   pub own-reads : (l : ClientLink) (c : List ℕ) (r : Reading) (s : Sub) → IsOwned owner l → l.session.subs c ≡ s → IsOwned owner (with_session (session_read_at (wording lists) c r s l.session) l)
   own-reads l c r Off g e = g

@@ -16,20 +16,20 @@ use Rattle.cf_machine.specs.Event.{Event, Epoch, Connect, Ask, AskFrom, Read, Fi
 use Rattle.cf_machine.specs.ClientRequest.{ClientRequest, SentCommand, Subscribe, Unsubscribe, Publish as PublishRequest, History}
 use Rattle.cf_machine.specs.PublicationList.{Place, Broker, tops, publication, epoch_comes, opened, opened_in, publish, trim, forget, forget_all, stands_at}
 use Rattle.cf_machine.specs.Weights.{wording}
-use Rattle.cf_machine.specs.ClientLink.{ClientLink, with_session, sends, hears, errs_late, says, fails, finishes_over, breaks, holds, receive_first}
+use Rattle.cf_machine.specs.ClientLink.{ClientLink, with_session, sends, hears, errs_late, says, fails, finishes_over, finishes_amid, breaks, holds, receive_first}
 use Rattle.cf_machine.specs.World.{World, start, link_with, broker_with, on_node, is_ready}
-use Rattle.cf_machine.specs.Refusals.{Judgement, judged}
+use Rattle.cf_machine.specs.Refusals.{Judgement}
 use Rattle.cf_machine.specs.IntervalMachine.{size_of, sent, broker_by, closes_by, is_refused, heard_as, answer_by, answered, command_by, judgement, exchange, id_left, nothing_sent, can_command, idle_at, allows, connects, read_found, read_at, delivered, restarts, effect}
-use Rattle.cf_machine.specs.LooseRun.{Happening, Scheduled, SendAsk, SendAskFrom, SendLeave, SendPublish, SendHistory, Hear, Hold, Receive, ErrorEnters, NoteEnters, Fail, FinishOver, CloseNow, CheckAgainst, Join, PublishAny, OpenIn, failed_if, hear_first, loose_effect, loosely_allows, befalls, loose_run}
+use Rattle.cf_machine.specs.LooseRun.{Happening, Scheduled, SendAsk, SendAskFrom, SendLeave, SendPublish, SendHistory, HearAs, Hold, Receive, ErrorEnters, NoteEnters, Fail, FinishOver, FinishAmid, CloseNow, CheckAgainst, Join, PublishAny, OpenIn, hear_as, loose_effect, loosely_allows, befalls, loose_run}
 use Rattle.cf_machine.specs.Marks.{Mark, Asks, Reads, Stops, only, read_mark, read_marks}
 use Rattle.cf_machine.proofs.Automaton.{Seen, sees, sees_all, nothing_seen, IsSafe}
 use Rattle.cf_machine.proofs.Names.{text_tells, itself, by_test, both_test, with-same, with-all, with-both}
 use Rattle.cf_machine.proofs.Standing.{due, IsGoodWith, IsGood}
 use Rattle.cf_machine.proofs.Leading.{IsSettled, IsFree, settled-free, next-comes, due-more, due-bound}
 use Rattle.cf_machine.proofs.Within.{LastWithin, SubWithin, RequestWithin, IsBounded, HasTop, IsSteady}
-use Rattle.cf_machine.proofs.Keeping.{good-closes_with, good-comes, good-finishes, good-finishes_over, good-sends}
+use Rattle.cf_machine.proofs.Keeping.{good-closes_with, good-comes, good-finishes, good-finishes_over, good-finishes_amid, good-sends}
 use Rattle.cf_machine.proofs.Hearing.{good-hears, good-errs_late, good-says, good-fails, good-reads, good-breaks, good-holds, good-receive_first, good_checks}
-use Rattle.cf_machine.proofs.Bounding.{within-last_of, bounded-comes, bounded-finishes, bounded-finishes_over, bounded-closes_with, bounded-sends, bounded-hears, bounded-errs_late, bounded-says, bounded-fails, bounded-reads, bounded-breaks, bounded-holds, bounded-receive_first, bounded_checks}
+use Rattle.cf_machine.proofs.Bounding.{within-last_of, bounded-comes, bounded-finishes, bounded-finishes_over, bounded-finishes_amid, bounded-closes_with, bounded-sends, bounded-hears, bounded-errs_late, bounded-says, bounded-fails, bounded-reads, bounded-breaks, bounded-holds, bounded-receive_first, bounded_checks}
 use Rattle.cf_machine.proofs.Brokering.{grow-link, steady-epoch, steady-opened, steady-opened_in, steady-publish, steady-trim, steady-forget, steady-forget_all, lists-opened, lists-epoch, lists-trim, tops-publish, below-read, within_publication}
 use Rattle.cf_machine.proofs.Telling.{told, told_first, Knows, Tells, knows-last, tells-front, told-read}
 use Rattle.cf_machine.proofs.Stepping.{IsFine, IsStep, step_marks, loose_marks, marks, client-hears, client-errs_late, client-says, client-fail_at, client-hold_first, same-found, closes_by-good, closes_by-bounded, closes_by-client, steady-broker_by, same-tops, tops-broker_by, answer-good, answer-bounded, answer_client}
@@ -183,9 +183,9 @@ module _ (seen : List ℕ → List ℕ → Seen) (w : World) (f : IsFine seen w)
       (closes_by-bounded (tops w.broker.lists) lists j _ (bounded-hears (tops w.broker.lists) lists (is_refused j) (w.links y) k ks (f.bounded y) e))
       (closes_by-client j (hears (wording w.broker.lists) (is_refused j) k ks (w.links y)) ∙ client-hears (wording w.broker.lists) (is_refused j) k ks (w.links y))
 
-  pub hear-step : (cfg : Config) (y : List ℕ) (failing : Bool) (ks : List SentCommand) → (w.links y).up ≡ ks → IsStep seen (hear_first cfg y failing ks w) (λ x c. [])
-  hear-step cfg y failing [] e = still
-  hear-step cfg y failing (k ∷ ks) e = heard_as-step cfg y k ks (failed_if failing (judged cfg w (w.links y) k)) e
+  pub hear_as-step : (cfg : Config) (y : List ℕ) (j : Judgement) (ks : List SentCommand) → (w.links y).up ≡ ks → IsStep seen (hear_as cfg y j ks w) (λ x c. [])
+  hear_as-step cfg y j [] e = still
+  hear_as-step cfg y j (k ∷ ks) e = heard_as-step cfg y k ks j e
 
   -- and answers one
   pub answered-step : (y : List ℕ) (k : SentCommand) (j : Judgement) → IsStep seen (answered y k j w) (λ x c. [])
@@ -381,7 +381,7 @@ module _ (cfg : Config) (seen : List ℕ → List ℕ → Seen) (w : World) (f :
   loose-step (SendLeave x c) can = leave-step seen w f x c
   loose-step (SendPublish x c body) can = call-step seen w f x (PublishRequest c body) refl tt
   loose-step (SendHistory x c limit) can = call-step seen w f x (History c limit) refl tt
-  loose-step (Hear x failing) can = hear-step seen w f cfg x failing (w.links x).up refl
+  loose-step (HearAs x j) can = hear_as-step seen w f cfg x j (w.links x).up refl
   loose-step (Hold x) can =
       quiet-link seen w f x (holds (w.links x)) (good-holds (λ c. (seen x c).read) w.broker.lists (w.links x) (f.good x))
       (bounded-holds (tops w.broker.lists) w.broker.lists (w.links x) (f.bounded x)) (client-hold_first (w.links x).session.notes (w.links x))
@@ -398,6 +398,9 @@ module _ (cfg : Config) (seen : List ℕ → List ℕ → Seen) (w : World) (f :
   loose-step (FinishOver x c) can =
       session-step seen w f x (finishes_over (wording w.broker.lists) c (w.links x).session) (good-finishes_over (λ d. (seen x d).read) w.broker.lists (w.links x) c (f.good x))
       (bounded-finishes_over (tops w.broker.lists) w.broker.lists (w.links x) c (f.bounded x))
+  loose-step (FinishAmid x c count code) can =
+      session-step seen w f x (finishes_amid (wording w.broker.lists) c count code (w.links x).session) (good-finishes_amid (λ d. (seen x d).read) w.broker.lists count code (w.links x) c (f.good x))
+      (bounded-finishes_amid (tops w.broker.lists) w.broker.lists count code (w.links x) c (f.bounded x))
   loose-step (CloseNow x code) can =
       session-step seen w f x (closes_now (Close code) (w.links x).session) (good-closes_with (λ d. (seen x d).read) w.broker.lists (w.links x) code (f.good x))
       (bounded-closes_with (tops w.broker.lists) w.broker.lists (w.links x) code (f.bounded x))

@@ -1,15 +1,15 @@
 -- A finish, note by note: after its reply a subscription passes one place after another, and then may end.
-use Rattle.std.proofs.Common.{◌≡◌, ℕ, zero, suc, ◌+◌, ◌∙◌, Bool, true, false, if◌then◌else◌, None, List, [], ◌∷◌, ◌++◌, refl, sym, ap, subst, arith, nat_le, sum_by}
+use Rattle.std.proofs.Common.{◌≡◌, ℕ, zero, suc, ◌+◌, ◌∙◌, Bool, true, false, if◌then◌else◌, None, List, [], ◌∷◌, ◌++◌, refl, sym, ap, subst, arith, nat_le, sum_by, take}
 use Rattle.std.specs.Str.{bytes_eq}
 use Rattle.cf_protocol.specs.Names.{with}
 use Rattle.cf_protocol.specs.Position.{Position}
 use Rattle.cf_protocol.specs.Note.{Lists, Reading, Note, Reply, Pub, End, Close}
 use Rattle.cf_recovery.specs.Release.{run_length, falls_short}
 use Rattle.cf_recovery.specs.Verdict.{next}
-use Rattle.cf_hub.specs.SessionState.{Off, Asked, Ready, On, closes, finish_at, most_waiting, push, put_sub, says, slow}
+use Rattle.cf_hub.specs.SessionState.{Off, Asked, Ready, On, all_off, closes, closes_now, finish_at, most_waiting, push, put_sub, says, slow}
 use Rattle.cf_hub.specs.Spoken.{pushes}
 use Rattle.cf_client.specs.ClientState.{read_to}
-use Rattle.cf_machine.specs.ClientLink.{over_at}
+use Rattle.cf_machine.specs.ClientLink.{amid_at, over_at}
 use Rattle.cf_machine.specs.Session.{Sub, Session}
 use Rattle.cf_machine.specs.Weights.{wording}
 use Rattle.cf_machine.proofs.Names.{with-same}
@@ -137,3 +137,137 @@ module _ (lists : Lists) (c : List ℕ) where
   pub over_steps : (k : ℕ) (was : Bool) (r : Reading) (arrived : List Position) (s : Session)
       → over_at (wording lists) c (Ready k was r arrived) s ≡ ends lists c (push (wording lists) (Reply c k was r) (put_sub c (On (read_to r) None) s))
   over_steps k was r arrived s = one-more (Reply c k was r) (End c ∷ []) Off (On (read_to r) None) (ends lists c) (ends-on (read_to r)) (λ v. refl) s
+
+  -- ---- a finish that is broken off
+
+  -- two sessions say the same, and have the same subscriptions where they are closed
+  IsTwin : Session → Session → Type 0
+  IsTwin a b = (a.notes ≡ b.notes) × (a.closed ≡ b.closed) × (a.closed ≡ true → a.subs ≡ b.subs)
+
+  -- so they are closed alike
+  closes-twins : (x : Note) (a b : Session) → IsTwin a b → closes_now x a ≡ closes_now x b
+  unfolding IsTwin
+  closes-twins x a b t = by_closed a.closed b.closed refl (sym t.1)
+    where
+      by_closed : (u v : Bool) → a.closed ≡ u → b.closed ≡ a.closed → (if a.closed then a else closes x a) ≡ (if b.closed then b else closes x b)
+      by_closed true v e f =
+          ap (λ (z : Bool). if z then a else closes x a) e
+          ∙ (λ i. record { subs = t.2 e i; notes = t.0 i; closed = t.1 i })
+          ∙ sym (ap (λ (z : Bool). if z then b else closes x b) (f ∙ e))
+      by_closed false v e f =
+          ap (λ (z : Bool). if z then a else closes x a) e
+          ∙ (λ i. record { subs = all_off; notes = t.0 i ++ x ∷ []; closed = true })
+          ∙ sym (ap (λ (z : Bool). if z then b else closes x b) (f ∙ e))
+
+  -- one note more of both, where the one's subscription changes
+  push-twins : (n : Note) (s : Sub) (a b : Session) → IsTwin a b → a.closed ≡ false → IsTwin (push (wording lists) n a) (push (wording lists) n (put_sub c s b))
+  unfolding IsTwin
+  push-twins n s a b t e =
+      let f : b.closed ≡ false = sym t.1 ∙ e in
+      let room : List Note → Bool = λ ns. nat_le (sum_by (wording lists).weight ns + (wording lists).weight n) most_waiting in
+      let more : Bool → Session → Session = λ z v. if z then record v { notes = v.notes ++ n ∷ [] } else closes (Close slow) v in
+      let left : push (wording lists) n a ≡ more (room a.notes) a = ap (λ (z : Bool). if z then a else more (room a.notes) a) e in
+      let right : push (wording lists) n (put_sub c s b) ≡ more (room b.notes) (put_sub c s b) = ap (λ (z : Bool). if z then put_sub c s b else more (room b.notes) (put_sub c s b)) f in
+      let cases : (z : Bool) → IsTwin (more z a) (more z (put_sub c s b)) =
+      λ z. elim z as (λ z. IsTwin (more z a) (more z (put_sub c s b))) [
+        | true ↦ (ap (λ (ns : List Note). ns ++ n ∷ []) t.0, t.1, λ h. absurd (cc))
+        | false ↦ (ap (λ (ns : List Note). ns ++ Close slow ∷ []) t.0, refl, λ h. refl)
+      ] in
+      subst (λ v. IsTwin v (push (wording lists) n (put_sub c s b))) (sym left)
+      (subst (λ v. IsTwin (more (room a.notes) a) v) (sym right)
+      (subst (λ ns. IsTwin (more (room a.notes) a) (more (room ns) (put_sub c s b))) t.0 (cases (room a.notes))))
+
+  -- the first notes of a finish after its reply: so many places, and then perhaps the end
+  abbrev pub amid_run : Bool → ℕ → ℕ → Session → Session
+  amid_run short run zero s = s
+  amid_run true zero (suc m) s = ends lists c s
+  amid_run false zero (suc m) s = s
+  amid_run short (suc run) (suc m) s = amid_run short run m (pass_at lists c (s.subs c) s)
+
+  abbrev pub amid : ℕ → ℕ → Bool → Reading → List Position → Session → Session
+  amid zero k was r arrived s = s
+  amid (suc m) k was r arrived s = amid_run (falls_short arrived r) (run_length arrived r) m (push (wording lists) (Reply c k was r) (put_sub c (On (read_to r) None) s))
+
+  -- how the channel stands amid it: at this place, and off where the session was closed
+  IsStage : Position → Session → Type 0
+  IsStage p s = (s.closed ≡ false → s.subs c ≡ On p None) × (s.closed ≡ true → s.subs c ≡ Off)
+
+  stage-push : (n : Note) (p : Position) (s : Session) → s.closed ≡ false → IsStage p (push (wording lists) n (put_sub c (On p None) s))
+  unfolding IsStage
+  stage-push n p s e =
+      let room : Bool = nat_le (sum_by (wording lists).weight s.notes + (wording lists).weight n) most_waiting in
+      let put : Session = put_sub c (On p None) s in
+      let more : Bool → Session = λ z. if z then record put { notes = s.notes ++ n ∷ [] } else closes (Close slow) put in
+      let cases : (z : Bool) → IsStage p (more z) =
+      λ z. elim z as (λ z. IsStage p (more z)) [
+        | true ↦ ((λ h. with-same s.subs c (On p None)), λ h. absurd (let f : s.closed ≡ true = h in cc))
+        | false ↦ ((λ h. absurd (cc)), λ h. refl)
+      ] in
+      subst (IsStage p) (sym (ap (λ (z : Bool). if z then put else more room) e)) (cases room)
+
+  -- whether it was closed
+  by_open : (P : Type 0) (z : Bool) → (z ≡ true → P) → (z ≡ false → P) → P
+  by_open P true f g = f refl
+  by_open P false f g = g refl
+
+  stays-closed : (n : Note) (s : Session) → s.closed ≡ true → push (wording lists) n s ≡ s
+  stays-closed n s e = says-closed (n ∷ []) s e
+
+  pass-twins : (p : Position) (a b : Session) → IsTwin a b → IsStage p b
+      → IsTwin (push (wording lists) (Pub c (next p)) a) (pass_at lists c (b.subs c) b) × IsStage (next p) (pass_at lists c (b.subs c) b)
+  unfolding IsTwin IsStage
+  pass-twins p a b t g =
+      by_open (IsTwin (push (wording lists) (Pub c (next p)) a) (pass_at lists c (b.subs c) b) × IsStage (next p) (pass_at lists c (b.subs c) b)) a.closed
+      (λ e. let f : b.closed ≡ true = sym t.1 ∙ e in
+      let same : pass_at lists c (b.subs c) b ≡ b = ap (λ (x : Sub). pass_at lists c x b) (g.1 f) in (
+        subst (IsTwin (push (wording lists) (Pub c (next p)) a)) (sym same) (subst (λ (v : Session). IsTwin v b) (sym (stays-closed (Pub c (next p)) a e)) t),
+        subst (IsStage (next p)) (sym same) ((λ h. absurd (cc)), g.1),
+      ))
+      (λ e. let f : b.closed ≡ false = sym t.1 ∙ e in
+      let same : pass_at lists c (b.subs c) b ≡ push (wording lists) (Pub c (next p)) (put_sub c (On (next p) None) b) = ap (λ (x : Sub). pass_at lists c x b) (g.0 f) in (
+        subst (IsTwin (push (wording lists) (Pub c (next p)) a)) (sym same) (push-twins (Pub c (next p)) (On (next p) None) a b t e),
+        subst (IsStage (next p)) (sym same) (stage-push (Pub c (next p)) (next p) b f),
+      ))
+
+  end-twins : (p : Position) (a b : Session) → IsTwin a b → IsStage p b → IsTwin (push (wording lists) (End c) a) (ends lists c b)
+  unfolding IsTwin IsStage
+  end-twins p a b t g =
+      by_open (IsTwin (push (wording lists) (End c) a) (ends lists c b)) a.closed
+      (λ e. let same : ends lists c b ≡ b = ap (λ (x : Sub). end_at lists c x b) (g.1 (sym t.1 ∙ e)) in
+      subst (IsTwin (push (wording lists) (End c) a)) (sym same) (subst (λ (v : Session). IsTwin v b) (sym (stays-closed (End c) a e)) t))
+      (λ e. subst (IsTwin (push (wording lists) (End c) a)) (sym (ap (λ (x : Sub). end_at lists c x b) (g.0 (sym t.1 ∙ e)))) (push-twins (End c) Off a b t e))
+
+  run-twins : (short : Bool) (run m : ℕ) (p : Position) (a b : Session) → IsTwin a b → IsStage p b
+      → IsTwin (says (wording lists) (take m (pushes c p run ++ (if short then End c ∷ [] else []))) a) (amid_run short run m b)
+  run-twins short run zero p a b t g = t
+  run-twins true zero (suc zero) p a b t g = end-twins p a b t g
+  run-twins true zero (suc (suc m)) p a b t g = end-twins p a b t g
+  run-twins false zero (suc m) p a b t g = t
+  run-twins short (suc run) (suc m) p a b t g =
+      let s = pass-twins p a b t g in
+      run-twins short run m (next p) (push (wording lists) (Pub c (next p)) a) (pass_at lists c (b.subs c) b) s.0 s.1
+
+  -- A FINISH THAT IS BROKEN OFF, NOTE BY NOTE
+  pub amid_steps : (code n k : ℕ) (was : Bool) (r : Reading) (arrived : List Position) (s : Session) → s.closed ≡ false
+      → amid_at (wording lists) c n code (Ready k was r arrived) s ≡ closes_now (Close code) (amid n k was r arrived s)
+  unfolding IsTwin
+  amid_steps code zero k was r arrived s e =
+      ap (λ (z : Bool). if z then s else if z then put_sub c (if falls_short arrived r then Off else On (beyond (read_to r) (run_length arrived r)) None) s else closes (Close code) s) e
+      ∙ sym (ap (λ (z : Bool). if z then s else closes (Close code) s) e)
+  amid_steps code (suc m) k was r arrived s e =
+      let last : Sub = if falls_short arrived r then Off else On (beyond (read_to r) (run_length arrived r)) None in
+      let told : Session = says (wording lists) (take (suc m) (Reply c k was r ∷ (pushes c (read_to r) (run_length arrived r) ++ (if falls_short arrived r then End c ∷ [] else [])))) (put_sub c last s) in
+      let first : IsTwin (push (wording lists) (Reply c k was r) (put_sub c last s)) (push (wording lists) (Reply c k was r) (put_sub c (On (read_to r) None) s)) =
+      push-twins (Reply c k was r) (On (read_to r) None) (put_sub c last s) s (refl, refl, λ h. absurd (cc)) e in
+      ap (λ (z : Bool). if z then s else closes_now (Close code) told) e
+      ∙ closes-twins (Close code) told (amid (suc m) k was r arrived s)
+      (run-twins (falls_short arrived r) (run_length arrived r) m (read_to r) _ _ first (stage-push (Reply c k was r) (read_to r) s e))
+
+  -- what holds of the session, and of that, holds after it
+  pub amid_cases : (P : Session → Type 0) (code n k : ℕ) (was : Bool) (r : Reading) (arrived : List Position) (s : Session)
+      → P s → (s.closed ≡ false → P (closes_now (Close code) (amid n k was r arrived s))) → P (amid_at (wording lists) c n code (Ready k was r arrived) s)
+  amid_cases P code n k was r arrived s here broken =
+      let after : Session = closes_now (Close code) (says (wording lists) (take n (Reply c k was r ∷ (pushes c (read_to r) (run_length arrived r) ++ (if falls_short arrived r then End c ∷ [] else [])))) (put_sub c (if falls_short arrived r then Off else On (beyond (read_to r) (run_length arrived r)) None) s)) in
+      by_open (P (amid_at (wording lists) c n code (Ready k was r arrived) s)) s.closed
+      (λ e. subst P (sym (ap (λ (z : Bool). if z then s else after) e)) here)
+      (λ e. subst P (sym (amid_steps code n k was r arrived s e)) (broken e))

@@ -14,9 +14,9 @@ use Rattle.cf_machine.specs.ClientRequest.{ClientRequest, SentCommand, Subscribe
 use Rattle.cf_machine.specs.PublicationList.{Place, Broker, tops, body_of, datum_at, publication, opened, list_with, add_at, publish}
 use Rattle.cf_machine.specs.ClientLink.{ClientLink, holds}
 use Rattle.cf_machine.specs.World.{World, start, broker_with}
-use Rattle.cf_machine.specs.Refusals.{Judgement, Unheard, TooLong, Refused as Rejected, Accepted, judged}
+use Rattle.cf_machine.specs.Refusals.{Judgement, Unheard, TooLong, Refused as Rejected, Accepted}
 use Rattle.cf_machine.specs.IntervalMachine.{size_of, datum_by, sent, carried_out, broker_by, judgement, exchange, delivered, read_found, read_at, effect}
-use Rattle.cf_machine.specs.LooseRun.{Happening, Scheduled, SendAsk, SendAskFrom, SendLeave, SendPublish, SendHistory, Hear, Hold, Receive, ErrorEnters, NoteEnters, Fail, FinishOver, CloseNow, CheckAgainst, Join, PublishAny, OpenIn, failed_if, hear_first, loose_effect, loosely_allows, befalls, loose_run}
+use Rattle.cf_machine.specs.LooseRun.{Happening, Scheduled, SendAsk, SendAskFrom, SendLeave, SendPublish, SendHistory, HearAs, Hold, Receive, ErrorEnters, NoteEnters, Fail, FinishOver, FinishAmid, CloseNow, CheckAgainst, Join, PublishAny, OpenIn, hear_as, loose_effect, loosely_allows, befalls, loose_run}
 use Rattle.cf_machine.specs.Trace.{Item, Subscribed, Published, Resubscribing, Refused, Listed, Closed, Entry}
 use Rattle.cf_machine.specs.Told.{run_items, reading_items, reply_items, pub_items, end_items, asks_under, first_items, entries, told_first, tells, loosely_tells, loosely_writes, loose_trace}
 use Rattle.cf_machine.specs.StreamSafety.{IsTrueTo, AreTrueTo, lists_before}
@@ -82,9 +82,9 @@ on-broker_by cfg l e Accepted b = on-carried cfg l e b
 on-exchange : (cfg : Config) (x : List ℕ) (e : ClientRequest) (w : World) → GoesOn w.broker.lists (exchange cfg x e w).broker.lists
 on-exchange cfg x e w = on-broker_by cfg ((sent x e w).links x) e (judgement cfg x e w) w.broker
 
-on-hear : (cfg : Config) (x : List ℕ) (failing : Bool) (w : World) (ks : List SentCommand) → GoesOn w.broker.lists (hear_first cfg x failing ks w).broker.lists
-on-hear cfg x failing w [] = on-same _ _ refl
-on-hear cfg x failing w (k ∷ ks) = on-broker_by cfg (w.links x) k.request (failed_if failing (judged cfg w (w.links x) k)) w.broker
+on-hear_as : (cfg : Config) (x : List ℕ) (j : Judgement) (w : World) (ks : List SentCommand) → GoesOn w.broker.lists (hear_as cfg x j ks w).broker.lists
+on-hear_as cfg x j w [] = on-same _ _ refl
+on-hear_as cfg x j w (k ∷ ks) = on-broker_by cfg (w.links x) k.request j w.broker
 
 pub on-effect : (cfg : Config) (w : World) (e : Event) → GoesOn w.broker.lists (effect cfg w e).broker.lists
 on-effect cfg w (Epoch e) = on-same _ _ (lists-epoch e w.broker)
@@ -122,7 +122,7 @@ on-effect cfg w (ListHistory x c limit) = on-exchange cfg x (History c limit) w
 
 on-loose : (cfg : Config) (w : World) (h : Happening) → GoesOn w.broker.lists (loose_effect cfg w h).broker.lists
 on-loose cfg w (Scheduled e) = on-effect cfg w e
-on-loose cfg w (Hear x failing) = on-hear cfg x failing w (w.links x).up
+on-loose cfg w (HearAs x j) = on-hear_as cfg x j w (w.links x).up
 on-loose cfg w (SendAsk x c) = on-same _ _ refl
 on-loose cfg w (SendAskFrom x c) = on-same _ _ refl
 on-loose cfg w (SendLeave x c) = on-same _ _ refl
@@ -134,6 +134,7 @@ on-loose cfg w (ErrorEnters x id code) = on-same _ _ refl
 on-loose cfg w (NoteEnters x n) = on-same _ _ refl
 on-loose cfg w (Fail x c) = on-same _ _ refl
 on-loose cfg w (FinishOver x c) = on-same _ _ refl
+on-loose cfg w (FinishAmid x c count code) = on-same _ _ refl
 on-loose cfg w (CloseNow x code) = on-same _ _ refl
 on-loose cfg w (CheckAgainst x c top) = on-same _ _ refl
 on-loose cfg w (Join x n) = on-same _ _ refl

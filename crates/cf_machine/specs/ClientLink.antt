@@ -1,10 +1,10 @@
 -- One client and its connection: the client, its session on the node, and what travels between them.
 -- Nothing else lies between a client and its node. A connection gives, in order, a prefix of what was sent on it.
-use Rattle.std.specs.Prelude.{ℕ, suc, ◌==◌, nat_lt, ◌&&◌, ◌||◌, not, Bool, true, false, if◌then◌else◌, Option, Some, None, List, [], ◌∷◌, ◌++◌}
+use Rattle.std.specs.Prelude.{ℕ, suc, take, ◌==◌, nat_lt, ◌&&◌, ◌||◌, not, Bool, true, false, if◌then◌else◌, Option, Some, None, List, [], ◌∷◌, ◌++◌}
 use Rattle.cf_protocol.specs.Names.{and_also}
 use Rattle.cf_protocol.specs.Position.{Position}
 use Rattle.cf_protocol.specs.Note.{Note, Reply, Pub, End, Fails, Put as Accepted, Left, Listed, PingDue, Close}
-use Rattle.cf_hub.specs.SessionState.{Off, Asked, Ready, On, opens, begins, leaves, closes_now, push, put_sub, takes_front}
+use Rattle.cf_hub.specs.SessionState.{Off, Asked, Ready, On, opens, begins, leaves, closes_now, finish_notes, finished, push, put_sub, takes_front}
 use Rattle.cf_hub.specs.SessionState as session
 use Rattle.cf_client.specs.ClientState.{Client, new_client, asks, calls_for, reconnects, hears as takes_note}
 use Rattle.cf_client.specs.ClientState as client
@@ -161,6 +161,18 @@ over_at w c (On q mark) s = s
 
 abbrev pub finishes_over : Words → List ℕ → Session → Session
 finishes_over w c s = over_at w c (s.subs c) s
+
+-- Its finish is broken off: the first so many notes are said, and then the session is closed with this code.
+abbrev pub amid_at : Words → List ℕ → (count code : ℕ) → Sub → Session → Session
+amid_at w c count code Off s = s
+amid_at w c count code (Asked id since arrived) s = s
+amid_at w c count code (Ready id was r arrived) s =
+    if s.closed then s
+    else closes_now (w.close code) (session.says w (take count (finish_notes w c id was r arrived)) (put_sub c (finished w r arrived) s))
+amid_at w c count code (On q mark) s = s
+
+abbrev pub finishes_amid : Words → List ℕ → (count code : ℕ) → Session → Session
+finishes_amid w c count code s = amid_at w c count code (s.subs c) s
 
 -- the session is closed with this code
 abbrev pub closes_with : ℕ → ClientLink → ClientLink

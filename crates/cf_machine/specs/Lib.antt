@@ -4,6 +4,7 @@ pub mod TraceLine
 pub mod Config
 pub mod ClientRequest
 pub mod PublicationList
+pub mod Lives
 pub mod FreshEpochs
 pub mod Session
 pub mod Weights

@@ -1,12 +1,12 @@
 -- A loose run: what running nodes with threads do. A line of a schedule may happen, or one of these: commands and notes
--- travel, answers come late or never, an error comes in place of an answer, a finish goes as if more had arrived than are
--- kept, a ping enters or a session is closed at any time, a position check is made against anything; and others publish any
--- datum and open streams in any fresh epoch at any time.
+-- travel, a command is heard with any judgement, answers come late or never, an error comes in place of an answer, a finish
+-- goes as if more had arrived than are kept or is broken off, a ping enters or a session is closed at any time, a position
+-- check is made against anything; and others publish any datum and open streams in any fresh epoch at any time.
 -- A connection may end on one side first. Where that is the client's side, it is a `Break`: its node may go on serving the old
 -- session for a while. To all others that session then only publishes, opens streams and takes up room; and here anybody may
--- publish and open streams, and a node may fail any command. Where it is the node's side, the session is closed: what is on its
+-- publish and open streams, and a node may refuse any command. Where it is the node's side, the session is closed: what is on its
 -- way may still reach the client, or not, and another client may have its place (`Join`).
-use Rattle.std.specs.Prelude.{ℕ, ℤ, nat_lt, ◌&&◌, not, Bool, true, false, if◌then◌else◌, is_some, Option, None, List, [], ◌∷◌, map}
+use Rattle.std.specs.Prelude.{ℕ, ℤ, nat_lt, ◌&&◌, not, Bool, if◌then◌else◌, is_some, Option, None, List, [], ◌∷◌, map}
 use Rattle.cf_protocol.specs.Datum.{Datum}
 use Rattle.cf_protocol.specs.Position.{Position}
 use Rattle.cf_protocol.specs.Note.{Note}
@@ -18,9 +18,9 @@ use Rattle.cf_machine.specs.Event.{Event}
 use Rattle.cf_machine.specs.ClientRequest.{SentCommand, Subscribe, Unsubscribe, Publish, History}
 use Rattle.cf_machine.specs.PublicationList.{opened_in, is_fresh_for, can_open, at_last_offset, publish}
 use Rattle.cf_machine.specs.Weights.{wording}
-use Rattle.cf_machine.specs.ClientLink.{holds, receives, errs_late, says, fails, finishes_over, closes_with}
+use Rattle.cf_machine.specs.ClientLink.{holds, receives, errs_late, says, fails, finishes_over, finishes_amid, closes_with}
 use Rattle.cf_machine.specs.World.{World, link_with, broker_with, is_connected, is_ready}
-use Rattle.cf_machine.specs.Refusals.{Judgement, Refused, Accepted, judged}
+use Rattle.cf_machine.specs.Refusals.{Judgement}
 use Rattle.cf_machine.specs.IntervalMachine.{size_of, sent, heard_as, connects, at_session, id_left, idle_at, allows, effect}
 
 pub data Happening : Type 0 where
@@ -32,8 +32,9 @@ pub data Happening : Type 0 where
   SendLeave : (client : List ℕ) → (channel : List ℕ) → Happening
   SendPublish : (client : List ℕ) → (channel : List ℕ) → (body : List ℕ) → Happening
   SendHistory : (client : List ℕ) → (channel : List ℕ) → (limit : ℤ) → Happening
-  -- its node hears the first of them, and carries it out or fails it
-  Hear : (client : List ℕ) → (failing : Bool) → Happening
+  -- its node hears the first of them, and does with it what any judgement says: it carries it out or refuses it, however many
+  -- subscriptions it seems to have, or hears nothing of it
+  HearAs : (client : List ℕ) → (judgement : Judgement) → Happening
   -- the front of what waits leaves the node; the first that is on its way reaches the client
   Hold : (client : List ℕ) → Happening
   Receive : (client : List ℕ) → Happening
@@ -43,6 +44,8 @@ pub data Happening : Type 0 where
   -- an unfinished subscription is given up, or finished as if more had arrived than are kept
   Fail : (client : List ℕ) → (channel : List ℕ) → Happening
   FinishOver : (client : List ℕ) → (channel : List ℕ) → Happening
+  -- a finish is broken off, as by want of memory: so many of its notes are said, and then the session is closed
+  FinishAmid : (client : List ℕ) → (channel : List ℕ) → (count : ℕ) → (code : ℕ) → Happening
   -- the session is closed
   CloseNow : (client : List ℕ) → (code : ℕ) → Happening
   -- the position is checked against any position, or none
@@ -53,19 +56,10 @@ pub data Happening : Type 0 where
   PublishAny : (channel : List ℕ) → (datum : Datum) → Happening
   OpenIn : (channel : List ℕ) → (epoch : List ℕ) → Happening
 
--- a node that fails a command answers an error in place of carrying it out
-abbrev pub failed : Judgement → Judgement
-failed Accepted = Refused 100
-failed j = j
-
-abbrev pub failed_if : Bool → Judgement → Judgement
-failed_if true j = failed j
-failed_if false j = j
-
--- the node of x hears the first of the commands that are on their way, and carries it out or fails it
-abbrev pub hear_first : Config → List ℕ → Bool → List SentCommand → World → World
-hear_first cfg x failing [] w = w
-hear_first cfg x failing (k ∷ rest) w = heard_as cfg x k rest (failed_if failing (judged cfg w (w.links x) k)) w
+-- the node of x hears the first of the commands that are on their way, as this judgement says
+abbrev pub hear_as : Config → List ℕ → Judgement → List SentCommand → World → World
+hear_as cfg x j [] w = w
+hear_as cfg x j (k ∷ rest) w = heard_as cfg x k rest j w
 
 abbrev pub loose_effect : Config → World → Happening → World
 loose_effect cfg w (Scheduled e) = effect cfg w e
@@ -74,13 +68,14 @@ loose_effect cfg w (SendAskFrom x c) = sent x (Subscribe c (last_of ((w.links x)
 loose_effect cfg w (SendLeave x c) = sent x (Unsubscribe c) w
 loose_effect cfg w (SendPublish x c body) = sent x (Publish c body) w
 loose_effect cfg w (SendHistory x c limit) = sent x (History c limit) w
-loose_effect cfg w (Hear x failing) = hear_first cfg x failing (w.links x).up w
+loose_effect cfg w (HearAs x j) = hear_as cfg x j (w.links x).up w
 loose_effect cfg w (Hold x) = link_with x (holds (w.links x)) w
 loose_effect cfg w (Receive x) = link_with x (receives (w.links x)) w
 loose_effect cfg w (ErrorEnters x id code) = link_with x (errs_late (wording w.broker.lists) id code (w.links x)) w
 loose_effect cfg w (NoteEnters x n) = link_with x (says (wording w.broker.lists) n (w.links x)) w
 loose_effect cfg w (Fail x c) = link_with x (fails c (w.links x)) w
 loose_effect cfg w (FinishOver x c) = at_session x (finishes_over (wording w.broker.lists) c) w
+loose_effect cfg w (FinishAmid x c count code) = at_session x (finishes_amid (wording w.broker.lists) c count code) w
 loose_effect cfg w (CloseNow x code) = link_with x (closes_with code (w.links x)) w
 loose_effect cfg w (CheckAgainst x c top) = at_session x (checks (wording w.broker.lists) c top) w
 loose_effect cfg w (Join x n) = connects x n w
@@ -98,13 +93,14 @@ loosely_allows cfg w (SendAskFrom x c) = can_send x w && idle_at x c w
 loosely_allows cfg w (SendLeave x c) = can_send x w && not (idle_at x c w)
 loosely_allows cfg w (SendPublish x c body) = can_send x w
 loosely_allows cfg w (SendHistory x c limit) = can_send x w
-loosely_allows cfg w (Hear x failing) = is_ready (w.links x)
+loosely_allows cfg w (HearAs x j) = is_ready (w.links x)
 loosely_allows cfg w (Hold x) = is_connected x w
 loosely_allows cfg w (Receive x) = is_connected x w
 loosely_allows cfg w (ErrorEnters x id code) = is_connected x w
 loosely_allows cfg w (NoteEnters x n) = is_connected x w
 loosely_allows cfg w (Fail x c) = is_connected x w
 loosely_allows cfg w (FinishOver x c) = is_connected x w
+loosely_allows cfg w (FinishAmid x c count code) = is_connected x w
 loosely_allows cfg w (CloseNow x code) = is_connected x w
 loosely_allows cfg w (CheckAgainst x c top) = is_connected x w
 loosely_allows cfg w (Join x n) = not (is_connected x w) && nat_lt n cfg.nodes

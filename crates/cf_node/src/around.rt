@@ -6,10 +6,11 @@ use crate::house::House;
 use crate::node::Setup;
 use crate::shared::Shared;
 use cf_broker::{Broker, Passes, SHARDS, shard_of};
+use cf_dispatch::keeps_presence;
 use cf_hub::Hub;
 use cf_order::Pass;
 use cf_presence::Stats;
-use cf_protocol::{Info, Namespaces, Position};
+use cf_protocol::{Info, Position};
 use cf_session::Session;
 use cf_shard::{Naming, ReadAnswer, Refused};
 use cf_stream::{Epochs, History};
@@ -65,11 +66,27 @@ impl<'a, R: Wait, N: Naming, E: Epochs + Drop> House for Around<'a, R, N, E> {
     }
 
     fn hub(&self) -> MutexGuard<'_, Hub> {
-        self.shared.hub.lock(self.rt)
+        self.shared.hub(self.rt)
     }
 
     fn look(&self) {
         self.shared.look();
+    }
+
+    fn catch_up(&self) {
+        self.shared.catch_up();
+    }
+
+    fn note_refused(&self) {
+        if let Some(counts) = self.setup.counts {
+            counts.add_refused();
+        }
+    }
+
+    fn note_slow(&self) {
+        if let Some(counts) = self.setup.counts {
+            counts.add_slow();
+        }
     }
 
     fn publish(
@@ -180,12 +197,5 @@ impl<'a, R: Wait, N: Naming, E: Epochs + Drop> Around<'a, R, N, E> {
             let _ = self.broker.tick(self.rt, &mut pass, shard, now);
             put_back(&self.passes, shard, pass);
         }
-    }
-}
-
-fn keeps_presence(namespaces: &Namespaces, channel: &str) -> bool {
-    match namespaces.find(channel) {
-        Some(settings) => settings.presence,
-        None => false,
     }
 }

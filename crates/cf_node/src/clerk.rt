@@ -1,25 +1,46 @@
 //! What a session asks for, done on hub and broker.
-ghost use Rattle.std.specs.Prelude.{IsSome};
+ghost use Rattle.std.specs.Prelude.{◌≡◌, IsSome, option_map};
 ghost use Rattle.cf_protocol.specs.Settings.{settings_of};
+ghost use Rattle.cf_session.specs.Shown.{shown_action, answer_kind};
+ghost use Rattle.cf_talk.specs.Played.{asked_kind};
 
 use crate::house::House;
 use crate::member::Member;
-use cf_protocol::{ErrorCode, Info, Position};
+use cf_dispatch::{broker_error, take_for};
+use cf_hub::Said;
+use cf_presence::Stats;
+use cf_protocol::{CloseCode, ErrorCode, Info, Position};
 use cf_queue::Out;
 use cf_session::{Action, Answer};
-use cf_shard::Refused;
 use cf_stream::History;
 use cf_talk::Node;
-use cf_turns::take_for;
 use std::collections::{BTreeMap, VecDeque};
 
-/// The error that a client gets where the broker refuses.
-fn broker_error(refused: Refused) -> ErrorCode {
-    match refused {
-        Refused::AtLastOffset => ErrorCode::LimitExceeded,
-        Refused::WrongEpoch => ErrorCode::UnrecoverablePosition,
-        Refused::NoEpoch | Refused::AtLastCount => ErrorCode::Internal,
-        Refused::Memory => ErrorCode::Internal,
+/// Whether an action reaches the hub's subscriptions or the broker: what is only said or closed is
+/// nothing to a session that is closed.
+fn is_call(action: &Action) -> bool {
+    !matches!(action, Action::Say(_) | Action::Pong | Action::Close(_))
+}
+
+/// The answer to an action of a session that is over, which isn't carried out.
+fn given_up(action: &Action) -> Option<Answer>
+    ensures { option_map answer_kind result ≡ asked_kind (shown_action action.now) }
+{
+    let refused = ErrorCode::Internal;
+    match action {
+        Action::Attach { .. } => Some(Answer::Attach(Err(refused))),
+        Action::Begin { .. } => Some(Answer::Begin(Err(refused))),
+        Action::Read { .. } => Some(Answer::Read(Err(refused))),
+        Action::Finish { .. } => Some(Answer::Finish),
+        Action::Leave { .. } => Some(Answer::Leave),
+        Action::Publish { .. } => Some(Answer::Publish(Err(refused))),
+        Action::History { .. } => Some(Answer::History(Err(refused))),
+        Action::Presence { .. } => Some(Answer::Presence(Err(refused))),
+        Action::Stats { .. } => Some(Answer::Stats(Stats {
+            clients: 0,
+            users: 0,
+        })),
+        Action::Say(_) | Action::Pong | Action::Close(_) => None,
     }
 }
 
@@ -33,21 +54,23 @@ pub(crate) struct Clerk<'a, H> {
 }
 
 impl<'a, H: House> Node for Clerk<'a, H> {
-    ghost use Rattle.std.specs.Prelude.{false};
-
     ghost namespaces = { λ _. H.namespaces };
 
-    // What is asked of a hub that has closed the session changes nothing there.
-    ghost closed = { λ _. false };
+    // It is over as far as the clerk has seen: the hub is asked before each call, and what it says
+    // of a text is remembered.
+    ghost closed = { λ clerk. clerk.member.standing.is_over };
 
     // Between two workers no more can be said of hub and broker.
     ghost does = { λ _ _ _ _. Unit {0} };
 
     fn is_closed(&self) -> bool {
-        false
+        self.member.standing.is_over()
     }
 
     fn act(&mut self, action: Action) -> Option<Answer> {
+        if is_call(&action) && self.sees_end() {
+            return given_up(&action);
+        }
         match action {
             Action::Attach { user } => Some(Answer::Attach(self.attach(user))),
             Action::Begin { channel, id, since } => {
@@ -96,10 +119,61 @@ impl<'a, H: House> Clerk<'a, H> {
     /// Takes what waits for the client, and puts it behind what was taken for it before. Whether
     /// more may wait.
     pub(crate) fn take(&self, taken: &mut VecDeque<Out>) -> bool {
-        match self.member.number {
-            Some(number) => take_for(&mut self.house.hub(), number, true, taken),
+        match self.member.standing.number() {
+            Some(number) => { take_for(&mut self.house.hub(), number, true, taken).leaves_more() }
             None => false,
         }
+    }
+
+    /// Whether the session is over, as the hub has it now. Where it is, its client is present
+    /// nowhere from now on.
+    pub(crate) fn sees_end(&mut self) -> bool {
+        if self.member.standing.is_over() {
+            return true;
+        }
+        self.member.standing.look(&self.house.hub());
+        if !self.member.standing.is_over() {
+            return false;
+        }
+        self.end();
+        true
+    }
+
+    /// Whether the session is over, as far as the clerk has seen.
+    pub(crate) fn is_over(&self) -> bool
+        ensures { result ≡ self.entry.now.member.standing.is_over }
+    {
+        self.member.standing.is_over()
+    }
+
+    /// The close goes out to the client.
+    pub(crate) fn sees_close(&mut self, code: u16) {
+        if code == CloseCode::Slow.code() {
+            self.note_slow();
+        }
+        self.stop();
+    }
+
+    /// The session does nothing more from now on.
+    pub(crate) fn stop(&mut self) {
+        if !self.is_over() {
+            self.end();
+        }
+    }
+
+    /// The client is too slow, which is counted once.
+    pub(crate) fn note_slow(&mut self) {
+        if !self.member.is_slow {
+            self.member.is_slow = true;
+            self.house.note_slow();
+        }
+    }
+
+    // The session is over.
+    fn end(&mut self) {
+        self.member.standing.end();
+        self.member.ended = self.now;
+        self.leave_all();
     }
 
     fn attach(&mut self, user: String) -> Result<String, ErrorCode> {
@@ -115,7 +189,7 @@ impl<'a, H: House> Clerk<'a, H> {
     fn read(&self, channel: &str, since: Option<Position>) -> Result<(), ErrorCode>
         requires { IsSome (settings_of H.namespaces channel.now) }
     {
-        let Some(number) = self.member.number else {
+        let Some(number) = self.member.standing.number() else {
             return Err(ErrorCode::Internal);
         };
         match self.house.read(channel, since, self.now) {
@@ -182,23 +256,29 @@ impl<'a, H: House> Clerk<'a, H> {
         }
     }
 
-    fn say(&self, text: String) {
-        if let Some(number) = self.member.number {
-            self.house.hub().say(number, text);
+    // The text waits for the client, or its session is closed, which is remembered.
+    fn say(&mut self, text: String) {
+        let Some(number) = self.member.standing.number() else {
+            return;
+        };
+        let said = self.house.hub().say(number, text);
+        if said != Said::Kept {
+            self.stop();
         }
     }
 
     fn pong(&self) {
-        if let Some(number) = self.member.number {
+        if let Some(number) = self.member.standing.number() {
             self.house.hub().pong(number);
         }
     }
 
     // The session is closed. One that isn't attached has no queue: its close is sent as it is.
     fn close(&mut self, code: u16) {
-        match self.member.number {
+        match self.member.standing.number() {
             Some(number) => self.house.hub().close(number, code),
             None => self.member.refused = Some(code),
         }
+        self.stop();
     }
 }

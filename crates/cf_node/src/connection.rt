@@ -2,8 +2,9 @@
 use crate::desk::SessionDesk;
 use crate::house::House;
 use crate::socket::Socket;
+use cf_dispatch::is_head_over;
 use cf_queue::Out;
-use cf_wire::{Gather, Wire};
+use cf_wire::{Gather, TurnEnd, Wire};
 use mio::net::TcpStream;
 use std::alloc::Global;
 use std::collections::VecDeque;
@@ -27,6 +28,8 @@ pub(crate) enum Connection<'a, H: House> {
 pub(crate) struct Head {
     pub(crate) socket: Socket,
     bytes: Vec<u8>,
+    // When it was accepted, in seconds.
+    accepted: u64,
 }
 
 /// A connection that speaks: its wire, and the desk at which its session sits.
@@ -37,10 +40,12 @@ pub(crate) struct Open<'a, H: House> {
 }
 
 impl Head {
-    pub(crate) fn new(alloc: Global, stream: TcpStream) -> Head {
+    /// A socket that is accepted at this moment.
+    pub(crate) fn new(alloc: Global, stream: TcpStream, now: u64) -> Head {
         Head {
             socket: Socket::new(alloc, stream),
             bytes: Vec::new(alloc),
+            accepted: now,
         }
     }
 
@@ -80,9 +85,111 @@ impl Head {
 
     /// The socket, whose next reads give the head and what came behind it.
     pub(crate) fn into_socket(self) -> Socket {
-        let Head { mut socket, bytes } = self;
+        let Head {
+            mut socket,
+            bytes,
+            ..
+        } = self;
         socket.give_first(bytes);
         socket
+    }
+}
+
+impl<'a, H: House> Connection<'a, H> {
+    /// What a second brings: whether the connection still stands.
+    pub(crate) fn look_after(&mut self, now: u64) -> bool {
+        match self {
+            Connection::Empty => true,
+            Connection::Head(head) => !is_head_over(head.accepted, now),
+            Connection::Open(open) => open.desk.clerk.look_after(now),
+        }
+    }
+
+    /// The socket is ready to be read, or at its end, or takes more. Whether there is one.
+    pub(crate) fn notice(&mut self, readable: bool, ended: bool) -> bool {
+        match self {
+            Connection::Empty => false,
+            Connection::Head(head) => {
+                head.socket.notice(readable, ended);
+                true
+            }
+            Connection::Open(open) => {
+                open.wire.stream_mut().stream_mut().notice(readable, ended);
+                true
+            }
+        }
+    }
+}
+
+/// How a connection stands after its turn.
+#[derive(Clone, Copy, PartialEq, Eq, Drop)]
+pub(crate) enum Turned {
+    /// It waits for its socket, or for the hub.
+    Idle,
+    /// It has more to do at once.
+    More,
+    Over,
+}
+
+impl<'a, H: House> Open<'a, H> {
+    /// Takes a turn: sends what waits while the socket takes it, and where it is to hear, carries on
+    /// what is on its way and reads what came, up to the bounds of one turn.
+    pub(crate) fn turn(&mut self, buffer: &mut Vec<u8>, now: u64, hears: bool) -> Turned {
+        if !drains(&mut self.wire) {
+            return Turned::Over;
+        }
+        if !self.wire.stream().is_drained() {
+            return Turned::Idle;
+        }
+        self.wire.stream_mut().lend(buffer);
+        self.desk.begin(now, hears);
+        let end = self.wire.turn(&mut self.desk);
+        if !gives_back(&mut self.wire, buffer) {
+            return Turned::Over;
+        }
+        match end {
+            TurnEnd::Idle if self.has_more() => Turned::More,
+            TurnEnd::Idle => Turned::Idle,
+            TurnEnd::More => Turned::More,
+            TurnEnd::Closed(_) => self.closes(),
+            TurnEnd::StreamFault | TurnEnd::Memory => Turned::Over,
+        }
+    }
+
+    // The wire is closed, by either side: from now on its session does nothing more, and what was
+    // gathered for the client, the close too, still waits for the socket.
+    fn closes(&mut self) -> Turned {
+        if self.wire.stream().is_drained() {
+            return Turned::Over;
+        }
+        self.desk.clerk.stop();
+        Turned::Idle
+    }
+
+    // Whether there is more to do at once.
+    fn has_more(&self) -> bool {
+        takes_more(&self.wire, &self.desk.taken) && (self.desk.goes_on() || self.desk.owed)
+    }
+}
+
+// Writes what a turn gathered, and takes the buffer back that was lent to it, where all of it is
+// written. `false` where the socket fails.
+fn gives_back(wire: &mut Wire<Gather<Socket>>, buffer: &mut Vec<u8>) -> bool {
+    let goes_on = drains(wire);
+    if wire.stream().is_drained() {
+        wire.stream_mut().lend(buffer);
+    }
+    goes_on
+}
+
+// Writes what was gathered, as far as the socket takes it. `false` where the socket fails.
+fn drains(wire: &mut Wire<Gather<Socket>>) -> bool {
+    if wire.stream().is_drained() {
+        return true;
+    }
+    match wire.stream_mut().drain() {
+        Ok(()) => true,
+        Err(error) => error.kind() == ErrorKind::WouldBlock,
     }
 }
 

@@ -1,12 +1,12 @@
 //! The worker that brings what the broker published to the node's hub.
-ghost use Rattle.cf_turns.specs.Dispatch.{Dispatches};
+ghost use Rattle.cf_dispatch.specs.Dispatch.{Dispatches};
 
 use crate::gate::{DISPATCHER, Gate};
 use crate::shared::Shared;
+use cf_dispatch::{Post, pass_on};
 use cf_hub::Delivered;
 use cf_link::Receiver;
 use cf_shard::Delivery;
-use cf_turns::{Post, pass_on};
 use std::sync::Wait;
 use std::sync::atomic::{AtomicU64, Ordering};
 use std::thread;
@@ -44,11 +44,12 @@ impl<'a, R: Wait + Clock> Post for NodePost<'a, R> {
     }
 
     fn bring(&mut self, delivery: &Delivery) -> Delivered {
-        self.shared.hub.lock(self.rt).deliver(
-            delivery.channel.as_str(),
-            &delivery.epoch,
-            &delivery.publication,
-        )
+        self.shared.give_way(self.rt);
+        let delivered = self.shared.deliver(self.rt, delivery);
+        if delivered.passed > 0 {
+            self.shared.fall_behind(delivery.publication.body.len());
+        }
+        delivered
     }
 
     fn wake(&mut self) {

@@ -35,6 +35,15 @@ pub(crate) trait House {
     /// The worker that serves looks at the hub: from now on it is woken again.
     fn look(&self);
 
+    /// The worker that serves has sent what waited in the hub, as far as the sockets took it.
+    fn catch_up(&self);
+
+    /// A connection is not served, for want of descriptors or memory.
+    fn note_refused(&self);
+
+    /// A session was closed since its client was too slow.
+    fn note_slow(&self);
+
     /// A publish by a client.
     fn publish(
         &self,

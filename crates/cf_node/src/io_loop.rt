@@ -1,34 +1,33 @@
 //! The worker that serves the sockets: it turns a connection that has something to read or
-//! something to send, and no other.
-use crate::connection::{Connection, Head, Open, takes_more};
+//! something to send, and no other, in the order of an agenda.
+use crate::connection::{Connection, Head, Open, Turned, takes_more};
 use crate::desk::SessionDesk;
 use crate::door::{Accepted, Door, LISTENER, WAKER};
 use crate::gate::{Gate, IO_LOOP};
 use crate::house::House;
-use crate::socket::Socket;
+use cf_dispatch::{Agenda, SESSIONS_AT_ONCE, Seats, Seconds, take_batch};
 use cf_queue::Out;
-use cf_turns::{SESSIONS_AT_ONCE, Seats, take_batch};
-use cf_wire::{Gather, TurnEnd, Wire};
+use cf_wire::{Gather, Wire};
 use mio::Events;
+use mio::event::Event;
 use std::alloc::AllocError;
 use std::collections::VecDeque;
-use std::io::ErrorKind;
 use std::sync::Wait;
 use std::sync::atomic::{AtomicU64, Ordering};
 use std::time::{Clock, Duration};
 use std::{io, mem, thread};
 
 /// The most connections accepted at one turn.
-const MOST_ACCEPTED: usize = 4096;
+const MOST_ACCEPTED: usize = 64;
 
 /// So many bytes are gathered before they are written within a turn.
 const GATHERED: usize = 65_536;
 
-/// The most turns of one wire in a row.
-const MOST_TURNS: usize = 16;
+/// The most times that sessions are asked for in a row.
+const MOST_BATCHES: usize = 64;
 
-/// The most times that sessions are asked for in one turn of the loop.
-const MOST_BATCHES: usize = 1024;
+/// So many sockets are told of at one wait.
+const MOST_EVENTS: usize = 512;
 
 /// How long the loop waits for readiness where nothing is left to do, in milliseconds, so that it
 /// sees each new second.
@@ -36,6 +35,24 @@ const PATIENCE: u64 = 1000;
 
 /// The close of a program that ends.
 const SHUTDOWN: u16 = 3001;
+
+/// What the listener was left with.
+#[derive(Clone, Copy, PartialEq, Eq, Drop)]
+enum Accepts {
+    /// No connection waits to be accepted.
+    All,
+    /// Some may.
+    More,
+    /// One could not be: it is tried again with the next second.
+    Failed,
+}
+
+/// A place whose session the hub has named, and whether its socket takes more.
+#[derive(Clone, Copy, Drop)]
+struct Named {
+    place: usize,
+    is_free: bool,
+}
 
 #[derive(Drop)]
 struct IoLoop<'a, H: House> {
@@ -46,15 +63,14 @@ struct IoLoop<'a, H: House> {
     free: Vec<usize>,
     // At which place each session of the hub is.
     owners: Vec<usize>,
-    // The places for which something waits in the hub, beside those that the hub names.
-    owed: VecDeque<usize>,
-    // The places for which something was just taken.
-    batch: Vec<usize>,
+    // The places that have a turn to come.
+    agenda: Agenda,
+    // The places whose sessions the hub has just named.
+    batch: Vec<Named>,
     // A buffer for what one turn sends, so that idle connections keep none.
     buffer: Vec<u8>,
-    // Connections wait to be accepted that could not be.
-    behind: bool,
-    now: u64,
+    accepts: Accepts,
+    seconds: Seconds,
 }
 
 /// Serves until `stop` isn't 0, and then closes all sessions with 3001.
@@ -70,68 +86,6 @@ pub(crate) fn serve<R: Wait + Clock, H: House, G: Gate>(
     io_loop.run(rt, node, gate, stop)?;
     io_loop.shut_down();
     Ok(())
-}
-
-// Whether a connection goes on, and whether it has more to do at once.
-#[derive(Drop)]
-enum Turned {
-    Idle,
-    More,
-    Over,
-}
-
-// Turns a connection: reads what came, and sends what waits while its socket takes it.
-fn turn_open<H: House>(buffer: &mut Vec<u8>, open: &mut Open<'_, H>, now: u64) -> Turned {
-    if !drains(&mut open.wire) {
-        return Turned::Over;
-    }
-    if !open.wire.stream().is_drained() {
-        return Turned::Idle;
-    }
-    open.wire.stream_mut().lend(buffer);
-    open.desk.clerk.now = now;
-    let end = turn_wire(&mut open.wire, &mut open.desk);
-    if !gives_back(&mut open.wire, buffer) {
-        return Turned::Over;
-    }
-    match end {
-        TurnEnd::Idle if open.desk.owed && takes_more(&open.wire, &open.desk.taken) => Turned::More,
-        TurnEnd::Idle => Turned::Idle,
-        TurnEnd::More => Turned::More,
-        _ => Turned::Over,
-    }
-}
-
-// Writes what a turn gathered, and takes the buffer back that was lent to it, where all of it is
-// written. `false` where the socket fails.
-fn gives_back(wire: &mut Wire<Gather<Socket>>, buffer: &mut Vec<u8>) -> bool {
-    let goes_on = drains(wire);
-    if wire.stream().is_drained() {
-        wire.stream_mut().lend(buffer);
-    }
-    goes_on
-}
-
-// Writes what was gathered, as far as the socket takes it. `false` where the socket fails.
-fn drains(wire: &mut Wire<Gather<Socket>>) -> bool {
-    if wire.stream().is_drained() {
-        return true;
-    }
-    match wire.stream_mut().drain() {
-        Ok(()) => true,
-        Err(error) => error.kind() == ErrorKind::WouldBlock,
-    }
-}
-
-// Up to 16 turns of a wire in a row.
-fn turn_wire<H: House>(wire: &mut Wire<Gather<Socket>>, desk: &mut SessionDesk<'_, H>) -> TurnEnd {
-    for _ in 1..MOST_TURNS {
-        let end = wire.turn(desk);
-        if end != TurnEnd::More {
-            return end;
-        }
-    }
-    wire.turn(desk)
 }
 
 // A connection whose head is whole: the handshake is answered. None where it is refused.
@@ -158,11 +112,11 @@ impl<'a, H: House> IoLoop<'a, H> {
             places: Vec::new(alloc),
             free: Vec::new(alloc),
             owners: Vec::new(alloc),
-            owed: VecDeque::new(alloc),
+            agenda: Agenda::new(alloc),
             batch: Vec::new(alloc),
             buffer: Vec::new(alloc),
-            behind: false,
-            now: 0,
+            accepts: Accepts::All,
+            seconds: Seconds::new(),
         }
     }
 
@@ -174,7 +128,7 @@ impl<'a, H: House> IoLoop<'a, H> {
         gate: &G,
         stop: &AtomicU64,
     ) -> io::Result<()> {
-        let mut events = Events::with_capacity(self.house.alloc(), 512)?;
+        let mut events = Events::with_capacity(self.house.alloc(), MOST_EVENTS)?;
         let mut turn: u64 = 0;
         for _ in rt.forever() {
             if stop.load(Ordering::SeqCst) != 0 {
@@ -191,73 +145,112 @@ impl<'a, H: House> IoLoop<'a, H> {
         Ok(())
     }
 
-    // Waits for readiness, where no place is owed anything.
+    // Waits for readiness, where nothing is left to do.
     fn wait(&mut self, events: &mut Events) -> io::Result<()> {
-        let patience = if self.owed.is_empty() { PATIENCE } else { 0 };
+        let is_done = self.agenda.is_empty()
+            && self.accepts != Accepts::More
+            && !self.seconds.is_late();
+        let patience = if is_done { PATIENCE } else { 0 };
         self.door.wait(events, Duration::from_millis(patience))
     }
 
+    // One turn: what is ready is noted, who has a turn to come has it, and then comes a new second.
     fn turn(&mut self, events: &Events, now: u64) {
         self.house.look();
-        if now != self.now {
-            self.now = now;
-            self.beat();
-        }
+        let mut count: usize = 0;
         for event in events {
-            let token = event.token();
-            if token == LISTENER {
-                self.accept_all();
-            } else if token != WAKER {
-                let ended = event.is_read_closed() || event.is_error();
-                self.notice(token.0, event.is_readable(), ended);
-            }
+            count = count.saturating_add(1);
+            self.notice(event);
         }
-        self.serve_owed();
+        if self.accepts == Accepts::More {
+            self.accept_some();
+        }
         self.serve_named();
+        self.serve_agenda();
+        self.house.catch_up();
+        if self.seconds.turn_ends(now, count >= MOST_EVENTS) {
+            self.on_second();
+        }
     }
 
     // What comes with each new second: pings, rounds, and at node 0 the broker's time.
-    fn beat(&mut self) {
-        self.house.hub().tick(self.now);
+    fn on_second(&mut self) {
+        self.house.hub().tick(self.seconds.done());
         for place in 0..self.places.len() {
             if !self.looks_after(place) {
                 self.end(place);
             }
         }
-        self.house.tick(self.now);
-        if self.behind {
-            self.accept_all();
+        self.house.tick(self.seconds.done());
+        if self.accepts == Accepts::Failed {
+            self.accept_some();
         }
+        self.serve_named();
     }
 
-    // The round of the client at a place. `false` where its connection is over.
+    // What a second brings to the connection at a place. `false` where it is over.
     fn looks_after(&mut self, place: usize) -> bool {
         match self.places.get_mut(place) {
-            Some(Connection::Open(open)) => open.desk.clerk.look_after(self.now),
-            _ => true,
+            Some(connection) => connection.look_after(self.seconds.done()),
+            None => true,
         }
     }
 
-    // Accepts what waits to be. Where that fails it is tried again with the next second.
-    fn accept_all(&mut self) {
+    // A socket is ready.
+    fn notice(&mut self, event: &Event) {
+        let token = event.token();
+        if token == LISTENER {
+            self.accepts = Accepts::More;
+        } else if token != WAKER {
+            let place = token.0;
+            let ended = event.is_read_closed() || event.is_error();
+            let is_there = match self.places.get_mut(place) {
+                Some(connection) => connection.notice(event.is_readable(), ended),
+                None => false,
+            };
+            if is_there {
+                self.owe(place);
+            }
+        }
+    }
+
+    // A turn of the connection at a place is to come.
+    fn owe(&mut self, place: usize) {
+        if self.agenda.add(place).is_err() {
+            self.end(place);
+        }
+    }
+
+    // Accepts some of what waits to be.
+    fn accept_some(&mut self) {
+        self.accepts = Accepts::More;
         for _ in 0..MOST_ACCEPTED {
-            match self.door.accept() {
-                Accepted::Stream(stream) => {
-                    let head = Head::new(self.house.alloc(), stream);
-                    self.behind = self.put(head).is_err();
-                }
-                Accepted::Gone => {}
-                Accepted::Nothing => {
-                    self.behind = false;
-                    return;
-                }
-                Accepted::Failed => {
-                    self.behind = true;
+            match self.accept() {
+                Accepts::More => {}
+                accepts => {
+                    self.accepts = accepts;
                     return;
                 }
             }
         }
-        self.behind = true;
+    }
+
+    // Accepts a connection, if one waits.
+    fn accept(&mut self) -> Accepts {
+        let stream = match self.door.accept() {
+            Accepted::Stream(stream) => stream,
+            Accepted::Gone => return Accepts::More,
+            Accepted::Nothing => return Accepts::All,
+            Accepted::Failed => {
+                self.house.note_refused();
+                return Accepts::Failed;
+            }
+        };
+        let head = Head::new(self.house.alloc(), stream, self.seconds.done());
+        if self.put(head).is_err() {
+            self.house.note_refused();
+        }
+        Accepts::More
     }
 
     // Gives a new connection its place. Where that fails the connection is dropped.
@@ -267,6 +260,7 @@ impl<'a, H: House> IoLoop<'a, H> {
         match self.places.get_mut(place) {
             Some(connection) if is_registered => *connection = Connection::Head(head),
             _ => {
+                self.house.note_refused();
                 let _ = self.free.push(place);
             }
         }
@@ -287,29 +281,26 @@ impl<'a, H: House> IoLoop<'a, H> {
         Ok(place)
     }
 
-    // A socket is ready.
-    fn notice(&mut self, place: usize, readable: bool, ended: bool) {
-        match self.places.get_mut(place) {
-            Some(Connection::Head(head)) => {
-                head.socket.notice(readable, ended);
-                self.collect(place);
+    // Each that has a turn to come has one, in their order, and who got something by it is served.
+    fn serve_agenda(&mut self) {
+        for _ in 0..self.agenda.len() {
+            if let Some(place) = self.agenda.next() {
+                self.hear(place);
+                self.serve_named();
             }
-            Some(Connection::Open(open)) => {
-                open.wire.stream_mut().stream_mut().notice(readable, ended);
-                self.serve(place);
-            }
-            _ => {}
         }
     }
 
-    // Reads a head on, and opens the connection where it is whole.
-    fn collect(&mut self, place: usize) {
+    // The turn of the connection at a place: its head is read on, or its client is heard.
+    fn hear(&mut self, place: usize) {
         if let Some(Connection::Head(head)) = self.places.get_mut(place) {
             match head.read_on() {
                 Ok(false) => {}
                 Ok(true) => self.open(place),
                 Err(_) => self.end(place),
             }
+        } else {
+            self.serve(place, true);
         }
     }
 
@@ -319,33 +310,29 @@ impl<'a, H: House> IoLoop<'a, H> {
             return;
         };
         let head = mem::replace(connection, Connection::Empty);
-        match opened(self.house, head, self.now) {
+        match opened(self.house, head, self.seconds.done()) {
             Some(open) => {
                 *connection = Connection::Open(open);
-                self.serve(place);
+                self.serve(place, true);
             }
             None => self.end(place),
         }
     }
 
-    // Turns the connection at a place.
-    fn serve(&mut self, place: usize) {
+    // Turns the connection at a place, where its client is heard or only served.
+    fn serve(&mut self, place: usize, hears: bool) {
         let Some(Connection::Open(open)) = self.places.get_mut(place) else {
             return;
         };
-        let turned = turn_open(&mut self.buffer, open, self.now);
-        if let Some(number) = open.desk.clerk.member.number {
+        let turned = open.turn(&mut self.buffer, self.seconds.done(), hears);
+        if let Some(number) = open.desk.clerk.member.standing.number() {
             if let Some(owner) = self.owners.get_mut(number as usize) {
                 *owner = place;
             }
         }
         match turned {
             Turned::Idle => {}
-            Turned::More => {
-                if self.owed.push_back(place).is_err() {
-                    self.end(place);
-                }
-            }
+            Turned::More => self.owe(place),
             Turned::Over => self.end(place),
         }
     }
@@ -355,19 +342,16 @@ impl<'a, H: House> IoLoop<'a, H> {
         let Some(connection) = self.places.get_mut(place) else {
             return;
         };
-        if let Connection::Open(open) = mem::replace(connection, Connection::Empty) {
-            open.desk.clerk.give_up();
-        }
-        let _ = self.free.push(place);
-    }
-
-    // Turns those that had more to do.
-    fn serve_owed(&mut self) {
-        for _ in 0..self.owed.len() {
-            if let Some(place) = self.owed.pop_front() {
-                self.serve(place);
+        match mem::replace(connection, Connection::Empty) {
+            Connection::Empty => return,
+            Connection::Head(_) => {}
+            Connection::Open(open) => {
+                let Open { wire: _, mut desk } = Box::into_inner(open);
+                desk.clerk.give_up();
             }
         }
+        self.agenda.remove(place);
+        let _ = self.free.push(place);
     }
 
     // Turns those for which the hub has something.
@@ -387,11 +371,22 @@ impl<'a, H: House> IoLoop<'a, H> {
     // Turns those for which something was taken. The room for the next ones is kept.
     fn serve_batch(&mut self) {
         let mut batch = mem::replace(&mut self.batch, Vec::new(self.house.alloc()));
-        for place in batch.iter() {
-            self.serve(*place);
+        for named in batch.iter() {
+            if named.is_free {
+                self.serve(named.place, false);
+            } else {
+                self.look_over(named.place);
+            }
         }
         batch.clear();
         self.batch = batch;
+    }
+
+    // Looks whether the session at a place whose socket takes nothing was closed.
+    fn look_over(&mut self, place: usize) {
+        if let Some(Connection::Open(open)) = self.places.get_mut(place) {
+            open.desk.clerk.sees_end();
+        }
     }
 
     // Takes what waits for some sessions under one lock of the hub, and notes their places. What a
@@ -406,7 +401,7 @@ impl<'a, H: House> IoLoop<'a, H> {
         match self.places.get_mut(place) {
             Some(Connection::Open(open)) => {
                 open.desk.owed = true;
-                open.desk.clerk.member.number
+                open.desk.clerk.member.standing.number()
             }
             _ => None,
         }
@@ -418,7 +413,7 @@ impl<'a, H: House> IoLoop<'a, H> {
             if let Some(number) = self.owes(place) {
                 self.house.hub().close(number, SHUTDOWN);
             }
-            self.serve(place);
+            self.serve(place, false);
             self.end(place);
         }
     }
@@ -440,7 +435,7 @@ impl<'a, H: House> Seats for IoLoop<'a, H> {
     fn is_free(&self, session: u32) -> bool {
         match self.places.get(place_of(&self.owners, session)) {
             Some(Connection::Open(open)) => {
-                open.desk.clerk.member.number == Some(session)
+                open.desk.clerk.member.standing.number() == Some(session)
                     && takes_more(&open.wire, &open.desk.taken)
             }
             _ => false,
@@ -464,9 +459,7 @@ impl<'a, H: House> Seats for IoLoop<'a, H> {
         let is_free = takes_more(&open.wire, &open.desk.taken);
         open.desk.taken = taken;
         open.desk.owed = more;
-        if is_free {
-            // There is room for it.
-            let _ = self.batch.push(place);
-        }
+        // There is room for it.
+        let _ = self.batch.push(Named { place, is_free });
     }
 }

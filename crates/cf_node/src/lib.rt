@@ -9,6 +9,7 @@
 mod around;
 mod clerk;
 mod connection;
+mod counts;
 mod desk;
 mod dispatcher;
 mod door;
@@ -21,5 +22,6 @@ mod rounds;
 mod shared;
 mod socket;
 
+pub use counts::Counts;
 pub use gate::{DISPATCHER, Gate, IO_LOOP};
 pub use node::{Node, Setup};

@@ -1,4 +1,5 @@
 //! What the node keeps of a client, and what is done in the hub for it, while the hub is lent.
+use cf_dispatch::Standing;
 use cf_hub::Hub;
 use cf_protocol::{ErrorCode, Position};
 use cf_session::hub_error;
@@ -17,8 +18,12 @@ pub(crate) struct Present {
 /// What the node keeps of a client.
 #[derive(Drop)]
 pub(crate) struct Member {
-    /// The number of its session in the hub, once it is attached.
-    pub(crate) number: Option<u32>,
+    /// The number of its session in the hub, once it is attached, and whether it is over.
+    pub(crate) standing: Standing,
+    /// When its session was seen to be over, in seconds.
+    pub(crate) ended: u64,
+    /// It was counted as too slow.
+    pub(crate) is_slow: bool,
     pub(crate) user: String,
     pub(crate) client: String,
     /// The code of a close before it was attached.
@@ -33,7 +38,9 @@ impl Member {
     /// Nobody yet, at this moment.
     pub(crate) fn new(alloc: Global, now: u64) -> Member {
         Member {
-            number: None,
+            standing: Standing::nobody(),
+            ended: now,
+            is_slow: false,
             user: String::new(alloc),
             client: String::new(alloc),
             refused: None,
@@ -76,7 +83,7 @@ impl Member {
             Ok(number) => number,
             Err(refusal) => return Err(hub_error(&refusal)),
         };
-        self.number = Some(number);
+        self.standing.attach(number);
         self.user = kept;
         let client = hub.client_id(number).unwrap_or("");
         match two_of(alloc, client) {
@@ -96,7 +103,7 @@ impl Member {
         id: u32,
         since: Option<Position>,
     ) -> Result<(), ErrorCode> {
-        let Some(number) = self.number else {
+        let Some(number) = self.standing.number() else {
             return Err(ErrorCode::Internal);
         };
         // Room for the channel at which the client will be present.
@@ -111,7 +118,7 @@ impl Member {
 
     /// The subscription is finished. Whether it stands then.
     pub(crate) fn finish(&self, hub: &mut Hub, channel: &str) -> bool {
-        let Some(number) = self.number else {
+        let Some(number) = self.standing.number() else {
             return false;
         };
         hub.finish(number, channel);
@@ -120,23 +127,18 @@ impl Member {
 
     /// A subscription ends.
     pub(crate) fn leave(&self, hub: &mut Hub, channel: &str) {
-        if let Some(number) = self.number {
+        if let Some(number) = self.standing.number() {
             hub.leave(number, channel);
         }
     }
 
-    /// Forgets the mark of each subscription that has ended meanwhile. `false` where the session
-    /// was closed.
-    pub(crate) fn looks_at(&mut self, hub: &Hub, number: u32) -> bool {
-        if hub.is_closed(number) {
-            return false;
-        }
+    /// Forgets the mark of each subscription that has ended meanwhile.
+    pub(crate) fn looks_at(&mut self, hub: &Hub, number: u32) {
         for present in self.channels.iter_mut() {
             if !hub.is_on(number, present.channel.as_str()) {
                 present.mark = None;
             }
         }
-        true
     }
 }
 

@@ -2,6 +2,7 @@
 ghost use Rattle.std.specs.Prelude.{◌≡◌};
 
 use crate::around::Around;
+use crate::counts::Counts;
 use crate::dispatcher::{NodePost, dispatch};
 use crate::door::Door;
 use crate::gate::Gate;
@@ -18,7 +19,7 @@ use std::cell::RefCell;
 use std::marker::PhantomData;
 use std::net::Net;
 use std::sync::Wait;
-use std::sync::atomic::AtomicU64;
+use std::sync::atomic::{AtomicU64, Ordering};
 use std::thread::Threads;
 use std::time::Clock;
 use std::{io, thread};
@@ -30,6 +31,7 @@ pub struct Setup<'a, N: Naming> {
     boot: u64,
     pub(crate) namespaces: &'a Namespaces,
     pub(crate) tokens: &'a Tokens,
+    pub(crate) counts: Option<&'a Counts>,
     of: PhantomData<N>,
     ghost named: { namespaces.now ≡ N.namespaces },
 }
@@ -45,8 +47,17 @@ impl<'a, N: Naming> Setup<'a, N> {
             boot,
             namespaces,
             tokens,
+            counts: None,
             of: PhantomData,
         }
+    }
+
+    /// The same, where what goes wrong is counted here.
+    pub fn counted(mut self, counts: &'a Counts) -> Setup<'a, N>
+        ensures { result.node ≡ self.entry.node }
+    {
+        self.counts = Some(counts);
+        self
     }
 
     /// The node's number, from 0.
@@ -87,8 +98,9 @@ impl<'a, N: Naming> Node<'a, N> {
     }
 
     /// Serves the clients that connect, with these passes of the broker's shards, until `stop`
-    /// isn't 0: then all sessions are closed with 3001 and both workers end. An error where waiting
-    /// for readiness fails, or memory for it is refused.
+    /// isn't 0: then all sessions are closed with 3001 and both workers end. An error where a worker
+    /// can't be started, waiting for readiness fails, or memory for it is refused; then `stop` is
+    /// set, so that what shares it ends too.
     pub fn run<R, E, G>(
         self,
         rt: &'a R,
@@ -126,8 +138,12 @@ impl<'a, N: Naming> Node<'a, N> {
                 receiver,
                 shared,
             };
-            let _ = scope.spawn(move || dispatch(rt, node, &mut post, gate, stop));
-            serve(rt, node, around, door, gate, stop)
+            let served = match scope.spawn(move || dispatch(rt, node, &mut post, gate, stop)) {
+                Ok(_) => serve(rt, node, around, door, gate, stop),
+                Err(refused) => Err(io::Error::from(refused)),
+            };
+            stop.store(1, Ordering::SeqCst);
+            served
         })
     }
 }

@@ -3,34 +3,48 @@
 use crate::clerk::Clerk;
 use crate::house::House;
 use crate::member::Present;
-use cf_hub::Checked;
+use cf_dispatch::{goes_on, is_close_over, mark_after};
 
 /// How many seconds lie between two rounds of a client.
 const ROUND: u64 = 25;
 
 impl<'a, H: House> Clerk<'a, H> {
-    /// A round of the client, where its last was 25 seconds ago: the position of each of its
-    /// subscriptions is checked, and it is present again in each channel that it still has. `false`
-    /// where its session was closed meanwhile, and the connection still stands.
+    /// What a second brings: where the session is over, whether its connection still stands; else a
+    /// round, where the client's last was 25 seconds ago: the position of each of its subscriptions
+    /// is checked, and it is present again in each channel that it still has.
     pub(crate) fn look_after(&mut self, now: u64) -> bool {
         self.now = now;
-        let Some(number) = self.member.number else {
-            return true;
-        };
-        if now.saturating_sub(self.member.looked) < ROUND {
-            return true;
+        if self.sees_end() {
+            return self.still_closes();
         }
-        self.member.looked = now;
-        if !self.member.looks_at(&self.house.hub(), number) {
-            return false;
+        if let Some(number) = self.member.standing.number() {
+            if now.saturating_sub(self.member.looked) >= ROUND {
+                self.member.looked = now;
+                self.go_round(number);
+            }
         }
+        true
+    }
+
+    // Whether the connection of a session that is over still stands: its socket may take what waits
+    // for it for a while.
+    fn still_closes(&mut self) -> bool {
+        let is_over = is_close_over(self.member.ended, self.now);
+        if is_over {
+            self.note_slow();
+        }
+        !is_over
+    }
+
+    // A round of the client.
+    fn go_round(&mut self, number: u32) {
+        self.member.looks_at(&self.house.hub(), number);
         for _ in 0..self.member.channels.len() {
             // Each is taken from the front and, where it stands, put back behind the others.
             if let Some(present) = self.member.channels.pop_front() {
                 self.look_at(number, present);
             }
         }
-        true
     }
 
     // A subscription's position is checked, and where it goes on, the client is present again.
@@ -55,25 +69,24 @@ impl<'a, H: House> Clerk<'a, H> {
         }
         let (top, mark) = self.house.position(channel);
         let checked = self.house.hub().check(number, channel, top);
-        present.mark = match checked {
-            Checked::Fine => Some(mark),
-            Checked::Behind | Checked::Nothing | Checked::Ended => None,
-        };
-        match checked {
-            Checked::Fine | Checked::Behind => true,
-            Checked::Nothing | Checked::Ended => false,
-        }
+        present.mark = mark_after(checked, mark);
+        goes_on(checked)
     }
 
     /// The connection is over: the client's session goes, and it is present nowhere.
-    pub(crate) fn give_up(&self) {
-        let Some(number) = self.member.number else {
-            return;
-        };
-        self.house.hub().detach(number);
+    pub(crate) fn give_up(&mut self) {
+        if let Some(number) = self.member.standing.number() {
+            self.house.hub().detach(number);
+        }
+        self.leave_all();
+    }
+
+    /// The client is present nowhere from now on.
+    pub(crate) fn leave_all(&mut self) {
         for present in self.member.channels.iter() {
             self.house
                 .leave(present.channel.as_str(), self.member.client.as_str());
         }
+        self.member.channels.clear();
     }
 }

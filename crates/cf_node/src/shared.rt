@@ -1,16 +1,32 @@
 //! What a node's two workers share.
-use cf_hub::Hub;
+use cf_hub::{Delivered, Hub};
+use cf_shard::Delivery;
 use mio::Waker;
-use std::sync::Mutex;
 use std::sync::atomic::{AtomicU64, Ordering};
+use std::sync::{Mutex, MutexGuard, Wait};
+use std::thread;
+use std::time::{Clock, Duration};
+
+/// The dispatcher gives way to an IO loop that is behind by so many bytes.
+const MOST_BEHIND: u64 = 262_144;
+
+/// The most milliseconds for which it does.
+const LONGEST_WAY: u32 = 25;
+
+/// The most times that it yields to a loop that waits for the hub.
+const MOST_YIELDS: u32 = 1000;
 
 /// The hub, and what wakes the IO loop when there is something to send.
 #[derive(Drop)]
 pub(crate) struct Shared {
-    pub(crate) hub: Mutex<Hub>,
+    hub: Mutex<Hub>,
     waker: Waker,
     // Not 0 from a wake on until the loop looks.
     woken: AtomicU64,
+    // So many bytes were brought to the hub since the loop had last sent what waited there.
+    behind: AtomicU64,
+    // Not 0 while the loop waits for the hub.
+    wanted: AtomicU64,
 }
 
 impl Shared {
@@ -19,6 +35,8 @@ impl Shared {
             hub: Mutex::new(hub),
             waker,
             woken: AtomicU64::new(0),
+            behind: AtomicU64::new(0),
+            wanted: AtomicU64::new(0),
         }
     }
 
@@ -33,5 +51,54 @@ impl Shared {
     /// The IO loop looks: from now on it is woken again.
     pub(crate) fn look(&self) {
         self.woken.store(0, Ordering::SeqCst);
+    }
+
+    /// Brings a publication to the hub.
+    pub(crate) fn deliver<R: Wait>(&self, rt: &R, delivery: &Delivery) -> Delivered {
+        self.hub.lock(rt).deliver(
+            delivery.channel.as_str(),
+            &delivery.epoch,
+            &delivery.publication,
+        )
+    }
+
+    /// The hub for the IO loop, before whom the dispatcher gives way.
+    pub(crate) fn hub<R: Wait>(&self, rt: &R) -> MutexGuard<'_, Hub> {
+        self.wanted.store(1, Ordering::SeqCst);
+        let hub = self.hub.lock(rt);
+        self.wanted.store(0, Ordering::SeqCst);
+        hub
+    }
+
+    /// The IO loop has sent what waited in the hub, as far as the sockets took it.
+    pub(crate) fn catch_up(&self) {
+        self.behind.store(0, Ordering::SeqCst);
+    }
+
+    /// So many bytes more were brought to clients' queues in the hub.
+    pub(crate) fn fall_behind(&self, bytes: usize) {
+        self.behind.fetch_add(bytes as u64, Ordering::SeqCst);
+    }
+
+    /// The dispatcher gives way to an IO loop that is behind by 262,144 bytes, for some 25
+    /// milliseconds at most, and to one that waits for the hub.
+    pub(crate) fn give_way<R: Clock>(&self, rt: &R) {
+        for _ in 0..LONGEST_WAY {
+            if self.behind.load(Ordering::SeqCst) < MOST_BEHIND {
+                break;
+            }
+            thread::sleep(rt, Duration::from_millis(1));
+        }
+        self.let_in();
+    }
+
+    // The loop takes the hub first, where it waits for it.
+    fn let_in(&self) {
+        for _ in 0..MOST_YIELDS {
+            if self.wanted.load(Ordering::SeqCst) == 0 {
+                return;
+            }
+            thread::yield_now();
+        }
     }
 }

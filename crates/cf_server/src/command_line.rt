@@ -15,6 +15,9 @@ pub const DEFAULT_NAMESPACES: &str = "=100,300,phs";
 /// The epochs that a conversation's streams take unless others are given.
 pub const DEFAULT_EPOCHS: &str = "aaaa";
 
+/// How many publications wait at most on the link to a node unless another number is given.
+pub const DEFAULT_LINK: u32 = 1024;
+
 const SIMULATE: &str =
     "Reads a schedule from standard input, runs it, and prints what each client gets";
 
@@ -31,9 +34,16 @@ A client connects by WebSocket, at any path, and speaks Centrifugo's client prot
 --boot is the number of this start of the program. Never use one twice: clients that come back tell by it whether the
 streams are still those that they know.
 
+What comes faster than a node takes it waits on the node's link. What a full link has no room for is lost on the way to that
+node; its clients are told to subscribe again, and get it by recovery. --link 1 shows that, and a larger link makes it rare.
+
 It ends at the end of standard input (Ctrl-D at a terminal): each client is closed with 3001. To keep it running without
 a terminal, give it an input that does not end:
-  sleep infinity | cf_server serve --boot 7 --port 8000";
+  sleep infinity | cf_server serve --boot 7 --port 8000
+Where a node can't serve, or its loop ends, all nodes end, and the status is 4.
+
+On standard error it says, at most once a second of each kind, how many connections were refused for want of descriptors or
+memory, how many publications were lost on full links, and how many sessions were closed for slowness; --quiet for none.";
 
 const SPEAK: &str = "Speaks with one client: each line of standard input is one of its messages";
 
@@ -119,13 +129,16 @@ pub struct SpeakOptions<'a> {
     pub epochs: &'a str,
 }
 
-/// What `serve` runs with: the number of this start, how many nodes, the port of the first (0: any that is free), and the
-/// texts of namespaces and tokens.
+/// What `serve` runs with: the number of this start, how many nodes, the port of the first (0: any that is free), how many
+/// publications wait at most on the link to a node, whether nothing is said of what goes wrong, and the texts of namespaces and
+/// tokens.
 #[derive(Clone, Copy, Debug, PartialEq, Eq)]
 pub struct ServeOptions<'a> {
     pub boot: u64,
     pub nodes: u8,
     pub port: u16,
+    pub link: u32,
+    pub is_quiet: bool,
     pub namespaces: &'a str,
     pub tokens: &'a str,
 }
@@ -180,6 +193,13 @@ fn port_option<'a>(alloc: Global) -> Arg<'a> {
         .default_value("0")
 }
 
+fn link_option<'a>(alloc: Global) -> Arg<'a> {
+    let help = "How many publications wait at most on the link to a node, 1 to 65536";
+    value_option(alloc, "link", "K", help)
+        .value_parser(value_parser!(u32).range(1..=65_536))
+        .default_value("1024")
+}
+
 fn simulate_command<'a>(alloc: Global) -> Result<Command<'a>, AllocError> {
     let mut command = Command::new(alloc, "simulate")
         .about(SIMULATE)
@@ -208,6 +228,13 @@ fn speak_command<'a>(alloc: Global) -> Result<Command<'a>, AllocError> {
     Ok(command)
 }
 
+fn quiet_option<'a>(alloc: Global) -> Arg<'a> {
+    Arg::new(alloc, "quiet")
+        .long("quiet")
+        .action(ArgAction::SetTrue)
+        .help("Says nothing on standard error of what goes wrong while it serves")
+}
+
 fn serve_command<'a>(alloc: Global) -> Result<Command<'a>, AllocError> {
     let mut command = Command::new(alloc, "serve")
         .about(SERVE)
@@ -216,8 +243,10 @@ fn serve_command<'a>(alloc: Global) -> Result<Command<'a>, AllocError> {
         boot_option(alloc),
         nodes_option(alloc),
         port_option(alloc),
+        link_option(alloc),
         namespaces_option(alloc),
         tokens_option(alloc),
+        quiet_option(alloc),
     ] {
         command = command.arg(option)?;
     }
@@ -278,6 +307,8 @@ fn serve_options<'a>(found: &ArgMatches<'a>) -> ServeOptions<'a> {
         boot: found.get_one::<u64>("boot").unwrap_or(1),
         nodes: found.get_one::<u8>("nodes").unwrap_or(1),
         port: found.get_one::<u16>("port").unwrap_or(0),
+        link: found.get_one::<u32>("link").unwrap_or(DEFAULT_LINK),
+        is_quiet: found.get_flag("quiet"),
         namespaces: found.get_str("ns").unwrap_or(DEFAULT_NAMESPACES),
         tokens: found.get_str("tokens").unwrap_or(""),
     }

@@ -1,12 +1,32 @@
 //! How a command of the program ends where it doesn't succeed.
 ghost use Rattle.std.specs.Prelude.{◌≡◌};
-ghost use Rattle.cf_server.specs.Status.{status_of};
+ghost use Rattle.cf_server.specs.Status.{status_of, fault_of_text};
 
 use cf_protocol::ReadFault;
 use cf_simulate::SimulateFault;
 use std::alloc::{AllocError, AllocFailed};
 use std::io;
+use std::net::SocketAddr;
 use thiserror::Error;
+
+/// A setting that can't be used. The text names its option and says what is wrong with it.
+#[derive(Clone, Copy, Debug, Drop, PartialEq, Eq, Error)]
+pub enum Setting {
+    #[error("--nodes is not 1 to 8")]
+    Nodes,
+    #[error("--ns is not NAME=SIZE,SECONDS,FLAGS parted by `;`, each in its limits and each name once")]
+    Namespaces,
+    #[error("--tokens is not TOKEN=USER parted by `;`, each in its limits and each token once")]
+    Tokens,
+    #[error("--epochs is not E1,E2,.. of 1 to 32 letters or digits each, and each once")]
+    Epochs,
+    #[error("--boot is not 1 to 999999999999999")]
+    Boot,
+    #[error("--port and --nodes together pass 65536")]
+    Port,
+    #[error("--link is not 1 to 65536")]
+    Link,
+}
 
 /// Why a command of the program ended before its end. The message is what the program writes to standard error.
 #[derive(Debug, Drop, Error)]
@@ -18,13 +38,22 @@ pub enum Fault {
     #[error("not UTF-8")]
     NotUtf8,
     /// A setting is of another form than it should be.
-    #[error("unusable setting")]
-    Setting,
+    #[error("unusable setting: {setting}")]
+    Setting { setting: Setting },
     #[error("out of memory")]
     Memory,
     /// A read or a write failed, or gave no end.
     #[error("input or output failed")]
     InputOutput,
+    /// A node can't listen at its address, as where another program has the port.
+    #[error("node {node}: can't listen at {address}\ninput or output failed")]
+    Listen { node: u8, address: SocketAddr },
+    /// A node's thread can't be started.
+    #[error("node {node}: its thread can't be started\ninput or output failed")]
+    NotStarted { node: u8 },
+    /// A node's loop ended, or couldn't begin, while the node was to serve.
+    #[error("node {node}: its loop has ended\ninput or output failed")]
+    Ended { node: u8 },
 }
 
 impl Fault {
@@ -36,7 +65,21 @@ impl Fault {
             Fault::Simulation { fault } => fault.status(),
             Fault::Memory => 3,
             Fault::InputOutput => 4,
-            _ => 2,
+            Fault::Listen { .. } => 4,
+            Fault::NotStarted { .. } => 4,
+            Fault::Ended { .. } => 4,
+            Fault::NotUtf8 => 2,
+            Fault::Setting { .. } => 2,
+        }
+    }
+
+    /// The fault of a setting whose text can't be read.
+    pub fn of_text(setting: Setting, fault: ReadFault) -> Fault
+        ensures { result ≡ fault_of_text setting fault }
+    {
+        match fault {
+            ReadFault::Bad => Fault::Setting { setting },
+            ReadFault::Memory => Fault::Memory,
         }
     }
 }
@@ -74,16 +117,11 @@ impl From<SimulateFault> for Fault {
     }
 }
 
-impl From<ReadFault> for Fault {
-    fn from(fault: ReadFault) -> Fault {
-        match fault {
-            ReadFault::Bad => Fault::Setting,
-            ReadFault::Memory => Fault::Memory,
-        }
-    }
-}
-
 impl From<io::Error> for Fault {
+    ghost use Rattle.cf_server.specs.Status.{IsOutside};
+
+    ghost from_gives = { λ _ fault. IsOutside fault };
+
     fn from(error: io::Error) -> Fault {
         match error.kind() {
             io::ErrorKind::OutOfMemory => Fault::Memory,

@@ -3,16 +3,18 @@
 
 mod command_line;
 mod fault;
+mod report;
+mod running;
 mod serve;
 mod speak;
 #[cfg(test)]
 mod tests;
 
-use cf_protocol::read_namespaces;
+use cf_protocol::{Namespaces, Tokens, read_namespaces, read_tokens};
 use cf_schedule::Config;
 use cf_simulate::simulate;
 use command_line::{Job, Options, SpeakOptions};
-use fault::Fault;
+use fault::{Fault, Setting};
 use serve::serve;
 use speak::{setup_of, speak};
 use std::alloc::Global;
@@ -25,17 +27,27 @@ use std::thread::Threads;
 use std::time::Clock;
 use std::{env, io};
 
+/// The namespaces that a text sets up. A text of another form is an unusable setting.
+fn namespaces_of(alloc: Global, text: &str) -> Result<Namespaces, Fault> {
+    read_namespaces(alloc, text).map_err(|fault| Fault::of_text(Setting::Namespaces, fault))
+}
+
+/// The tokens that a text has. A text of another form is an unusable setting.
+fn tokens_of(alloc: Global, text: &str) -> Result<Tokens, Fault> {
+    read_tokens(alloc, text).map_err(|fault| Fault::of_text(Setting::Tokens, fault))
+}
+
 // The settings that the options name. A text that sets up no namespaces, and a number of nodes other than 1 to 8, is an
 // unusable setting.
 fn config_of(alloc: Global, options: Options<'_>) -> Result<Config, Fault> {
     let nodes = options.nodes;
     if nodes < 1 || nodes > 8 {
-        return Err(Fault::Setting);
+        return Err(Fault::Setting {
+            setting: Setting::Nodes,
+        });
     }
-    Ok(Config {
-        nodes,
-        namespaces: read_namespaces(alloc, options.namespaces)?,
-    })
+    let namespaces = namespaces_of(alloc, options.namespaces)?;
+    Ok(Config { nodes, namespaces })
 }
 
 fn simulate_standard<R: Input + Print + AllocGlobal>(

@@ -1,60 +1,85 @@
 //! The command `serve`: nodes that clients connect to.
-ghost use Rattle.std.specs.Prelude.{◌≡◌};
+ghost use Rattle.std.specs.Prelude.{◌≡◌, ◌<◌, IfOk};
 ghost use Rattle.cf_broker.specs.Shards.{names};
 
 use crate::command_line::ServeOptions;
-use crate::fault::Fault;
+use crate::fault::{Fault, Setting};
+use crate::report::report;
+use crate::running::{Running, hear, wait_for_workers};
+use crate::{namespaces_of, tokens_of};
 use cf_broker::{Broker, Passes, Words};
 use cf_epochs::{Boot, BootEpochs};
 use cf_link::{Receiver, Sender, pair};
-use cf_node::{Gate, Node, Setup};
-use cf_protocol::{Namespaces, Tokens, read_namespaces, read_tokens};
+use cf_node::{Counts, Node, Setup};
+use cf_protocol::{Namespaces, Tokens};
 use cf_shard::{Delivery, Naming};
 use mio::net::TcpListener;
 use std::alloc::{AllocError, Global};
+use std::io::ErrorKind;
 use std::marker::Brand;
 use std::net::{Ipv4Addr, Net, SocketAddr};
 use std::sync::Wait;
 use std::sync::atomic::{AtomicU64, Ordering};
 use std::thread;
 use std::thread::Threads;
-use std::time::{Clock, Instant};
+use std::time::Clock;
 
-/// How many publications wait at most on the link from the broker to a node.
-const LINK_CAPACITY: usize = 1024;
-
-// Every worker goes on, and the moment is how long the program runs.
+// The nodes, the broker's ends of their links, and where they listen.
 #[derive(Drop)]
-struct RunningClock {
-    start: Instant,
+struct Opened<'a, N: Naming> {
+    senders: Vec<Sender<Delivery>>,
+    nodes: Vec<Node<'a, N>>,
+    addresses: Vec<SocketAddr>,
 }
 
-impl Gate for RunningClock {
-    fn may(&self, _node: u8, _worker: usize, _turn: u64) -> bool {
-        true
-    }
-
-    fn now<R: Clock>(&self, rt: &R) -> u64 {
-        match self.start.elapsed(rt) {
-            Ok(passed) => passed.as_secs(),
-            Err(_) => 0,
-        }
-    }
+// A node that is to be run, with passes of its own.
+#[derive(Drop)]
+struct Ready<'a, N: Naming> {
+    number: u8,
+    node: Node<'a, N>,
+    passes: Passes<N>,
 }
 
-/// Serves clients until standard input ends. Each node's address is printed as `node I 127.0.0.1:PORT` before it serves.
+/// Serves clients until standard input ends. Each node's address is printed as `node I 127.0.0.1:PORT` once all nodes serve.
+///
+/// # Errors
+///
+/// `Setting` names the option that can't be used; `Listen` a node that can't listen, `NotStarted` one whose thread can't be
+/// started, `Ended` one whose loop has ended; `InputOutput` where standard input or output fails; `Memory`.
 pub fn serve<R>(rt: &R, options: ServeOptions<'_>) -> Result<(), Fault>
 where
-    R: Input + Print + AllocGlobal + Threads + Wait + Clock + Net + Sync,
+    R: Input + Print + Eprint + AllocGlobal + Threads + Wait + Clock + Net + Sync,
 {
     let alloc = rt.alloc();
-    let namespaces = read_namespaces(alloc, options.namespaces)?;
-    let tokens = read_tokens(alloc, options.tokens)?;
-    if u32::from(options.port) + u32::from(options.nodes) > 65_536 {
-        return Err(Fault::Setting);
-    }
-    let boot = Boot::new(options.boot).ok_or(Fault::Setting)?;
+    let namespaces = namespaces_of(alloc, options.namespaces)?;
+    let tokens = tokens_of(alloc, options.tokens)?;
+    let boot = boot_of(options)?;
     serve_on::<Brand, R>(rt, options, boot, Words::new(alloc)?, &namespaces, &tokens)
+}
+
+// The number of this start, where there are ports for all nodes.
+fn boot_of(options: ServeOptions<'_>) -> Result<Boot, Fault> {
+    if u32::from(options.port) + u32::from(options.nodes) > 65_536 {
+        return Err(Fault::Setting {
+            setting: Setting::Port,
+        });
+    }
+    Boot::new(options.boot).ok_or(Fault::Setting {
+        setting: Setting::Boot,
+    })
+}
+
+// How many publications may wait on a node's link.
+fn room_of(options: ServeOptions<'_>) -> Result<usize, Fault>
+    ensures same { IfOk result (λ room. room ≡ options.entry.link) }
+    ensures some { IfOk result (λ room. 0 < room) }
+{
+    if options.link < 1 || options.link > 65_536 {
+        return Err(Fault::Setting {
+            setting: Setting::Link,
+        });
+    }
+    Ok(options.link as usize)
 }
 
 // The same over these words and namespaces, which the type names.
@@ -68,20 +93,21 @@ fn serve_on<N, R>(
 ) -> Result<(), Fault>
 where
     N: Naming + Send + Sync,
-    R: Input + Print + AllocGlobal + Threads + Wait + Clock + Net + Sync,
+    R: Input + Print + Eprint + AllocGlobal + Threads + Wait + Clock + Net + Sync,
     requires words { words ≡ names N.words 16 }
     requires namespaces { namespaces.now ≡ N.namespaces }
 {
     let alloc = rt.alloc();
-    let (senders, nodes) = open_nodes::<N, R>(rt, options, namespaces, tokens)?;
+    let running = Running::new(rt, options.is_quiet)?;
+    let Opened {
+        senders,
+        nodes,
+        addresses,
+    } = open_nodes::<N, R>(rt, options, &running.counts, namespaces, tokens)?;
     let (broker, passes) = open_broker::<N>(alloc, boot, words, namespaces, senders)?;
     let broker = &*broker;
     let nodes = with_passes(alloc, broker, passes, nodes)?;
-    let gate = RunningClock {
-        start: Instant::now(rt)?,
-    };
-    run_nodes(rt, broker, &gate, nodes);
-    Ok(())
+    run_nodes(rt, broker, &running, nodes, addresses.as_slice())
 }
 
 // The broker and its passes. It lies in a box, since a function that lends a broker of its own is dear to prove.
@@ -101,46 +127,52 @@ fn open_broker<N: Naming>(
     Ok((broker, passes))
 }
 
-// The nodes, and the broker's ends of their links.
-fn open_nodes<'a, N: Naming, R: Print + Net + AllocGlobal>(
+// The nodes, at listeners that stand.
+fn open_nodes<'a, N: Naming, R: Net + AllocGlobal>(
     rt: &R,
     options: ServeOptions<'_>,
+    counts: &'a Counts,
     namespaces: &'a Namespaces,
     tokens: &'a Tokens,
-) -> Result<(Vec<Sender<Delivery>>, Vec<Node<'a, N>>), Fault>
+) -> Result<Opened<'a, N>, Fault>
     requires { namespaces.now ≡ N.namespaces }
 {
-    let mut senders = Vec::new(rt.alloc());
-    let mut nodes = Vec::new(rt.alloc());
+    let mut opened = Opened {
+        senders: Vec::new(rt.alloc()),
+        nodes: Vec::new(rt.alloc()),
+        addresses: Vec::new(rt.alloc()),
+    };
     for number in 0..options.nodes {
-        let setup = Setup::new(number, options.boot, namespaces, tokens);
-        add_node(rt, options, setup, &mut senders, &mut nodes)?;
+        let setup = Setup::new(number, options.boot, namespaces, tokens).counted(counts);
+        add_node(rt, options, setup, &mut opened)?;
     }
-    Ok((senders, nodes))
+    Ok(opened)
 }
 
-// Puts one more node, and the broker's end of its link, behind the others.
-fn add_node<'a, N: Naming, R: Print + Net + AllocGlobal>(
+// Puts one more node behind the others.
+fn add_node<'a, N: Naming, R: Net + AllocGlobal>(
     rt: &R,
     options: ServeOptions<'_>,
     setup: Setup<'a, N>,
-    senders: &mut Vec<Sender<Delivery>>,
-    nodes: &mut Vec<Node<'a, N>>,
+    opened: &mut Opened<'a, N>,
 ) -> Result<(), Fault> {
-    let (sender, receiver) = pair(rt.alloc(), LINK_CAPACITY)?;
-    senders.push(sender)?;
-    nodes.push(open_node(rt, options, setup, receiver)?)?;
+    let (sender, receiver) = pair(rt.alloc(), room_of(options)?)?;
+    let (listener, address) = listen(rt, options, setup.node())?;
+    opened.senders.push(sender)?;
+    opened.addresses.push(address)?;
+    opened
+        .nodes
+        .push(open_node(rt, setup, receiver, listener)?)?;
     Ok(())
 }
 
-// A node that listens at its port.
-fn open_node<'a, N: Naming, R: Print + Net + AllocGlobal>(
+// A node at this listener.
+fn open_node<'a, N: Naming, R: Net + AllocGlobal>(
     rt: &R,
-    options: ServeOptions<'_>,
     setup: Setup<'a, N>,
     receiver: Receiver<Delivery>,
+    listener: TcpListener,
 ) -> Result<Node<'a, N>, Fault> {
-    let listener = listen(rt, options, setup.node())?;
     Ok(Node::open(rt, setup, receiver, listener)?)
 }
 
@@ -150,60 +182,95 @@ fn with_passes<'a, N: Naming>(
     broker: &Broker<N, BootEpochs>,
     mut passes: Passes<N>,
     nodes: Vec<Node<'a, N>>,
-) -> Result<Vec<(Node<'a, N>, Passes<N>)>, AllocError> {
-    let mut pairs = Vec::new(alloc);
+) -> Result<Vec<Ready<'a, N>>, AllocError> {
+    let mut ready = Vec::new(alloc);
+    let mut number: u8 = 0;
     for node in nodes {
-        pairs.push((node, passes.lend(alloc, broker)?))?;
+        let passes = passes.lend(alloc, broker)?;
+        ready.push(Ready {
+            number,
+            node,
+            passes,
+        })?;
+        number = number.saturating_add(1);
     }
-    Ok(pairs)
+    Ok(ready)
 }
 
-// Listens at the node's port, and says where.
-fn listen<R: Print + Net>(
+// Listens at the node's port. Also says where, since a port may be any that is free.
+fn listen<R: Net>(
     rt: &R,
     options: ServeOptions<'_>,
     node: u8,
-) -> Result<TcpListener, Fault> {
+) -> Result<(TcpListener, SocketAddr), Fault> {
     let port = if options.port == 0 {
         0
     } else {
         options.port.saturating_add(u16::from(node))
     };
-    let listener = TcpListener::bind(rt, SocketAddr::from((Ipv4Addr::LOCALHOST, port)))?;
-    let address = listener.local_addr()?;
-    println!(rt; "node {node} {address}")?;
-    Ok(listener)
+    let address = SocketAddr::from((Ipv4Addr::LOCALHOST, port));
+    match TcpListener::bind(rt, address) {
+        Ok(listener) => {
+            let address = listener.local_addr()?;
+            Ok((listener, address))
+        }
+        Err(error) if error.kind() == ErrorKind::OutOfMemory => Err(Fault::Memory),
+        Err(_) => Err(Fault::Listen { node, address }),
+    }
 }
 
-// Runs each node in a thread of its own until standard input ends.
+// Runs each node in a thread of its own until standard input ends, or a node doesn't go on.
 fn run_nodes<N, R>(
     rt: &R,
     broker: &Broker<N, BootEpochs>,
-    gate: &RunningClock,
-    nodes: Vec<(Node<'_, N>, Passes<N>)>,
-)
+    running: &Running,
+    nodes: Vec<Ready<'_, N>>,
+    addresses: &[SocketAddr],
+) -> Result<(), Fault>
 where
     N: Naming + Send + Sync,
-    R: Input + AllocGlobal + Threads + Wait + Clock + Sync,
+    R: Input + Print + Eprint + AllocGlobal + Threads + Wait + Clock + Net + Sync,
 {
     let stop = AtomicU64::new(0);
     let stop = &stop;
     thread::scope(thread::scope_env(), rt, |scope| {
-        for (node, passes) in nodes {
-            let _ = scope.spawn(move || {
-                let _ = node.run(rt, broker, passes, gate, stop);
+        let mut refused = None;
+        for Ready {
+            number,
+            node,
+            passes,
+        } in nodes {
+            let started = scope.spawn(move || {
+                if node.run(rt, broker, passes, running, stop).is_err() {
+                    running.fail(number);
+                }
             });
+            if started.is_err() {
+                refused = Some(number);
+                break;
+            }
         }
-        read_to_end(rt);
+        let served = match refused {
+            Some(node) => Err(Fault::NotStarted { node }),
+            None => {
+                // Where nobody can tell what goes wrong, the nodes serve all the same.
+                let _ = scope.spawn(move || report(rt, broker, running, stop));
+                watch(rt, running, addresses)
+            }
+        };
         stop.store(1, Ordering::SeqCst);
-    });
+        served
+    })
 }
 
-// Reads standard input to its end.
-fn read_to_end<R: Input + AllocGlobal>(rt: &R) {
-    for line in rt.lines(rt.alloc()) {
-        if line.is_err() {
-            break;
-        }
+// Says where the nodes listen once their workers have begun, and waits for the end of the input.
+fn watch<R>(rt: &R, running: &Running, addresses: &[SocketAddr]) -> Result<(), Fault>
+where
+    R: Input + Print + AllocGlobal + Clock + Net,
+{
+    wait_for_workers(rt, running, addresses.len())?;
+    for (node, address) in addresses.iter().enumerate() {
+        println!(rt; "node {node} {address}")?;
     }
+    hear(rt, running)
 }

@@ -3,8 +3,8 @@ ghost use Rattle.std.specs.Prelude.{OnOk, IfSome, IsErrOf};
 ghost use Rattle.cf_speak.specs.Conversation.{BreaksOff, Speaks};
 
 use crate::command_line::SpeakOptions;
-use crate::fault::Fault;
-use cf_protocol::{read_namespaces, read_tokens};
+use crate::fault::{Fault, Setting};
+use crate::{namespaces_of, tokens_of};
 use cf_speak::{GivenEpochs, Setup, SpeakFault, converse};
 use std::alloc::Global;
 use std::io::{BufRead, Write};
@@ -35,8 +35,13 @@ pub fn speak<R: BufRead, W: Write>(
 /// The settings that the options name. A text of another form is an unusable setting.
 pub fn setup_of(alloc: Global, options: SpeakOptions<'_>) -> Result<Setup, Fault> {
     Ok(Setup {
-        namespaces: read_namespaces(alloc, options.namespaces)?,
-        tokens: read_tokens(alloc, options.tokens)?,
-        epochs: GivenEpochs::read(alloc, options.epochs)?,
+        namespaces: namespaces_of(alloc, options.namespaces)?,
+        tokens: tokens_of(alloc, options.tokens)?,
+        epochs: epochs_of(alloc, options.epochs)?,
     })
+}
+
+// The epochs that a text gives.
+fn epochs_of(alloc: Global, text: &str) -> Result<GivenEpochs, Fault> {
+    GivenEpochs::read(alloc, text).map_err(|fault| Fault::of_text(Setting::Epochs, fault))
 }

@@ -6,9 +6,9 @@ mod peer;
 mod serving;
 mod speaking;
 
-use crate::command_line::{self, DEFAULT_NAMESPACES, Job, Options, ServeOptions};
+use crate::command_line::{self, DEFAULT_LINK, DEFAULT_NAMESPACES, Job, Options, ServeOptions};
 use crate::config_of;
-use crate::fault::Fault;
+use crate::fault::{Fault, Setting};
 use cf_simulate::SimulateFault;
 use std::alloc::Global;
 use std::process::Abort;
@@ -31,8 +31,17 @@ fn is_shown(alloc: Global, fault: &Fault, text: &str) -> bool {
 fn simulation_fault(rt: HostRuntime) {
     let unreadable = Fault::from(SimulateFault::Unreadable { line: 1 });
     assert!(rt; is_shown(rt.alloc(), &unreadable, "line 1: unreadable"));
-    assert!(rt; is_shown(rt.alloc(), &Fault::Setting, "unusable setting"));
     assert!(rt; is_shown(rt.alloc(), &Fault::NotUtf8, "not UTF-8"));
+}
+
+// A setting's fault names its option.
+#[test]
+fn setting_fault(rt: HostRuntime) {
+    let boot = Fault::Setting {
+        setting: Setting::Boot,
+    };
+    let shown = "unusable setting: --boot is not 1 to 999999999999999";
+    assert!(rt; is_shown(rt.alloc(), &boot, shown));
 }
 
 // The words of a line.
@@ -66,8 +75,15 @@ const SEVENTH_START: ServeOptions<'static> = ServeOptions {
     boot: 7,
     nodes: 2,
     port: 0,
+    link: DEFAULT_LINK,
+    is_quiet: false,
     namespaces: DEFAULT_NAMESPACES,
     tokens: "t=ann",
+};
+
+const WIDEST_LINK: ServeOptions<'static> = ServeOptions {
+    link: 65_536,
+    ..SEVENTH_START
 };
 
 #[test]
@@ -78,6 +94,8 @@ fn options(rt: HostRuntime) {
     asks(&rt, alloc, "cf_server", Some(Job::Simulate(DEFAULTS)));
     let line = "cf_server serve --boot 7 --nodes 2 --tokens t=ann";
     asks(&rt, alloc, line, Some(Job::Serve(SEVENTH_START)));
+    let line = "cf_server serve --boot 7 --nodes 2 --tokens t=ann --link 65536";
+    asks(&rt, alloc, line, Some(Job::Serve(WIDEST_LINK)));
 }
 
 #[test]
@@ -89,6 +107,8 @@ fn options_refused(rt: HostRuntime) {
     asks(&rt, alloc, "cf_server serve", None);
     asks(&rt, alloc, "cf_server serve --boot 0", None);
     asks(&rt, alloc, "cf_server serve --boot 1 --port 65536", None);
+    asks(&rt, alloc, "cf_server serve --boot 1 --link 0", None);
+    asks(&rt, alloc, "cf_server serve --boot 1 --link 65537", None);
 }
 
 fn are_unusable(alloc: Global, namespaces: &str) -> bool {
@@ -96,7 +116,7 @@ fn are_unusable(alloc: Global, namespaces: &str) -> bool {
         namespaces,
         ..DEFAULTS
     };
-    matches!(&config_of(alloc, options), Err(Fault::Setting))
+    matches!(&config_of(alloc, options), Err(Fault::Setting { .. }))
 }
 
 #[test]

@@ -6,13 +6,15 @@ use Rattle.cf_protocol.specs.Shown.{shown_command}
 use Rattle.cf_protocol.specs.declared.command.Command.{Command as CodeCommand}
 use Rattle.cf_protocol.specs.declared.codes.ErrorCode.{ErrorCode}
 use Rattle.cf_protocol.specs.Datum.{Who}
-use Rattle.cf_protocol.specs.Request.{Command}
+use Rattle.cf_protocol.specs.Request.{Command, Request, Connect}
+use Rattle.cf_protocol.specs.Settings.{user_of}
+use Rattle.cf_protocol.specs.Outgoing as outgoing
 use Rattle.cf_protocol.specs.Outgoing.{Outcome}
 use Rattle.cf_protocol.specs.declared.codes.CloseCode.TheVariants as close
 use Rattle.cf_session.specs.Script.{Script, Served, Over, Say}
 use Rattle.cf_protocol.specs.Checks.{first_failed, checks}
-use Rattle.cf_session.specs.CommandScripts.{Tables, Brings, frame_script, unless_failed, granted}
-use Rattle.cf_session.specs.SessionMachine.{Act, Says, Closes, Progress, Todo, GivesUp, at_start, at_reply, closed, failed_text, HearsText, Acts}
+use Rattle.cf_session.specs.CommandScripts.{Tables, Brings, frame_script, unless_failed, granted, connect_script, first_script, after_attach}
+use Rattle.cf_session.specs.SessionMachine.{Act, Says, Closes, Progress, Todo, AtHand, at_start, at_reply, Connects, at_attach, at_connected, is_connected, GivesUp, fails, falls_silent, stays_out, HearsText, Acts}
 use Rattle.cf_session.specs.Standing.{Falls, progress_at, idle_at, is_over, tables_of, commands_left, rest_of, progress_of}
 use Rattle.cf_session.specs.Shown.{shown_action}
 use Rattle.cf_session.specs.declared.action.Action.{Action}
@@ -20,19 +22,41 @@ use Rattle.cf_session.specs.declared.session.Session.{Session}
 use Rattle.cf_session.specs.declared.stage.Stage.{Stage}
 use Rattle.cf_session.specs.declared.stage.Stage.TheVariants as stage
 
--- what falls short at the start of a command, or at its reply, is given up
-pub gives_up : (t : Tables) (id : ℕ) (script after : Script) (act : Option Act) (new : Progress)
-    → GivesUp t (Todo script) (Some (Says (failed_text id))) (Todo after) → Falls id after act new → GivesUp t (Todo script) act new
-gives_up t id script after act new said (inl h) =
-    subst (λ (a : Option Act). GivesUp t (Todo script) a new) (sym h.0)
-    (subst (λ (q : Progress). GivesUp t (Todo script) (Some (Says (failed_text id))) q) (sym h.1) said)
-gives_up t id script after act new said (inr h) =
-    subst (λ (a : Option Act). GivesUp t (Todo script) a new) (sym h.0)
-    (subst (λ (q : Progress). GivesUp t (Todo script) (Some (Closes close.InternalError)) q) (sym h.1) (closed script))
+-- the progress, the act and the count by which a command is given up may be named otherwise
+gives_same : (t : Tables) (p : Progress) (act act' : Option Act) (new new' : Progress) (n n' : ℕ)
+    → act ≡ act' → new ≡ new' → n ≡ n' → GivesUp t p act' new' n' → GivesUp t p act new n
+gives_same t p act act' new new' n n' a q r h =
+    subst (λ (x : Option Act). GivesUp t p x new n) (sym a)
+    (subst (λ (x : Progress). GivesUp t p act' x n) (sym q)
+    (subst (λ (x : ℕ). GivesUp t p act' new' x) (sym r) h))
 
-pub falls_at_reply : (t : Tables) (id : ℕ) (o : Outcome) (after : Script) (act : Option Act) (new : Progress)
-    → Falls id after act new → GivesUp t (Todo (Say id o after)) act new
-falls_at_reply t id o after act new h = gives_up t id (Say id o after) after act new (at_reply id o after) h
+-- what falls short at a command, at its start or at its reply, is given up
+pub gives_up : (t : Tables) (id : ℕ) (script after : Script) (act : Option Act) (new : Progress) (n : ℕ)
+    → AtHand t id script after → Falls id after act new n → GivesUp t (Todo script) act new n
+gives_up t id script after act new n at (inl h) = gives_same t (Todo script) act _ new _ n 1 h.0 h.1 h.2 (fails id script after at)
+gives_up t id script after act new n at (inr h) = gives_same t (Todo script) act _ new _ n 2 h.0 h.1 h.2 (falls_silent id script after at)
+
+pub falls_at_reply : (t : Tables) (id : ℕ) (o : Outcome) (after : Script) (act : Option Act) (new : Progress) (n : ℕ)
+    → is_connected o ≡ false → Falls id after act new n → GivesUp t (Todo (Say id o after)) act new n
+falls_at_reply t id o after act new n other h = gives_up t id (Say id o after) after act new n (at_reply id o after other) h
+
+-- a connect is given up
+pub stays_out_at : (t : Tables) (script : Script) (act : Option Act) (new : Progress) (n : ℕ)
+    → Connects script → act ≡ Some (Closes close.InternalError) → new ≡ Todo Over → n ≡ 1 → GivesUp t (Todo script) act new n
+stays_out_at t script act new n at a q r = gives_same t (Todo script) act _ new _ n 1 a q r (stays_out script at)
+
+pub falls_at_connected : (t : Tables) (id : ℕ) (o : Outcome) (after : Script) (act : Option Act) (new : Progress) (n : ℕ)
+    → is_connected o ≡ true → act ≡ Some (Closes close.InternalError) → new ≡ Todo Over → n ≡ 1 → GivesUp t (Todo (Say id o after)) act new n
+falls_at_connected t id (outgoing.Connected client) after act new n is a q r =
+    stays_out_at t (Say id (outgoing.Connected client) after) act new n (at_connected id client after) a q r
+falls_at_connected t id (outgoing.Subscribed p ps re was) after act new n is a q r = absurd (cc (is))
+falls_at_connected t id outgoing.Unsubscribed after act new n is a q r = absurd (cc (is))
+falls_at_connected t id outgoing.Published after act new n is a q r = absurd (cc (is))
+falls_at_connected t id (outgoing.Present users) after act new n is a q r = absurd (cc (is))
+falls_at_connected t id (outgoing.Counted clients users) after act new n is a q r = absurd (cc (is))
+falls_at_connected t id (outgoing.Past p ps) after act new n is a q r = absurd (cc (is))
+falls_at_connected t id outgoing.Pinged after act new n is a q r = absurd (cc (is))
+falls_at_connected t id (outgoing.Failed code) after act new n is a q r = absurd (cc (is))
 
 -- a session that is ready is idle once no command is left
 pub idle_when_ready : (commands : List CodeCommand) {n : ℕ} → n ≡ length commands
@@ -72,23 +96,23 @@ granted_next t who k ks passed =
     ap (λ (o : Option ErrorCode). unless_failed o k.id (frame_script t ks (Some who)) (granted who k.id k.request (frame_script t ks (Some who)))) passed
 
 -- what comes of a command that is begun: nothing to do, or an act
-abbrev pub Comes : Tables → Type 0 → Bool → Script → Option Action → Progress → Type 0
-Comes t ready short script r new =
-    MatchOption r ((new ≡ Todo script) × ready) (λ a. Acts t (Todo script) (Some (shown_action a)) new short)
+abbrev pub Comes : Tables → Type 0 → ℕ → Script → Option Action → Progress → Type 0
+Comes t ready refused script r new =
+    MatchOption r ((new ≡ Todo script) × ready) (λ a. Acts t (Todo script) (Some (shown_action a)) new refused)
 
-pub comes_granted : (t : Tables) (client : Option Who) (k : Command) (ks : List Command) (r : Option Action) (new : Progress) (ready : Type 0) (short : Bool)
+pub comes_granted : (t : Tables) (client : Option Who) (k : Command) (ks : List Command) (r : Option Action) (new : Progress) (ready : Type 0) (n : ℕ)
     → is_some client ≡ true → first_failed (checks t.namespaces k.request) ≡ None
-    → ((who : Who) → client ≡ Some who → Comes t ready short (granted who k.id k.request (frame_script t ks client)) r new)
-    → Comes t ready short (frame_script t (k ∷ ks) client) r new
-comes_granted t None k ks r new ready short there passed h = absurd (cc)
-comes_granted t (Some who) k ks r new ready short there passed h =
-    subst (λ (s : Script). Comes t ready short s r new) (sym (granted_next t who k ks passed)) (h who refl)
+    → ((who : Who) → client ≡ Some who → Comes t ready n (granted who k.id k.request (frame_script t ks client)) r new)
+    → Comes t ready n (frame_script t (k ∷ ks) client) r new
+comes_granted t None k ks r new ready n there passed h = absurd (cc)
+comes_granted t (Some who) k ks r new ready n there passed h =
+    subst (λ (s : Script). Comes t ready n s r new) (sym (granted_next t who k ks passed)) (h who refl)
 
-pub falls_at_start : (t : Tables) (client : Option Who) (k : Command) (ks : List Command) (act : Option Act) (new : Progress)
-    → is_some client ≡ true → Falls k.id (frame_script t ks client) act new → GivesUp t (Todo (frame_script t (k ∷ ks) client)) act new
-falls_at_start t None k ks act new there h = absurd (cc)
-falls_at_start t (Some who) k ks act new there h =
-    gives_up t k.id (frame_script t (k ∷ ks) (Some who)) (frame_script t ks (Some who)) act new (at_start who k ks) h
+pub falls_at_start : (t : Tables) (client : Option Who) (k : Command) (ks : List Command) (act : Option Act) (new : Progress) (n : ℕ)
+    → is_some client ≡ true → Falls k.id (frame_script t ks client) act new n → GivesUp t (Todo (frame_script t (k ∷ ks) client)) act new n
+falls_at_start t None k ks act new n there h = absurd (cc)
+falls_at_start t (Some who) k ks act new n there h =
+    gives_up t k.id (frame_script t (k ∷ ks) (Some who)) (frame_script t ks (Some who)) act new n (at_start who k ks) h
 
 pub rest_same : (s m : Session) → tables_of m ≡ tables_of s → m.frame ≡ s.frame → m.client ≡ s.client → rest_of m ≡ rest_of s
 rest_same s m tables frame client =
@@ -96,18 +120,22 @@ rest_same s m tables frame client =
     ∙ ap (λ (f : VecDeque CodeCommand Global). frame_script (tables_of s) (map shown_command f.items) m.client) frame
     ∙ ap (frame_script (tables_of s) (commands_left s)) client
 
-pub closes_short : (t : Tables) (script : Script) (act : Option Act) (new : Progress)
-    → act ≡ Some (Closes close.InternalError) → new ≡ Todo Over → GivesUp t (Todo script) act new
-closes_short t script act new a n =
-    subst (λ (x : Option Act). GivesUp t (Todo script) x new) (sym a)
-    (subst (λ (q : Progress). GivesUp t (Todo script) (Some (Closes close.InternalError)) q) (sym n) (closed script))
+-- a connect whose token is known: its attach is next
+user_next : (user : Option (List ℕ)) (name : List ℕ) (id : ℕ) (after : Who → Script) → user ≡ Some name → Connects (connect_script user id after)
+user_next user name id after known =
+    subst (λ (u : Option (List ℕ)). Connects (connect_script u id after)) (sym known) (at_attach name (after_attach id name after))
+
+pub attach_next : (t : Tables) (id : ℕ) (r : Request) (token name : List ℕ) (after : Who → Script)
+    → r ≡ Connect token → user_of t.tokens token ≡ Some name → Connects (first_script t id r after)
+attach_next t id r token name after is known =
+    subst (λ (x : Request). Connects (first_script t id x after)) (sym is) (user_next (user_of t.tokens token) name id after known)
 
 -- ---- along a frame
 
-pub acts_same : (s t : Tables) (a b : Script) (act : Option Act) (new : Progress) (short : Bool)
-    → s ≡ t → a ≡ b → Acts s (Todo a) act new short → Acts t (Todo b) act new short
-acts_same s t a b act new short tables scripts h =
-    subst (λ (x : Tables). Acts x (Todo b) act new short) tables (subst (λ (y : Script). Acts s (Todo y) act new short) scripts h)
+pub acts_same : (s t : Tables) (a b : Script) (act : Option Act) (new : Progress) (n : ℕ)
+    → s ≡ t → a ≡ b → Acts s (Todo a) act new n → Acts t (Todo b) act new n
+acts_same s t a b act new n tables scripts h =
+    subst (λ (x : Tables). Acts x (Todo b) act new n) tables (subst (λ (y : Script). Acts s (Todo y) act new n) scripts h)
 
 pub ready_rest : (s : Session) → s.stage ≡ stage.Ready → progress_of s ≡ Todo (rest_of s)
 ready_rest s h = ap (progress_at (tables_of s) (commands_left s) s.client) h

@@ -1,17 +1,18 @@
 -- How a session goes along its script, one act after another, and what becomes of it where memory is refused.
-use Rattle.std.specs.Prelude.{◌≡◌, ◌⊎◌, ℕ, List, ◌∷◌, Option, Some, None, Bool, true}
+use Rattle.std.specs.Prelude.{◌≡◌, ◌⊎◌, ℕ, List, ◌∷◌, Option, Some, None, Bool, true, false}
 use Rattle.cf_protocol.specs.Outgoing as outgoing
 use Rattle.cf_protocol.specs.Codes.{code_of}
 use Rattle.cf_protocol.specs.Written.{outgoing_text}
 use Rattle.cf_protocol.specs.declared.codes.CloseCode.{CloseCode}
 use Rattle.cf_protocol.specs.declared.codes.CloseCode.TheVariants as close
 use Rattle.cf_protocol.specs.declared.codes.ErrorCode.TheVariants as error
-use Rattle.cf_session.specs.Calls.{Call, Answer, kind_of}
+use Rattle.cf_session.specs.Calls.{Call, Answer, Attach, kind_of}
 use Rattle.cf_session.specs.Script.{Script, Served, Over, Close, Say, Pong, Ask}
 use Rattle.cf_protocol.specs.Datum.{Who}
 use Rattle.cf_protocol.specs.Request.{Command}
 use Rattle.cf_session.specs.CommandScripts.{Tables, Brings, frame_script}
 use Rattle.cf_session.specs.declared.kind.Kind.{Kind}
+use Rattle.cf_session.specs.declared.kind.Kind.TheVariants as kind
 
 -- one thing that a session does
 pub data Act : Type 0 where
@@ -64,17 +65,32 @@ pub record Does (old : Progress) (act : Option Act) (new : Progress) : Type 0 wh
 abbrev pub failed_text : ℕ → List ℕ
 failed_text id = reply_text id (outgoing.Failed (code_of error.Internal))
 
--- Where memory is refused, the command at hand is answered as one that failed within, be it at its start or at its reply.
--- Where even that text finds no memory, and where the command is the connect, the session is closed.
-pub data GivesUp (t : Tables) : Progress → Option Act → Progress → Type 0 where
-  at_start : (who : Who) (k : Command) (ks : List Command)
-      → GivesUp t (Todo (frame_script t (k ∷ ks) (Some who))) (Some (Says (failed_text k.id))) (Todo (frame_script t ks (Some who)))
-  at_reply : (id : ℕ) (o : outgoing.Outcome) (after : Script) → GivesUp t (Todo (Say id o after)) (Some (Says (failed_text id))) (Todo after)
-  closed : (script : Script) → GivesUp t (Todo script) (Some (Closes close.InternalError)) (Todo Over)
+-- the reply to a connect
+abbrev pub is_connected : outgoing.Outcome → Bool
+is_connected (outgoing.Connected client) = true
+is_connected other = false
 
--- what is next, unless memory was refused
-abbrev pub Acts : Tables → Progress → Option Act → Progress → (refused : Bool) → Type 0
-Acts t old act new refused = Does old act new ⊎ ((refused ≡ true) × GivesUp t old act new)
+-- the command at hand, which is no connect, at its start or at its reply, and what comes after it
+pub data AtHand (t : Tables) : ℕ → Script → Script → Type 0 where
+  at_start : (who : Who) (k : Command) (ks : List Command) → AtHand t k.id (frame_script t (k ∷ ks) (Some who)) (frame_script t ks (Some who))
+  at_reply : (id : ℕ) (o : outgoing.Outcome) (after : Script) → is_connected o ≡ false → AtHand t id (Say id o after) after
+
+-- the connect is at hand: its attach is next, or its reply
+pub data Connects : Script → Type 0 where
+  at_attach : (user : List ℕ) (after : Answer → Script) → Connects (Ask (Attach user) after)
+  at_connected : (id : ℕ) (client : List ℕ) (after : Script) → Connects (Say id (outgoing.Connected client) after)
+
+-- What is done instead, by how many requests for memory were refused. After the first the command at hand is answered as one that
+-- failed within. Where that text finds no memory either, the session is closed. A connect's first closes it.
+-- (This project's own profile: error 100 and close 3004.)
+pub data GivesUp (t : Tables) : Progress → Option Act → Progress → (refused : ℕ) → Type 0 where
+  fails : (id : ℕ) (script after : Script) → AtHand t id script after → GivesUp t (Todo script) (Some (Says (failed_text id))) (Todo after) 1
+  falls_silent : (id : ℕ) (script after : Script) → AtHand t id script after → GivesUp t (Todo script) (Some (Closes close.InternalError)) (Todo Over) 2
+  stays_out : (script : Script) → Connects script → GivesUp t (Todo script) (Some (Closes close.InternalError)) (Todo Over) 1
+
+-- what is next where no memory was refused
+abbrev pub Acts : Tables → Progress → Option Act → Progress → (refused : ℕ) → Type 0
+Acts t old act new refused = (Does old act new × (refused ≡ 0)) ⊎ GivesUp t old act new refused
 
 -- ---- answers and texts
 
@@ -87,12 +103,15 @@ abbrev pub answered_progress : Answer → Progress → Progress
 answered_progress a (Todo s) = Todo s
 answered_progress a (Out kind after) = Todo (after a)
 
--- Memory was refused in the reading of a text, or of the connect's answer: the close is next.
-abbrev pub no_memory : Progress
-no_memory = Todo (Close close.InternalError)
+-- The one request was refused, in the reading of a text or of the connect's answer: the close is next.
+pub record FindsNoMemory (new : Progress) (refused : ℕ) : Type 0 where
+  pub once : refused ≡ 1
+  pub closes : new ≡ Todo (Close close.InternalError)
 
-abbrev pub GoesOn : Answer → Progress → Progress → (refused : Bool) → Type 0
-GoesOn a old new refused = (new ≡ answered_progress a old) ⊎ ((refused ≡ true) × (new ≡ no_memory))
+-- only the answer to an attach is kept, and takes memory
+abbrev pub GoesOn : Answer → Progress → Progress → (refused : ℕ) → Type 0
+GoesOn a old new refused =
+    ((new ≡ answered_progress a old) × (refused ≡ 0)) ⊎ ((awaits old ≡ Some kind.Attach) × FindsNoMemory new refused)
 
 -- a text comes to a session that has nothing to do
 abbrev pub HearsAt : Tables → Script → List ℕ → Script → Type 0
@@ -107,5 +126,11 @@ abbrev pub HearsText : Tables → Progress → List ℕ → Progress → Type 0
 HearsText t (Todo s) text new = (script : Script) × HearsAt t s text script × (new ≡ Todo script)
 HearsText t (Out kind after) text new = ⊥
 
-abbrev pub Hears : Tables → Progress → List ℕ → Progress → (refused : Bool) → Type 0
-Hears t old text new refused = HearsText t old text new ⊎ ((refused ≡ true) × (new ≡ no_memory))
+abbrev pub is_served : Progress → Bool
+is_served (Todo (Served who)) = true
+is_served other = false
+
+-- a session that is closed reads nothing
+abbrev pub Hears : Tables → Progress → List ℕ → Progress → (refused : ℕ) → Type 0
+Hears t old text new refused =
+    (HearsText t old text new × (refused ≡ 0)) ⊎ ((is_served old ≡ true) × FindsNoMemory new refused)

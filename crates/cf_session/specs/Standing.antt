@@ -1,5 +1,5 @@
 -- Where a session of the code stands on its script.
-use Rattle.std.specs.Prelude.{◌≡◌, ◌⊎◌, ℕ, ◌+◌, ◌*◌, Bool, true, false, ◌||◌, Option, Some, None, option_map, MatchOption, List, [], ◌∷◌, map, length}
+use Rattle.std.specs.Prelude.{◌≡◌, ◌⊎◌, ℕ, ◌+◌, ◌*◌, Bool, true, false, not, ◌||◌, ◌==◌, Option, Some, None, option_map, MatchOption, List, [], ◌∷◌, map, length}
 use Rattle.std.specs.String.{string_bytes}
 use Rattle.cf_protocol.specs.Datum.{Who}
 use Rattle.cf_protocol.specs.Request as request
@@ -64,12 +64,12 @@ abbrev pub is_over : Stage → Bool
 is_over stage.Closed = true
 is_over other = false
 
--- one of its calls met a refused request for memory; the last of them did
+-- one of its calls met a refused request for memory; how many the last of them met
 abbrev pub is_short : Session → Bool
 is_short s = s.is_short
 
-abbrev pub fell_short : Session → Bool
-fell_short s = s.fell_short
+abbrev pub refusals : Session → ℕ
+refusals s = s.refusals
 
 -- how many things it may still do
 abbrev pub work_at : Stage → ℕ
@@ -96,26 +96,30 @@ work_of s = 7 * length s.frame.items + work_at s.stage
 -- the tables stay, and a session is short from the first refused request on
 pub record Keeps (old new : Session) : Type 0 where
   pub tables : tables_of new ≡ tables_of old
-  pub short : is_short new ≡ (is_short old || fell_short new)
+  pub short : is_short new ≡ (is_short old || not (refusals new == 0))
 
 abbrev pub HearsFrame : Session → List ℕ → Session → Type 0
-HearsFrame old text new = Hears (tables_of old) (progress_of old) text (progress_of new) (fell_short new)
+HearsFrame old text new = Hears (tables_of old) (progress_of old) text (progress_of new) (refusals new)
 
 abbrev pub ActsNext : Session → Option Action → Session → Type 0
-ActsNext old action new = Acts (tables_of old) (progress_of old) (option_map shown_action action) (progress_of new) (fell_short new)
+ActsNext old action new = Acts (tables_of old) (progress_of old) (option_map shown_action action) (progress_of new) (refusals new)
 
 abbrev pub TakesAnswer : Session → CodeAnswer → Session → Type 0
-TakesAnswer old answer new = GoesOn (shown_answer answer) (progress_of old) (progress_of new) (fell_short new)
+TakesAnswer old answer new = GoesOn (shown_answer answer) (progress_of old) (progress_of new) (refusals new)
 
 -- ---- what its parts do
 
 -- it goes on from this script
 abbrev pub ActsOn : Session → Script → Option Action → Session → Type 0
-ActsOn old script action new = Acts (tables_of old) (Todo script) (option_map shown_action action) (progress_of new) (fell_short new)
+ActsOn old script action new = Acts (tables_of old) (Todo script) (option_map shown_action action) (progress_of new) (refusals new)
+
+-- the next command is at hand, and no request was refused so far
+abbrev pub IsReady : Session → Type 0
+IsReady s = (s.stage ≡ stage.Ready) × (refusals s ≡ 0)
 
 -- a command is begun: there is nothing to do for it, and the next is at hand; or this is done
 abbrev pub Begins : Session → Script → Option Action → Session → Type 0
-Begins old script action new = MatchOption action ((progress_of new ≡ Todo script) × (new.stage ≡ stage.Ready)) (λ a. ActsOn old script (Some a) new)
+Begins old script action new = MatchOption action ((progress_of new ≡ Todo script) × IsReady new) (λ a. ActsOn old script (Some a) new)
 
 -- the script of this command and of those that are left
 abbrev pub script_from : Session → Command → Script
@@ -130,8 +134,10 @@ abbrev pub opening_script : Session → ℕ → request.Request → Script
 opening_script s id r = first_script (tables_of s) id r (rest_with s)
 
 -- the two ways to give up a command, after which this is to be done
-abbrev pub Falls : ℕ → Script → Option Act → Progress → Type 0
-Falls id after act new = ((act ≡ Some (Says (failed_text id))) × (new ≡ Todo after)) ⊎ ((act ≡ Some (Closes close.InternalError)) × (new ≡ Todo Over))
+abbrev pub Falls : ℕ → Script → Option Act → Progress → (refused : ℕ) → Type 0
+Falls id after act new refused =
+    ((act ≡ Some (Says (failed_text id))) × (new ≡ Todo after) × (refused ≡ 1))
+    ⊎ ((act ≡ Some (Closes close.InternalError)) × (new ≡ Todo Over) × (refused ≡ 2))
 
 abbrev pub refused_code : Answer → Option ErrorCode
 refused_code (Refused e) = Some e

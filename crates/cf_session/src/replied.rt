@@ -1,6 +1,8 @@
 //! What is next once a call was answered.
 ghost use Rattle.std.specs.Prelude.{◌≡◌, ◌≤◌, None};
 ghost use Rattle.cf_protocol.specs.Codes.{code_of};
+ghost use Rattle.cf_protocol.specs.Shown.{shown_outcome};
+ghost use Rattle.cf_session.specs.SessionMachine.{is_connected};
 ghost use Rattle.cf_session.specs.Shown.{shown_answer};
 ghost use Rattle.cf_session.specs.Standing.{RepliesAt, refused_code, found_by, work_at};
 
@@ -33,6 +35,13 @@ pub(crate) fn refused(id: u32, code: ErrorCode) -> Stage
         id,
         outcome: Outcome::Failed { code: code.code() },
     }
+}
+
+/// Whether this is the result of a connect.
+pub(crate) fn is_connected(outcome: &Outcome) -> bool
+    ensures { result ≡ is_connected (shown_outcome outcome.now) }
+{
+    matches!(outcome, Outcome::Connected { .. })
 }
 
 /// The reply to a command of one call is next.

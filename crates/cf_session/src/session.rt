@@ -1,6 +1,7 @@
 //! What a session does for its client's commands.
 ghost use Rattle.std.specs.Prelude.{◌≡◌, ◌+◌, ◌<◌, ◌≤◌, Option, Some, None, true, false, IsSome, string_bytes, IfOk, OnOk, OnErr};
 ghost use Rattle.cf_protocol.specs.Codes.{code_of};
+ghost use Rattle.cf_protocol.specs.declared.codes.CloseCode.TheVariants as close;
 ghost use Rattle.cf_protocol.specs.Datum.{Who};
 ghost use Rattle.cf_protocol.specs.Shown.{shown_command, shown_outcome, shown_request};
 ghost use Rattle.cf_session.specs.Calls as call;
@@ -8,13 +9,13 @@ ghost use Rattle.cf_session.specs.CommandScripts.{granted, replies, after_attach
 ghost use Rattle.cf_session.specs.Script as script;
 ghost use Rattle.cf_session.specs.SessionMachine.{Todo, Out, Calls, Closes, GoesOn, awaits};
 ghost use Rattle.cf_session.specs.Shown.{shown_action, shown_answer, answer_kind};
-ghost use Rattle.cf_session.specs.Standing.{tables_of, rest_of, rest_with, progress_of, is_idle, is_over, is_short, fell_short, work_at, work_of, Keeps, HearsFrame, ActsNext, TakesAnswer, ActsOn, Begins, script_from, opening_script, Falls};
+ghost use Rattle.cf_session.specs.Standing.{tables_of, rest_of, rest_with, progress_of, is_idle, is_over, is_short, refusals, work_at, work_of, Keeps, HearsFrame, ActsNext, TakesAnswer, ActsOn, Begins, script_from, opening_script, Falls};
 ghost use Rattle.cf_session.specs.declared.kind.Kind.TheVariants as kind;
 
 use crate::action::{Action, Answer};
 use crate::kind::Kind;
 use crate::refusal::refusal_of;
-use crate::replied::{refused, refused_with, replied};
+use crate::replied::{is_connected, refused, refused_with, replied};
 use crate::stage::Stage;
 use cf_protocol::{
     CloseCode, Command, Data, ErrorCode, Info, Namespaces, Outcome, Outgoing, Position, ReadFault,
@@ -36,7 +37,8 @@ pub struct Session<'a> {
     frame: VecDeque<Command>,
     stage: Stage,
     is_short: bool,
-    fell_short: bool,
+    /// How many requests for memory the last call had refused.
+    refusals: u8,
     alloc: Global,
 }
 
@@ -56,7 +58,7 @@ impl<'a> Session<'a> {
             frame: VecDeque::new(alloc),
             stage: Stage::Ready,
             is_short: false,
-            fell_short: false,
+            refusals: 0,
             alloc,
         }
     }
@@ -118,13 +120,14 @@ impl<'a> Session<'a> {
         ensures keeps { Keeps self.old self.new }
     {
         let was_short = self.is_short;
-        self.fell_short = false;
+        self.refusals = 0;
         self.hear(text);
-        self.is_short = was_short || self.fell_short;
+        self.is_short = was_short || self.refusals != 0;
     }
 
     fn hear(&mut self, text: &str)
-        requires { is_idle self.old ≡ true }
+        requires idle { is_idle self.old ≡ true }
+        requires fresh { refusals self.old ≡ 0 }
         ensures hears { HearsFrame self.old text.now self.new }
         ensures tables { tables_of self.new ≡ tables_of self.old }
     {
@@ -142,7 +145,7 @@ impl<'a> Session<'a> {
             }
             Err(ReadFault::Bad) => self.stage = Stage::Closes(CloseCode::BadRequest),
             Err(ReadFault::Memory) => {
-                self.fell_short = true;
+                self.refusals = 1;
                 self.stage = Stage::Closes(CloseCode::InternalError);
             }
         }
@@ -157,13 +160,14 @@ impl<'a> Session<'a> {
             → is_idle self.new ≡ true }
     {
         let was_short = self.is_short;
-        self.fell_short = false;
+        self.refusals = 0;
         let action = self.act();
-        self.is_short = was_short || self.fell_short;
+        self.is_short = was_short || self.refusals != 0;
         action
     }
 
     fn act(&mut self) -> Option<Action>
+        requires { refusals self.old ≡ 0 }
         ensures acts { ActsNext self.old result self.new }
         ensures tables { tables_of self.new ≡ tables_of self.old }
         ensures work { IsSome result → work_of self.new < work_of self.old }
@@ -209,13 +213,14 @@ impl<'a> Session<'a> {
         ensures work { work_of self.new ≤ work_of self.old }
     {
         let was_short = self.is_short;
-        self.fell_short = false;
+        self.refusals = 0;
         self.take(answer);
-        self.is_short = was_short || self.fell_short;
+        self.is_short = was_short || self.refusals != 0;
     }
 
     fn take(&mut self, answer: Answer)
-        requires { awaits (progress_of self.old) ≡ Some (answer_kind answer) }
+        requires kind { awaits (progress_of self.old) ≡ Some (answer_kind answer) }
+        requires fresh { refusals self.old ≡ 0 }
         ensures goes { TakesAnswer self.old answer self.new }
         ensures tables { tables_of self.new ≡ tables_of self.old }
         ensures work { work_of self.new ≤ work_of self.old }
@@ -266,10 +271,11 @@ impl<'a> Session<'a> {
 
     /// The connect's attach was answered: its client is known from now on.
     fn attached(&mut self, id: u32, user: String, answer: Answer)
-        requires { self.old.stage ≡ Stage.Ready }
+        requires ready { self.old.stage ≡ Stage.Ready }
+        requires fresh { refusals self.old ≡ 0 }
         ensures goes { GoesOn (shown_answer answer)
             (Out kind.Attach (after_attach id (string_bytes user) (rest_with self.old)))
-            (progress_of self.new) self.new.fell_short }
+            (progress_of self.new) (refusals self.new) }
         ensures tables { tables_of self.new ≡ tables_of self.old }
         ensures work { work_of self.new ≤ work_of self.old + 1 }
     {
@@ -286,7 +292,7 @@ impl<'a> Session<'a> {
                 };
             }
             Err(_) => {
-                self.fell_short = true;
+                self.refusals = 1;
                 self.stage = Stage::Closes(CloseCode::InternalError);
             }
         }
@@ -294,7 +300,8 @@ impl<'a> Session<'a> {
 
     /// Goes on to the next command that has something done.
     fn next_command(&mut self) -> Option<Action>
-        requires { self.old.stage ≡ Stage.Ready }
+        requires ready { self.old.stage ≡ Stage.Ready }
+        requires fresh { refusals self.old ≡ 0 }
         ensures acts { ActsOn self.old (rest_of self.old) result self.new }
         ensures tables { tables_of self.new ≡ tables_of self.old }
         ensures work { IsSome result → work_of self.new < work_of self.old }
@@ -312,7 +319,8 @@ impl<'a> Session<'a> {
 
     /// Begins a command. None: there is nothing to do for it.
     fn start(&mut self, command: Command) -> Option<Action>
-        requires { self.old.stage ≡ Stage.Ready }
+        requires ready { self.old.stage ≡ Stage.Ready }
+        requires fresh { refusals self.old ≡ 0 }
         ensures acts { Begins self.old (script_from self.old (shown_command command)) result
             self.new }
         ensures tables { tables_of self.new ≡ tables_of self.old }
@@ -335,7 +343,8 @@ impl<'a> Session<'a> {
 
     /// The first command, which is to be the connect.
     fn open(&mut self, id: u32, request: Request) -> Action
-        requires { self.old.stage ≡ Stage.Ready }
+        requires ready { self.old.stage ≡ Stage.Ready }
+        requires fresh { refusals self.old ≡ 0 }
         ensures acts { ActsOn self.old (opening_script self.old id (shown_request request))
             (Some result) self.new }
         ensures tables { tables_of self.new ≡ tables_of self.old }
@@ -349,11 +358,10 @@ impl<'a> Session<'a> {
         let Some(user) = tokens.user(token.as_str()) else {
             return self.close(CloseCode::InvalidToken);
         };
-        let Ok(action) = self.attach(id, user) else {
-            self.fell_short = true;
-            return self.close(CloseCode::InternalError);
-        };
-        action
+        match self.attach(id, user) {
+            Ok(action) => action,
+            Err(_) => self.give_up(),
+        }
     }
 
     fn attach(&mut self, id: u32, user: &str) -> Result<Action, AllocError>
@@ -364,6 +372,7 @@ impl<'a> Session<'a> {
         ensures work { OnOk result (work_at self.new.stage ≡ 2) }
         ensures tables { tables_of self.new ≡ tables_of self.old }
         ensures frame { self.new.frame ≡ self.old.frame }
+        ensures refusals { refusals self.new ≡ refusals self.old }
     {
         let kept = String::from_str(self.alloc, user)?;
         let user = String::from_str(self.alloc, user)?;
@@ -373,13 +382,15 @@ impl<'a> Session<'a> {
 
     /// A command of a connected client that passed its checks.
     fn grant(&mut self, id: u32, request: Request) -> Result<Option<Action>, AllocError>
-        requires { self.old.stage ≡ Stage.Ready }
+        requires ready { self.old.stage ≡ Stage.Ready }
+        requires fresh { refusals self.old ≡ 0 }
         ensures acts { (who : Who) → self.old.client ≡ Some who
             → IfOk result
             (λ r. Begins self.old
             (granted who id (shown_request request) (rest_of self.old)) r self.new) }
         ensures err { OnErr result (self.new.stage ≡ Stage.Ready) }
         ensures client { OnErr result (self.new.client ≡ self.old.client) }
+        ensures refusals { OnErr result (refusals self.new ≡ 0) }
         ensures tables { tables_of self.new ≡ tables_of self.old }
         ensures frame { self.new.frame ≡ self.old.frame }
         ensures work { OnOk result (work_at self.new.stage < 7) }
@@ -430,7 +441,8 @@ impl<'a> Session<'a> {
         channel: String,
         body: Data,
     ) -> Result<Option<Action>, AllocError>
-        requires { self.old.stage ≡ Stage.Ready }
+        requires ready { self.old.stage ≡ Stage.Ready }
+        requires fresh { refusals self.old ≡ 0 }
         ensures acts { (who : Who) → self.old.client ≡ Some who
             → IfOk result
             (λ r. Begins self.old
@@ -438,6 +450,7 @@ impl<'a> Session<'a> {
             r self.new) }
         ensures err { OnErr result (self.new.stage ≡ Stage.Ready) }
         ensures client { OnErr result (self.new.client ≡ self.old.client) }
+        ensures refusals { OnErr result (refusals self.new ≡ 0) }
         ensures tables { tables_of self.new ≡ tables_of self.old }
         ensures frame { self.new.frame ≡ self.old.frame }
         ensures work { OnOk result (work_at self.new.stage < 7) }
@@ -462,6 +475,7 @@ impl<'a> Session<'a> {
     fn call(&mut self, id: u32, kind: Kind, action: Action) -> Action
         ensures action { result ≡ action }
         ensures goes { progress_of self.new ≡ Out kind (replies id (rest_of self.old)) }
+        ensures refusals { refusals self.new ≡ refusals self.old }
         ensures tables { tables_of self.new ≡ tables_of self.old }
         ensures frame { self.new.frame ≡ self.old.frame }
         ensures work { work_at self.new.stage < 7 }
@@ -486,6 +500,7 @@ impl<'a> Session<'a> {
             (rest_of self.old))) }
         ensures err { OnErr result (self.new.stage ≡ self.old.stage) }
         ensures client { self.new.client ≡ self.old.client }
+        ensures refusals { refusals self.new ≡ refusals self.old }
         ensures tables { tables_of self.new ≡ tables_of self.old }
         ensures frame { self.new.frame ≡ self.old.frame }
         ensures work { OnOk result (work_at self.new.stage < 7) }
@@ -507,36 +522,55 @@ impl<'a> Session<'a> {
 
     /// The reply to a command.
     fn say(&mut self, id: u32, outcome: Outcome) -> Action
-        requires { self.old.stage ≡ Stage.Ready }
+        requires ready { self.old.stage ≡ Stage.Ready }
+        requires fresh { refusals self.old ≡ 0 }
         ensures acts { ActsOn self.old
             (script.Say id (shown_outcome outcome) (rest_of self.old)) (Some result) self.new }
         ensures tables { tables_of self.new ≡ tables_of self.old }
         ensures frame { self.new.frame ≡ self.old.frame }
         ensures work { work_at self.new.stage ≡ 0 }
     {
-        let Ok(text) = write_reply(self.alloc, &Outgoing::Answer { id, outcome }) else {
-            return self.fall_short(id);
-        };
-        Action::Say(text)
+        let connects = is_connected(&outcome);
+        match write_reply(self.alloc, &Outgoing::Answer { id, outcome }) {
+            Ok(text) => Action::Say(text),
+            Err(_) if connects => self.give_up(),
+            Err(_) => self.fall_short(id),
+        }
     }
 
-    /// Memory was refused: the command is answered as one that failed within, or the session is closed.
+    /// Memory was refused to a connect: the session is closed.
+    fn give_up(&mut self) -> Action
+        ensures act { shown_action result ≡ Closes close.InternalError }
+        ensures progress { progress_of self.new ≡ Todo script.Over }
+        ensures tables { tables_of self.new ≡ tables_of self.old }
+        ensures frame { self.new.frame ≡ self.old.frame }
+        ensures refusals { refusals self.new ≡ 1 }
+        ensures work { work_at self.new.stage ≡ 0 }
+    {
+        self.refusals = 1;
+        self.close(CloseCode::InternalError)
+    }
+
+    /// Memory was refused: the command is answered as one that failed within. Where memory for that is refused too the session is
+    /// closed.
     fn fall_short(&mut self, id: u32) -> Action
         requires { self.old.stage ≡ Stage.Ready }
         ensures falls { Falls id (rest_of self.old) (Some (shown_action result))
-            (progress_of self.new) }
+            (progress_of self.new) (refusals self.new) }
         ensures tables { tables_of self.new ≡ tables_of self.old }
         ensures frame { self.new.frame ≡ self.old.frame }
-        ensures short { self.new.fell_short ≡ true }
         ensures work { work_at self.new.stage ≡ 0 }
     {
-        self.fell_short = true;
+        self.refusals = 1;
         let outcome = Outcome::Failed {
             code: ErrorCode::Internal.code(),
         };
         match write_reply(self.alloc, &Outgoing::Answer { id, outcome }) {
-            Ok(text) => Action::Say(text),
-            Err(_) => self.close(CloseCode::InternalError),
+            Ok(failed) => Action::Say(failed),
+            Err(_) => {
+                self.refusals = 2;
+                self.close(CloseCode::InternalError)
+            }
         }
     }
 
@@ -545,7 +579,7 @@ impl<'a> Session<'a> {
         ensures progress { progress_of self.new ≡ Todo script.Over }
         ensures tables { tables_of self.new ≡ tables_of self.old }
         ensures frame { self.new.frame ≡ self.old.frame }
-        ensures short { fell_short self.new ≡ fell_short self.old }
+        ensures refusals { refusals self.new ≡ refusals self.old }
         ensures work { work_at self.new.stage ≡ 0 }
     {
         self.stage = Stage::Closed;

@@ -8,6 +8,7 @@ use Rattle.std.proofs.lemmas.List.{append-nil, append_assoc, map-append, take-ap
 use Rattle.cf_machine.specs.TraceLine.{line_of, printed}
 use Rattle.cf_world.specs.Entries.{shown_entry}
 use Rattle.cf_world.specs.declared.entry.Entry as declared
+use Rattle.cf_explain.specs.Remarks.{BeginsWith, remark}
 use Rattle.cf_simulate.specs.Simulation.{AddsPart, Leaves}
 
 abbrev pub lines_of_entries : List declared.Entry → List ℕ
@@ -84,3 +85,8 @@ entries_cut es i x low is =
     ap lines_of_entries (sym (take-append-drop i es) ∙ ap (λ t. take i es ++ t) (drop-cons es i x low ∙ ap (λ y. y ∷ drop (suc i) es) (sym is)))
     ∙ ap printed (map-append shown_entry (take i es) (x ∷ drop (suc i) es))
     ∙ flat_map-append (λ e. line_of e ++ 10 ∷ []) (map shown_entry (take i es)) (map shown_entry (x ∷ drop (suc i) es))
+
+-- ---- remarks with more behind them
+
+pub begins_more : (text remarks more : List ℕ) → BeginsWith text remarks → BeginsWith text (remarks ++ more)
+begins_more text remarks more h = (h.0 ++ more, ap (λ t. t ++ more) h.1 ∙ append_assoc (remark text) h.0 more)

@@ -10,8 +10,9 @@ use Rattle.cf_machine.specs.TraceLine.{printed}
 use Rattle.cf_machine.specs.World.{World, start}
 use Rattle.cf_world.specs.Tie.{Tied}
 use Rattle.cf_world.specs.declared.world.World.{World as Parts}
-use Rattle.cf_explain.specs.Remarks.{AreRemarks}
+use Rattle.cf_explain.specs.Remarks.{AreRemarks, BeginsWith, IsOneLine, heading}
 use Rattle.cf_simulate.specs.ScheduleText.{IsSchedule, IsUnreadableAt, IsRepeatedAt}
+use Rattle.cf_simulate.specs.declared.schedule.Line.{Line}
 use Rattle.cf_simulate.specs.declared.fault.SimulateFault.{SimulateFault}
 use Rattle.cf_simulate.specs.declared.fault.SimulateFault.TheVariants.{Unreadable, UsedTwice, NotUtf8, Memory, InputOutput}
 
@@ -54,6 +55,11 @@ IsShown true lines bytes = HasRemarks lines bytes
 abbrev pub ShowsEvent : Bool → ℕ → Event → Parts → List ℕ → Type 0
 ShowsEvent explains n e old bytes =
     (cfg : Config) (past : List Event) → Tied cfg old (run cfg start past) → IsShown explains (printed (writes cfg n (run cfg start past) e)) bytes
+
+-- what explains an event begins with the number and the text of its line
+abbrev pub IsHeaded : Bool → Line → List ℕ → Type 0
+IsHeaded false line bytes = Unit {0}
+IsHeaded true line bytes = IsOneLine line.text.now → BeginsWith (heading line.number line.text.now) bytes
 
 -- ---- what is added to the output
 

@@ -5,7 +5,7 @@ ghost use Rattle.cf_machine.specs.TraceLine.{printed};
 ghost use Rattle.cf_schedule.specs.Seen.{seen, shown_config};
 ghost use Rattle.cf_world.specs.Entries.{shown_entry};
 ghost use Rattle.cf_world.specs.Tie.{GoesOn};
-ghost use Rattle.cf_simulate.specs.Simulation.{AddsPart, Leaves, WritesAll, Prints, ShowsEvent, Ends, EndsRun};
+ghost use Rattle.cf_simulate.specs.Simulation.{AddsPart, Leaves, WritesAll, Prints, ShowsEvent, Ends, EndsRun, IsHeaded};
 
 use crate::fault::SimulateFault;
 use crate::schedule::{Line, Schedule};
@@ -136,6 +136,7 @@ fn event_text(
     ensures ok { OnOk result (GoesOn (seen event.now) world.old.parts world.new.parts) }
     ensures shows { IfOk result
         (λ text. ShowsEvent explains at (seen event.now) world.old.parts (string_bytes text)) }
+    ensures headed { IfOk result (λ text. IsHeaded explains line.entry (string_bytes text)) }
 {
     if explains {
         explained_text(alloc, world, explainer, at, event, line)
@@ -145,6 +146,7 @@ fn event_text(
 }
 
 // Carries out an event, and gives the lines of what applications got by it, behind remarks on what it did.
+#[tactic(auto, using(crate::proofs::Writing::begins_more))]
 fn explained_text(
     alloc: Global,
     world: &mut World,
@@ -156,6 +158,7 @@ fn explained_text(
     ensures ok { OnOk result (GoesOn (seen event.now) world.old.parts world.new.parts) }
     ensures shows { IfOk result
         (λ text. ShowsEvent true at (seen event.now) world.old.parts (string_bytes text)) }
+    ensures headed { IfOk result (λ text. IsHeaded true line.entry (string_bytes text)) }
 {
     explainer.before(world, event)?;
     let lines = event_lines(alloc, world, at, event)?;

@@ -18,6 +18,9 @@ use std::alloc::Global;
 use std::io::{BufRead, Write};
 use std::str;
 
+/// The most lines of one conversation. An input that goes on after these has failed.
+const MAX_LINES: u64 = 4_294_967_296;
+
 /// What a conversation is set up with: the namespaces, who connects by which token, and the epochs of new streams, in order.
 #[derive(Drop)]
 pub struct Setup {
@@ -72,7 +75,7 @@ fn serve_lines<R: BufRead, W: Write>(
         BreaksOffFrom (tables_of session.old) (progress_of session.old) (scene_of node.old) input
         (W.contents writer.old) (W.contents writer.new)) }
 {
-    for _ in 0..u64::MAX {
+    for _ in 0..MAX_LINES {
         let Some(line) = read_line(alloc, reader)? else {
             return Ok(());
         };

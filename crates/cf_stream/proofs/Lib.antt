@@ -7,3 +7,4 @@ pub mod LogStates
 pub mod LogSteps
 pub mod LogTicks
 pub mod ChannelChanges
+pub mod Quieting

@@ -27,7 +27,7 @@ put_first : (k : List ℕ) (v : Shown) (es : List (List ℕ × Shown)) → AllBy
 put_first k v [] h = refl
 put_first k v (x ∷ xs) h = ap (λ r. by_order r ((k, v) ∷ x ∷ xs) ((x.0, v) ∷ xs) (x ∷ put (slice_cmp nat_cmp) k v xs)) h.0
 
-none_of : {A : Type 0} (es : List A) → length es ≡ 0 → es ≡ []
+pub none_of : {A : Type 0} (es : List A) → length es ≡ 0 → es ≡ []
 none_of [] e = refl
 none_of (x ∷ es) e = absurd (omega arith)
 

@@ -4,6 +4,7 @@ pub mod Ring
 pub mod Stream
 pub mod FreshEpochs
 pub mod Streams
+pub mod Quiet
 pub mod PublicationList
 pub mod ChannelLists
 pub mod LogState

@@ -23,10 +23,12 @@ pub struct DueWalk<'a> {
     pub(crate) rest: btree_map::Iter<'a, String, Stream>,
     pub(crate) namespaces: &'a Namespaces,
     pub(crate) now: u64,
+    // Nothing is due at that moment.
+    pub(crate) is_quiet: bool,
 }
 
 impl<'a> Model for DueWalk<'a> {
-    ghost use Rattle.std.specs.Prelude.{List, ℕ, map};
+    ghost use Rattle.std.specs.Prelude.{List, [], ℕ, map, if◌then◌else◌};
     ghost use Rattle.std.specs.String.{string_bytes};
     ghost use Rattle.cf_stream.specs.declared.due.Due.{Due};
 
@@ -34,7 +36,7 @@ impl<'a> Model for DueWalk<'a> {
 
     ghost use Rattle.cf_stream.specs.Streams.{due_channels};
 
-    ghost view = { λ w. due_channels w.now w.namespaces.now
+    ghost view = { λ w. if w.is_quiet then [] else due_channels w.now w.namespaces.now
         (map (λ e. (string_bytes e.0, e.1)) w.rest) };
 }
 
@@ -46,6 +48,9 @@ impl<'a> Iterator for DueWalk<'a> {
     ghost remaining = { item_count (λ w. w) };
 
     fn next(&mut self) -> Option<(&'a str, Due)> {
+        if self.is_quiet {
+            return None;
+        }
         while let Some((channel, stream)) = self.rest.next() {
             let seconds = seconds_for(self.namespaces, channel);
             if let Some(due) = stream.due(self.now, seconds) {

@@ -5,6 +5,7 @@ ghost use Rattle.cf_stream.specs.PublicationList.{Shows, GoesOn, AnswersRead, An
 ghost use Rattle.cf_protocol.specs.Datum.{Datum};
 ghost use Rattle.cf_stream.specs.StreamAnswer.{allowed_by};
 ghost use Rattle.cf_stream.specs.Streams.{due_of};
+ghost use Rattle.cf_stream.specs.Quiet.{IsQuiet};
 
 use crate::answer::{History, Recovery};
 use crate::due::Due;
@@ -324,6 +325,18 @@ impl Stream {
             return Some(Due::Empty);
         }
         None
+    }
+
+    /// The first moment at which a tick would do something, in seconds.
+    pub(crate) fn due_from(&self, seconds: u64) -> u64
+        ensures { IsQuiet result seconds self.now }
+    {
+        let unused = self.used.saturating_add(UNUSED_SECONDS);
+        if self.ring.is_empty() {
+            unused
+        } else {
+            unused.min(self.published.saturating_add(seconds))
+        }
     }
 
     /// The newest publication that is held.

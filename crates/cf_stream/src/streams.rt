@@ -1,5 +1,5 @@
 //! The streams of all channels.
-ghost use Rattle.std.specs.Prelude.{◌≡◌, ◌≢◌, ◌≤◌, ◌↔◌, IfOk, IfErr, OnErr, IsErrOf, IsSomeAnd, IsTrue, option_copied, Some, None, List, [], ◌∷◌, ℕ, map, filter, IsSome};
+ghost use Rattle.std.specs.Prelude.{◌≡◌, ◌≢◌, ◌+◌, ◌≤◌, ◌↔◌, IfOk, IfErr, OnErr, IsErrOf, IsSomeAnd, IsTrue, option_copied, Some, None, List, [], ◌∷◌, ℕ, map, filter, IsSome};
 ghost use Rattle.std.specs.Option.{option_map};
 ghost use Rattle.std.specs.BTreeMap.{get_by_text, IsOrdered};
 ghost use Rattle.std.specs.FinMap as fin;
@@ -8,6 +8,7 @@ ghost use Rattle.cf_protocol.specs.Settings.{settings_of};
 ghost use Rattle.cf_stream.specs.Stream.{datum_of, pushed, used_at, trimmed, position_of, IsAtLast, IsRecovery, IsHistory, stays, ticked, newest_of};
 ghost use Rattle.cf_stream.specs.Streams.{stream_of, held_at, newest_at, put_at, stood_or, stood_or_opened, pushed_at, with_pushed, with_used, ticked_at, IsOfAnother, SetsAt, due_in, due_to, all_due, IsSetUp, size_at, seconds_at};
 ghost use Rattle.cf_stream.specs.PublicationList.{kept_newest};
+ghost use Rattle.cf_stream.specs.Quiet.{AreQuiet};
 ghost use Rattle.cf_stream.specs.ChannelLists.{AreShown, ChangesAt, ReadsAt, ListsAt, StandsAt, life_read, life_with};
 ghost use Rattle.cf_stream.specs.LogState.{IsState, Adds, opening, if_stands, ending, due_entries};
 ghost use Rattle.cf_protocol.specs.LogEntry.Entry.{Publish, Trim, Forget};
@@ -17,7 +18,7 @@ use crate::answer::{History, Recovery};
 use crate::due::DueWalk;
 use crate::opening::{Epochs, open_idle, publish_new};
 use crate::refusal::StreamRefusal;
-use crate::stream::{LARGEST_SIZE, Stream};
+use crate::stream::{LARGEST_SIZE, Stream, UNUSED_SECONDS};
 use cf_protocol::{Epoch, Info, Namespaces, Position, Publication};
 use std::alloc::{AllocError, Global};
 use std::collections::BTreeMap;
@@ -28,17 +29,23 @@ use std::marker::Model;
 pub struct Streams {
     namespaces: Namespaces,
     map: BTreeMap<String, Stream>,
+    // Before this moment, in seconds, a tick would do nothing.
+    quiet_until: u64,
     alloc: Global,
 }
 
 impl Model for Streams {
+    ghost use Rattle.std.specs.BTreeMap.{get_by_text};
     ghost use Rattle.cf_stream.specs.Streams.{Kept, coded_kept, by_channel};
+    ghost use Rattle.cf_stream.specs.Quiet.{AreQuiet};
 
     ghost Value = { Kept };
 
     ghost coded = { coded_kept };
 
     ghost view = { λ s. record { namespaces = s.namespaces; streams = by_channel s.map } };
+
+    ghost invariant = { λ s. AreQuiet s.quiet_until s.namespaces (get_by_text s.map) };
 }
 
 impl Streams {
@@ -52,6 +59,7 @@ impl Streams {
         Ok(Streams {
             namespaces: namespaces.copied()?,
             map: BTreeMap::new(alloc),
+            quiet_until: u64::MAX,
             alloc,
         })
     }
@@ -97,6 +105,8 @@ impl Streams {
             (life_with (size_at self.old.namespaces channel.now) (datum_of body info) p.epoch)) }
     {
         let size = size_for(&self.namespaces, channel);
+        let seconds = seconds_for(&self.namespaces, channel);
+        self.quiet_until = quiet_after_use(self.quiet_until, now, seconds);
         publish_in(
             &mut self.map,
             epochs,
@@ -139,6 +149,7 @@ impl Streams {
             ChangesAt self.old self.new channel.now (life_read r.position.epoch)) }
     {
         let size = size_for(&self.namespaces, channel);
+        self.quiet_until = quiet_after_use(self.quiet_until, now, UNUSED_SECONDS);
         read_in(&mut self.map, epochs, self.alloc, size, channel, since, now)
     }
 
@@ -175,6 +186,7 @@ impl Streams {
             ChangesAt self.old self.new channel.now (life_read h.position.epoch)) }
     {
         let size = size_for(&self.namespaces, channel);
+        self.quiet_until = quiet_after_use(self.quiet_until, now, UNUSED_SECONDS);
         history_in(
             &mut self.map,
             epochs,
@@ -226,7 +238,11 @@ impl Streams {
         ensures due { (q : List ℕ) → (due_in now self.old q ≡ None)
             ↔ (stream_of self.new q ≡ stream_of self.old q) }
     {
+        if now < self.quiet_until {
+            return;
+        }
         tick_in(&mut self.map, &self.namespaces, now);
+        self.quiet_until = first_due(&self.map, &self.namespaces);
     }
 
     /// The channels to which `tick` would do something, in the order of their bytes. It takes no memory.
@@ -238,6 +254,7 @@ impl Streams {
             rest: self.map.iter(),
             namespaces: &self.namespaces,
             now,
+            is_quiet: now < self.quiet_until,
         }
     }
 
@@ -431,6 +448,28 @@ fn trim_at(map: &mut BTreeMap<String, Stream>, channel: &str, count: usize)
     if let Some(stream) = map.get_mut(channel) {
         stream.trim(count);
     }
+}
+
+/// A moment before which nothing is due, once a stream was used now that holds what it holds for so many seconds, where nothing was due
+/// before `quiet_until`.
+fn quiet_after_use(quiet_until: u64, now: u64, seconds: u64) -> u64
+    ensures before { result ≤ quiet_until }
+    ensures used { result ≤ now + UNUSED_SECONDS }
+    ensures held { result ≤ now + seconds }
+{
+    let seconds = seconds.min(UNUSED_SECONDS);
+    quiet_until.min(now.saturating_add(seconds))
+}
+
+/// The first moment at which one of the streams may be due.
+fn first_due(map: &BTreeMap<String, Stream>, namespaces: &Namespaces) -> u64
+    ensures { AreQuiet result namespaces.now (get_by_text map.now) }
+{
+    let mut until = u64::MAX;
+    for (channel, stream) in map.iter() {
+        until = until.min(stream.due_from(seconds_for(namespaces, channel)));
+    }
+    until
 }
 
 fn tick_in(streams: &mut BTreeMap<String, Stream>, namespaces: &Namespaces, now: u64)

@@ -5,7 +5,7 @@ use Rattle.cf_session.specs.Script.{Script, Served, Over, Close, Say, Pong, Ask}
 use Rattle.cf_session.specs.CommandScripts.{Tables}
 use Rattle.cf_protocol.specs.Settings.{NamespaceTable}
 use Rattle.cf_session.specs.Asking.{AllAsk, HasStream}
-use Rattle.cf_session.specs.SessionMachine.{Act, Calls, Says, PassesPong, Closes, Progress, Todo, Out, reply_text, HearsAt}
+use Rattle.cf_session.specs.SessionMachine.{Act, Calls, Says, PassesPong, Closes, Progress, Todo, Out, reply_text, HearsAt, HearsText}
 use Rattle.cf_session.specs.declared.kind.Kind.{Kind}
 
 -- the kind of the call that an act is, if it is one
@@ -71,15 +71,15 @@ module _ {N : Type 0} (closed : N → Bool) (does : N → Act → Option Answer 
   Serves t (Todo s) n text m new = ServesFrom t s n text m new
   Serves t (Out kind after) n text m new = ⊥
 
-  -- on the way: a text was heard, and to play its script from n0 on is to play from n on what is still to do
-  pub record GoesFrom (t : Tables) (s : Script) (n0 : N) (text : List ℕ) (p : Progress) (n : N) : Type 0 where
-    pub script : Script
-    pub hears : HearsAt t s text script
-    pub goes : (m : N) (end : Script) → PlaysOn p n m end → Plays script n0 m end
+  -- To go on from q and mid is to go on from p and n, however the script ends then. Such ways follow one another.
+  abbrev pub LeadsOn : Progress → N → Progress → N → Type 0
+  LeadsOn p n q mid = (m : N) (end : Script) → Continues q mid m end → Continues p n m end
 
-  abbrev pub Goes : Tables → Progress → N → List ℕ → Progress → N → Type 0
-  Goes t (Todo s) n0 text p n = GoesFrom t s n0 text p n
-  Goes t (Out kind after) n0 text p n = ⊥
+  -- on the way: a text was heard, and what that brought led on to here
+  pub record Goes (t : Tables) (p0 : Progress) (n0 : N) (text : List ℕ) (q : Progress) (n : N) : Type 0 where
+    pub heard : Progress
+    pub hears : HearsText t p0 text heard
+    pub leads : LeadsOn heard n0 q n
 
   -- the texts of a conversation, one after another, until the session is closed
   abbrev pub Talks : Tables → Progress → N → List (List ℕ) → N → Progress → Type 0

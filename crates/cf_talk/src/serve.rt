@@ -5,9 +5,10 @@ ghost use Rattle.cf_session.specs.Shown.{shown_action};
 ghost use Rattle.cf_session.specs.Standing.{is_idle, is_short, tables_of, progress_of, work_of};
 ghost use Rattle.cf_talk.specs.Played.{Serves, Talks, Next, asked_kind, ActHasStream, AskStreams};
 
+use crate::budget::Budget;
 use crate::node::Node;
-use cf_session::laws::frames_have_streams;
-use cf_session::{Action, Session};
+use crate::turn::{carry_on, hear_text};
+use cf_session::Session;
 
 /// Carries out a text of the client, until nothing is left to do or the node has closed the session.
 pub fn serve_text<N: Node>(session: &mut Session<'_>, node: &mut N, text: &str)
@@ -23,35 +24,8 @@ pub fn serve_text<N: Node>(session: &mut Session<'_>, node: &mut N, text: &str)
     ensures namespaces { N.namespaces node.new ≡ N.namespaces node.old }
     ensures short { is_short session.old ≡ true → is_short session.new ≡ true }
 {
-    frames_have_streams();
-    session.on_text(text);
-    while let Some(action) = session.next_action() {
-        carry_out(session, node, action);
-        if node.is_closed() {
-            return;
-        }
-    }
-}
-
-/// One action, and its answer where it is a call.
-fn carry_out<N: Node>(session: &mut Session<'_>, node: &mut N, action: Action)
-    requires kind { asked_kind (shown_action action) ≡ awaits (progress_of session.old) }
-    requires stream { ActHasStream (N.namespaces node.old) (shown_action action) }
-    requires asks { AskStreams (N.namespaces node.old) (progress_of session.old) }
-    ensures next { (p : Progress)
-        → Does p (Some (shown_action action)) (progress_of session.old)
-        → is_short session.new ≡ false
-        → Next N.closed N.does p (progress_of session.new) node.old node.new }
-    ensures awaits { awaits (progress_of session.new) ≡ None }
-    ensures asks { AskStreams (N.namespaces node.old) (progress_of session.new) }
-    ensures tables { tables_of session.new ≡ tables_of session.old }
-    ensures namespaces { N.namespaces node.new ≡ N.namespaces node.old }
-    ensures short { is_short session.old ≡ true → is_short session.new ≡ true }
-    ensures work { work_of session.new ≤ work_of session.old }
-{
-    if let Some(answer) = node.act(action) {
-        session.answered(answer);
-    }
+    hear_text(session, text);
+    while !carry_on(session, node, &mut Budget::new(usize::MAX)) {}
 }
 
 /// Carries out the lines of a client in order, until the session is closed.

@@ -1,103 +1,261 @@
 -- How events make a turn, and how turns join.
-use Rattle.std.proofs.Common.{◌≡◌, ◌∙◌, ℕ, ◌+◌, ◌≤◌, List, [], ◌∷◌, ◌++◌, Option, None, Some, Result, Ok, Err, OnOk, IfErr, true, false, ◌⊎◌, ⊎_elim, inl, inr, refl, sym, ap, subst, arith, string_bytes}
+use Rattle.std.proofs.Common.{◌≡◌, ◌∙◌, ℕ, ◌+◌, ◌-◌, length, ◌≤◌, ◌<◌, List, [], ◌∷◌, ◌++◌, Bool, if◌then◌else◌, Option, None, Some, Result, Ok, Err, OnOk, IfErr, true, false, ◌⊎◌, ⊎_elim, inl, inr, refl, sym, ap, subst, arith, string_bytes}
 use Rattle.std.specs.declared.string.String.{String}
 use Rattle.std.specs.declared.alloc.Global.{Global}
 use Rattle.tungstenite.specs.Connection.{write_step, close_step}
 use Rattle.tungstenite.specs.Content.{text}
-use Rattle.tungstenite.specs.Failure.{IsIo}
+use Rattle.tungstenite.specs.Failure.{IsIo, WriteFails}
 use Rattle.tungstenite.specs.Socket.{Socket, Reads, Writes, Flushed, content_of}
 use Rattle.tungstenite.specs.declared.message.Message.{Message}
 use Rattle.tungstenite.specs.declared.error.Error.{Error}
+use Rattle.tungstenite.specs.declared.error.Error.TheVariants.{WriteBufferFull, OutOfMemory}
 use Rattle.websocket.specs.declared.protocol.frame.coding.CloseCode.{CloseCode}
 use Rattle.cf_queue.specs.declared.queue.Out.{Out}
 use Rattle.cf_queue.specs.declared.queue.Out.TheVariants.{Text, Close}
 use Rattle.cf_wire.specs.CloseFrame.{frame_of}
-use Rattle.cf_wire.specs.Stages.{WireState, is_open, is_over, has_failed, close_in, settled, Halts, Stops}
-use Rattle.cf_wire.specs.Turn.{Event, heard, passed, ended, rejected, failed, none, sent, held, refused, flushed, tried, reads, moves, is_stop, EndFits, is_bad, is_signal, code_in, bad_message, Puts, Settles, FlushLeaves, Place, place, DeskDoes, WireDoes, Did, Turns, least, end_in, least_in}
+use Rattle.cf_wire.specs.Stages.{WireState, is_open, is_over, waits_by, end_by, after, close_in, settled, Halts, Stops}
+use Rattle.cf_wire.specs.Turn.{Event, heard, passed, ended, rejected, failed, none, sent, refused, unwrapped, flushed, tried, is_read, is_move, weight, reads, moves, bytes, bytes_before, is_stop, most_reads, most_bytes, IsEmptied, Rests, IsUsedUp, EndFits, Mark, going, emptied, over, Fits, is_bad, is_signal, code_in, bad_message, Puts, Fails, Settles, FlushLeaves, Place, place, DeskDoes, WireDoes, Did, Part, Turns, mark_of, read_in}
 use Rattle.cf_wire.specs.declared.end.Stage.{Stage}
-use Rattle.cf_wire.specs.declared.end.Stage.TheVariants.{Open, Unflushed}
+use Rattle.cf_wire.specs.declared.end.Stage.TheVariants.{Open, Unflushed, Over}
+use Rattle.cf_wire.specs.declared.end.WireEnd.{WireEnd}
+use Rattle.cf_wire.specs.declared.end.WireEnd.TheVariants as wire
 use Rattle.cf_wire.specs.declared.end.TurnEnd.{TurnEnd}
 use Rattle.cf_wire.specs.declared.end.TurnEnd.TheVariants as turn
 
+-- ---- counts
+
+reads_append : (es fs : List Event) → reads (es ++ fs) ≡ reads es + reads fs
+reads_append [] fs = omega arith
+reads_append (e ∷ es) fs = omega (arith, reads_append es fs)
+
+moves_append : (es fs : List Event) → moves (es ++ fs) ≡ moves es + moves fs
+moves_append [] fs = omega arith
+moves_append (e ∷ es) fs = omega (arith, moves_append es fs)
+
+bytes_append : (es fs : List Event) → bytes (es ++ fs) ≡ bytes es + bytes fs
+bytes_append [] fs = omega arith
+bytes_append (e ∷ es) fs = omega (arith, bytes_append es fs)
+
+bytes_zero : (es : List Event) → reads es ≡ 0 → bytes es ≡ 0
+bytes_zero [] h = refl
+bytes_zero (heard t ∷ es) h = absurd (omega (arith, h))
+bytes_zero (passed ∷ es) h = absurd (omega (arith, h))
+bytes_zero (ended c ∷ es) h = absurd (omega (arith, h))
+bytes_zero (rejected ∷ es) h = absurd (omega (arith, h))
+bytes_zero (failed x ∷ es) h = omega (arith, bytes_zero es (omega (arith, h)))
+bytes_zero (none ∷ es) h = omega (arith, bytes_zero es (omega (arith, h)))
+bytes_zero (sent o ∷ es) h = omega (arith, bytes_zero es (omega (arith, h)))
+bytes_zero (refused o x ∷ es) h = omega (arith, bytes_zero es (omega (arith, h)))
+bytes_zero (unwrapped o ∷ es) h = omega (arith, bytes_zero es (omega (arith, h)))
+bytes_zero (flushed ∷ es) h = omega (arith, bytes_zero es (omega (arith, h)))
+bytes_zero (tried x ∷ es) h = omega (arith, bytes_zero es (omega (arith, h)))
+
+before_zero : (es : List Event) → reads es ≡ 0 → bytes_before es ≡ 0
+before_zero [] h = refl
+before_zero (heard t ∷ es) h = absurd (omega (arith, h))
+before_zero (passed ∷ es) h = absurd (omega (arith, h))
+before_zero (ended c ∷ es) h = absurd (omega (arith, h))
+before_zero (rejected ∷ es) h = absurd (omega (arith, h))
+before_zero (failed x ∷ es) h = before_zero es (omega (arith, h))
+before_zero (none ∷ es) h = before_zero es (omega (arith, h))
+before_zero (sent o ∷ es) h = before_zero es (omega (arith, h))
+before_zero (refused o x ∷ es) h = before_zero es (omega (arith, h))
+before_zero (unwrapped o ∷ es) h = before_zero es (omega (arith, h))
+before_zero (flushed ∷ es) h = before_zero es (omega (arith, h))
+before_zero (tried x ∷ es) h = before_zero es (omega (arith, h))
+
+before_bound : (es : List Event) → bytes_before es ≤ bytes es
+before_bound [] = omega arith
+before_bound (heard t ∷ es) = omega arith
+before_bound (passed ∷ es) = omega arith
+before_bound (ended c ∷ es) = omega arith
+before_bound (rejected ∷ es) = omega arith
+before_bound (failed x ∷ es) = omega (arith, before_bound es)
+before_bound (none ∷ es) = omega (arith, before_bound es)
+before_bound (sent o ∷ es) = omega (arith, before_bound es)
+before_bound (refused o x ∷ es) = omega (arith, before_bound es)
+before_bound (unwrapped o ∷ es) = omega (arith, before_bound es)
+before_bound (flushed ∷ es) = omega (arith, before_bound es)
+before_bound (tried x ∷ es) = omega (arith, before_bound es)
+
+before_quiet : (es fs : List Event) → reads es ≡ 0 → bytes_before (es ++ fs) ≡ bytes_before fs
+before_quiet [] fs h = refl
+before_quiet (heard t ∷ es) fs h = absurd (omega (arith, h))
+before_quiet (passed ∷ es) fs h = absurd (omega (arith, h))
+before_quiet (ended c ∷ es) fs h = absurd (omega (arith, h))
+before_quiet (rejected ∷ es) fs h = absurd (omega (arith, h))
+before_quiet (failed x ∷ es) fs h = before_quiet es fs (omega (arith, h))
+before_quiet (none ∷ es) fs h = before_quiet es fs (omega (arith, h))
+before_quiet (sent o ∷ es) fs h = before_quiet es fs (omega (arith, h))
+before_quiet (refused o x ∷ es) fs h = before_quiet es fs (omega (arith, h))
+before_quiet (unwrapped o ∷ es) fs h = before_quiet es fs (omega (arith, h))
+before_quiet (flushed ∷ es) fs h = before_quiet es fs (omega (arith, h))
+before_quiet (tried x ∷ es) fs h = before_quiet es fs (omega (arith, h))
+
+before_append : (es fs : List Event) → bytes_before (es ++ fs) ≤ bytes_before es + bytes fs
+before_append [] fs = omega (arith, before_bound fs)
+before_append (heard t ∷ es) fs = omega (arith, bytes_append es fs)
+before_append (passed ∷ es) fs = omega (arith, bytes_append es fs)
+before_append (ended c ∷ es) fs = omega (arith, bytes_append es fs)
+before_append (rejected ∷ es) fs = omega (arith, bytes_append es fs)
+before_append (failed x ∷ es) fs = before_append es fs
+before_append (none ∷ es) fs = before_append es fs
+before_append (sent o ∷ es) fs = before_append es fs
+before_append (refused o x ∷ es) fs = before_append es fs
+before_append (unwrapped o ∷ es) fs = before_append es fs
+before_append (flushed ∷ es) fs = before_append es fs
+before_append (tried x ∷ es) fs = before_append es fs
+
+light_then : (left rest : ℕ) (es fs : List Event) → rest ≡ left - bytes fs → (reads fs ≡ 0) ⊎ (bytes_before fs < left) → (reads es ≡ 0) ⊎ (bytes_before es < rest)
+    → (reads (es ++ fs) ≡ 0) ⊎ (bytes_before (es ++ fs) < left)
+light_then left rest es fs is (inl a) (inl b) = inl (omega (arith, reads_append es fs, a, b))
+light_then left rest es fs is (inr a) (inl b) = inr (omega (arith, before_quiet es fs b, a))
+light_then left rest es fs is a (inr b) = inr (omega (arith, before_append es fs, b, is))
+
+light_all : (es : List Event) → (reads es ≡ 0) ⊎ (bytes_before es < most_bytes) → bytes_before es < most_bytes
+light_all es (inl h) = omega (arith, before_zero es h)
+light_all es (inr h) = h
+
 -- ---- ends
 
-pub fits_stop : (end : TurnEnd) (e : Event) (es : List Event) → is_stop e ≡ true → EndFits (Some end) (e ∷ es)
-fits_stop turn.Idle e es h = h
-fits_stop turn.More e es h = tt
-fits_stop (turn.Closed code) e es h = tt
-fits_stop turn.StreamFault e es h = tt
-fits_stop turn.Memory e es h = tt
+rests_stop : (e : Event) (es : List Event) (b : Bool) → is_stop e ≡ true → Rests (e ∷ es) b
+rests_stop (heard t) es b h = h
+rests_stop passed es b h = h
+rests_stop (ended c) es b h = h
+rests_stop rejected es b h = h
+rests_stop (failed x) es b h = h
+rests_stop none es b h = absurd (cc h)
+rests_stop (sent o) es b h = h
+rests_stop (refused o x) es b h = h
+rests_stop (unwrapped o) es b h = h
+rests_stop flushed es b h = h
+rests_stop (tried x) es b h = h
 
-fits_append : (end : Option TurnEnd) (es fs : List Event) → EndFits end es → EndFits end (es ++ fs)
-fits_append None es fs h = tt
-fits_append (Some turn.Idle) [] fs h = absurd h
-fits_append (Some turn.Idle) (e ∷ es) fs h = h
-fits_append (Some turn.More) es fs h = tt
-fits_append (Some (turn.Closed code)) es fs h = tt
-fits_append (Some turn.StreamFault) es fs h = tt
-fits_append (Some turn.Memory) es fs h = tt
+rests_append : (es fs : List Event) (b : Bool) → Rests es b → Rests (es ++ fs) b
+rests_append [] fs b h = absurd h
+rests_append (heard t ∷ es) fs b h = h
+rests_append (passed ∷ es) fs b h = h
+rests_append (ended c ∷ es) fs b h = h
+rests_append (rejected ∷ es) fs b h = h
+rests_append (failed x ∷ es) fs b h = h
+rests_append (none ∷ es) fs b h = h
+rests_append (sent o ∷ es) fs b h = h
+rests_append (refused o x ∷ es) fs b h = h
+rests_append (unwrapped o ∷ es) fs b h = h
+rests_append (flushed ∷ es) fs b h = h
+rests_append (tried x ∷ es) fs b h = h
+
+emptied_append : (es fs : List Event) → IsEmptied es → IsEmptied (es ++ fs)
+emptied_append [] fs h = absurd h
+emptied_append (heard t ∷ es) fs h = absurd h
+emptied_append (passed ∷ es) fs h = absurd h
+emptied_append (ended c ∷ es) fs h = absurd h
+emptied_append (rejected ∷ es) fs h = absurd h
+emptied_append (failed x ∷ es) fs h = absurd h
+emptied_append (none ∷ es) fs h = tt
+emptied_append (sent o ∷ es) fs h = absurd h
+emptied_append (refused o x ∷ es) fs h = absurd h
+emptied_append (unwrapped o ∷ es) fs h = absurd h
+emptied_append (flushed ∷ es) fs h = absurd h
+emptied_append (tried x ∷ es) fs h = absurd h
+
+rests_emptied : (es : List Event) (b : Bool) → IsEmptied es → b ≡ false → Rests es b
+rests_emptied [] b h is = absurd h
+rests_emptied (heard t ∷ es) b h is = absurd h
+rests_emptied (passed ∷ es) b h is = absurd h
+rests_emptied (ended c ∷ es) b h is = absurd h
+rests_emptied (rejected ∷ es) b h is = absurd h
+rests_emptied (failed x ∷ es) b h is = absurd h
+rests_emptied (none ∷ es) b h is = is
+rests_emptied (sent o ∷ es) b h is = absurd h
+rests_emptied (refused o x ∷ es) b h is = absurd h
+rests_emptied (unwrapped o ∷ es) b h is = absurd h
+rests_emptied (flushed ∷ es) b h is = absurd h
+rests_emptied (tried x ∷ es) b h is = absurd h
+
+used_append : (es fs : List Event) → IsUsedUp es → IsUsedUp (es ++ fs)
+used_append es fs (inl h) = inl (omega (arith, moves_append es fs, h))
+used_append es fs (inr h) = inr (omega (arith, bytes_append es fs, h))
+
+end_append : (end : TurnEnd) (es fs : List Event) (b : Bool) → EndFits end es b → EndFits end (es ++ fs) b
+end_append turn.Idle es fs b h = rests_append es fs b h
+end_append turn.More es fs b h = used_append es fs h
+end_append (turn.Closed code) es fs b h = tt
+end_append turn.StreamFault es fs b h = tt
+end_append turn.Memory es fs b h = tt
+
+fits_append : (mark : Mark) (es fs : List Event) (b : Bool) → Fits mark es b → Fits mark (es ++ fs) b
+fits_append going es fs b h = tt
+fits_append emptied es fs b h = emptied_append es fs h
+fits_append (over end) es fs b h = end_append end es fs b h
+
+fits_stop : (end : TurnEnd) (stage : Stage) (e : Event) (es : List Event) (b : Bool) → Halts end stage → is_stop e ≡ true → EndFits end (e ∷ es) b
+fits_stop turn.Idle stage e es b halts h = rests_stop e es b h
+fits_stop turn.More stage e es b halts h = absurd halts
+fits_stop (turn.Closed code) stage e es b halts h = tt
+fits_stop turn.StreamFault stage e es b halts h = tt
+fits_stop turn.Memory stage e es b halts h = tt
 
 -- a stage that is settled is opened or over
 never_settled : (close : Option ℕ) (stage : Stage) → stage ≡ settled close → is_over stage ≡ false → is_open stage ≡ false → ⊥
-never_settled None stage is over opened = absurd (cc (sym (ap is_open is), opened))
-never_settled (Some code) stage is over opened = absurd (cc (sym (ap is_over is), over))
+never_settled None stage is spent opened = absurd (cc (sym (ap is_open is), opened))
+never_settled (Some code) stage is spent opened = absurd (cc (sym (ap is_over is), spent))
 
 -- so what settled was not idle
-pub fits_settled : (end : TurnEnd) (close : Option ℕ) (stage : Stage) (e : Event) (es : List Event) → stage ≡ settled close → Stops end stage → EndFits (Some end) (e ∷ es)
-fits_settled turn.Idle close stage e es is h = absurd (never_settled close stage is h.0 h.1)
-fits_settled turn.More close stage e es is h = tt
-fits_settled (turn.Closed code) close stage e es is h = tt
-fits_settled turn.StreamFault close stage e es is h = tt
-fits_settled turn.Memory close stage e es is h = tt
+fits_settled : (end : TurnEnd) (close : Option ℕ) (stage : Stage) (e : Event) (es : List Event) (b : Bool) → stage ≡ settled close → Stops end stage → EndFits end (e ∷ es) b
+fits_settled turn.Idle close stage e es b is h = absurd (never_settled close stage is h.0 h.1)
+fits_settled turn.More close stage e es b is h = absurd h.0
+fits_settled (turn.Closed code) close stage e es b is h = tt
+fits_settled turn.StreamFault close stage e es b is h = tt
+fits_settled turn.Memory close stage e es b is h = tt
 
-pub least_zero : (end : TurnEnd) (stage : Stage) → Halts end stage → least end ≡ 0
-least_zero turn.Idle stage h = refl
-least_zero turn.More stage h = absurd h
-least_zero (turn.Closed code) stage h = refl
-least_zero turn.StreamFault stage h = refl
-least_zero turn.Memory stage h = refl
+closed_if : (b : Bool) (stage : Stage) (end : WireEnd) → is_open stage ≡ false → is_open (if b then stage else Over end) ≡ false
+closed_if true stage end h = h
+closed_if false stage end h = refl
 
-open_not_waiting : (stage : Stage) (close : Option ℕ) → stage ≡ Open → stage ≡ Unflushed close → ⊥
-open_not_waiting stage close a b = absurd (cc (sym (ap is_open a) ∙ ap is_open b))
+-- an error leaves no wire open that was to wait for the stream
+open_not_after : (stage : Stage) (e : Error) (close : Option ℕ) → stage ≡ Open → stage ≡ after e (Unflushed close) → ⊥
+open_not_after stage e close a b = absurd (cc (sym (ap is_open a) ∙ ap is_open b, closed_if (waits_by e) (Unflushed close) (end_by e) refl))
 
-open_not_failed : (stage : Stage) → stage ≡ Open → has_failed stage ≡ true → ⊥
-open_not_failed stage a b = absurd (cc (sym (ap has_failed a), b))
+open_not_over : (stage : Stage) (end : WireEnd) → stage ≡ Open → stage ≡ Over end → ⊥
+open_not_over stage end a b = absurd (cc (sym (ap is_open a) ∙ ap is_open b))
 
 -- ---- what the socket answered
 
 module _ {S : Type 0} where
   pub settles : (contents : S → Option (List ℕ)) (old mid new : Socket S) (out : Out) (stage : Stage) (answer : Result (Unit {0}) Error)
-      → OnOk answer (Puts contents old out mid) → OnOk answer (mid.output ≡ []) → IfErr answer (λ e. IsIo e → Puts contents old out mid)
-      → new ≡ mid → OnOk answer (stage ≡ settled (close_in out))
-      → IfErr answer (λ e. (IsIo e × (stage ≡ Unflushed (close_in out))) ⊎ (has_failed stage ≡ true))
+      → OnOk answer (Puts contents old out mid) → OnOk answer (mid.output ≡ []) → IfErr answer (Fails contents old out mid)
+      → new ≡ mid → OnOk answer (stage ≡ settled (close_in out)) → IfErr answer (λ e. stage ≡ after e (Unflushed (close_in out)))
       → Settles contents old out new stage
-  settles contents old mid new out stage (Ok u) puts empty io same ok err =
+  settles contents old mid new out stage (Ok u) puts empty fails same ok err =
       inl (subst (Puts contents old out) (sym same) puts, ap (λ (s : Socket S). s.output) same ∙ empty, ok)
-  settles contents old mid new out stage (Err e) puts empty io same ok err =
-      ⊎_elim (λ (h : IsIo e × (stage ≡ Unflushed (close_in out))). inr (inl (subst (Puts contents old out) (sym same) (io h.0), h.1)))
-      (λ (h : has_failed stage ≡ true). inr (inr h)) err
+  settles contents old mid new out stage (Err e) puts empty fails same ok err =
+      let P : Socket S → Type 0 = λ x. Fails contents old out x e in
+      inr (inl (e, (subst P (sym same) fails, err)))
 
   pub settles_text : (contents : S → Option (List ℕ)) (old mid new : Socket S) (s : String Global) (m : Message) (stage : Stage) (answer : Result (Unit {0}) Error)
       → content_of m ≡ text (string_bytes s)
       → OnOk answer (Writes contents old mid (write_step old.conn (content_of m))) → OnOk answer (mid.output ≡ [])
-      → IfErr answer (λ e. IsIo e → Writes contents old mid (write_step old.conn (content_of m)))
-      → new ≡ mid → OnOk answer (stage ≡ settled None) → IfErr answer (λ e. (IsIo e × (stage ≡ Unflushed None)) ⊎ (has_failed stage ≡ true))
+      → IfErr answer (WriteFails (write_step old.conn (content_of m))) → IfErr answer (λ e. e ≡ WriteBufferFull → mid ≡ old)
+      → IfErr answer (λ e. IsIo e → Writes contents old mid (write_step old.conn (content_of m))) → IfErr answer (λ e. e ≡ OutOfMemory → mid ≡ old)
+      → new ≡ mid → OnOk answer (stage ≡ settled None) → IfErr answer (λ e. stage ≡ after e (Unflushed None))
       → Settles contents old (Text s) new stage
-  settles_text contents old mid new s m stage (Ok u) is puts empty io same ok err =
-      settles contents old mid new (Text s) stage (Ok u) (rw is at puts) empty io same ok err
-  settles_text contents old mid new s m stage (Err e) is puts empty io same ok err =
-      settles contents old mid new (Text s) stage (Err e) puts empty (λ (h : IsIo e). rw is at (io h)) same ok err
+  settles_text contents old mid new s m stage (Ok u) is puts empty fault full io memory same ok err =
+      settles contents old mid new (Text s) stage (Ok u) (rw is at puts) empty fault same ok err
+  settles_text contents old mid new s m stage (Err e) is puts empty fault full io memory same ok err =
+      settles contents old mid new (Text s) stage (Err e) puts empty (rw is at fault, (λ (h : IsIo e). rw is at (io h)), (λ _. full), memory) same ok err
 
   pub settles_close : (contents : S → Option (List ℕ)) (old mid new : Socket S) (code : ℕ) (f : Option (CloseCode × List ℕ)) (stage : Stage) (answer : Result (Unit {0}) Error)
       → f ≡ frame_of code
       → OnOk answer (Writes contents old mid (close_step old.conn f)) → OnOk answer (mid.output ≡ [])
-      → IfErr answer (λ e. IsIo e → Writes contents old mid (close_step old.conn f))
-      → new ≡ mid → OnOk answer (stage ≡ settled (Some code)) → IfErr answer (λ e. (IsIo e × (stage ≡ Unflushed (Some code))) ⊎ (has_failed stage ≡ true))
+      → IfErr answer (WriteFails (close_step old.conn f)) → IfErr answer (λ e. IsIo e → Writes contents old mid (close_step old.conn f))
+      → IfErr answer (λ e. e ≡ OutOfMemory → mid ≡ old)
+      → new ≡ mid → OnOk answer (stage ≡ settled (Some code)) → IfErr answer (λ e. stage ≡ after e (Unflushed (Some code)))
       → Settles contents old (Close code) new stage
-  settles_close contents old mid new code f stage (Ok u) is puts empty io same ok err =
-      settles contents old mid new (Close code) stage (Ok u) (rw is at puts) empty io same ok err
-  settles_close contents old mid new code f stage (Err e) is puts empty io same ok err =
-      settles contents old mid new (Close code) stage (Err e) puts empty (λ (h : IsIo e). rw is at (io h)) same ok err
+  settles_close contents old mid new code f stage (Ok u) is puts empty fault io memory same ok err =
+      settles contents old mid new (Close code) stage (Ok u) (rw is at puts) empty fault same ok err
+  settles_close contents old mid new code f stage (Err e) is puts empty fault io memory same ok err =
+      settles contents old mid new (Close code) stage (Err e) puts empty (rw is at fault, (λ (h : IsIo e). rw is at (io h)), (λ (h : Some code ≡ None). absurd (cc h)), memory) same ok err
 
 -- a close's code and reason
 abbrev pub framed : CloseCode → List ℕ → Option (CloseCode × List ℕ)
@@ -108,158 +266,185 @@ frame_same a b x y h i = ap (λ c. framed c x) h ∙ ap (framed b) i
 
 -- ---- turns
 
-reads-append : (es fs : List Event) → reads (es ++ fs) ≡ reads es + reads fs
-reads-append [] fs = omega arith
-reads-append (heard t ∷ es) fs = omega (arith, reads-append es fs)
-reads-append (passed ∷ es) fs = omega (arith, reads-append es fs)
-reads-append (ended c ∷ es) fs = omega (arith, reads-append es fs)
-reads-append (rejected ∷ es) fs = omega (arith, reads-append es fs)
-reads-append (failed ∷ es) fs = reads-append es fs
-reads-append (none ∷ es) fs = reads-append es fs
-reads-append (sent o ∷ es) fs = reads-append es fs
-reads-append (held o ∷ es) fs = reads-append es fs
-reads-append (refused o ∷ es) fs = reads-append es fs
-reads-append (flushed ∷ es) fs = reads-append es fs
-reads-append (tried ∷ es) fs = reads-append es fs
-
-moves-append : (es fs : List Event) → moves (es ++ fs) ≡ moves es + moves fs
-moves-append [] fs = omega arith
-moves-append (heard t ∷ es) fs = omega (arith, moves-append es fs)
-moves-append (passed ∷ es) fs = omega (arith, moves-append es fs)
-moves-append (ended c ∷ es) fs = omega (arith, moves-append es fs)
-moves-append (rejected ∷ es) fs = omega (arith, moves-append es fs)
-moves-append (failed ∷ es) fs = moves-append es fs
-moves-append (none ∷ es) fs = moves-append es fs
-moves-append (sent o ∷ es) fs = omega (arith, moves-append es fs)
-moves-append (held o ∷ es) fs = moves-append es fs
-moves-append (refused o ∷ es) fs = moves-append es fs
-moves-append (flushed ∷ es) fs = moves-append es fs
-moves-append (tried ∷ es) fs = moves-append es fs
-
-module _ {D S : Type 0} (hears : D → List ℕ → D → Type 0) (gives : D → Option Out → D → Type 0) (remaining contents : S → Option (List ℕ)) where
-  did_then : (es fs : List Event) (p q r : Place D S) → Did hears gives remaining contents fs p q → Did hears gives remaining contents es q r → Did hears gives remaining contents (es ++ fs) p r
-  did_then [] fs p q r a b = let P : Place D S → Type 0 = λ x. Did hears gives remaining contents fs p x in subst P (sym b) a
+module _ {D S : Type 0} (hears : D → List ℕ → D → Type 0) (gives : D → Option Out → D → Type 0) (ready : D → Bool) (remaining contents : S → Option (List ℕ)) where
+  did_then : (es fs : List Event) (p q r : Place D S) → Did hears gives ready remaining contents fs p q → Did hears gives ready remaining contents es q r → Did hears gives ready remaining contents (es ++ fs) p r
+  did_then [] fs p q r a b = let P : Place D S → Type 0 = λ x. Did hears gives ready remaining contents fs p x in subst P (sym b) a
   did_then (e ∷ es) fs p q r a b = (b.0, did_then es fs p q b.0 a b.1, b.2, b.3)
 
-  pub turns_none : (p : Place D S) → Turns hears gives remaining contents 0 0 None p p
-  turns_none p = record { events = []; did = refl; busy = omega arith; bound = omega arith; rests = tt }
+  pub turns_none : (left : ℕ) (p : Place D S) → Part hears gives ready remaining contents 0 0 left left going p p
+  turns_none left p = record { events = []; did = refl; busy = omega arith; bound = omega arith; spends = omega arith; light = inl refl; fits = tt }
 
-  pub turns_one : (e : Event) (low high : ℕ) (end : Option TurnEnd) (p q : Place D S)
-      → DeskDoes hears gives remaining contents e p.desk q.desk → WireDoes hears gives remaining contents e p.wire q.wire
-      → low ≤ moves (e ∷ []) → reads (e ∷ []) ≤ high → EndFits end (e ∷ []) → Turns hears gives remaining contents low high end p q
-  turns_one e low high end p q d w busy bound rests = record { events = e ∷ []; did = (p, refl, d, w); busy = busy; bound = bound; rests = rests }
+  pub turns_one : (e : Event) (low high left rest : ℕ) (mark : Mark) (p q : Place D S)
+      → DeskDoes hears gives ready remaining contents e p.desk q.desk → WireDoes hears gives ready remaining contents e p.wire q.wire
+      → low ≤ moves (e ∷ []) → reads (e ∷ []) ≤ high → rest ≡ left - bytes (e ∷ []) → (reads (e ∷ []) ≡ 0) ⊎ (bytes_before (e ∷ []) < left) → Fits mark (e ∷ []) (ready q.desk)
+      → Part hears gives ready remaining contents low high left rest mark p q
+  turns_one e low high left rest mark p q d w busy bound spends light fits =
+      record { events = e ∷ []; did = (p, refl, d, w); busy = busy; bound = bound; spends = spends; light = light; fits = fits }
 
-  pub turns_then : (l m low h k high : ℕ) (first end : Option TurnEnd) (p q r : Place D S)
-      → Turns hears gives remaining contents l h first p q → Turns hears gives remaining contents m k end q r → low ≤ l + m → h + k ≤ high
-      → Turns hears gives remaining contents low high end p r
-  turns_then l m low h k high first end p q r a b busy bound = record {
+  pub turns_then : (l m low h k high left mid rest : ℕ) (first mark : Mark) (p q r : Place D S)
+      → Part hears gives ready remaining contents l h left mid first p q → Part hears gives ready remaining contents m k mid rest mark q r → low ≤ l + m → h + k ≤ high
+      → Part hears gives ready remaining contents low high left rest mark p r
+  turns_then l m low h k high left mid rest first mark p q r a b busy bound = record {
     events = b.events ++ a.events;
     did = did_then b.events a.events p q r a.did b.did;
-    busy = omega (arith, moves-append b.events a.events, a.busy, b.busy, busy);
-    bound = omega (arith, reads-append b.events a.events, a.bound, b.bound, bound);
-    rests = fits_append end b.events a.events b.rests;
+    busy = omega (arith, moves_append b.events a.events, a.busy, b.busy, busy);
+    bound = omega (arith, reads_append b.events a.events, a.bound, b.bound, bound);
+    spends = omega (arith, bytes_append b.events a.events, a.spends, b.spends);
+    light = light_then left mid b.events a.events a.spends a.light b.light;
+    fits = fits_append mark b.events a.events (ready r.desk) b.fits;
   }
 
-  pub turns_more : (l low h high : ℕ) (end : Option TurnEnd) (p q : Place D S) → Turns hears gives remaining contents l h end p q → low ≤ l → h ≤ high
-      → Turns hears gives remaining contents low high end p q
-  turns_more l low h high end p q a busy bound = record {
+  -- where nothing was read no byte of what was left is spent
+  pub turns_quiet : (low high left rest : ℕ) (mark : Mark) (p q : Place D S) → Part hears gives ready remaining contents low 0 0 0 mark p q → rest ≡ left → Part hears gives ready remaining contents low high left rest mark p q
+  turns_quiet low high left rest mark p q a same = record {
     events = a.events;
     did = a.did;
-    busy = omega (arith, a.busy, busy);
-    bound = omega (arith, a.bound, bound);
-    rests = a.rests;
+    busy = a.busy;
+    bound = omega (arith, a.bound);
+    spends = omega (arith, same, bytes_zero a.events (omega (arith, a.bound)));
+    light = inl (omega (arith, a.bound));
+    fits = a.fits;
   }
 
+  -- the same under another name of its mark
+  pub turns_as : (low high left rest : ℕ) (mark named : Mark) (p q : Place D S) → Part hears gives ready remaining contents low high left rest mark p q → mark ≡ named → Part hears gives ready remaining contents low high left rest named p q
+  turns_as low high left rest mark named p q a same = let P : Mark → Type 0 = λ m. Part hears gives ready remaining contents low high left rest m p q in subst P same a
+
   -- there may be more
-  pub turns_go_on : (low high : ℕ) (p q : Place D S) → Turns hears gives remaining contents low high None p q → Turns hears gives remaining contents low high (Some turn.More) p q
-  turns_go_on low high p q a = record { events = a.events; did = a.did; busy = a.busy; bound = a.bound; rests = tt }
+  pub turns_sent_much : (low l : ℕ) (mark : Mark) (p q : Place D S) → Part hears gives ready remaining contents l 0 0 0 mark p q → most_reads ≤ l → low ≡ 0 → Part hears gives ready remaining contents low 0 0 0 (over turn.More) p q
+  turns_sent_much low l mark p q a much is = record {
+    events = a.events;
+    did = a.did;
+    busy = omega (arith, is);
+    bound = a.bound;
+    spends = a.spends;
+    light = a.light;
+    fits = inl (omega (arith, a.busy, much));
+  }
+
+  -- ---- whole turns
+
+  pub turns_done : (low high rest : ℕ) (end : TurnEnd) (p q : Place D S) → Part hears gives ready remaining contents low high most_bytes rest (over end) p q → high ≤ most_reads → Turns hears gives ready remaining contents end p q
+  turns_done low high rest end p q a bound = record { events = a.events; did = a.did; bound = omega (arith, a.bound, bound); light = light_all a.events a.light; fits = a.fits }
+
+  pub turns_go_on : (low high rest : ℕ) (mark : Mark) (p q : Place D S) → Part hears gives ready remaining contents low high most_bytes rest mark p q → high ≤ most_reads
+      → (most_reads ≤ low) ⊎ (rest ≡ 0) → Turns hears gives ready remaining contents turn.More p q
+  turns_go_on low high rest mark p q a bound (inl h) =
+      record { events = a.events; did = a.did; bound = omega (arith, a.bound, bound); light = light_all a.events a.light; fits = inl (omega (arith, a.busy, h)) }
+  turns_go_on low high rest mark p q a bound (inr h) =
+      record { events = a.events; did = a.did; bound = omega (arith, a.bound, bound); light = light_all a.events a.light; fits = inr (omega (arith, a.spends, h)) }
+
+  pub turns_wait : (low high rest : ℕ) (p q : Place D S) → Part hears gives ready remaining contents low high most_bytes rest emptied p q → high ≤ most_reads → ready q.desk ≡ false → Turns hears gives ready remaining contents turn.Idle p q
+  turns_wait low high rest p q a bound is =
+      record { events = a.events; did = a.did; bound = omega (arith, a.bound, bound); light = light_all a.events a.light; fits = rests_emptied a.events (ready q.desk) a.fits is }
+
+  pub turns_after : (low : ℕ) (mark : Mark) (end : TurnEnd) (p q r : Place D S) → Part hears gives ready remaining contents low 0 0 0 mark p q → Turns hears gives ready remaining contents end q r → Turns hears gives ready remaining contents end p r
+  turns_after low mark end p q r a b = record {
+    events = b.events ++ a.events;
+    did = did_then b.events a.events p q r a.did b.did;
+    bound = omega (arith, reads_append b.events a.events, a.bound, b.bound);
+    light = omega (arith, before_append b.events a.events, bytes_zero a.events (omega (arith, a.bound)), b.light);
+    fits = end_append end b.events a.events (ready r.desk) b.fits;
+  }
 
   -- ---- by what was sent
 
   pub out_open : (d e : D) (v w : WireState S) (out : Out) → v.stage ≡ Open → gives d (Some out) e → Settles contents v.socket out w.socket w.stage → w.stage ≡ Open
-      → Turns hears gives remaining contents 1 0 None (place d v) (place e w)
-  out_open d e v w out is h (inl lands) opened = turns_one (sent out) 1 0 None _ _ h (is, lands) (omega arith) (omega arith) tt
-  out_open d e v w out is h (inr (inl waits)) opened = absurd (open_not_waiting w.stage (close_in out) opened waits.1)
-  out_open d e v w out is h (inr (inr fails)) opened = absurd (open_not_failed w.stage opened fails)
+      → Part hears gives ready remaining contents 1 0 0 0 going (place d v) (place e w)
+  out_open d e v w out is h (inl lands) opened = turns_one (sent out) 1 0 0 0 going _ _ h (is, lands) (omega arith) (omega arith) (omega arith) (inl (omega arith)) tt
+  out_open d e v w out is h (inr (inl fails)) opened = absurd (open_not_after w.stage fails.0 (close_in out) opened fails.1.1)
+  out_open d e v w out is h (inr (inr unwraps)) opened = absurd (open_not_over w.stage wire.Memory opened unwraps.2)
 
   pub out_stopped : (d e : D) (v w : WireState S) (out : Out) (end : TurnEnd) → v.stage ≡ Open → gives d (Some out) e → Settles contents v.socket out w.socket w.stage
-      → Stops end w.stage → Turns hears gives remaining contents 0 0 (Some end) (place d v) (place e w)
+      → Stops end w.stage → Part hears gives ready remaining contents 0 0 0 0 (over end) (place d v) (place e w)
   out_stopped d e v w out end is h (inl lands) stops =
-      turns_one (sent out) 0 0 (Some end) _ _ h (is, lands) (omega arith) (omega arith) (fits_settled end (close_in out) w.stage (sent out) [] lands.2 stops)
-  out_stopped d e v w out end is h (inr (inl waits)) stops =
-      turns_one (held out) 0 0 (Some end) _ _ h (is, waits) (omega arith) (omega arith) (fits_stop end (held out) [] refl)
-  out_stopped d e v w out end is h (inr (inr fails)) stops =
-      turns_one (refused out) 0 0 (Some end) _ _ h (is, fails) (omega arith) (omega arith) (fits_stop end (refused out) [] refl)
+      turns_one (sent out) 0 0 0 0 (over end) _ _ h (is, lands) (omega arith) (omega arith) (omega arith) (inl (omega arith)) (fits_settled end (close_in out) w.stage (sent out) [] (ready e) lands.2 stops)
+  out_stopped d e v w out end is h (inr (inl fails)) stops =
+      turns_one (refused out fails.0) 0 0 0 0 (over end) _ _ h (is, fails.1) (omega arith) (omega arith) (omega arith) (inl (omega arith)) (fits_stop end w.stage (refused out fails.0) [] (ready e) stops.0 refl)
+  out_stopped d e v w out end is h (inr (inr unwraps)) stops =
+      turns_one (unwrapped out) 0 0 0 0 (over end) _ _ h (is, unwraps) (omega arith) (omega arith) (omega arith) (inl (omega arith)) (fits_stop end w.stage (unwrapped out) [] (ready e) stops.0 refl)
 
   -- ---- by what was flushed
 
   pub flush_turns : (d : D) (v w : WireState S) (close : Option ℕ) (r : Result (Unit {0}) TurnEnd) → v.stage ≡ Unflushed close → Flushed contents v.socket w.socket
       → FlushLeaves close w.socket w.stage → OnOk r (w.stage ≡ Open) → IfErr r (λ end. Stops end w.stage)
-      → Turns hears gives remaining contents 0 0 (end_in r) (place d v) (place d w)
-  flush_turns d v w close (Ok u) is f (inl leaves) opened stops = turns_one flushed 0 0 None _ _ refl (close, is, f, leaves.0, leaves.1) (omega arith) (omega arith) tt
-  flush_turns d v w close (Ok u) is f (inr (inl waits)) opened stops = absurd (open_not_waiting w.stage close opened waits)
-  flush_turns d v w close (Ok u) is f (inr (inr fails)) opened stops = absurd (open_not_failed w.stage opened fails)
+      → Part hears gives ready remaining contents 0 0 0 0 (mark_of r) (place d v) (place d w)
+  flush_turns d v w close (Ok u) is f (inl leaves) opened stops =
+      turns_one flushed 0 0 0 0 going _ _ refl (close, is, f, leaves.0, leaves.1) (omega arith) (omega arith) (omega arith) (inl (omega arith)) tt
+  flush_turns d v w close (Ok u) is f (inr fails) opened stops = absurd (open_not_after w.stage fails.0 close opened fails.2)
   flush_turns d v w close (Err end) is f (inl leaves) opened stops =
-      turns_one flushed 0 0 (Some end) _ _ refl (close, is, f, leaves.0, leaves.1) (omega arith) (omega arith) (fits_settled end close w.stage flushed [] leaves.1 stops)
-  flush_turns d v w close (Err end) is f (inr x) opened stops =
-      turns_one tried 0 0 (Some end) _ _ refl (close, is, f, x) (omega arith) (omega arith) (fits_stop end tried [] refl)
+      turns_one flushed 0 0 0 0 (over end) _ _ refl (close, is, f, leaves.0, leaves.1) (omega arith) (omega arith) (omega arith) (inl (omega arith)) (fits_settled end close w.stage flushed [] (ready d) leaves.1 stops)
+  flush_turns d v w close (Err end) is f (inr fails) opened stops =
+      turns_one (tried fails.0) 0 0 0 0 (over end) _ _ refl (close, is, f, fails.1, fails.2) (omega arith) (omega arith) (omega arith) (inl (omega arith)) (fits_stop end w.stage (tried fails.0) [] (ready d) stops.0 refl)
 
   -- ---- by what was read
 
-  pub turns_at : (low high : ℕ) (end : Option TurnEnd) (d : D) (u v : WireState S) (q : Place D S) → u ≡ v
-      → Turns hears gives remaining contents low high end (place d u) q → Turns hears gives remaining contents low high end (place d v) q
-  turns_at low high end d u v q same h =
-      let P : WireState S → Type 0 = λ x. Turns hears gives remaining contents low high end (place d x) q in
+  turns_at : (low high left rest : ℕ) (mark : Mark) (d : D) (u v : WireState S) (q : Place D S) → u ≡ v
+      → Part hears gives ready remaining contents low high left rest mark (place d u) q → Part hears gives ready remaining contents low high left rest mark (place d v) q
+  turns_at low high left rest mark d u v q same h =
+      let P : WireState S → Type 0 = λ x. Part hears gives ready remaining contents low high left rest mark (place d x) q in
       subst P same h
 
-  pub heard_turns : (d e : D) (u v w : WireState S) (m : Message) (t : List ℕ) → u ≡ v → v.stage ≡ Open → w.stage ≡ u.stage → Reads remaining u.socket w.socket (Ok m)
-      → content_of m ≡ text t → hears d t e → Turns hears gives remaining contents 1 1 None (place d v) (place e w)
-  heard_turns d e u v w m t same is stays read says h =
-      let at : u.stage ≡ Open = ap (λ (x : WireState S). x.stage) same ∙ is in
-      turns_at 1 1 None d u v _ same (turns_one (heard t) 1 1 None _ _ h (at, stays ∙ at, (m, read, says)) (omega arith) (omega arith) tt)
+  stage_at : (u v : WireState S) → u ≡ v → v.stage ≡ Open → u.stage ≡ Open
+  stage_at u v same is = ap (λ (x : WireState S). x.stage) same ∙ is
 
-  pub passed_turns : (d : D) (u v w : WireState S) (m : Message) → u ≡ v → v.stage ≡ Open → w.stage ≡ u.stage → Reads remaining u.socket w.socket (Ok m)
-      → is_signal (content_of m) ≡ true → Turns hears gives remaining contents 1 1 None (place d v) (place d w)
-  passed_turns d u v w m same is stays read says =
-      let at : u.stage ≡ Open = ap (λ (x : WireState S). x.stage) same ∙ is in
-      turns_at 1 1 None d u v _ same (turns_one passed 1 1 None _ _ refl (at, stays ∙ at, (m, read, says)) (omega arith) (omega arith) tt)
+  pub heard_turns : (d e : D) (u v w : WireState S) (m : Message) (t : List ℕ) (left rest : ℕ) → u ≡ v → v.stage ≡ Open → ready d ≡ true → 0 < left → w.stage ≡ u.stage
+      → Reads remaining u.socket w.socket (Ok m) → content_of m ≡ text t → hears d t e → rest ≡ left - length t
+      → Part hears gives ready remaining contents 1 1 left rest going (place d v) (place e w)
+  heard_turns d e u v w m t left rest same is free room stays read says h spends =
+      let at : u.stage ≡ Open = stage_at u v same is in
+      turns_at 1 1 left rest going d u v _ same
+      (turns_one (heard t) 1 1 left rest going _ _ (free, h) (at, stays ∙ at, (m, read, says)) (omega arith) (omega arith) (omega (arith, spends)) (inr (omega (arith, room))) tt)
 
-  reject_here : (d : D) (v w : WireState S) (mid : Socket S) (m : Result Message Error) (r : Result (Unit {0}) TurnEnd) → v.stage ≡ Open → is_bad m → Reads remaining v.socket mid m
-      → Settles contents mid (Close bad_message) w.socket w.stage → IfErr r (λ end. Stops end w.stage)
-      → Turns hears gives remaining contents (least_in 1 r) 1 (end_in r) (place d v) (place d w)
-  reject_here d v w mid m (Ok u) is bad read put stops = turns_one rejected 1 1 None _ _ refl (is, (m, mid, bad, read, put)) (omega arith) (omega arith) tt
-  reject_here d v w mid m (Err end) is bad read put stops =
-      turns_one rejected (least end) 1 (Some end) _ _ refl (is, (m, mid, bad, read, put)) (omega (arith, least_zero end w.stage stops.0)) (omega arith) (fits_stop end rejected [] refl)
+  pub passed_turns : (d : D) (u v w : WireState S) (m : Message) (left rest : ℕ) → u ≡ v → v.stage ≡ Open → ready d ≡ true → 0 < left → rest ≡ left → w.stage ≡ u.stage
+      → Reads remaining u.socket w.socket (Ok m) → is_signal (content_of m) ≡ true → Part hears gives ready remaining contents 1 1 left rest going (place d v) (place d w)
+  passed_turns d u v w m left rest same is free room stay stays read says =
+      let at : u.stage ≡ Open = stage_at u v same is in
+      turns_at 1 1 left rest going d u v _ same
+      (turns_one passed 1 1 left rest going _ _ (free, refl) (at, stays ∙ at, (m, read, says)) (omega arith) (omega arith) (omega (arith, stay)) (inr (omega (arith, room))) tt)
 
-  pub reject_turns : (d : D) (u v w : WireState S) (mid : Socket S) (m : Result Message Error) (code : ℕ) (r : Result (Unit {0}) TurnEnd) → u ≡ v → v.stage ≡ Open → is_bad m
+  reject_here : (d : D) (v w : WireState S) (mid : Socket S) (m : Result Message Error) (r : Result (Unit {0}) TurnEnd) (left rest : ℕ) → ready d ≡ true → 0 < left → rest ≡ left
+      → v.stage ≡ Open → is_bad m → Reads remaining v.socket mid m → Settles contents mid (Close bad_message) w.socket w.stage → IfErr r (λ end. Stops end w.stage)
+      → Part hears gives ready remaining contents (read_in r) 1 left rest (mark_of r) (place d v) (place d w)
+  reject_here d v w mid m (Ok u) left rest free room stay is bad read put stops =
+      turns_one rejected 1 1 left rest going _ _ (free, refl) (is, (m, mid, bad, read, put)) (omega arith) (omega arith) (omega (arith, stay)) (inr (omega (arith, room))) tt
+  reject_here d v w mid m (Err end) left rest free room stay is bad read put stops =
+      turns_one rejected 0 1 left rest (over end) _ _ (free, refl) (is, (m, mid, bad, read, put)) (omega arith) (omega arith) (omega (arith, stay)) (inr (omega (arith, room)))
+      (fits_stop end w.stage rejected [] (ready d) stops.0 refl)
+
+  pub reject_turns : (d : D) (u v w : WireState S) (mid : Socket S) (m : Result Message Error) (code : ℕ) (r : Result (Unit {0}) TurnEnd) (left rest : ℕ) → u ≡ v → v.stage ≡ Open
+      → ready d ≡ true → 0 < left → rest ≡ left → is_bad m
       → Reads remaining u.socket mid m → code ≡ bad_message → Settles contents mid (Close code) w.socket w.stage → IfErr r (λ end. Stops end w.stage)
-      → Turns hears gives remaining contents (least_in 1 r) 1 (end_in r) (place d v) (place d w)
-  reject_turns d u v w mid m code r same is bad read number put stops =
+      → Part hears gives ready remaining contents (read_in r) 1 left rest (mark_of r) (place d v) (place d w)
+  reject_turns d u v w mid m code r left rest same is free room stay bad read number put stops =
       let P : ℕ → Type 0 = λ n. Settles contents mid (Close n) w.socket w.stage in
-      turns_at _ _ _ d u v _ same (reject_here d u w mid m r (ap (λ (x : WireState S). x.stage) same ∙ is) bad read (subst P number put) stops)
+      turns_at _ _ _ _ _ d u v _ same (reject_here d u w mid m r left rest free room stay (stage_at u v same is) bad read (subst P number put) stops)
 
-  close_here : (d : D) (v x w : WireState S) (code : ℕ) (r : Result (Unit {0}) TurnEnd) → WireDoes hears gives remaining contents (ended code) v x
+  close_here : (d : D) (v x w : WireState S) (code : ℕ) (r : Result (Unit {0}) TurnEnd) (left rest : ℕ) → ready d ≡ true → 0 < left → rest ≡ left → WireDoes hears gives ready remaining contents (ended code) v x
       → Flushed contents x.socket w.socket → FlushLeaves (Some code) w.socket w.stage → OnOk r (w.stage ≡ Open) → IfErr r (λ end. Stops end w.stage)
-      → Turns hears gives remaining contents (least_in 1 r) 1 (end_in r) (place d v) (place d w)
-  close_here d v x w code (Ok u) did f leaves opened stops =
-      turns_then 1 0 1 1 0 1 None None _ (place d x) _ (turns_one (ended code) 1 1 None _ _ refl did (omega arith) (omega arith) tt)
-      (flush_turns d x w (Some code) (Ok u) did.1 f leaves opened stops) (omega arith) (omega arith)
-  close_here d v x w code (Err end) did f leaves opened stops =
-      turns_then 1 0 (least end) 1 0 1 None (Some end) _ (place d x) _ (turns_one (ended code) 1 1 None _ _ refl did (omega arith) (omega arith) tt)
-      (flush_turns d x w (Some code) (Err end) did.1 f leaves opened stops) (omega (arith, least_zero end w.stage stops.0)) (omega arith)
+      → Part hears gives ready remaining contents (read_in r) 1 left rest (mark_of r) (place d v) (place d w)
+  close_here d v x w code (Ok u) left rest free room stay did f leaves opened stops =
+      turns_then 1 0 1 1 0 1 left left rest going going _ (place d x) _
+      (turns_one (ended code) 1 1 left left going _ _ (free, refl) did (omega arith) (omega arith) (omega arith) (inr (omega (arith, room))) tt)
+      (turns_quiet 0 0 left rest going _ _ (flush_turns d x w (Some code) (Ok u) did.1 f leaves opened stops) stay) (omega arith) (omega arith)
+  close_here d v x w code (Err end) left rest free room stay did f leaves opened stops =
+      turns_then 1 0 0 1 0 1 left left rest going (over end) _ (place d x) _
+      (turns_one (ended code) 1 1 left left going _ _ (free, refl) did (omega arith) (omega arith) (omega arith) (inr (omega (arith, room))) tt)
+      (turns_quiet 0 0 left rest (over end) _ _ (flush_turns d x w (Some code) (Err end) did.1 f leaves opened stops) stay) (omega arith) (omega arith)
 
-  pub close_turns : (d : D) (u v w : WireState S) (mid : Socket S) (m : Message) (code : ℕ) (r : Result (Unit {0}) TurnEnd) → u ≡ v → v.stage ≡ Open → Reads remaining u.socket mid (Ok m)
+  pub close_turns : (d : D) (u v w : WireState S) (mid : Socket S) (m : Message) (code : ℕ) (r : Result (Unit {0}) TurnEnd) (left rest : ℕ) → u ≡ v → v.stage ≡ Open
+      → ready d ≡ true → 0 < left → rest ≡ left → Reads remaining u.socket mid (Ok m)
       → code_in (content_of m) ≡ Some code → Flushed contents mid w.socket → FlushLeaves (Some code) w.socket w.stage → OnOk r (w.stage ≡ Open) → IfErr r (λ end. Stops end w.stage)
-      → Turns hears gives remaining contents (least_in 1 r) 1 (end_in r) (place d v) (place d w)
-  close_turns d u v w mid m code r same is read says f leaves opened stops =
-      turns_at _ _ _ d u v _ same
-      (close_here d u (record { socket = mid; stage = Unflushed (Some code) }) w code r (ap (λ (x : WireState S). x.stage) same ∙ is, refl, (m, read, says)) f leaves opened stops)
+      → Part hears gives ready remaining contents (read_in r) 1 left rest (mark_of r) (place d v) (place d w)
+  close_turns d u v w mid m code r left rest same is free room stay read says f leaves opened stops =
+      turns_at _ _ _ _ _ d u v _ same
+      (close_here d u (record { socket = mid; stage = Unflushed (Some code) }) w code r left rest free room stay (stage_at u v same is, refl, (m, read, says)) f leaves opened stops)
 
-  pub fail_turns : (d : D) (u v w : WireState S) (mid : Socket S) (e : Error) (end : TurnEnd) → u ≡ v → v.stage ≡ Open → Reads remaining u.socket mid (Err e) → w.socket ≡ mid
-      → (IsIo e × (w.stage ≡ Open)) ⊎ (has_failed w.stage ≡ true) → Halts end w.stage
-      → Turns hears gives remaining contents (least end) 1 (Some end) (place d v) (place d w)
-  fail_turns d u v w mid e end same is read stays left halts =
+  pub fail_turns : (d : D) (u v w : WireState S) (mid : Socket S) (e : Error) (end : TurnEnd) (left rest : ℕ) → u ≡ v → v.stage ≡ Open
+      → ready d ≡ true → 0 < left → rest ≡ left → Reads remaining u.socket mid (Err e) → w.socket ≡ mid → w.stage ≡ after e Open → Halts end w.stage
+      → Part hears gives ready remaining contents 0 1 left rest (over end) (place d v) (place d w)
+  fail_turns d u v w mid e end left rest same is free room stay read stays left_at halts =
       let P : Socket S → Type 0 = λ x. Reads remaining u.socket x (Err e) in
-      turns_at _ _ _ d u v _ same
-      (turns_one failed (least end) 1 (Some end) _ _ refl (ap (λ (x : WireState S). x.stage) same ∙ is, (e, subst P (sym stays) read, left))
-      (omega (arith, least_zero end w.stage halts)) (omega arith) (fits_stop end failed [] refl))
+      turns_at _ _ _ _ _ d u v _ same
+      (turns_one (failed e) 0 1 left rest (over end) _ _ (free, refl) (stage_at u v same is, subst P (sym stays) read, left_at)
+      (omega arith) (omega arith) (omega (arith, stay)) (inl (omega arith)) (fits_stop end w.stage (failed e) [] (ready d) halts refl))

@@ -1,6 +1,11 @@
 -- Where a wire stands, and how a turn ends.
-use Rattle.std.specs.Prelude.{◌≡◌, ℕ, Bool, true, false, Option, Some, None}
+use Rattle.std.specs.Prelude.{◌≡◌, ℕ, Bool, true, false, if◌then◌else◌, Option, Some, None}
+use Rattle.std.specs.IoError.{error_kind}
+use Rattle.std.specs.declared.io.ErrorKind.{ErrorKind}
+use Rattle.std.specs.declared.io.ErrorKind.TheVariants as kind
 use Rattle.tungstenite.specs.Socket.{Socket}
+use Rattle.tungstenite.specs.declared.error.Error.{Error}
+use Rattle.tungstenite.specs.declared.error.Error.TheVariants as error
 use Rattle.cf_queue.specs.declared.queue.Out.{Out}
 use Rattle.cf_queue.specs.declared.queue.Out.TheVariants as out
 use Rattle.cf_wire.specs.declared.end.TurnEnd.{TurnEnd}
@@ -30,11 +35,28 @@ is_unflushed Open = false
 is_unflushed (Unflushed close) = true
 is_unflushed (Over end) = false
 
--- the wire is spent, and not by a close
-abbrev pub has_failed : Stage → Bool
-has_failed (Over wire.StreamFault) = true
-has_failed (Over wire.Memory) = true
-has_failed other = false
+-- This project's own profile: a fault of the stream that says "would block" waits, refused memory is told as memory, and any
+-- other fault as a failure of the stream.
+abbrev pub waits_by_kind : ErrorKind → Bool
+waits_by_kind kind.WouldBlock = true
+waits_by_kind _ = false
+
+abbrev pub waits_by : Error → Bool
+waits_by (error.Io cause) = waits_by_kind (error_kind cause)
+waits_by other = false
+
+abbrev pub end_by_kind : ErrorKind → WireEnd
+end_by_kind kind.OutOfMemory = wire.Memory
+end_by_kind _ = wire.StreamFault
+
+abbrev pub end_by : Error → WireEnd
+end_by error.OutOfMemory = wire.Memory
+end_by (error.Io cause) = end_by_kind (error_kind cause)
+end_by other = wire.StreamFault
+
+-- where an error of the socket leaves a wire that waits at this stage if the stream would block
+abbrev pub after : Error → Stage → Stage
+after e waiting = if waits_by e then waiting else Over (end_by e)
 
 -- the code of what goes out, where it is a close
 abbrev pub close_in : Out → Option ℕ

@@ -1,25 +1,28 @@
 -- What a turn of a wire did, event by event, each by what `tungstenite` promises of the call behind it.
 -- (RFC 6455: the messages of a WebSocket, its pings, pongs and close.)
-use Rattle.std.specs.Prelude.{◌≡◌, ◌≤◌, ◌⊎◌, ℕ, ◌+◌, List, [], ◌∷◌, Bool, true, false, Option, None, Some, Result, Ok, Err, string_bytes, ⊤}
+use Rattle.std.specs.Prelude.{◌≡◌, ◌≤◌, ◌<◌, ◌⊎◌, ℕ, ◌+◌, ◌-◌, List, [], ◌∷◌, length, Bool, true, false, Option, None, Some, Result, Ok, Err, string_bytes, ⊤}
+use Rattle.websocket.specs.Connection.{Connection, Effect}
+use Rattle.websocket.specs.declared.error.Error.{Error as FrameError}
 use Rattle.tungstenite.specs.CloseCode.{close_code_number}
 use Rattle.tungstenite.specs.Connection.{write_step, close_step}
 use Rattle.tungstenite.specs.Content as content
 use Rattle.tungstenite.specs.Content.{Content, text, binary, ping, pong}
-use Rattle.tungstenite.specs.Failure.{IsIo}
+use Rattle.tungstenite.specs.Failure.{IsIo, WriteFails}
 use Rattle.tungstenite.specs.Socket.{Socket, Reads, Writes, Flushed, content_of}
 use Rattle.tungstenite.specs.declared.message.Message.{Message}
 use Rattle.tungstenite.specs.declared.error.Error.{Error}
-use Rattle.tungstenite.specs.declared.error.Error.TheVariants.{Capacity}
+use Rattle.tungstenite.specs.declared.error.Error.TheVariants.{Capacity, WriteBufferFull, OutOfMemory}
 use Rattle.cf_protocol.specs.Codes.{close_code_of}
 use Rattle.cf_protocol.specs.declared.codes.CloseCode.TheVariants.{BadRequest}
 use Rattle.cf_queue.specs.declared.queue.Out.{Out}
 use Rattle.cf_queue.specs.declared.queue.Out.TheVariants.{Text, Close}
 use Rattle.cf_wire.specs.CloseFrame.{frame_of}
-use Rattle.cf_wire.specs.Stages.{WireState, has_failed, close_in, settled}
+use Rattle.cf_wire.specs.Stages.{WireState, after, close_in, settled}
 use Rattle.cf_wire.specs.declared.end.Stage.{Stage}
-use Rattle.cf_wire.specs.declared.end.Stage.TheVariants.{Open, Unflushed}
+use Rattle.cf_wire.specs.declared.end.Stage.TheVariants.{Open, Unflushed, Over}
 use Rattle.cf_wire.specs.declared.end.TurnEnd.{TurnEnd}
 use Rattle.cf_wire.specs.declared.end.TurnEnd.TheVariants as turn
+use Rattle.cf_wire.specs.declared.end.WireEnd.TheVariants as wire
 
 pub data Event : Type 0 where
   -- a text message was read, and heard
@@ -30,51 +33,111 @@ pub data Event : Type 0 where
   ended : (code : ℕ) → Event
   -- what came is no text, or too long to be read: the wire closes
   rejected : Event
-  -- a read gave no message
-  failed : Event
+  -- a read gave this error and no message
+  failed : (error : Error) → Event
   -- the desk had nothing
   none : Event
-  -- something was taken from the desk, and its frame is on the stream; its frame waits; the socket refused it
+  -- something was taken from the desk, and its frame is on the stream; or the socket answered this error
   sent : (out : Out) → Event
-  held : (out : Out) → Event
-  refused : (out : Out) → Event
-  -- what waited is on the stream; is not yet, or the stream failed
+  refused : (out : Out) → (error : Error) → Event
+  -- something was taken from the desk, and memory for its message was refused before the socket was called
+  unwrapped : (out : Out) → Event
+  -- what waited is on the stream; or the socket answered this error
   flushed : Event
-  tried : Event
+  tried : (error : Error) → Event
 
--- how many messages were read
+-- 1 where a message was read
+abbrev pub is_read : Event → ℕ
+is_read (heard t) = 1
+is_read passed = 1
+is_read (ended code) = 1
+is_read rejected = 1
+is_read other = 0
+
+-- 1 where a message was read or sent
+abbrev pub is_move : Event → ℕ
+is_move (heard t) = 1
+is_move passed = 1
+is_move (ended code) = 1
+is_move rejected = 1
+is_move (sent o) = 1
+is_move other = 0
+
+-- the bytes of the text that was heard
+abbrev pub weight : Event → ℕ
+weight (heard t) = length t
+weight other = 0
+
+-- how many messages were read; how many were read or sent; how many bytes of text were heard
 abbrev pub reads : List Event → ℕ
 reads [] = 0
-reads (heard t ∷ es) = 1 + reads es
-reads (passed ∷ es) = 1 + reads es
-reads (ended code ∷ es) = 1 + reads es
-reads (rejected ∷ es) = 1 + reads es
-reads (e ∷ es) = reads es
+reads (e ∷ es) = is_read e + reads es
 
--- how many messages were read or sent
 abbrev pub moves : List Event → ℕ
 moves [] = 0
-moves (heard t ∷ es) = 1 + moves es
-moves (passed ∷ es) = 1 + moves es
-moves (ended code ∷ es) = 1 + moves es
-moves (rejected ∷ es) = 1 + moves es
-moves (sent o ∷ es) = 1 + moves es
-moves (e ∷ es) = moves es
+moves (e ∷ es) = is_move e + moves es
+
+abbrev pub bytes : List Event → ℕ
+bytes [] = 0
+bytes (e ∷ es) = weight e + bytes es
+
+-- the bytes heard before the last message that was read
+abbrev pub bytes_before : List Event → ℕ
+bytes_before [] = 0
+bytes_before (heard t ∷ es) = bytes es
+bytes_before (passed ∷ es) = bytes es
+bytes_before (ended code ∷ es) = bytes es
+bytes_before (rejected ∷ es) = bytes es
+bytes_before (e ∷ es) = bytes_before es
 
 -- something did not come, or did not go
 abbrev pub is_stop : Event → Bool
 is_stop rejected = true
-is_stop failed = true
-is_stop (held o) = true
-is_stop (refused o) = true
-is_stop tried = true
+is_stop (failed e) = true
+is_stop (refused o e) = true
+is_stop (unwrapped o) = true
+is_stop (tried e) = true
 is_stop other = false
 
--- a turn is idle only after such an event, its newest
-abbrev pub EndFits : Option TurnEnd → List Event → Type 0
-EndFits (Some turn.Idle) [] = ⊥
-EndFits (Some turn.Idle) (e ∷ es) = is_stop e ≡ true
-EndFits other es = ⊤
+-- a turn reads at most so many messages
+abbrev pub most_reads : ℕ
+most_reads = 64
+
+-- once so many bytes of text were heard a turn reads no further message
+abbrev pub most_bytes : ℕ
+most_bytes = 65536
+
+-- the desk had nothing, its newest event
+abbrev pub IsEmptied : List Event → Type 0
+IsEmptied (none ∷ es) = ⊤
+IsEmptied other = ⊥
+
+-- a turn is idle only where its newest event did not come or go, or where the desk had nothing and is not ready
+abbrev pub Rests : List Event → Bool → Type 0
+Rests [] is_ready = ⊥
+Rests (none ∷ es) is_ready = is_ready ≡ false
+Rests (e ∷ es) is_ready = is_stop e ≡ true
+
+-- there may be more only after so many messages or bytes
+abbrev pub IsUsedUp : List Event → Type 0
+IsUsedUp es = (most_reads ≤ moves es) ⊎ (most_bytes ≤ bytes es)
+
+-- the end of a turn after these events, the newest first, by whether the desk is ready then
+abbrev pub EndFits : TurnEnd → List Event → Bool → Type 0
+EndFits turn.Idle es is_ready = Rests es is_ready
+EndFits turn.More es is_ready = IsUsedUp es
+EndFits other es is_ready = ⊤
+
+-- how far a part of a turn has come: it goes on; the desk had nothing; or the turn ends so
+pub data Mark : Type 0 where
+  going : Mark
+  emptied : Mark
+  over : (end : TurnEnd) → Mark
+
+abbrev pub Fits : Mark → List Event → Bool → Type 0
+Fits going es is_ready = ⊤
+Fits emptied es is_ready = IsEmptied es
+Fits (over end) es is_ready = EndFits end es is_ready
 
 -- messages that are passed over
 abbrev pub is_signal : Content → Bool
@@ -98,27 +161,40 @@ is_bad (Err other) = ⊥
 abbrev pub bad_message : ℕ
 bad_message = close_code_of BadRequest
 
+-- what a `send` or a `close` of the socket asks of its connection
+abbrev pub step_of : Connection → Out → Result Effect FrameError
+step_of conn (Text s) = write_step conn (text (string_bytes s))
+step_of conn (Close code) = close_step conn (frame_of code)
+
 module _ {S : Type 0} where
   -- what a `send` or a `close` of the socket does
   abbrev pub Puts : (S → Option (List ℕ)) → Socket S → Out → Socket S → Type 0
-  Puts contents old (Text s) new = Writes contents old new (write_step old.conn (text (string_bytes s)))
-  Puts contents old (Close code) new = Writes contents old new (close_step old.conn (frame_of code))
+  Puts contents old out new = Writes contents old new (step_of old.conn out)
 
   -- it answered Ok: the frame is on the stream
   abbrev pub Lands : (S → Option (List ℕ)) → Socket S → Out → Socket S → Stage → Type 0
   Lands contents old out new stage = Puts contents old out new × (new.output ≡ []) × (stage ≡ settled (close_in out))
 
-  -- the stream would block, and the frame waits
-  abbrev pub Waits : (S → Option (List ℕ)) → Socket S → Out → Socket S → Stage → Type 0
-  Waits contents old out new stage = Puts contents old out new × (stage ≡ Unflushed (close_in out))
+  -- it answered this error: where the stream failed the frame waits, and refused memory, or an output that a text found full, changed nothing
+  abbrev pub Fails : (S → Option (List ℕ)) → Socket S → Out → Socket S → Error → Type 0
+  Fails contents old out new e =
+      WriteFails (step_of old.conn out) e × (IsIo e → Puts contents old out new)
+      × (close_in out ≡ None → e ≡ WriteBufferFull → new ≡ old) × (e ≡ OutOfMemory → new ≡ old)
+
+  abbrev pub Refuses : (S → Option (List ℕ)) → Socket S → Out → Socket S → Error → Stage → Type 0
+  Refuses contents old out new e stage = Fails contents old out new e × (stage ≡ after e (Unflushed (close_in out)))
+
+  -- memory for the message of a text was refused, and the socket was not called
+  abbrev pub Unwraps : Socket S → Out → Socket S → Stage → Type 0
+  Unwraps old out new stage = (close_in out ≡ None) × (new ≡ old) × (stage ≡ Over wire.Memory)
 
   abbrev pub Settles : (S → Option (List ℕ)) → Socket S → Out → Socket S → Stage → Type 0
-  Settles contents old out new stage = Lands contents old out new stage ⊎ Waits contents old out new stage ⊎ (has_failed stage ≡ true)
+  Settles contents old out new stage = Lands contents old out new stage ⊎ ((e : Error) × Refuses contents old out new e stage) ⊎ Unwraps old out new stage
 
-  -- after a flush: all that waited is on the stream, or not yet, or the stream failed
+  -- after a flush: all that waited is on the stream, or the stream failed
   abbrev pub FlushLeaves : Option ℕ → Socket S → Stage → Type 0
   FlushLeaves close new stage =
-      ((new.output ≡ []) × (stage ≡ settled close)) ⊎ (stage ≡ Unflushed close) ⊎ (has_failed stage ≡ true)
+      ((new.output ≡ []) × (stage ≡ settled close)) ⊎ ((e : Error) × IsIo e × (stage ≡ after e (Unflushed close)))
 
 -- a desk and a wire
 pub record Place (D S : Type 0) : Type 0 where
@@ -129,15 +205,20 @@ module _ {D S : Type 0} where
   abbrev pub place : D → WireState S → Place D S
   place d w = record { desk = d; wire = w }
 
-  module _ (hears : D → List ℕ → D → Type 0) (gives : D → Option Out → D → Type 0) (remaining contents : S → Option (List ℕ)) where
-    -- the desk and what one event needs of it, and the wire
+  module _ (hears : D → List ℕ → D → Type 0) (gives : D → Option Out → D → Type 0) (ready : D → Bool) (remaining contents : S → Option (List ℕ)) where
+    -- The desk and what one event needs of it: something is read only while it is ready.
     abbrev pub DeskDoes : Event → D → D → Type 0
-    DeskDoes (heard t) d e = hears d t e
+    DeskDoes (heard t) d e = (ready d ≡ true) × hears d t e
+    DeskDoes passed d e = (ready d ≡ true) × (e ≡ d)
+    DeskDoes (ended code) d e = (ready d ≡ true) × (e ≡ d)
+    DeskDoes rejected d e = (ready d ≡ true) × (e ≡ d)
+    DeskDoes (failed error) d e = (ready d ≡ true) × (e ≡ d)
     DeskDoes none d e = gives d None e
     DeskDoes (sent o) d e = gives d (Some o) e
-    DeskDoes (held o) d e = gives d (Some o) e
-    DeskDoes (refused o) d e = gives d (Some o) e
-    DeskDoes other d e = e ≡ d
+    DeskDoes (refused o error) d e = gives d (Some o) e
+    DeskDoes (unwrapped o) d e = gives d (Some o) e
+    DeskDoes flushed d e = e ≡ d
+    DeskDoes (tried error) d e = e ≡ d
 
     -- Where a message waits only `flushed` and `tried` happen, and where the wire is spent nothing does.
     abbrev pub WireDoes : Event → WireState S → WireState S → Type 0
@@ -147,49 +228,60 @@ module _ {D S : Type 0} where
         (v.stage ≡ Open) × (w.stage ≡ Unflushed (Some code)) × ((m : Message) × Reads remaining v.socket w.socket (Ok m) × (code_in (content_of m) ≡ Some code))
     WireDoes rejected v w =
         (v.stage ≡ Open) × ((r : Result Message Error) × (mid : Socket S) × is_bad r × Reads remaining v.socket mid r × Settles contents mid (Close bad_message) w.socket w.stage)
-    WireDoes failed v w =
-        (v.stage ≡ Open) × ((e : Error) × Reads remaining v.socket w.socket (Err e) × ((IsIo e × (w.stage ≡ Open)) ⊎ (has_failed w.stage ≡ true)))
+    WireDoes (failed e) v w = (v.stage ≡ Open) × Reads remaining v.socket w.socket (Err e) × (w.stage ≡ after e Open)
     WireDoes none v w = (v.stage ≡ Open) × (w ≡ v)
     WireDoes (sent o) v w = (v.stage ≡ Open) × Lands contents v.socket o w.socket w.stage
-    WireDoes (held o) v w = (v.stage ≡ Open) × Waits contents v.socket o w.socket w.stage
-    WireDoes (refused o) v w = (v.stage ≡ Open) × (has_failed w.stage ≡ true)
+    WireDoes (refused o e) v w = (v.stage ≡ Open) × Refuses contents v.socket o w.socket e w.stage
+    WireDoes (unwrapped o) v w = (v.stage ≡ Open) × Unwraps v.socket o w.socket w.stage
     WireDoes flushed v w =
         (close : Option ℕ) × (v.stage ≡ Unflushed close) × Flushed contents v.socket w.socket × (w.socket.output ≡ []) × (w.stage ≡ settled close)
-    WireDoes tried v w =
-        (close : Option ℕ) × (v.stage ≡ Unflushed close) × Flushed contents v.socket w.socket × ((w.stage ≡ Unflushed close) ⊎ (has_failed w.stage ≡ true))
+    WireDoes (tried e) v w =
+        (close : Option ℕ) × (v.stage ≡ Unflushed close) × Flushed contents v.socket w.socket × IsIo e × (w.stage ≡ after e (Unflushed close))
 
     -- what a list of events does, the newest first
     abbrev pub Did : List Event → Place D S → Place D S → Type 0
     Did [] p q = q ≡ p
     Did (e ∷ es) p q = (mid : Place D S) × Did es p mid × DeskDoes e mid.desk q.desk × WireDoes e mid.wire q.wire
 
-    -- some events: at least `low` messages were read or sent, and at most `high` read
-    pub record Turns (low high : ℕ) (end : Option TurnEnd) (p q : Place D S) : Type 0 where
+    -- a part of a turn: at least `low` messages were read or sent, and at most `high` read; of `left` bytes `rest` are left
+    pub record Part (low high left rest : ℕ) (mark : Mark) (p q : Place D S) : Type 0 where
       pub events : List Event
       pub did : Did events p q
       pub busy : low ≤ moves events
       pub bound : reads events ≤ high
-      pub rests : EndFits end events
+      pub spends : rest ≡ left - bytes events
+      pub light : (reads events ≡ 0) ⊎ (bytes_before events < left)
+      pub fits : Fits mark events (ready q.desk)
 
--- a turn reads at most so many messages
-abbrev pub most_reads : ℕ
-most_reads = 64
+    -- a turn that ends so
+    pub record Turns (end : TurnEnd) (p q : Place D S) : Type 0 where
+      pub events : List Event
+      pub did : Did events p q
+      pub bound : reads events ≤ most_reads
+      pub light : bytes_before events < most_bytes
+      pub fits : EndFits end events (ready q.desk)
 
--- There may be more only after so many were read or sent.
-abbrev pub least : TurnEnd → ℕ
-least turn.More = 64
-least other = 0
+abbrev pub mark_of : {A : Type 0} → Result A TurnEnd → Mark
+mark_of (Ok x) = going
+mark_of (Err end) = over end
 
-abbrev pub end_in : {A : Type 0} → Result A TurnEnd → Option TurnEnd
-end_in (Ok x) = None
-end_in (Err end) = Some end
+-- the same where the desk is asked until it has nothing
+abbrev pub mark_emptied : {A : Type 0} → Result A TurnEnd → Mark
+mark_emptied (Ok x) = emptied
+mark_emptied (Err end) = over end
 
-abbrev pub least_in : ℕ → {A : Type 0} → Result A TurnEnd → ℕ
-least_in n (Ok x) = n
-least_in n (Err end) = least end
+-- the same where Ok says whether the desk had something
+abbrev pub mark_given : Result Bool TurnEnd → Mark
+mark_given (Ok true) = going
+mark_given (Ok false) = emptied
+mark_given (Err end) = over end
 
--- 1 where something was taken
+-- 1 where something was taken, or read
 abbrev pub taken_in : Result Bool TurnEnd → ℕ
 taken_in (Ok true) = 1
 taken_in (Ok false) = 0
 taken_in (Err end) = 0
+
+abbrev pub read_in : {A : Type 0} → Result A TurnEnd → ℕ
+read_in (Ok x) = 1
+read_in (Err end) = 0

@@ -1,6 +1,7 @@
 //! The opening handshake of a wire.
 ghost use Rattle.std.specs.Prelude.{◌≡◌, [], Some, IfOk};
 ghost use Rattle.tungstenite.specs.Socket.{IsFresh};
+ghost use Rattle.cf_wire.specs.Refused.{fault_by, fault_by_kind};
 ghost use Rattle.cf_wire.specs.declared.end.Stage.TheVariants as stage;
 
 use crate::end::Stage;
@@ -28,7 +29,7 @@ pub enum WireFault {
     /// What came is no request for a WebSocket, or its head is longer than 16,384 bytes.
     #[error("no WebSocket handshake")]
     Handshake,
-    /// The stream failed, ended or would block.
+    /// The stream failed, ended or would block before the handshake was done.
     #[error("the stream failed")]
     StreamFault,
     /// Memory was refused.
@@ -104,9 +105,9 @@ fn read_head<S: Read>(alloc: Global, stream: &mut S) -> Result<(Vec<u8>, usize),
     let mut chunk = [0u8; READ_BYTES];
     for _ in 0..LONGEST_HEAD {
         let count = match stream.read(&mut chunk) {
-            Ok(0) => return Err(WireFault::Handshake),
+            Ok(0) => return Err(WireFault::StreamFault),
             Ok(count) => count,
-            Err(_) => return Err(WireFault::StreamFault),
+            Err(error) => return Err(fault_of_kind(error.kind())),
         };
         let from = head.len();
         head.extend_from_slice(&chunk[..count])?;
@@ -122,13 +123,24 @@ fn read_head<S: Read>(alloc: Global, stream: &mut S) -> Result<(Vec<u8>, usize),
     Err(WireFault::Handshake)
 }
 
-fn fault_of(error: &Error) -> WireFault {
+/// Why there is no wire over a stream that failed so.
+fn fault_of_kind(kind: ErrorKind) -> WireFault
+    ensures { result ≡ fault_by_kind kind }
+{
+    match kind {
+        ErrorKind::OutOfMemory => WireFault::Memory,
+        _ => WireFault::StreamFault,
+    }
+}
+
+/// Why there is no wire where the handshake failed so.
+fn fault_of(error: &Error) -> WireFault
+    ensures { result ≡ fault_by error.now }
+{
     match error {
         Error::OutOfMemory => WireFault::Memory,
-        Error::Io(cause) => match cause.kind() {
-            ErrorKind::OutOfMemory => WireFault::Memory,
-            _ => WireFault::StreamFault,
-        },
+        Error::Io(cause) => fault_of_kind(cause.kind()),
+        Error::HandshakeIncomplete => WireFault::StreamFault,
         _ => WireFault::Handshake,
     }
 }

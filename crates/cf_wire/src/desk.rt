@@ -1,5 +1,5 @@
 //! What a wire hands texts to and takes texts from.
-ghost use Rattle.std.specs.Prelude.{ℕ, List, Option};
+ghost use Rattle.std.specs.Prelude.{◌≡◌, ℕ, Bool, true, List, Option};
 
 use cf_queue::Out;
 
@@ -11,8 +11,15 @@ pub trait Desk {
 
     ghost gives: { Self → Option Out → Self → Type 0 };
 
-    /// Hears a text message, of any length.
+    ghost ready: { Self → Bool };
+
+    /// Whether it hears a further text by now. While it doesn't, what it gives goes out, and nothing is read.
+    fn is_ready(&self) -> bool
+        ensures { result ≡ ready self.now };
+
+    /// Hears a text message, of any length, while it is ready.
     fn heard(&mut self, text: &str)
+        requires ready { ready self.old ≡ true }
         ensures { hears self.old text.now self.new };
 
     /// What goes out next. None: nothing does, by now.

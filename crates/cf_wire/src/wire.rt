@@ -1,11 +1,10 @@
 //! A WebSocket, turn by turn.
-ghost use Rattle.std.specs.Prelude.{◌≡◌, ◌⊎◌, true, false, None, Some, OnOk, IfErr};
-ghost use Rattle.tungstenite.specs.Failure.{IsIo};
+ghost use Rattle.std.specs.Prelude.{◌≡◌, ◌<◌, true, false, None, Some, OnOk, IfErr};
 ghost use Rattle.tungstenite.specs.Content.{close};
 ghost use Rattle.tungstenite.specs.Socket.{Flushed, close_of};
 ghost use Rattle.cf_queue.specs.declared.queue.Out.TheVariants as out;
-ghost use Rattle.cf_wire.specs.Stages.{is_unflushed, is_over, has_failed, settled, told, Agrees, Halts, Stops};
-ghost use Rattle.cf_wire.specs.Turn.{Turns, Settles, FlushLeaves, place, most_reads, least, least_in, taken_in, end_in, code_in};
+ghost use Rattle.cf_wire.specs.Stages.{is_unflushed, is_over, waits_by, end_by, after, settled, told, Agrees, Halts, Stops};
+ghost use Rattle.cf_wire.specs.Turn.{Part, Turns, Settles, FlushLeaves, place, taken_in, read_in, mark_of, mark_emptied, mark_given, code_in};
 
 use crate::desk::Desk;
 use crate::end::{Stage, TurnEnd, WireEnd};
@@ -19,6 +18,8 @@ use tungstenite::{
 
 /// The most messages that a turn reads.
 const MOST_READS: usize = 64;
+/// How many bytes of text a turn hears before it reads no further message.
+const MOST_BYTES: usize = 65_536;
 /// The most that is sent before the next message is read.
 const MOST_SENDS: usize = 1_024;
 /// The code of a close frame that has none.
@@ -42,7 +43,7 @@ impl<S> Model for Wire<S> {
 
 /// The end of a wire whose socket failed.
 fn end_of(error: &Error) -> WireEnd
-    ensures { has_failed (Stage.Over result) ≡ true }
+    ensures { result ≡ end_by error.now }
 {
     match error {
         Error::OutOfMemory => WireEnd::Memory,
@@ -56,10 +57,13 @@ fn end_of(error: &Error) -> WireEnd
 
 /// Whether the stream would block, so that the same is to be tried again.
 fn would_block(error: &Error) -> bool
-    ensures { result ≡ true → IsIo error.now }
+    ensures { result ≡ waits_by error.now }
 {
     match error {
-        Error::Io(cause) => cause.kind() == ErrorKind::WouldBlock,
+        Error::Io(cause) => match cause.kind() {
+            ErrorKind::WouldBlock => true,
+            _ => false,
+        },
         _ => false,
     }
 }
@@ -75,12 +79,12 @@ fn code_of(frame: &Option<CloseFrame>) -> u16
 }
 
 impl<S: Read + Write + Drop> Wire<S> {
-    /// Reads what the peer sent, at most 64 messages, and sends what the desk gives: before the first, after each, and at the
-    /// end. A text is heard by the desk, a ping or pong is passed over, and a binary message, or one of more than 131,072
+    /// Reads what the peer sent, at most 64 messages and none once 65,536 bytes of text were heard, and sends what the desk
+    /// gives: before the first, after each, and at the end. While the desk isn't ready nothing is read. A text is heard by the desk, a ping or pong is passed over, and a binary message, or one of more than 131,072
     /// bytes, closes with 3501. Of a spent wire each turn ends as the one did by which it was.
     pub fn turn<D: Desk>(&mut self, desk: &mut D) -> TurnEnd
         ensures turns { is_over self.old.stage ≡ false →
-            Turns D.hears D.gives S.remaining S.contents (least result) most_reads (Some result)
+            Turns D.hears D.gives D.ready S.remaining S.contents result
             (place desk.old self.old) (place desk.new self.new) }
         ensures ends { Agrees result self.new.stage }
         ensures spent { is_over self.old.stage ≡ true
@@ -128,15 +132,22 @@ impl<S: Read + Write + Drop> Wire<S> {
 
     fn exchange<D: Desk>(&mut self, desk: &mut D) -> TurnEnd
         requires { self.old.stage ≡ Stage.Open }
-        ensures turns { Turns D.hears D.gives S.remaining S.contents (least result) most_reads
-            (Some result) (place desk.old self.old) (place desk.new self.new) }
+        ensures turns { Turns D.hears D.gives D.ready S.remaining S.contents result
+            (place desk.old self.old) (place desk.new self.new) }
         ensures ends { Agrees result self.new.stage }
     {
+        let mut left = MOST_BYTES;
         for index in 0..MOST_READS {
             if let Err(end) = self.give_all(desk) {
                 return end;
             }
-            if let Err(end) = self.hear(desk) {
+            if !desk.is_ready() {
+                return TurnEnd::Idle;
+            }
+            if left == 0 {
+                return TurnEnd::More;
+            }
+            if let Err(end) = self.hear(desk, &mut left) {
                 return end;
             }
         }
@@ -149,8 +160,8 @@ impl<S: Read + Write + Drop> Wire<S> {
     /// Sends what the desk gives, until it gives nothing.
     fn give_all<D: Desk>(&mut self, desk: &mut D) -> Result<(), TurnEnd>
         requires { self.old.stage ≡ Stage.Open }
-        ensures turns { Turns D.hears D.gives S.remaining S.contents (least_in 0 result) 0
-            (end_in result) (place desk.old self.old) (place desk.new self.new) }
+        ensures turns { Part D.hears D.gives D.ready S.remaining S.contents 0 0 0 0
+            (mark_emptied result) (place desk.old self.old) (place desk.new self.new) }
         ensures open { OnOk result (self.new.stage ≡ Stage.Open) }
         ensures ends { IfErr result (λ end. Agrees end self.new.stage) }
     {
@@ -167,8 +178,8 @@ impl<S: Read + Write + Drop> Wire<S> {
     /// Takes what goes out next, and sends it. Ok says whether there was something.
     fn give<D: Desk>(&mut self, desk: &mut D) -> Result<bool, TurnEnd>
         requires { self.old.stage ≡ Stage.Open }
-        ensures turns { Turns D.hears D.gives S.remaining S.contents (taken_in result) 0
-            (end_in result) (place desk.old self.old) (place desk.new self.new) }
+        ensures turns { Part D.hears D.gives D.ready S.remaining S.contents (taken_in result) 0
+            0 0 (mark_given result) (place desk.old self.old) (place desk.new self.new) }
         ensures open { OnOk result (self.new.stage ≡ Stage.Open) }
         ensures ends { IfErr result (λ end. Halts end self.new.stage) }
     {
@@ -181,17 +192,22 @@ impl<S: Read + Write + Drop> Wire<S> {
         }
     }
 
-    /// Reads a message, and does what it asks for.
-    fn hear<D: Desk>(&mut self, desk: &mut D) -> Result<(), TurnEnd>
-        requires { self.old.stage ≡ Stage.Open }
-        ensures turns { Turns D.hears D.gives S.remaining S.contents (least_in 1 result) 1
-            (end_in result) (place desk.old self.old) (place desk.new self.new) }
+    /// Reads a message, and does what it asks for. The bytes of a text come off those that are left.
+    fn hear<D: Desk>(&mut self, desk: &mut D, left: &mut usize) -> Result<(), TurnEnd>
+        requires open { self.old.stage ≡ Stage.Open }
+        requires ready { D.ready desk.old ≡ true }
+        requires room { 0 < left.old }
+        ensures turns { Part D.hears D.gives D.ready S.remaining S.contents (read_in result) 1
+            left.old left.new (mark_of result) (place desk.old self.old)
+            (place desk.new self.new) }
         ensures open { OnOk result (self.new.stage ≡ Stage.Open) }
         ensures ends { IfErr result (λ end. Halts end self.new.stage) }
     {
         match self.socket.read() {
             Ok(Message::Text(text)) => {
-                desk.heard(text.as_str());
+                let words = text.as_str();
+                desk.heard(words);
+                *left = left.saturating_sub(words.len());
                 Ok(())
             }
             Ok(Message::Binary(_)) => self.shut(CloseCode::BadRequest.code()),
@@ -265,8 +281,7 @@ impl<S: Read + Write + Drop> Wire<S> {
     fn settle(&mut self, answer: Result<(), Error>, close: Option<u16>) -> Result<(), TurnEnd>
         ensures same { self.new.socket ≡ self.old.socket }
         ensures ok { OnOk answer (self.new.stage ≡ settled close) }
-        ensures err { IfErr answer (λ e. (IsIo e × (self.new.stage ≡ Stage.Unflushed close))
-            ⊎ (has_failed self.new.stage ≡ true)) }
+        ensures err { IfErr answer (λ e. self.new.stage ≡ after e (Stage.Unflushed close)) }
         ensures open { OnOk result (self.new.stage ≡ Stage.Open) }
         ensures ends { IfErr result (λ end. Stops end self.new.stage) }
     {
@@ -296,8 +311,7 @@ impl<S: Read + Write + Drop> Wire<S> {
     fn pause(&mut self, error: &Error, stage: Stage) -> TurnEnd
         requires { is_over stage ≡ false }
         ensures same { self.new.socket ≡ self.old.socket }
-        ensures left { (IsIo error.now × (self.new.stage ≡ stage))
-            ⊎ (has_failed self.new.stage ≡ true) }
+        ensures left { self.new.stage ≡ after error.now stage }
         ensures halts { Halts result self.new.stage }
     {
         if would_block(error) {

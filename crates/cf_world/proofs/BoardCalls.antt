@@ -19,8 +19,9 @@ use Rattle.cf_stream.specs.ChannelLists.{AreShown, ChangesAt, ListsAt, ReadsAt, 
 use Rattle.cf_stream.specs.FreshEpochs.{Draws}
 use Rattle.cf_stream.specs.declared.answer.History.{History}
 use Rattle.cf_stream.specs.declared.answer.Recovery.{Recovery}
-use Rattle.cf_world.specs.BrokerTie.{IsAccepted, IsStanding, IsDatum, ShowsBroker, Brings, Finds, FindsPast, life_at}
+use Rattle.cf_world.specs.BrokerTie.{IsAccepted, IsStanding, IsDatum, ShowsBroker, Brings, Finds, FindsPast}
 use Rattle.cf_machine.specs.FreshEpochs.{AreFresh}
+use Rattle.cf_machine.specs.Lives.{life_at}
 use Rattle.cf_machine.specs.PublicationList.{Broker, epoch_comes, no_stream, opened, trim, trim_at, forget, forget_all}
 use Rattle.cf_world.specs.declared.broker.Broker.{Broker as Code}
 use Rattle.cf_world.specs.declared.epochs.WaitingEpochs.{WaitingEpochs}

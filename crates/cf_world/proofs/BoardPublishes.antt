@@ -19,9 +19,10 @@ use Rattle.cf_stream.specs.Streams.{stream_of, stood_or, size_at, size_of as str
 use Rattle.cf_stream.specs.PublicationList.{Life, Shows, published}
 use Rattle.cf_stream.specs.ChannelLists.{ChangesAt, life_or}
 use Rattle.cf_stream.specs.FreshEpochs.{Draws, DrawsNone, IsNoEpoch}
-use Rattle.cf_world.specs.BrokerTie.{IsAccepted, IsDatum, ShowsBroker, FindsNone, Publishes, life_at}
+use Rattle.cf_world.specs.BrokerTie.{IsAccepted, IsDatum, ShowsBroker, FindsNone, Publishes}
 use Rattle.cf_machine.specs.FreshEpochs.{AreFresh}
 use Rattle.cf_machine.specs.IntervalMachine.{size_by}
+use Rattle.cf_machine.specs.Lives.{life_at}
 use Rattle.cf_machine.specs.PublicationList.{Broker, opened, can_open, is_full, stands_or_opens, list_with, add_at}
 use Rattle.cf_world.specs.declared.broker.Accepted.{Accepted}
 use Rattle.cf_world.specs.declared.broker.Broker.{Broker as Code}

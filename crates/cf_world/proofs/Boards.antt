@@ -14,8 +14,9 @@ use Rattle.cf_stream.specs.Streams.{Kept, stream_of, stood_or, size_at}
 use Rattle.cf_stream.specs.PublicationList.{Life, Shows, opened as opened_life}
 use Rattle.cf_stream.specs.ChannelLists.{ShowsAt, AreShown, ChangesAt, life_or}
 use Rattle.cf_stream.specs.FreshEpochs.{Draws}
-use Rattle.cf_world.specs.BrokerTie.{IsAccepted, IsStanding, ShowsBroker, life_at}
+use Rattle.cf_world.specs.BrokerTie.{IsAccepted, IsStanding, ShowsBroker}
 use Rattle.cf_machine.specs.FreshEpochs.{AreFresh}
+use Rattle.cf_machine.specs.Lives.{life_at}
 use Rattle.cf_machine.specs.PublicationList.{Broker, open_at, opened, is_full, stands_or_opens, can_open}
 use Rattle.cf_world.specs.declared.broker.Broker.{Broker as Code}
 use Rattle.cf_world.specs.declared.epochs.WaitingEpochs.{WaitingEpochs}

@@ -1,5 +1,5 @@
 -- The broker beside what the machine has for it.
-use Rattle.std.specs.Prelude.{◌≡◌, ◌≤◌, ◌-◌, ℕ, ℤ, true, false, is_some, Option, Some, None, option_map, List, ⊤, length}
+use Rattle.std.specs.Prelude.{◌≡◌, ◌≤◌, ◌-◌, ℕ, ℤ, true, false, is_some, Option, Some, None, List, ⊤, length}
 use Rattle.std.specs.List.{All, AllZip}
 use Rattle.std.specs.String.{string_bytes}
 use Rattle.std.specs.BTreeSet.{contains_text}
@@ -12,11 +12,11 @@ use Rattle.cf_protocol.specs.Regular.{IsPlaced, IsBody, IsInfo}
 use Rattle.cf_protocol.specs.Settings.{NamespaceTable, settings_of}
 use Rattle.cf_stream.specs.StreamState.{StreamState, last_offset, position_of}
 use Rattle.cf_stream.specs.StreamAnswer.{listed_above, read_of}
-use Rattle.cf_stream.specs.PublicationList.{Life}
 use Rattle.cf_stream.specs.ChannelLists.{AreShown}
 use Rattle.cf_stream.specs.declared.answer.History.{History}
 use Rattle.cf_stream.specs.declared.answer.Recovery.{Recovery}
 use Rattle.cf_hub.specs.InNotes.{Grown}
+use Rattle.cf_machine.specs.Lives.{life_at}
 use Rattle.cf_machine.specs.PublicationList.{Place, Broker, at_last_offset, can_open, opened, publish}
 use Rattle.cf_machine.specs.IntervalMachine.{size_by}
 use Rattle.cf_world.specs.declared.broker.Accepted.{Accepted}
@@ -29,10 +29,6 @@ pub record IsAccepted (lists : Lists) (a : Accepted) (p : Place) : Type 0 where
   pub place : p ≡ record { channel = string_bytes a.channel; at = record { epoch = a.epoch; offset = a.publication.offset } }
   pub stands : (later : Lists) → Grown lists later → placed_at (later p.channel p.at.epoch) p.at.offset ≡ Some a.publication
   pub regular : IsPlaced IsBody a.publication
-
--- a channel's stream with its list
-abbrev pub life_at : Broker → List ℕ → Option Life
-life_at m c = option_map (λ s. record { epoch = s.epoch; list = m.lists c s.epoch; held = s.held }) (m.streams c)
 
 -- a stream's top is the length of its list
 pub record IsStanding (lists : Lists) (c : List ℕ) (s : StreamState) : Type 0 where

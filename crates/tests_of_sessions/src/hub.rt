@@ -388,44 +388,79 @@ fn deliver_refused(rt: HostRuntime) -> Result<(), Fail> {
     Ok(())
 }
 
-/// A session that asks for `news`. None where memory was refused.
-fn asking(hub: &mut Hub, alloc: Global) -> Option<u32> {
+/// A hub whose session 0 follows `news`, and whose session 1 asks for it. None where memory was refused.
+fn one_asks(alloc: Global) -> Option<Box<Hub>> {
+    let mut boxed = empty_hub(alloc).ok()?;
+    let hub = &mut *boxed;
+    let follower = newcomer(hub, alloc)?;
+    follow(hub, alloc, follower);
     let session = newcomer(hub, alloc)?;
-    if hub.begin(session, "news", 2, None).is_err() {
+    if hub.begin(session, "news", 2, None).is_err() || hub.short() {
         return None;
     }
-    Some(session)
+    Some(boxed)
 }
 
-/// The client gets its reply, and what was kept, or else an end where memory for that was refused.
-fn gets_reply<R: Abort>(rt: &R, hub: &mut Hub, session: u32, was_short: bool) {
+/// The publication is kept for session 1, and passed to session 0, or that one is closed for want of memory.
+fn is_kept<R: Abort>(rt: &R, hub: &Hub, met: &Delivered) {
+    assert!(rt; (met.passed == 1 && met.closed == 0) || (met.passed == 0 && met.closed == 1));
+    assert_eq!(rt; (met.kept, met.dropped, met.ended), (1, 0, 0));
+    assert!(rt; met.closed == 0 || hub.short());
+}
+
+/// The texts of which one comes behind the reply: what was kept; or an end, where memory was refused and closed nobody, since
+/// that may have been for what was to be kept (or for the one text of both, which each then writes for itself).
+fn behind_reply(hub: &Hub, met: &Delivered) -> (&'static str, &'static str) {
+    if hub.short() && met.closed == 0 {
+        (FIRST, END)
+    } else {
+        (FIRST, FIRST)
+    }
+}
+
+/// What was asked for is read and finished.
+fn is_finished<R: Abort>(rt: &R, alloc: Global, hub: &mut Hub, session: u32) {
+    assert!(rt; hub.read_done(session, "news", read(alloc, 0)));
+    assert!(rt; hub.finish(session, "news"));
+}
+
+/// The client gets its reply, one of these texts behind it, and nothing more.
+fn gets_reply_and<R: Abort>(rt: &R, hub: &mut Hub, session: u32, texts: (&str, &str)) {
     gets(rt, hub, session, REPLY);
     let out = hub.take(session);
-    assert!(rt; is_text(&out, FIRST) || (was_short && is_text(&out, END)));
+    assert!(rt; is_text(&out, texts.0) || is_text(&out, texts.1));
+    gets_nothing(rt, hub, session);
+}
+
+/// The client of a session for whose reply or push memory was refused gets what was said before it, and the close.
+fn gets_given_up<R: Abort>(rt: &R, hub: &mut Hub, session: u32) {
+    let mut out = hub.take(session);
+    if is_text(&out, REPLY) {
+        out = hub.take(session);
+    }
+    assert_eq!(rt; out, Some(Out::Close(3004)));
+    gets_nothing(rt, hub, session);
 }
 
 // By `.ci/hub-refused` also with each request for memory refused in turn.
 #[test]
 fn overflow_refused(rt: HostRuntime) -> Result<(), Fail> {
     let alloc = rt.alloc();
-    let Ok(mut hub) = empty_hub(alloc) else {
+    let Some(mut hub) = one_asks(alloc) else {
         return Ok(());
     };
     let hub = &mut *hub;
-    let Some(session) = asking(hub, alloc) else {
-        return Ok(());
-    };
     let Ok(met) = deliver(hub, alloc, 1) else {
         return Ok(());
     };
-    assert_eq!(rt; met.kept, 1);
+    is_kept(&rt, hub, &met);
+    let texts = behind_reply(hub, &met);
     let was_short = hub.short();
-    assert!(rt; hub.read_done(session, "news", read(alloc, 0)));
-    assert!(rt; hub.finish(session, "news"));
-    if hub.is_closed(session) {
-        assert!(rt; hub.short());
+    is_finished(&rt, alloc, hub, 1);
+    if hub.short() && !was_short {
+        gets_given_up(&rt, hub, 1);
     } else {
-        gets_reply(&rt, hub, session, was_short);
+        gets_reply_and(&rt, hub, 1, texts);
     }
     Ok(())
 }

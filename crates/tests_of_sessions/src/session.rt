@@ -392,3 +392,80 @@ fn limits(rt: HostRuntime) {
     assert!(rt; is_ponged(rt.alloc(), &mut session, 32_768) == Some(true));
     assert!(rt; is_too_long(rt.alloc(), &mut session, 32_768) == Some(true));
 }
+
+const NO_MEMORY: &str = "close 3004 internal server error";
+
+const FAILED: &str =
+    r#"{"error":{"code":100,"message":"internal server error","temporary":true},"id":2}"#;
+
+const CONNECT_ROW: &str =
+    r#"{"id":1,"connect":{}} => attach  / {"connect":{"client":"0-1-1","ping":25,"pong":true,"version":"1.0.0"},"id":1}"#;
+
+const SUBSCRIBE_ROW: &str = r#"{"id":2,"subscribe":{"channel":"news"}} => begin 2 / read / finish"#;
+
+const PUBLISH_ROW: &str =
+    r#"{"id":2,"publish":{"channel":"news","data":1}} => publish 1 0-1-1 / {"id":2,"publish":{}}"#;
+
+const HISTORY_ROW: &str =
+    r#"{"id":2,"history":{"channel":"news","limit":-1}} => history -1 / {"history":{"epoch":"aaaa","offset":3,"publications":[{"data":{},"info":{"client":"0-1-1","user":"ann"},"offset":3}]},"id":2}"#;
+
+/// Whether a text for which a request for memory was refused closed as it was read, or its command
+/// ended so, at once or after the call.
+fn is_given_up(done: &str, call: &str, end: &str) -> bool {
+    match done.strip_suffix(end) {
+        Some(before) => before.is_empty() || before == call,
+        None => done == NO_MEMORY,
+    }
+}
+
+/// A session does what the row says, or gives its command up where memory is refused to it. None
+/// where it is closed, or the node found no memory.
+fn may_give_up(
+    rt: &impl Abort,
+    alloc: Global,
+    session: &mut Session<'_>,
+    row: &str,
+    call: &str,
+    end: &str,
+) -> Option<()> {
+    let (text, wanted) = row.split_once(" => ")?;
+    let was_short = session.short();
+    let done = serve(alloc, session, text)?;
+    if !session.is_idle() {
+        return None;
+    }
+    let done = done.as_str();
+    if session.short() && !was_short {
+        assert!(rt; is_given_up(done, call, end), "{text}: {done}");
+    } else {
+        assert!(rt; done == wanted, "{text}: {done}");
+    }
+    if done.ends_with(NO_MEMORY) {
+        return None;
+    }
+    Some(())
+}
+
+/// A connect that finds no memory closes; the other commands are answered 100, and a subscribe asks
+/// for nothing then.
+fn may_all_give_up(rt: &impl Abort, alloc: Global, session: &mut Session<'_>) -> Option<()> {
+    may_give_up(rt, alloc, session, CONNECT_ROW, "attach  / ", NO_MEMORY)?;
+    for (row, call) in [
+        (SUBSCRIBE_ROW, ""),
+        (PUBLISH_ROW, "publish 1 0-1-1 / "),
+        (HISTORY_ROW, "history -1 / "),
+    ] {
+        may_give_up(rt, alloc, session, row, call, FAILED)?;
+    }
+    Some(())
+}
+
+// By `.ci/hub-refused` also with each request for memory refused in turn.
+#[test]
+fn session_refused(rt: HostRuntime) {
+    let Some((namespaces, tokens)) = tables(rt.alloc(), "") else {
+        return;
+    };
+    let mut session = Session::new(rt.alloc(), &namespaces, &tokens);
+    let _goes_on = may_all_give_up(&rt, rt.alloc(), &mut session);
+}

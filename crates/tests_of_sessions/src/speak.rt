@@ -2,6 +2,7 @@
 use cf_protocol::{read_namespaces, read_tokens};
 use cf_speak::{GivenEpochs, Setup, converse};
 use std::alloc::Global;
+use std::io::{self, ErrorKind, Write};
 
 fn setup(alloc: Global) -> Option<Setup> {
     let namespaces = read_namespaces(alloc, "=100,300,phs");
@@ -75,4 +76,55 @@ close 3501 bad request
 fn closed(rt: HostRuntime) {
     assert!(rt; is_spoken(rt.alloc(), REFUSED, "close 3500 invalid token\n"));
     assert!(rt; is_spoken(rt.alloc(), EMPTY_LINE, CLOSED));
+}
+
+/// A writer behind a buffer: what was written counts only once it is flushed, and as many flushes
+/// succeed as are left.
+#[derive(Drop)]
+struct Buffered {
+    waiting: Vec<u8>,
+    flushed: Vec<u8>,
+    left: usize,
+}
+
+impl Write for Buffered {
+    fn write(&mut self, buf: &[u8]) -> io::Result<usize> {
+        self.waiting.extend_from_slice(buf)?;
+        Ok(buf.len())
+    }
+
+    fn flush(&mut self) -> io::Result<()> {
+        if self.left == 0 {
+            return Err(io::Error::from(ErrorKind::BrokenPipe));
+        }
+        self.left = self.left.saturating_sub(1);
+        self.flushed.extend_from_slice(self.waiting.as_slice())?;
+        self.waiting.clear();
+        Ok(())
+    }
+}
+
+/// Whether a conversation goes to its end where so many flushes succeed, and what was flushed then.
+fn flushes(alloc: Global, flushes: usize) -> Option<(bool, Vec<u8>)> {
+    let mut reader = LINES.as_bytes();
+    let mut writer = Buffered {
+        waiting: Vec::new(alloc),
+        flushed: Vec::new(alloc),
+        left: flushes,
+    };
+    let is_whole = converse(alloc, &mut reader, &mut writer, setup(alloc)?).is_ok();
+    Some((is_whole, writer.flushed))
+}
+
+/// Each of the four lines is flushed by itself before the next is read, and where the last flush
+/// fails so does the conversation.
+#[test]
+fn flushed(rt: HostRuntime) {
+    let (is_whole, written) = flushes(rt.alloc(), 4).expect(&rt, "memory");
+    assert!(rt; is_whole);
+    assert!(rt; written.as_slice() == ANSWERS.as_bytes());
+    let (is_whole, written) = flushes(rt.alloc(), 3).expect(&rt, "memory");
+    assert!(rt; !is_whole);
+    assert!(rt; ANSWERS.as_bytes().starts_with(written.as_slice()));
+    assert!(rt; !written.is_empty());
 }

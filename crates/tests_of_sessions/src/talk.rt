@@ -4,7 +4,7 @@ ghost use Rattle.std.specs.Prelude.{◌≡◌};
 use cf_presence::Stats;
 use cf_protocol::{ErrorCode, Namespaces, Tokens, read_namespaces, read_tokens};
 use cf_session::{Action, Answer, Session};
-use cf_talk::{Node, serve_lines};
+use cf_talk::{Budget, Node, carry_on, hear_text, serve_lines};
 use std::alloc::{AllocError, Global};
 use std::collections::BTreeMap;
 
@@ -142,4 +142,50 @@ fn lines(rt: HostRuntime) {
     assert!(rt; says(rt.alloc(), 100, ALL));
     assert!(rt; says(rt.alloc(), 6, REFUSED));
     assert!(rt; says(rt.alloc(), 5, CONNECTED));
+}
+
+const FRAME: &str = r#"{"id":1,"connect":{}}{"id":2,"ping":{}}"#;
+
+const PONGED: &str =
+    r#"{"connect":{"client":"0-1-1","ping":25,"pong":true,"version":"1.0.0"},"id":1}
+{"id":2,"ping":{}}
+"#;
+
+/// A frame in four turns: the attach, the reply to it, nothing where no unit is left, and the rest.
+#[test]
+fn in_turns(rt: HostRuntime) {
+    let (namespaces, tokens) = tables(rt.alloc()).expect(&rt, "tables");
+    let mut session = Session::new(rt.alloc(), &namespaces, &tokens);
+    let mut node = Stand {
+        namespaces: &namespaces,
+        said: String::new(rt.alloc()),
+        left: 100,
+        alloc: rt.alloc(),
+    };
+    hear_text(&mut session, FRAME);
+    assert!(rt; !carry_on(&mut session, &mut node, &mut Budget::new(4)));
+    assert!(rt; node.said.is_empty());
+    assert!(rt; !carry_on(&mut session, &mut node, &mut Budget::new(1)));
+    assert!(rt; node.said.as_str() == CONNECTED);
+    assert!(rt; !carry_on(&mut session, &mut node, &mut Budget::new(0)));
+    assert!(rt; node.said.as_str() == CONNECTED);
+    assert!(rt; carry_on(&mut session, &mut node, &mut Budget::new(256)));
+    assert!(rt; node.said.as_str() == PONGED);
+}
+
+/// Where the node has closed the session after the attach, the rest is not carried out.
+#[test]
+fn closed_between_turns(rt: HostRuntime) {
+    let (namespaces, tokens) = tables(rt.alloc()).expect(&rt, "tables");
+    let mut session = Session::new(rt.alloc(), &namespaces, &tokens);
+    let mut node = Stand {
+        namespaces: &namespaces,
+        said: String::new(rt.alloc()),
+        left: 1,
+        alloc: rt.alloc(),
+    };
+    hear_text(&mut session, FRAME);
+    assert!(rt; carry_on(&mut session, &mut node, &mut Budget::new(256)));
+    assert!(rt; carry_on(&mut session, &mut node, &mut Budget::new(256)));
+    assert!(rt; node.said.is_empty());
 }

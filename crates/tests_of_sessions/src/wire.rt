@@ -1,4 +1,6 @@
 //! Wires over streams in memory.
+ghost use Rattle.std.specs.Prelude.{not};
+
 use cf_protocol::{Outcome, Outgoing, read_commands, write_reply};
 use cf_queue::Out;
 use cf_wire::{Desk, Gather, TurnEnd, Wire, WireFault};
@@ -20,14 +22,14 @@ const NEVER: usize = usize::MAX;
 /// A stream that moves at most `piece` bytes a call, would block at the end of its input, and fails
 /// from the call of this number on.
 #[derive(Drop)]
-struct Pieces {
-    input: Vec<u8>,
-    at: usize,
-    piece: usize,
-    output: Vec<u8>,
-    blocked: bool,
-    calls: usize,
-    fails: usize,
+pub(crate) struct Pieces {
+    pub(crate) input: Vec<u8>,
+    pub(crate) at: usize,
+    pub(crate) piece: usize,
+    pub(crate) output: Vec<u8>,
+    pub(crate) blocked: bool,
+    pub(crate) calls: usize,
+    pub(crate) fails: usize,
 }
 
 impl Pieces {
@@ -72,20 +74,22 @@ impl Write for Pieces {
 
 /// Answers a connect by its reply and any other text by itself, and closes behind `close`.
 #[derive(Drop)]
-struct Echo {
+pub(crate) struct Echo {
     alloc: Global,
-    heard: usize,
+    pub(crate) heard: usize,
     longest: usize,
-    queue: VecDeque<Out>,
+    pub(crate) queue: VecDeque<Out>,
+    pub(crate) busy: bool,
 }
 
 impl Echo {
-    fn new(alloc: Global) -> Echo {
+    pub(crate) fn new(alloc: Global) -> Echo {
         Echo {
             alloc,
             heard: 0,
             longest: 0,
             queue: VecDeque::new(alloc),
+            busy: false,
         }
     }
 }
@@ -94,6 +98,12 @@ impl Desk for Echo {
     ghost hears = { λ _ _ _. Unit {0} };
 
     ghost gives = { λ _ _ _. Unit {0} };
+
+    ghost ready = { λ d. not d.busy };
+
+    fn is_ready(&self) -> bool {
+        !self.busy
+    }
 
     fn heard(&mut self, text: &str) {
         self.heard = self.heard.saturating_add(1);
@@ -123,7 +133,7 @@ fn answer_to(alloc: Global, text: &str) -> Option<String> {
 }
 
 /// A stream that begins with a request.
-fn stream_of(alloc: Global, input: &[u8], piece: usize) -> Result<Pieces, AllocError> {
+pub(crate) fn stream_of(alloc: Global, input: &[u8], piece: usize) -> Result<Pieces, AllocError> {
     let mut all = REQUEST.to_vec(alloc)?;
     all.extend_from_slice(input)?;
     Ok(Pieces {
@@ -137,7 +147,7 @@ fn stream_of(alloc: Global, input: &[u8], piece: usize) -> Result<Pieces, AllocE
     })
 }
 
-fn wire_over(alloc: Global, input: &[u8], piece: usize) -> Option<Wire<Pieces>> {
+pub(crate) fn wire_over(alloc: Global, input: &[u8], piece: usize) -> Option<Wire<Pieces>> {
     match stream_of(alloc, input, piece) {
         Ok(stream) => Wire::accept(alloc, stream).ok(),
         Err(_) => None,
@@ -145,7 +155,7 @@ fn wire_over(alloc: Global, input: &[u8], piece: usize) -> Option<Wire<Pieces>> 
 }
 
 /// A masked text frame of one byte, as often as asked for.
-fn texts(alloc: Global, count: usize) -> Result<Vec<u8>, AllocError> {
+pub(crate) fn texts(alloc: Global, count: usize) -> Result<Vec<u8>, AllocError> {
     let mut all = Vec::new(alloc);
     for _ in 0..count {
         all.extend_from_slice(b"\x81\x81\0\0\0\0a")?;
@@ -170,23 +180,38 @@ fn three_texts(alloc: Global, piece: usize) -> Result<Pieces, WireFault> {
     }
 }
 
-/// A masked text frame of so many bytes.
-fn long_text(alloc: Global, bytes: usize) -> Result<Vec<u8>, AllocError> {
-    let mut all = b"\x81\xff\0\0\0\0".to_vec(alloc)?;
-    let count = u32::try_from(bytes).unwrap_or(u32::MAX);
-    all.extend_from_slice(&count.to_be_bytes())?;
+/// A masked text frame of this text, which has 126 bytes or more, its length in the shortest form.
+pub(crate) fn text_frame(alloc: Global, text: &str) -> Result<Vec<u8>, AllocError> {
+    let mut all = Vec::new(alloc);
+    match u16::try_from(text.len()) {
+        Ok(count) => {
+            all.extend_from_slice(b"\x81\xfe")?;
+            all.extend_from_slice(&count.to_be_bytes())?;
+        }
+        Err(_) => {
+            let count = u32::try_from(text.len()).unwrap_or(u32::MAX);
+            all.extend_from_slice(b"\x81\xff\0\0\0\0")?;
+            all.extend_from_slice(&count.to_be_bytes())?;
+        }
+    }
     all.extend_from_slice(b"\0\0\0\0")?;
-    all.extend_from_slice("x".repeat(alloc, bytes)?.as_bytes())?;
+    all.extend_from_slice(text.as_bytes())?;
     Ok(all)
 }
 
+/// A masked text frame of so many bytes.
+pub(crate) fn long_text(alloc: Global, bytes: usize) -> Result<Vec<u8>, AllocError> {
+    let text = "x".repeat(alloc, bytes)?;
+    text_frame(alloc, text.as_str())
+}
+
 /// Whether a turn ends so, after which so many texts have been heard.
-fn turns(wire: &mut Wire<Pieces>, desk: &mut Echo, end: TurnEnd, heard: usize) -> bool {
+pub(crate) fn turns(wire: &mut Wire<Pieces>, desk: &mut Echo, end: TurnEnd, heard: usize) -> bool {
     wire.turn(desk) == end && desk.heard == heard
 }
 
 /// Whether this stands last on the wire's stream.
-fn wrote(wire: &Wire<Pieces>, last: &[u8]) -> bool {
+pub(crate) fn wrote(wire: &Wire<Pieces>, last: &[u8]) -> bool {
     wire.stream().output.ends_with(last)
 }
 
@@ -224,7 +249,7 @@ fn in_pieces(rt: HostRuntime) {
 }
 
 /// The first command of a client, masked.
-fn masked_connect(alloc: Global) -> Result<Vec<u8>, AllocError> {
+pub(crate) fn masked_connect(alloc: Global) -> Result<Vec<u8>, AllocError> {
     let mask = [0x37u8, 0xfa, 0x21, 0x3d];
     let mut input = b"\x81\x95\x37\xfa\x21\x3d".to_vec(alloc)?;
     for (at, byte) in br#"{"id":1,"connect":{}}"#.iter().enumerate() {
@@ -233,7 +258,7 @@ fn masked_connect(alloc: Global) -> Result<Vec<u8>, AllocError> {
     Ok(input)
 }
 
-const CONNECTED: &[u8] =
+pub(crate) const CONNECTED: &[u8] =
     b"\x81\x4d{\"connect\":{\"client\":\"0-1-1\",\"ping\":25,\"pong\":true,\"version\":\"1.0.0\"},\"id\":1}";
 
 /// Whether the first command of a client is answered by its reply.
@@ -366,46 +391,12 @@ fn hears(alloc: Global, bytes: usize, end: TurnEnd, longest: usize) -> bool {
     }
 }
 
-/// A text of up to 131,072 bytes is heard, and one byte more closes.
+/// A text of up to 131,072 bytes is heard, by a turn that then gives way, and one byte more closes.
 #[test]
 fn long_texts(rt: HostRuntime) {
-    assert!(rt; hears(rt.alloc(), 65_537, TurnEnd::Idle, 65_537));
-    assert!(rt; hears(rt.alloc(), 131_072, TurnEnd::Idle, 131_072));
+    assert!(rt; hears(rt.alloc(), 65_537, TurnEnd::More, 65_537));
+    assert!(rt; hears(rt.alloc(), 131_072, TurnEnd::More, 131_072));
     assert!(rt; hears(rt.alloc(), 131_073, TurnEnd::Closed(3501), 0));
-}
-
-/// The ends of two turns over three texts, where the stream fails from the call of this number on.
-fn failing(alloc: Global, fails: usize) -> Result<(TurnEnd, TurnEnd), WireFault> {
-    let mut stream = three_texts(alloc, 1000)?;
-    stream.fails = fails;
-    let mut wire = Wire::accept(alloc, stream)?;
-    let mut desk = Echo::new(alloc);
-    let first = wire.turn(&mut desk);
-    Ok((first, wire.turn(&mut desk)))
-}
-
-/// Whether a failure is met by the handshake, or by a turn and each turn after it, or by none.
-fn is_met_for_good(alloc: Global, fails: usize) -> bool {
-    match failing(alloc, fails) {
-        Ok((first, second)) => first != TurnEnd::StreamFault || second == TurnEnd::StreamFault,
-        Err(fault) => fault == WireFault::StreamFault,
-    }
-}
-
-fn is_met_by_turn(alloc: Global, fails: usize) -> bool {
-    matches!(failing(alloc, fails), Ok((TurnEnd::StreamFault, _)))
-}
-
-#[test]
-fn failing_streams(rt: HostRuntime) {
-    let mut met = 0u32;
-    for fails in 1..24 {
-        assert!(rt; is_met_for_good(rt.alloc(), fails), "at {fails}");
-        if is_met_by_turn(rt.alloc(), fails) {
-            met = met.saturating_add(1);
-        }
-    }
-    assert!(rt; met > 5);
 }
 
 /// Why there is no wire over a stream that begins with this head.

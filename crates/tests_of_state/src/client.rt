@@ -304,6 +304,24 @@ fn comes_back(rt: HostRuntime) {
     are_told(&rt, rt.alloc(), &mut client, RECOVERED);
 }
 
+/// Whether a text is refused so.
+fn refuses(client: &mut Client, text: &str, fault: ClientFault) -> bool {
+    match client.on_text(text) {
+        Ok(_) => false,
+        Err(refusal) => refusal == fault,
+    }
+}
+
+/// A text that is none is that whether the client is connected or not.
+#[test]
+fn texts_before_connect(rt: HostRuntime) {
+    let mut client = Client::new(rt.alloc());
+    assert!(rt; refuses(&mut client, "nonsense", ClientFault::Bad));
+    assert!(rt; refuses(&mut client, "{}", ClientFault::NotNow));
+    connects(&rt, &mut client, ASKING);
+    assert!(rt; refuses(&mut client, "nonsense", ClientFault::Bad));
+}
+
 #[test]
 fn faults_in_words(rt: HostRuntime) {
     says(&rt, rt.alloc(), &ClientFault::Bad, "unreadable");

@@ -3,6 +3,8 @@ ghost use Rattle.std.specs.Prelude.{◌≡◌, IsSome};
 ghost use Rattle.cf_protocol.specs.Settings.{settings_of};
 ghost use Rattle.cf_broker.specs.Shards.{names, number_of};
 
+mod moments;
+mod offers;
 mod threads;
 
 use cf_broker::{Broker, Passes, Words, shard_of};
@@ -273,6 +275,11 @@ fn has_stream<N: Naming, R: Wait>(
         && pass.share() == 3
 }
 
+/// Whether two publications were lost by the first of two nodes alone.
+fn loses_two<N: Naming>(broker: &Broker<N, Same>) -> bool {
+    broker.nodes() == 2 && broker.lost(0) == 2 && broker.lost(1) == 0 && broker.lost(2) == 0
+}
+
 fn streams_called<N: Naming, R: Wait>(
     rt: &R,
     alloc: Global,
@@ -287,7 +294,7 @@ fn streams_called<N: Naming, R: Wait>(
         Some((broker, mut passes)) => {
             let broker = &*broker;
             let mut pass = passes.take(broker, shard_of("news"));
-            has_stream(rt, alloc, broker, namespaces, &mut pass, "news")
+            has_stream(rt, alloc, broker, namespaces, &mut pass, "news") && loses_two(broker)
         }
         None => false,
     }

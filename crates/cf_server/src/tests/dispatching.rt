@@ -1,10 +1,10 @@
 //! Turns of a dispatcher over a link and a hub in memory.
+use cf_dispatch::{Post, Seats, pass_on, take_batch, take_for};
 use cf_hub::{Delivered, Hub};
 use cf_protocol::{Epoch, Position, Publication};
 use cf_queue::Out;
 use cf_shard::Delivery;
 use cf_stream::Recovery;
-use cf_turns::{Post, Seats, pass_on, take_batch, take_for};
 use std::alloc::Global;
 use std::collections::VecDeque;
 use std::mem;
@@ -117,7 +117,7 @@ fn wakes(lane: &mut Lane) -> bool {
 // All that waits for the session are these texts.
 fn gets(alloc: Global, hub: &mut Hub, session: u32, texts: &[&str]) -> bool {
     let mut taken = VecDeque::new(alloc);
-    !take_for(hub, session, true, &mut taken) && are_texts(&taken, texts)
+    !take_for(hub, session, true, &mut taken).leaves_more() && are_texts(&taken, texts)
 }
 
 const PUSHES: [&str; 2] = [

@@ -254,7 +254,7 @@ fn not_utf8_at_its_line(rt: HostRuntime) {
 
 fn are_unusable(alloc: Global, epochs: &str) -> bool {
     let options = SpeakOptions { epochs, ..DEFAULTS };
-    matches!(&setup_of(alloc, options), Err(Fault::Setting))
+    matches!(&setup_of(alloc, options), Err(Fault::Setting { .. }))
 }
 
 // Epochs of another form can't be used.

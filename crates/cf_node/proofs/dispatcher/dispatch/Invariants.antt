@@ -1,4 +1,4 @@
-use Rattle.cf_turns.specs.Dispatch.{Dispatches}
+use Rattle.cf_dispatch.specs.Dispatch.{Dispatches}
 use Rattle.cf_node.proofs.dispatcher.dispatch.Given as goal
 
 abbrev pub invariant-loop : goal.invariant-loop

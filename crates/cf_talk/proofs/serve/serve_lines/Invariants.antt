@@ -1,4 +1,4 @@
-use Rattle.std.proofs.Common.{◌≡◌, ◌⊎◌, true, false, map, take, string_bytes}
+use Rattle.std.proofs.Common.{◌≡◌, true, false, map, take, string_bytes}
 use Rattle.cf_session.specs.Standing.{tables_of, progress_of, is_short, is_idle}
 use Rattle.cf_talk.specs.Played.{Talks}
 use Rattle.cf_talk.proofs.serve.serve_lines.Given as goal

@@ -11,9 +11,10 @@ returns-in-Ok-clause-hears c =
     let s = c.args.self.now in
     let stands : is_over s.stage ≡ false = sym c.is_closed.ensures ∙ c.if-is_closed.false in
     inl (
-    hears_served (tables_of s) s.client _ c.args.text.now _ _ (idle_served (tables_of s) (commands_left s) s.client s.stage c.requires stands)
-    (inl (map shown_command c.in-Ok.commands.items, c.if-text-gt-LONGEST_TEXT.false, c.in-Ok.ensures.found, refl))
-    (ap (λ xs. Todo (frame_script (tables_of s) (map shown_command xs) s.client)) c.from_vec.ensures.items)
+      hears_served (tables_of s) s.client _ c.args.text.now _ _ (idle_served (tables_of s) (commands_left s) s.client s.stage c.requires.idle stands)
+          (inl (map shown_command c.in-Ok.commands.items, c.if-text-gt-LONGEST_TEXT.false, c.in-Ok.ensures.found, refl))
+          (ap (λ xs. Todo (frame_script (tables_of s) (map shown_command xs) s.client)) c.from_vec.ensures.items),
+      c.requires.fresh,
     )
 
 pub returns-in-Err-Bad-clause-hears : goal.returns-in-Err-Bad-clause-hears
@@ -21,7 +22,8 @@ returns-in-Err-Bad-clause-hears c =
     let s = c.args.self.now in
     let stands : is_over s.stage ≡ false = sym c.is_closed.ensures ∙ c.if-is_closed.false in
     inl (
-    hears_served (tables_of s) s.client _ c.args.text.now _ _ (idle_served (tables_of s) (commands_left s) s.client s.stage c.requires stands)
-    (inr (inr (c.in-Err-Bad.ensures.bad c.in-Err-Bad.field-0-is), refl))
-    refl
+      hears_served (tables_of s) s.client _ c.args.text.now _ _ (idle_served (tables_of s) (commands_left s) s.client s.stage c.requires.idle stands)
+          (inr (inr (c.in-Err-Bad.ensures.bad c.in-Err-Bad.field-0-is), refl))
+          refl,
+      c.requires.fresh,
     )

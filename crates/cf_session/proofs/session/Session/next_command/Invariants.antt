@@ -1,5 +1,5 @@
 use Rattle.std.proofs.Common.{◌≡◌, ◌≤◌, length}
-use Rattle.cf_session.specs.Standing.{tables_of, rest_of}
+use Rattle.cf_session.specs.Standing.{tables_of, rest_of, refusals}
 use Rattle.cf_session.specs.declared.stage.Stage.TheVariants as stage
 use Rattle.cf_session.proofs.session.Session.next_command.Given as goal
 
@@ -8,6 +8,7 @@ invariant-loop-command l =
     (l.self.stage ≡ stage.Ready)
     × (tables_of l.self ≡ tables_of l.fn.self)
     × (rest_of l.self ≡ rest_of l.fn.self)
+    × (refusals l.self ≡ 0)
     × (length l.self.frame.items ≤ length l.fn.self.frame.items)
 
 abbrev pub decreases-loop-command : goal.decreases-loop-command

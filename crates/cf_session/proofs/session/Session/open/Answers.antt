@@ -1,11 +1,16 @@
-use Rattle.std.proofs.Common.{inr, ap, Some}
-use Rattle.cf_session.specs.Standing.{tables_of}
-use Rattle.cf_session.proofs.Steps.{closes_short}
+use Rattle.std.proofs.Common.{◌≡◌, ◌∙◌, inr, ap, sym, option_copied, string_bytes, Some}
+use Rattle.cf_protocol.specs.Settings.{user_of}
+use Rattle.cf_protocol.specs.Shown.{shown_request}
+use Rattle.cf_session.specs.Standing.{tables_of, rest_with}
+use Rattle.cf_session.proofs.Steps.{attach_next, stays_out_at}
 use Rattle.cf_session.proofs.session.Session.open.Goals as goal
 
-pub returns-in_default-attach-clause-acts : goal.returns-in_default-attach-clause-acts
-returns-in_default-attach-clause-acts c =
+pub returns-clause-acts : goal.returns-clause-acts
+returns-clause-acts c =
+    let s = c.args.self.now in
+    let known : user_of (tables_of s).tokens (string_bytes c.in-Connect.token) ≡ Some c.in-Some.user.now =
+    ap (user_of (tables_of s).tokens) (sym c.as_str.ensures.value) ∙ sym c.user.ensures ∙ ap option_copied c.in-Some.is in
     inr (
-      c.close-in_default-attach.ensures.short,
-      closes_short (tables_of c.args.self.now) _ _ _ (ap Some c.close-in_default-attach.ensures.act) c.close-in_default-attach.ensures.progress,
+    stays_out_at (tables_of s) _ _ _ _ (attach_next (tables_of s) c.args.id (shown_request c.args.request) (string_bytes c.in-Connect.token) c.in-Some.user.now (rest_with s) (ap shown_request c.in-Connect.is) known)
+    (ap Some c.give_up.ensures.act) c.give_up.ensures.progress c.give_up.ensures.refusals
     )

@@ -1,9 +1,19 @@
-use Rattle.std.proofs.Common.{inr}
+use Rattle.std.proofs.Common.{inr, ap, Some, sym, ◌∙◌}
 use Rattle.cf_protocol.specs.Shown.{shown_outcome}
 use Rattle.cf_session.specs.Standing.{tables_of, rest_of}
-use Rattle.cf_session.proofs.Steps.{falls_at_reply}
+use Rattle.cf_session.proofs.Steps.{falls_at_reply, falls_at_connected}
 use Rattle.cf_session.proofs.session.Session.say.Goals as goal
 
-pub returns-in_default-clause-acts : goal.returns-in_default-clause-acts
-returns-in_default-clause-acts c =
-    inr (c.fall_short.ensures.short, falls_at_reply (tables_of c.args.self.now) c.args.id (shown_outcome c.args.outcome) (rest_of c.args.self.now) _ _ c.fall_short.ensures.falls)
+pub returns-in-Err-clause-acts : goal.returns-in-Err-clause-acts
+returns-in-Err-clause-acts c =
+    inr (
+    falls_at_connected (tables_of c.args.self.now) c.args.id (shown_outcome c.args.outcome) (rest_of c.args.self.now) _ _ _
+    (sym c.is_connected-connects.ensures ∙ c.if-connects.true) (ap Some c.give_up.ensures.act) c.give_up.ensures.progress c.give_up.ensures.refusals
+    )
+
+pub returns-clause-acts : goal.returns-clause-acts
+returns-clause-acts c =
+    inr (
+    falls_at_reply (tables_of c.args.self.now) c.args.id (shown_outcome c.args.outcome) (rest_of c.args.self.now) _ _ _
+    (sym c.is_connected-connects.ensures ∙ c.if-connects.false) c.fall_short.ensures.falls
+    )

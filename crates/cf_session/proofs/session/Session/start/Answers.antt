@@ -2,7 +2,7 @@ use Rattle.std.proofs.Common.{◌≡◌, ◌∙◌, true, not, is_some, ap, sym,
 use Rattle.cf_protocol.specs.Shown.{shown_command}
 use Rattle.cf_session.specs.Script.{Script}
 use Rattle.cf_session.specs.Standing.{Falls}
-use Rattle.cf_session.specs.Standing.{tables_of, commands_left, progress_of, rest_of}
+use Rattle.cf_session.specs.Standing.{tables_of, commands_left, progress_of, rest_of, refusals, IsReady}
 use Rattle.cf_session.specs.Shown.{shown_action}
 use Rattle.cf_session.proofs.Steps.{comes_granted, falls_at_start, rest_same}
 use Rattle.cf_session.proofs.session.Session.start.Goals as goal
@@ -11,7 +11,8 @@ pub returns-in-Ok-clause-acts : goal.returns-in-Ok-clause-acts
 returns-in-Ok-clause-acts c =
     let s = c.args.self.now in
     let there : is_some s.client ≡ true = c.is_none.ensures ∙ ap not c.if-is_none.false in
-    comes_granted (tables_of s) s.client (shown_command c.args.command) (commands_left s) c.in-Ok.action (progress_of c.grant.new.self) _ _ there
+    comes_granted (tables_of s) s.client (shown_command c.args.command) (commands_left s) c.in-Ok.action (progress_of c.grant.new.self)
+    (IsReady c.grant.new.self) (refusals c.grant.new.self) there
     (sym c.refusal_of.ensures ∙ c.in_default.is) c.in-Ok.ensures.acts
 
 pub returns-in-Err-clause-acts : goal.returns-in-Err-clause-acts
@@ -20,7 +21,6 @@ returns-in-Err-clause-acts c =
     let there : is_some s.client ≡ true = c.is_none.ensures ∙ ap not c.if-is_none.false in
     let same : rest_of c.grant.new.self ≡ rest_of s = rest_same s c.grant.new.self c.grant.ensures.tables c.grant.ensures.frame c.in-Err.ensures.client in
     inr (
-      c.fall_short.ensures.short,
-      falls_at_start (tables_of s) s.client (shown_command c.args.command) (commands_left s) _ _ there
-          (subst (λ (x : Script). Falls c.args.command.id x (Some (shown_action c.fall_short.result)) (progress_of c.fall_short.new.self)) same c.fall_short.ensures.falls),
+    falls_at_start (tables_of s) s.client (shown_command c.args.command) (commands_left s) _ _ _ there
+    (subst (λ (x : Script). Falls c.args.command.id x (Some (shown_action c.fall_short.result)) (progress_of c.fall_short.new.self) (refusals c.fall_short.new.self)) same c.fall_short.ensures.falls)
     )

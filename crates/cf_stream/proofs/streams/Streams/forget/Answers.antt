@@ -1,7 +1,8 @@
-use Rattle.std.proofs.Common.{arith, None}
+use Rattle.std.proofs.Common.{arith, None, refl}
 use Rattle.std.proofs.lemmas.Map.Text.{text_keys}
 use Rattle.cf_stream.proofs.Channels.{kept_by}
 use Rattle.cf_stream.proofs.ChannelChanges.{ChangesAt-forget}
+use Rattle.cf_stream.proofs.Quieting.{quiet_set}
 use Rattle.cf_stream.proofs.LogSteps.{Adds-forget}
 use Rattle.cf_stream.proofs.streams.Streams.forget.Goals as goal
 
@@ -13,3 +14,8 @@ returns-clause-log c = rw (returns-clause-forgotten c) (Adds-forget c.args.self.
 
 pub returns-clause-lists : goal.returns-clause-lists
 returns-clause-lists c = rw (returns-clause-forgotten c) (ChangesAt-forget c.args.self.now c.args.channel.now)
+
+pub invariant_of-self : goal.invariant_of-self
+invariant_of-self c =
+    quiet_set c.self.inside.quiet_until c.self.inside.quiet_until c.self.inside.namespaces c.self.inside.map c.remove.new.self c.args.channel.now None (omega arith) c.self.invariant (λ t early h. refl)
+    (λ q. grind (arith, text_keys))

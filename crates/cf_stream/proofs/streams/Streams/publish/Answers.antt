@@ -3,6 +3,10 @@ use Rattle.cf_protocol.specs.declared.position.Position.{Position}
 use Rattle.cf_stream.proofs.Channels.{get-by_channel, kept_by, kept_same}
 use Rattle.cf_stream.proofs.ChannelChanges.{ChangesAt-publish, newest_set, stands_set, IfOk-both}
 use Rattle.cf_stream.proofs.LogSteps.{Adds-publish}
+use Rattle.std.specs.BTreeMap.{get_by_text}
+use Rattle.cf_stream.specs.Stream.{datum_of, pushed, unused_seconds}
+use Rattle.cf_stream.specs.Streams.{stood_or}
+use Rattle.cf_stream.proofs.Quieting.{not_over, pushed_quiet, quiet_by}
 use Rattle.cf_stream.proofs.streams.Streams.publish.Goals as goal
 
 pub returns-clause-ok : goal.returns-clause-ok
@@ -40,3 +44,11 @@ returns-clause-newest g c =
 pub returns-clause-list_answer : goal.returns-clause-list_answer
 returns-clause-list_answer g c =
     IfOk-both c.publish_in.result _ _ _ (λ (p : Position) h n. stands_set c.self.inside.namespaces c.self.inside.map c.publish_in.new.map c.args.channel.now _ p h n) c.publish_in.ensures.ok c.publish_in.ensures.position
+
+pub invariant_of-self : goal.invariant_of-self
+invariant_of-self g c =
+    quiet_by c.publish_in.result c.self.inside.quiet_until c.quiet_after_use-self-inside.result c.self.inside.namespaces c.self.inside.map c.publish_in.new.map c.args.channel.now
+    (λ (p : Position). pushed (stood_or (get_by_text c.self.inside.map c.args.channel.now) p.epoch c.size_for-size.result) (datum_of c.args.body c.args.info) c.args.now)
+    c.quiet_after_use-self-inside.ensures.before c.self.invariant c.publish_in.ensures.ok c.publish_in.ensures.err
+    (λ p t early h. pushed_quiet (stood_or (get_by_text c.self.inside.map c.args.channel.now) p.epoch c.size_for-size.result) (datum_of c.args.body c.args.info) c.args.now _ t (not_over c.args.now unused_seconds c.quiet_after_use-self-inside.result t c.quiet_after_use-self-inside.ensures.used early)
+    (not_over c.args.now _ c.quiet_after_use-self-inside.result t (rw (← c.seconds_for-seconds.ensures) c.quiet_after_use-self-inside.ensures.held) early))

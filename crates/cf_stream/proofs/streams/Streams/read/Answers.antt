@@ -1,5 +1,9 @@
 use Rattle.std.proofs.lemmas.Result.{IfOk-weaker, on_err_weaker}
 use Rattle.cf_stream.specs.declared.answer.Recovery.{Recovery}
+use Rattle.std.specs.BTreeMap.{get_by_text}
+use Rattle.cf_stream.specs.Stream.{used_at, unused_seconds}
+use Rattle.cf_stream.specs.Streams.{stood_or}
+use Rattle.cf_stream.proofs.Quieting.{not_over, used_quiet, quiet_by}
 use Rattle.cf_stream.proofs.Channels.{get-by_channel, kept_by, kept_same}
 use Rattle.cf_stream.proofs.LogSteps.{Adds-read}
 use Rattle.cf_stream.proofs.ChannelChanges.{ChangesAt-read, ReadsAt-from}
@@ -32,3 +36,11 @@ returns-clause-list_answer g c = IfOk-weaker c.read_in.result _ _ (λ (r : Recov
 
 pub returns-clause-lists : goal.returns-clause-lists
 returns-clause-lists g c = IfOk-weaker c.read_in.result _ _ (λ (r : Recovery) h. rw h (ChangesAt-read c.args.self.now c.args.channel.now r.position.epoch c.args.now)) (returns-clause-ok g c)
+
+pub invariant_of-self : goal.invariant_of-self
+invariant_of-self g c =
+    quiet_by c.read_in.result c.self.inside.quiet_until c.quiet_after_use-self-inside.result c.self.inside.namespaces c.self.inside.map c.read_in.new.map c.args.channel.now
+    (λ (r : Recovery). used_at (stood_or (get_by_text c.self.inside.map c.args.channel.now) r.position.epoch c.size_for-size.result) c.args.now)
+    c.quiet_after_use-self-inside.ensures.before c.self.invariant c.read_in.ensures.ok c.read_in.ensures.err
+    (λ r t early h. used_quiet (get_by_text c.self.inside.map c.args.channel.now) r.position.epoch c.size_for-size.result c.args.now _ t
+    (not_over c.args.now unused_seconds c.quiet_after_use-self-inside.result t c.quiet_after_use-self-inside.ensures.used early) h)

@@ -1,10 +1,10 @@
-use Rattle.std.proofs.Common.{◌≡◌, None}
+use Rattle.std.proofs.Common.{◌≡◌, ◌≤◌}
 use Rattle.cf_wire.specs.declared.end.Stage.TheVariants.{Open}
-use Rattle.cf_wire.specs.Turn.{Turns, place}
+use Rattle.cf_wire.specs.Turn.{Part, place, going, most_bytes}
 use Rattle.cf_wire.proofs.wire.Wire.exchange.Given as goal
 
 abbrev pub invariant-loop-index : goal.invariant-loop-index
 invariant-loop-index g l = record {
-  turns : Turns g.D.Desk.hears g.D.Desk.gives g.S.Read.remaining g.S.Write.contents l.index l.index None (place l.initial.desk l.initial.self) (place l.desk l.self);
+  turns : Part g.D.Desk.hears g.D.Desk.gives g.D.Desk.ready g.S.Read.remaining g.S.Write.contents l.index l.index most_bytes l.left going (place l.initial.desk l.initial.self) (place l.desk l.self);
   opened : l.self.stage ≡ Open;
 }

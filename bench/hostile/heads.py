@@ -1,0 +1,75 @@
+#!/usr/bin/env python3
+"""A head is waited for, and no longer than it may be.
+
+One connection sends 16,384 bytes of a head without a blank line, and is dropped at once, with no answer. Another sends its head in
+three pieces, a tenth of a second apart, and its first frame in one write with the last of them: it is shaken hands with and answered.
+A third sends one byte less than the longest head, and is answered; a fourth a request that isn't one, and is dropped.
+"""
+import time
+
+from peers import Peer, Server, connected, frame, handshake, run, text_of
+
+LONGEST = 16_384
+HELLO = frame(text_of({"id": 1, "connect": {}}))
+
+
+def head_of(count):
+    """A head of so many bytes, which ends as a head does."""
+    whole = handshake()
+    start, end = whole[:-2], whole[-2:]
+    filler = b"X-Filler: "
+    return start + filler + b"x" * (count - len(start) - len(filler) - 2 - len(end)) + b"\r\n" + end
+
+
+def answer(port, pieces, pause=0.1, seconds=5):
+    """What a connection gets that sends these pieces: the bytes, and whether it was ended."""
+    socket = connected(port)
+    got, ended = b"", False
+    try:
+        for piece in pieces:
+            socket.sendall(piece)
+            time.sleep(pause)
+        socket.settimeout(seconds)
+        while b'"connect"' not in got:
+            data = socket.recv(65_536)
+            if not data:
+                ended = True
+                break
+            got += data
+    except TimeoutError:
+        pass
+    except OSError:
+        ended = True
+    socket.close()
+    return got, ended
+
+
+def is_answered(got):
+    return got.startswith(b"HTTP/1.1 101 ") and b'"connect":{"client":' in got
+
+
+def check(program, seconds):
+    with Server(program) as server:
+        stays = Peer(server.port)
+        faults = []
+        got, ended = answer(server.port, [b"GET / HTTP/1.1\r\nX: " + b"x" * (LONGEST - 19)])
+        if got or not ended:
+            faults.append(f"16,384 bytes without a blank line: {got[:40]!r}, {'dropped' if ended else 'not dropped'}")
+        whole = handshake()
+        got, _ = answer(server.port, [whole[:11], whole[11:60], whole[60:] + HELLO])
+        if not is_answered(got):
+            faults.append(f"a head in three pieces: {got[:60]!r}")
+        got, _ = answer(server.port, [head_of(LONGEST - 1) + HELLO])
+        if not is_answered(got):
+            faults.append(f"a head of 16,383 bytes: {got[:60]!r}")
+        got, ended = answer(server.port, [b"no request\r\n\r\n"])
+        if got.startswith(b"HTTP/1.1 101 ") or not ended:
+            faults.append(f"no request: {got[:40]!r}, {'dropped' if ended else 'not dropped'}")
+        stays.send({"ping": {}})
+        if stays.code is not None:
+            faults.append("a client beside them was closed")
+    return not faults, "; ".join(faults) or "16,384 bytes without a blank line are dropped, a head in three pieces with a frame behind it is answered, so is one of 16,383 bytes"
+
+
+if __name__ == "__main__":
+    run(check, 0)

@@ -1,0 +1,3 @@
+pub mod Agendas
+pub mod Batches
+pub mod Taking

@@ -1,0 +1,47 @@
+-- What is taken from a node's hub for a client. (This project's own profile.)
+use Rattle.std.specs.Prelude.{◌≡◌, ◌≤◌, ◌+◌, ◌⊎◌, ℕ, Bool, true, false, ◌++◌, List, length, map, option_map, string_len, sum_by}
+use Rattle.cf_queue.specs.Meaning.{meaning}
+use Rattle.cf_queue.specs.OutQueue.{Item}
+use Rattle.cf_queue.specs.declared.queue.Out.{Out}
+use Rattle.cf_queue.specs.declared.queue.Out.TheVariants as out
+use Rattle.cf_hub.specs.Hub.{Node, OthersStay, attached_at, moves, waits_in}
+use Rattle.cf_hub.specs.Session.{Attached}
+use Rattle.cf_dispatch.specs.declared.outlet.Taken.{Taken}
+use Rattle.cf_dispatch.specs.declared.outlet.Taken.TheVariants.{All, Blocked, Limit, Memory}
+
+-- what waits in the hub for the client of session k
+abbrev pub waits_at : Node → ℕ → List Item
+waits_at h k = waits_in (attached_at h k)
+
+-- the session, with this left of what waits for its client
+abbrev pub left_with : List Item → Attached → Attached
+left_with items = moves (λ s. record s { notes = items })
+
+-- Some of what waits for session k was taken, the first first, and stands behind what was taken before. All else is as it was.
+pub record Takes (k : ℕ) (old new : Node) (had has : List Out) : Type 0 where
+  pub taken : List Out
+  pub gained : has ≡ had ++ taken
+  pub waited : waits_at old k ≡ map meaning taken ++ waits_at new k
+  pub here : attached_at new k ≡ option_map (left_with (waits_at new k)) (attached_at old k)
+  pub others : OthersStay k old new
+  pub turns : new.turns ≡ old.turns
+
+-- how many bytes of text it has
+abbrev pub bytes_in : Out → ℕ
+bytes_in (out.Text text) = string_len text
+bytes_in (out.Close code) = 0
+
+-- so many bytes of texts are taken at once, or as many items
+abbrev pub most_taken : ℕ
+most_taken = 65536
+
+-- so much was taken
+abbrev pub IsAtLimit : List Out → List Out → Type 0
+IsAtLimit had has = (sum_by bytes_in had + most_taken ≤ sum_by bytes_in has) ⊎ (length had + most_taken ≤ length has)
+
+-- more may wait where a taking ended so
+abbrev pub leaves_more : Taken → Bool
+leaves_more All = false
+leaves_more Limit = true
+leaves_more Memory = true
+leaves_more Blocked = true

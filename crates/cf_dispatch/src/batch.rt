@@ -1,0 +1,60 @@
+//! What is taken from the hub for the sessions that it names, under one lock.
+ghost use Rattle.cf_dispatch.specs.Batch.{TakesAt, TakesBatch, most_at_once};
+
+use crate::outlet::take_for;
+use cf_hub::Hub;
+use cf_queue::Out;
+use std::collections::VecDeque;
+
+/// For so many sessions what waits is taken under one lock of the hub.
+pub const SESSIONS_AT_ONCE: usize = 64;
+
+/// Where the clients of a hub's sessions sit. What each call does it states itself.
+pub trait Seats {
+    ghost use Rattle.std.specs.Prelude.{ℕ, Bool, List};
+    ghost use Rattle.cf_queue.specs.declared.queue.Out.{Out};
+
+    /// The wire of a session's client takes more at once, or not.
+    ghost frees: { Self → ℕ → Bool → Type 0 };
+
+    /// What was taken for a session's client, and isn't sent yet, is lent.
+    ghost lends: { Self → ℕ → List Out → Self → Type 0 };
+
+    /// A session's client gets what was taken for it by now, and more may wait for it, or not.
+    ghost gets: { Self → ℕ → List Out → Bool → Self → Type 0 };
+
+    /// Whether the wire of a session's client takes more at once.
+    fn is_free(&self, session: u32) -> bool
+        ensures { frees self.now session result };
+
+    /// Lends what was taken for a session's client and isn't sent yet.
+    fn lend(&mut self, session: u32) -> VecDeque<Out>
+        ensures { lends self.old session result.items self.new };
+
+    /// Gives a session's client what was taken for it by now, and notes whether more may wait for it.
+    fn give(&mut self, session: u32, taken: VecDeque<Out>, more: bool)
+        ensures { gets self.old session taken.items more self.new };
+}
+
+/// Takes what waits for up to 64 sessions, in the order in which the hub names them: the first first, behind what was taken
+/// before, and nothing for a client whose wire isn't free.
+pub fn take_batch<S: Seats>(hub: &mut Hub, seats: &mut S)
+    ensures { TakesBatch S.frees S.lends S.gets most_at_once hub.old hub.new seats.old seats.new }
+{
+    for _named in 0..SESSIONS_AT_ONCE {
+        let Some(session) = hub.next_with_output() else {
+            return;
+        };
+        take_at(hub, seats, session);
+    }
+}
+
+// Takes what waits for one session, where its client's wire is free.
+fn take_at<S: Seats>(hub: &mut Hub, seats: &mut S, session: u32)
+    ensures { TakesAt S.frees S.lends S.gets session hub.old hub.new seats.old seats.new }
+{
+    let is_free = seats.is_free(session);
+    let mut taken = seats.lend(session);
+    let why = take_for(hub, session, is_free, &mut taken);
+    seats.give(session, taken, why.leaves_more());
+}

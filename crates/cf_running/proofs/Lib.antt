@@ -1,0 +1,11 @@
+pub mod Beside
+pub mod Clients
+pub mod Computed
+pub mod Entries
+pub mod Gaining
+pub mod Hasten
+pub mod Hearing
+pub mod Steps
+pub mod Ties
+pub mod Turns
+pub mod Working

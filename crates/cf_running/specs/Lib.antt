@@ -1,0 +1,4 @@
+pub mod Examples
+pub mod Running
+pub mod Server
+pub mod ShardLogs

@@ -1,0 +1,75 @@
+-- A log that was gained entry by entry has no stream above the last offset.
+use Rattle.std.proofs.Common.{◌≡◌, ◌≤◌, ℕ, nat_lt, ◌&&◌, Bool, true, false, cond, Option, Some, None, List, [], ◌∷◌, ◌++◌, length, append-nil, append_assoc, refl, sym, subst, arith}
+use Rattle.std.specs.Prelude.{IfSome, option_map}
+use Rattle.std.specs.Str.{bytes_eq}
+use Rattle.std.proofs.lemmas.Bool.Decides.{nat_tests}
+use Rattle.std.proofs.lemmas.List.{length-append}
+use Rattle.std.proofs.lemmas.Slice.Eq.{bytes_eq-Decides}
+use Rattle.cf_protocol.specs.Datum.{Datum}
+use Rattle.cf_protocol.specs.LogEntry.{Entry}
+use Rattle.cf_protocol.specs.LogEntry.Entry.{Open, Publish, Trim, Forget}
+use Rattle.cf_stream.specs.LogState.{life_in}
+use Rattle.cf_stream.specs.PublicationList.{Life, kept_newest, opened, published}
+use Rattle.cf_stream.specs.StreamState.{last_offset}
+use Rattle.cf_stream.proofs.LogStates.{changed}
+use Rattle.cf_machine.specs.Config.{Config}
+use Rattle.cf_machine.specs.IntervalMachine.{size_of}
+use Rattle.cf_running.specs.Server.{is_below, may_gain}
+use Rattle.cf_running.proofs.Gaining.{life-more}
+use Rattle.cf_running_ties.specs.ShardCalls.{MayAll}
+
+abbrev pub IsWithin : Option Life → Type 0
+IsWithin o = IfSome o (λ l. length l.list ≤ last_offset)
+
+by_cond : (b : Bool) (new old : Option Life) → (b ≡ true → IsWithin new) → IsWithin old → IsWithin (cond b new old)
+by_cond true new old h k = h refl
+by_cond false new old h k = k
+
+second : (a b : Bool) → (a && b) ≡ true → b ≡ true
+second true b h = h
+second false b h = absurd (cc)
+
+one-longer : (ds : List Datum) (d : Datum) → nat_lt (length ds) last_offset ≡ true → length (ds ++ d ∷ []) ≤ last_offset
+one-longer ds d h = let e = length-append ds (d ∷ []) in grind (arith, nat_tests, e)
+
+grown : (size : ℕ) (d : Datum) (o : Option Life) → is_below o ≡ true → IsWithin (option_map (published size d) o)
+grown size d None h = absurd (cc)
+grown size d (Some l) h = one-longer l.list d h
+
+trimmed : (n : ℕ) (o : Option Life) → IsWithin o → IsWithin (option_map (kept_newest n) o)
+trimmed n None h = tt
+trimmed n (Some l) h = h
+
+module _ (cfg : Config) where
+  abbrev Fits : List Entry → Type 0
+  Fits log = (q : List ℕ) → IsWithin (life_in (size_of cfg) log q)
+
+  step : (log : List Entry) (x : Entry) → Fits log → may_gain cfg log x ≡ true → Fits (log ++ x ∷ [])
+  step log x h can q = subst IsWithin (sym (life-more (size_of cfg) log x q)) (by_entry x can)
+    where
+      by_entry : (y : Entry) → may_gain cfg log y ≡ true → IsWithin (changed (size_of cfg q) q (life_in (size_of cfg) log q) y)
+      by_entry (Open c e) k = by_cond (bytes_eq c q) (Some (opened e)) (life_in (size_of cfg) log q) (λ t. omega arith) (h q)
+      by_entry (Publish c d) k =
+          by_cond (bytes_eq c q) (option_map (published (size_of cfg q) d) (life_in (size_of cfg) log q)) (life_in (size_of cfg) log q)
+          (λ t. grown (size_of cfg q) d (life_in (size_of cfg) log q)
+          (subst (λ (z : List ℕ). is_below (life_in (size_of cfg) log z) ≡ true) ((bytes_eq-Decides c q).0 t) (second _ _ k)))
+          (h q)
+      by_entry (Trim c n) k =
+          by_cond (bytes_eq c q) (option_map (kept_newest n) (life_in (size_of cfg) log q)) (life_in (size_of cfg) log q)
+          (λ t. trimmed n (life_in (size_of cfg) log q) (h q)) (h q)
+      by_entry (Forget c) k = by_cond (bytes_eq c q) None (life_in (size_of cfg) log q) (λ t. tt) (h q)
+
+  all_fit : (xs log : List Entry) → Fits log → MayAll cfg log xs → Fits (log ++ xs)
+  all_fit [] log h k = subst Fits (sym (append-nil log)) h
+  all_fit (x ∷ xs) log h k = subst Fits (append_assoc log (x ∷ []) xs) (all_fit xs (log ++ x ∷ []) (step log x h k.0) k.1)
+
+  pub fits : (log : List Entry) → MayAll cfg [] log → (q : List ℕ) → IsWithin (life_in (size_of cfg) log q)
+  fits log k = all_fit log [] (λ q. tt) k
+
+  joined : (b a xs : List Entry) → MayAll cfg a b → MayAll cfg (a ++ b) xs → MayAll cfg a (b ++ xs)
+  joined [] a xs h k = subst (λ (l : List Entry). MayAll cfg l xs) (append-nil a) k
+  joined (x ∷ b) a xs h k =
+      (h.0, joined b (a ++ x ∷ []) xs h.1 (subst (λ (l : List Entry). MayAll cfg l xs) (sym (append_assoc a (x ∷ []) b)) k))
+
+  pub goes_on : (log more : List Entry) → MayAll cfg [] log → MayAll cfg log more → MayAll cfg [] (log ++ more)
+  goes_on log more h k = joined log [] more h k

@@ -1,0 +1,65 @@
+//! What ties the contracts of hub and shard to the sections of the running server.
+ghost use Rattle.std.specs.Prelude.{◌≡◌, ◌++◌, Bool, IsSome, true, ℕ, List, Option, Some};
+ghost use Rattle.cf_protocol.specs.Datum.{Datum, Placed};
+ghost use Rattle.cf_protocol.specs.LogEntry.{Entry};
+ghost use Rattle.cf_protocol.specs.Note.{Lists};
+ghost use Rattle.cf_protocol.specs.Position.{Position};
+ghost use Rattle.cf_protocol.specs.Settings.{settings_of};
+ghost use Rattle.cf_stream.specs.ChannelLists.{ReadsAt};
+ghost use Rattle.cf_stream.specs.LogState.{IsState, life_in};
+ghost use Rattle.cf_stream.specs.PublicationList.{Life, state_of};
+ghost use Rattle.cf_stream.specs.StreamAnswer.{read_of};
+ghost use Rattle.cf_stream.specs.Streams.{Kept, stream_of};
+ghost use Rattle.cf_shard.specs.ShardLog.{entries_of_forget, entries_of_publish, entries_of_tick, entries_of_trim, entries_of_use};
+ghost use Rattle.cf_machine.specs.Config.{Config};
+ghost use Rattle.cf_machine.specs.IntervalMachine.{size_of};
+ghost use Rattle.cf_running_ties.specs.HubAsides.{MovesAmong};
+ghost use Rattle.cf_running_ties.specs.ShardCalls.{IsDrawn, IsGained, IsNotLast, MayAll, answered};
+
+use cf_recovery::laws::what_is_kept_stands;
+
+/// Each move that a call of a hub makes of a session, in notes, whatever memory was refused, and whatever
+/// other texts wait between: it is the move of one section, or of a close and one section; and what is
+/// taken is a note or one of the others.
+pub fn hub_moves_are_sections()
+    ensures { (is_aside : List ℕ → Bool) (lists : Lists)
+        → MovesAmong (λ text. is_aside text ≡ true) lists }
+{
+    what_is_kept_stands();
+}
+
+/// What a call of a lent shard adds to its log, by its contract, may be gained entry by entry, where an
+/// epoch that is drawn is new to its channel; so the log is gained entry by entry from the start. And what
+/// a read answers is what the worker then has in hand.
+pub fn shard_calls_are_sections()
+    ensures publishes { (config : Config) (streams : Kept) (log : List Entry)
+        (channel epoch : List ℕ) (datum : Datum)
+        → streams.namespaces ≡ config.namespaces → IsState streams log → IsGained config log
+        → IsDrawn (stream_of streams channel) log channel epoch
+        → IsNotLast (stream_of streams channel) → IsSome (settings_of config.namespaces channel)
+        → MayAll config log (entries_of_publish streams channel epoch datum) }
+    ensures uses { (config : Config) (streams : Kept) (log : List Entry) (channel epoch : List ℕ)
+        → streams.namespaces ≡ config.namespaces → IsState streams log
+        → IsDrawn (stream_of streams channel) log channel epoch
+        → MayAll config log (entries_of_use streams channel epoch) }
+    ensures trims { (config : Config) (streams : Kept) (log : List Entry)
+        (channel : List ℕ) (count : ℕ)
+        → streams.namespaces ≡ config.namespaces → IsState streams log
+        → MayAll config log (entries_of_trim streams channel count) }
+    ensures forgets { (config : Config) (streams : Kept) (log : List Entry) (channel : List ℕ)
+        → streams.namespaces ≡ config.namespaces → IsState streams log
+        → MayAll config log (entries_of_forget streams channel) }
+    ensures ticks { (config : Config) (streams : Kept) (log : List Entry) (now : ℕ)
+        → streams.namespaces ≡ config.namespaces → IsState streams log
+        → MayAll config log (entries_of_tick streams now) }
+    ensures reads { (config : Config) (streams : Kept) (log : List Entry) (channel : List ℕ)
+        (since : Option Position) (position : Position) (recovered : Bool)
+        (publications : List Placed) (life : Life)
+        → streams.namespaces ≡ config.namespaces → IsState streams log
+        → ReadsAt streams channel since position recovered publications
+        → life_in (size_of config) (log ++ entries_of_use streams channel position.epoch) channel
+        ≡ Some life
+        → answered position recovered publications ≡ read_of since (state_of life) }
+    ensures gained { (config : Config) (log more : List Entry)
+        → IsGained config log → MayAll config log more → IsGained config (log ++ more) }
+{}

@@ -1,0 +1,192 @@
+//! What is known of the nodes while they serve, and the wait for the end of standard input.
+ghost use Rattle.std.specs.Prelude.{◌≡◌, true, IfOk, IfErr};
+ghost use Rattle.std.specs.Io.KnownBytes.{IsAtEnd};
+ghost use Rattle.cf_server.specs.Status.{IsOutside};
+
+use crate::fault::Fault;
+use cf_node::{Counts, Gate};
+use mio::unix::SourceFd;
+use mio::{Events, Interest, Poll, Token};
+use std::io::{ErrorKind, Read};
+use std::net::Net;
+use std::os::fd::RawFd;
+use std::sync::atomic::{AtomicU64, Ordering};
+use std::time::{Clock, Duration, Instant};
+use std::{io, thread};
+
+/// The most turns of a wait, as of any loop over input or output. One that had no end by then has failed.
+const MOST_TURNS: u64 = 4_294_967_296;
+
+/// How long one turn waits at most for standard input, in milliseconds, so that a node's end is seen as soon.
+const PATIENCE: u64 = 500;
+
+/// How long one turn waits for the nodes' workers to begin, in milliseconds.
+const PAUSE: u64 = 1;
+
+/// The workers of each node.
+const WORKERS: u64 = 2;
+
+/// So much of the input is read at once, in bytes.
+const ROOM: usize = 4096;
+
+const STANDARD_INPUT: RawFd = 0;
+
+/// No node's number.
+const NONE: u64 = u64::MAX;
+
+/// The nodes while they serve. Every worker goes on, and the moment is how long the program runs.
+#[derive(Drop)]
+pub(crate) struct Running {
+    start: Instant,
+    // How many workers have begun their first turn.
+    begun: AtomicU64,
+    // The number of a node whose loop ended, or `NONE`.
+    failed: AtomicU64,
+    /// What goes wrong at the nodes.
+    pub(crate) counts: Counts,
+    /// Whether nothing is said of that.
+    pub(crate) is_quiet: bool,
+}
+
+impl Running {
+    /// No node serves yet. An error where there is no clock.
+    pub(crate) fn new<R: Clock>(rt: &R, is_quiet: bool) -> io::Result<Running> {
+        Ok(Running {
+            start: Instant::now(rt)?,
+            begun: AtomicU64::new(0),
+            failed: AtomicU64::new(NONE),
+            counts: Counts::new(),
+            is_quiet,
+        })
+    }
+
+    /// The loop of a node has ended, or couldn't begin.
+    pub(crate) fn fail(&self, node: u8) {
+        self.failed.store(u64::from(node), Ordering::SeqCst);
+    }
+
+    /// An error where the loop of a node has ended.
+    pub(crate) fn goes_on(&self) -> Result<(), Fault> {
+        match u8::try_from(self.failed.load(Ordering::SeqCst)) {
+            Ok(node) => Err(Fault::Ended { node }),
+            Err(_) => Ok(()),
+        }
+    }
+}
+
+impl Gate for Running {
+    fn may(&self, _node: u8, _worker: usize, turn: u64) -> bool {
+        if turn == 1 {
+            self.begun.fetch_add(1, Ordering::SeqCst);
+        }
+        true
+    }
+
+    fn now<R: Clock>(&self, rt: &R) -> u64 {
+        match self.start.elapsed(rt) {
+            Ok(passed) => passed.as_secs(),
+            Err(_) => 0,
+        }
+    }
+}
+
+/// Waits until both workers of so many nodes have begun.
+///
+/// # Errors
+///
+/// `Ended` where the loop of a node has ended; `InputOutput` where they don't begin.
+pub(crate) fn wait_for_workers<R: Clock>(
+    rt: &R,
+    running: &Running,
+    nodes: usize,
+) -> Result<(), Fault> {
+    let workers = WORKERS.saturating_mul(nodes as u64);
+    for _ in 0..MOST_TURNS {
+        running.goes_on()?;
+        if running.begun.load(Ordering::SeqCst) >= workers {
+            return Ok(());
+        }
+        thread::sleep(rt, Duration::from_millis(PAUSE));
+    }
+    Err(Fault::InputOutput)
+}
+
+// Tells when standard input has something to read.
+#[derive(Drop)]
+struct Ear {
+    poll: Poll,
+    events: Events,
+    // A file can't be waited for, and is always ready.
+    can_wait: bool,
+}
+
+impl Ear {
+    fn open<R: Net + AllocGlobal>(rt: &R) -> io::Result<Ear> {
+        let poll = Poll::new(rt)?;
+        let events = Events::with_capacity(rt.alloc(), 1)?;
+        let descriptor = STANDARD_INPUT;
+        let mut input = SourceFd(&descriptor);
+        let registered = poll
+            .registry()
+            .register(&mut input, Token(0), Interest::READABLE);
+        let can_wait = registered.is_ok();
+        Ok(Ear {
+            poll,
+            events,
+            can_wait,
+        })
+    }
+
+    // Waits for a while, and says whether a read would find something, or the end.
+    fn hears(&mut self) -> io::Result<bool> {
+        if !self.can_wait {
+            return Ok(true);
+        }
+        // What an earlier read left is told again.
+        let descriptor = STANDARD_INPUT;
+        let mut input = SourceFd(&descriptor);
+        self.poll
+            .registry()
+            .reregister(&mut input, Token(0), Interest::READABLE)?;
+        let patience = Duration::from_millis(PATIENCE);
+        match self.poll.poll(&mut self.events, Some(patience)) {
+            Ok(()) => Ok(!self.events.is_empty()),
+            Err(error) if error.kind() == ErrorKind::Interrupted => Ok(false),
+            Err(error) => Err(error),
+        }
+    }
+}
+
+/// Waits until standard input ends. Whatever stands in it is passed over, also what isn't UTF-8.
+///
+/// # Errors
+///
+/// `Ended` where the loop of a node has ended; `InputOutput` where the input can't be read, or has no end; `Memory`.
+pub(crate) fn hear<R: Input + Net + AllocGlobal>(rt: &R, running: &Running) -> Result<(), Fault> {
+    let mut reader = rt.reader();
+    let mut ear = Ear::open(rt)?;
+    for _ in 0..MOST_TURNS {
+        running.goes_on()?;
+        if ear.hears()? && is_at_end(&mut reader)? {
+            return Ok(());
+        }
+    }
+    Err(Fault::InputOutput)
+}
+
+/// Reads on and passes over what it finds. Says whether the reader is at its end.
+///
+/// # Errors
+///
+/// `InputOutput` where the read fails; `Memory`.
+pub(crate) fn is_at_end<R: Read>(reader: &mut R) -> Result<bool, Fault>
+    ensures end { IfOk result (λ ended. ended ≡ true → IsAtEnd (R.remaining reader.new)) }
+    ensures failed { IfErr result IsOutside }
+{
+    let mut room = [0u8; ROOM];
+    match reader.read(&mut room) {
+        Ok(count) => Ok(count == 0),
+        Err(error) if error.kind() == ErrorKind::Interrupted => Ok(false),
+        Err(error) => Err(Fault::from(error)),
+    }
+}

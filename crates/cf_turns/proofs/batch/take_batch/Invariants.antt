@@ -1,5 +1,0 @@
-use Rattle.cf_turns.specs.Batch.{TakesFor}
-use Rattle.cf_turns.proofs.batch.take_batch.Given as goal
-
-abbrev pub invariant-loop-named : goal.invariant-loop-named
-invariant-loop-named g l = TakesFor g.S.Seats.frees g.S.Seats.lends g.S.Seats.gets l._named l.initial.hub l.hub l.initial.seats l.seats

@@ -1,3 +1,0 @@
-pub mod Batch
-pub mod Dispatch
-pub mod Outlet
