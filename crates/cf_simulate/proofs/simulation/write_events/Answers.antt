@@ -4,8 +4,12 @@ use Rattle.std.proofs.lemmas.Result.{err_from_is_err_and}
 use Rattle.cf_schedule.specs.Seen.{seen, shown_config}
 use Rattle.cf_schedule.specs.declared.event.Event.{Event}
 use Rattle.cf_simulate.specs.Simulation.{AddsPart, PrintsPart, PrintsWhole, WritesAll}
-use Rattle.cf_simulate.proofs.Steps.{stands_all, stands_next, stands_part, stands_whole}
+use Rattle.cf_simulate.proofs.Steps.{stands_all, stands_first, stands_next, stands_part, stands_whole}
 use Rattle.cf_simulate.proofs.simulation.write_events.Goals as goal
+
+pub loop-done-init : goal.loop-done-init
+loop-done-init g c =
+    stands_first c.args.explains (shown_config c.args.config.now) c.in_ok-world.world.parts c.as_slice-events.result.now (g.W.Write.contents c.args.writer.now) c.in_ok-world.ensures.tied
 
 pub loop-done-preserved : goal.loop-done-preserved
 loop-done-preserved g c =
