@@ -360,19 +360,25 @@ class Apart:
         self.process.join()
 
 
+def stolen():
+    """The seconds that the host of this machine took from its processors, all together, since it started."""
+    with open("/proc/stat") as file:
+        return int(file.readline().split()[8]) / os.sysconf("SC_CLK_TCK")
+
+
 def longest_ping(ready, port, seconds):
-    """The longest time that a client waited for the answer to a ping command, asked again and again. One that has no answer after
-    30 seconds waits no longer."""
+    """The longest time that a client waited for the answer to a ping command, asked again and again, without what the host took
+    from the machine meanwhile. One that has no answer after 30 seconds waits no longer."""
     peer, longest = Peer(port), 0.0
     ready()
     until = time.monotonic() + seconds
     while time.monotonic() < until:
-        began = time.monotonic()
+        taken, began = stolen(), time.monotonic()
         try:
             peer.ask({"ping": {}}, 30)
         except Fails:
             return time.monotonic() - began
-        longest = max(longest, time.monotonic() - began)
+        longest = max(longest, time.monotonic() - began - (stolen() - taken))
         time.sleep(0.0005)
     return longest
 

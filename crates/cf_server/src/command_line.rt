@@ -18,6 +18,9 @@ pub const DEFAULT_EPOCHS: &str = "aaaa";
 /// How many publications wait at most on the link to a node unless another number is given.
 pub const DEFAULT_LINK: u32 = 1024;
 
+/// What `--version` shows: the program, its number, and what it speaks.
+pub const VERSION: &str = "cf_server 1.0.0 (Centrifugo's client protocol, JSON form)";
+
 const SIMULATE: &str =
     "Reads a schedule from standard input, runs it, and prints what each client gets";
 
@@ -40,7 +43,9 @@ node; its clients are told to subscribe again, and get it by recovery. --link 1 
 It ends at the end of standard input (Ctrl-D at a terminal): each client is closed with 3001. To keep it running without
 a terminal, give it an input that does not end:
   sleep infinity | cf_server serve --boot 7 --port 8000
-Where a node can't serve, or its loop ends, all nodes end, and the status is 4.
+Where a node can't serve, or its loop ends, all nodes end, and the status is 4. `input or output failed` then stands on standard
+error, and above it the node and what failed there: its port is taken by another program (another --port), it may not listen there,
+or its thread can't be started. Alone it says that standard input or output failed, as a pipe whose reader is gone.
 
 On standard error it says, at most once a second of each kind, how many connections were refused for want of descriptors or
 memory, how many publications were lost on full links, and how many sessions were closed for slowness; --quiet for none.";
@@ -91,6 +96,8 @@ const SCHEDULE_NOTES: &str = "A schedule has a line for each event, its words pa
   put X C DATA    X publishes JSON data to C
   list X C LIMIT  X asks for what C's stream holds, at most LIMIT publications
 A line that is empty or begins with # is passed over. An event that can't happen changes nothing; --explain says why.
+Where a line is none of these, nothing of the schedule is run, and `line N: unreadable` says which. What is commonly behind it: lines
+that end in CR LF, two spaces or a space at the end, a byte order mark before the first line, DATA that is no JSON.
 
 What is printed, each by the `take` that brings it:
   X C sub E O fresh      X is subscribed to C, from offset O of epoch E
@@ -111,6 +118,8 @@ pub enum Job<'a> {
     Simulate(Options<'a>),
     Speak(SpeakOptions<'a>),
     Serve(ServeOptions<'a>),
+    /// It says which version it is.
+    Version,
 }
 
 /// What `simulate` runs with: how many nodes, the text of the namespaces, and whether it tells what each event did.
@@ -166,6 +175,13 @@ fn explain_option<'a>(alloc: Global) -> Arg<'a> {
     Arg::new(alloc, "explain")
         .long("explain")
         .help("Tells beside each event what it did, or why it changed nothing")
+        .action(ArgAction::SetTrue)
+}
+
+fn version_option<'a>(alloc: Global) -> Arg<'a> {
+    Arg::new(alloc, "version")
+        .long("version")
+        .help("Says which version this is")
         .action(ArgAction::SetTrue)
 }
 
@@ -267,7 +283,8 @@ fn with_command<'a>(
 fn program<'a>(alloc: Global) -> Result<Command<'a>, AllocError> {
     let program = Command::new(alloc, "cf_server")
         .about(ABOUT)
-        .after_help(PROGRAM_NOTES);
+        .after_help(PROGRAM_NOTES)
+        .arg(version_option(alloc))?;
     let program = with_command(program, simulate_command(alloc))?;
     let program = with_command(program, speak_command(alloc))?;
     with_command(program, serve_command(alloc))
@@ -281,6 +298,7 @@ pub fn read<'a>(alloc: Global, words: &'a [String]) -> Result<Job<'a>, Error> {
         Some(("serve", found)) => Job::Serve(serve_options(found)),
         Some(("speak", found)) => Job::Speak(speak_options(found)),
         Some((_, found)) => Job::Simulate(options_of(found)),
+        None if matches.get_flag("version") => Job::Version,
         None => Job::Simulate(options_of(&matches)),
     })
 }

@@ -13,7 +13,7 @@ mod tests;
 use cf_protocol::{Namespaces, Tokens, read_namespaces, read_tokens};
 use cf_schedule::Config;
 use cf_simulate::simulate;
-use command_line::{Job, Options, SpeakOptions};
+use command_line::{Job, Options, SpeakOptions, VERSION};
 use fault::{Fault, Setting};
 use serve::serve;
 use speak::{setup_of, speak};
@@ -104,6 +104,10 @@ where
         }
         Ok(Job::Serve(options)) => {
             serve(rt, options)?;
+            Ok(ExitCode::SUCCESS)
+        }
+        Ok(Job::Version) => {
+            rt.println(VERSION)?;
             Ok(ExitCode::SUCCESS)
         }
         Err(shown) => command_line::show(rt, &shown),
