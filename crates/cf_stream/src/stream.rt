@@ -35,9 +35,15 @@ pub enum Fate {
     Forgotten,
 }
 
-/// The last publications of one epoch of a channel, at most `size`, and how many were published in it.
+/// The last publications of one epoch of a channel, at most `size`, and how many were published in it. They lie in a block of
+/// their own, so that a table of many channels moves words, and keeps no room for streams that it doesn't have.
 #[derive(Drop)]
 pub struct Stream {
+    inner: Box<Inner>,
+}
+
+#[derive(Drop)]
+struct Inner {
     epoch: Epoch,
     size: usize,
     top: u64,
@@ -55,15 +61,15 @@ impl Model for Stream {
     ghost Value = { Shown };
 
     ghost view = { λ s. record {
-      epoch = s.epoch;
-      size = s.size;
-      top = s.top;
-      held = map (λ p. p.datum) s.ring.items;
-      published = s.published;
-      used = s.used;
+      epoch = s.inner.value.epoch;
+      size = s.inner.value.size;
+      top = s.inner.value.top;
+      held = map (λ p. p.datum) s.inner.value.ring.items;
+      published = s.inner.value.published;
+      used = s.inner.value.used;
     } };
 
-    ghost invariant = { λ s. IsRing s.size s.top s.ring.items };
+    ghost invariant = { λ s. IsRing s.inner.value.size s.inner.value.top s.inner.value.ring.items };
 }
 
 impl Stream {
@@ -107,8 +113,8 @@ impl Stream {
         ensures { result ≡ position_of self.now }
     {
         Position {
-            epoch: self.epoch,
-            offset: self.top,
+            epoch: self.inner.epoch,
+            offset: self.inner.top,
         }
     }
 
@@ -117,20 +123,20 @@ impl Stream {
         ensures held { result ≡ length self.now.held }
         ensures within { IsWithin self.now }
     {
-        self.ring.len()
+        self.inner.ring.len()
     }
 
     pub(crate) fn set_epoch(&mut self, epoch: Epoch)
         ensures { self.new ≡ in_epoch epoch self.old }
     {
-        self.epoch = epoch;
+        self.inner.epoch = epoch;
     }
 
     /// A use at a moment.
     pub(crate) fn touch(&mut self, now: u64)
         ensures { self.new ≡ used_at self.old now }
     {
-        self.used = now;
+        self.inner.used = now;
     }
 
     /// Appends a publication at a moment in seconds, and answers its position. The oldest one held goes where there are `size`.
@@ -152,17 +158,18 @@ impl Stream {
         ensures list { OnOk result (GoesOn self.old self.new
             (published self.old.size (datum_of body info))) }
     {
-        if self.top == LAST_OFFSET {
+        let inner = self.inner.as_mut();
+        if inner.top == LAST_OFFSET {
             return Err(StreamRefusal::AtLastOffset);
         }
-        let offset = self.top + 1;
+        let offset = inner.top + 1;
         let publication = Publication { offset, body, info };
-        put(&mut self.ring, self.size, publication)?;
-        self.top = offset;
-        self.published = now;
-        self.used = now;
+        put(&mut inner.ring, inner.size, publication)?;
+        inner.top = offset;
+        inner.published = now;
+        inner.used = now;
         Ok(Position {
-            epoch: self.epoch,
+            epoch: inner.epoch,
             offset,
         })
     }
@@ -181,7 +188,7 @@ impl Stream {
         let position = self.position();
         let missed = self.missed_since(since);
         let publications = self.newest(missed.unwrap_or(0), MOST_ANSWERED)?;
-        self.used = now;
+        self.inner.used = now;
         Ok(Recovery {
             position,
             recovered: missed.is_some(),
@@ -194,11 +201,12 @@ impl Stream {
         ensures { SomeIff result (RecoversFrom self.now since) (missed_from self.now since) }
     {
         let since = since?;
-        if since.epoch != self.epoch || since.offset > self.top {
+        let inner = self.inner.as_ref();
+        if since.epoch != inner.epoch || since.offset > inner.top {
             return None;
         }
-        let missed = self.top - since.offset;
-        if missed <= self.ring.len().min(MOST_ANSWERED) as u64 {
+        let missed = inner.top - since.offset;
+        if missed <= inner.ring.len().min(MOST_ANSWERED) as u64 {
             Some(missed as usize)
         } else {
             None
@@ -213,12 +221,12 @@ impl Stream {
         ensures newer { IfSome result (λ n.
             after self.now (self.now.top - n) ≡ after self.now (start_of self.now since)) }
     {
-        let held = self.ring.len();
+        let held = self.inner.ring.len();
         match since {
             None => Some(held),
             Some(since) => {
-                if since.epoch == self.epoch {
-                    Some(self.top.saturating_sub(since.offset).min(held as u64) as usize)
+                if since.epoch == self.inner.epoch {
+                    Some(self.inner.top.saturating_sub(since.offset).min(held as u64) as usize)
                 } else {
                     None
                 }
@@ -231,10 +239,11 @@ impl Stream {
         requires { count ≤ length self.now.held }
         ensures { IfOk result (λ v. v.items ≡ take limit (after self.now (self.now.top - count))) }
     {
+        let inner = self.inner.as_ref();
         copies(
-            self.alloc,
-            &self.ring,
-            self.ring.len() - count,
+            inner.alloc,
+            &inner.ring,
+            inner.ring.len() - count,
             count.min(limit),
         )
     }
@@ -263,7 +272,7 @@ impl Stream {
             return Err(StreamRefusal::WrongEpoch);
         };
         let publications = self.newest(count, limit_of(limit))?;
-        self.used = now;
+        self.inner.used = now;
         Ok(History {
             position,
             publications,
@@ -275,7 +284,8 @@ impl Stream {
         ensures trimmed { self.new ≡ trimmed count self.old }
         ensures list { GoesOn self.old self.new (kept_newest count) }
     {
-        self.ring.truncate_front(count);
+        let inner = self.inner.as_mut();
+        inner.ring.truncate_front(count);
     }
 
     /// Sets the size, and keeps the newest that it allows. It takes no memory, since the ring grows only in `publish`.
@@ -284,8 +294,9 @@ impl Stream {
         ensures resized { self.new ≡ resized size self.old }
         ensures list { GoesOn self.old self.new (kept_newest size) }
     {
-        self.ring.truncate_front(size);
-        self.size = size;
+        let inner = self.inner.as_mut();
+        inner.ring.truncate_front(size);
+        inner.size = size;
     }
 
     /// Empties the history where `seconds` have passed since the last publication, and says whether the stream is to be forgotten,
@@ -296,10 +307,10 @@ impl Stream {
         ensures list { GoesOn self.old self.new
             (if is_over self.old.published seconds now then kept_newest 0 else same) }
     {
-        if has_passed(self.published, seconds, now) {
-            self.ring.clear();
+        if has_passed(self.inner.published, seconds, now) {
+            self.inner.ring.clear();
         }
-        if has_passed(self.used, UNUSED_SECONDS, now) {
+        if has_passed(self.inner.used, UNUSED_SECONDS, now) {
             Fate::Forgotten
         } else {
             Fate::Alive
@@ -318,10 +329,10 @@ impl Stream {
     pub(crate) fn due(&self, now: u64, seconds: u64) -> Option<Due>
         ensures { result ≡ due_of now seconds self.now }
     {
-        if has_passed(self.used, UNUSED_SECONDS, now) {
+        if has_passed(self.inner.used, UNUSED_SECONDS, now) {
             return Some(Due::Forget);
         }
-        if has_passed(self.published, seconds, now) && !self.ring.is_empty() {
+        if has_passed(self.inner.published, seconds, now) && !self.inner.ring.is_empty() {
             return Some(Due::Empty);
         }
         None
@@ -331,11 +342,11 @@ impl Stream {
     pub(crate) fn due_from(&self, seconds: u64) -> u64
         ensures { IsQuiet result seconds self.now }
     {
-        let unused = self.used.saturating_add(UNUSED_SECONDS);
-        if self.ring.is_empty() {
+        let unused = self.inner.used.saturating_add(UNUSED_SECONDS);
+        if self.inner.ring.is_empty() {
             unused
         } else {
-            unused.min(self.published.saturating_add(seconds))
+            unused.min(self.inner.published.saturating_add(seconds))
         }
     }
 
@@ -343,7 +354,7 @@ impl Stream {
     pub fn last(&self) -> Option<&Publication>
         ensures { option_copied result ≡ newest_of self.now }
     {
-        self.ring.back()
+        self.inner.ring.back()
     }
 }
 
@@ -354,7 +365,7 @@ fn after_top(alloc: Global, epoch: Epoch, size: usize, top: u64) -> Result<Strea
     ensures { IfOk result (λ s. s ≡ started epoch size top) }
 {
     let ring = HeapCircularBuffer::with_capacity(alloc, 0)?;
-    Ok(Stream {
+    let inner = Inner {
         epoch,
         size,
         top,
@@ -362,6 +373,9 @@ fn after_top(alloc: Global, epoch: Epoch, size: usize, top: u64) -> Result<Strea
         used: 0,
         ring,
         alloc,
+    };
+    Ok(Stream {
+        inner: Box::new(alloc, inner)?,
     })
 }
 
