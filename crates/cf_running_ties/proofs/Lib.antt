@@ -4,5 +4,6 @@ pub mod Gained
 pub mod Holding
 pub mod HubAsides
 pub mod ShardCalls
+pub mod ShardLife
 pub mod ShardReads
 pub mod ShardTicks

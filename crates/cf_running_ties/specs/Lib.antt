@@ -1,3 +1,4 @@
 pub mod Held
 pub mod HubAsides
 pub mod ShardCalls
+pub mod ShardLife

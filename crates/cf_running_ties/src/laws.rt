@@ -1,21 +1,25 @@
 //! What ties the contracts of hub and shard to the sections of the running server.
-ghost use Rattle.std.specs.Prelude.{◌≡◌, ◌++◌, Bool, IsSome, true, ℕ, List, Option, Some};
+ghost use Rattle.std.specs.Prelude.{◌≡◌, ◌++◌, [], Bool, IsSome, true, ℕ, List, Option, Some};
 ghost use Rattle.cf_protocol.specs.Datum.{Datum, Placed};
 ghost use Rattle.cf_protocol.specs.LogEntry.{Entry};
 ghost use Rattle.cf_protocol.specs.Note.{Lists};
 ghost use Rattle.cf_protocol.specs.Position.{Position};
-ghost use Rattle.cf_protocol.specs.Settings.{settings_of};
+ghost use Rattle.cf_protocol.specs.Settings.{NamespaceTable, settings_of};
 ghost use Rattle.cf_stream.specs.ChannelLists.{ReadsAt};
 ghost use Rattle.cf_stream.specs.LogState.{IsState, life_in};
 ghost use Rattle.cf_stream.specs.PublicationList.{Life, state_of};
 ghost use Rattle.cf_stream.specs.StreamAnswer.{read_of};
 ghost use Rattle.cf_stream.specs.Streams.{Kept, stream_of};
+ghost use Rattle.cf_epochs.specs.Source.{IsSource, Source, draws_next};
+ghost use Rattle.cf_shard.specs.Shard.{DrawsFor, Lent};
 ghost use Rattle.cf_shard.specs.ShardLog.{entries_of_forget, entries_of_publish, entries_of_tick, entries_of_trim, entries_of_use};
 ghost use Rattle.cf_machine.specs.Config.{Config};
 ghost use Rattle.cf_machine.specs.IntervalMachine.{size_of};
 ghost use Rattle.cf_running_ties.specs.HubAsides.{MovesAmong};
 ghost use Rattle.cf_running_ties.specs.ShardCalls.{IsDrawn, IsGained, IsNotLast, MayAll, answered};
+ghost use Rattle.cf_running_ties.specs.ShardLife.{AreMade, Call};
 
+use cf_epochs::laws::told_apart;
 use cf_recovery::laws::what_is_kept_stands;
 
 /// Each move that a call of a hub makes of a session, in notes, whatever memory was refused, and whatever
@@ -63,3 +67,18 @@ pub fn shard_calls_are_sections()
     ensures gained { (config : Config) (log more : List Entry)
         → IsGained config log → MayAll config log more → IsGained config (log ++ more) }
 {}
+
+/// An epoch that a shard draws is none that its log ever had, where its source is one of `cf_epochs`: over
+/// any calls from an empty log, as their contracts have them. So whatever they add to the log may be gained
+/// entry by entry, and nothing is left to be assumed of epochs, of the last offset or of the log.
+pub fn drawn_epochs_are_new()
+    ensures drawn { (table : NamespaceTable) (calls : List Call) (first old new : Lent Source)
+        (channel epoch : List ℕ)
+        → first.log ≡ [] → AreMade table calls first old → IsSource new.epochs
+        → DrawsFor draws_next channel epoch old new
+        → IsDrawn (stream_of old.streams channel) old.log channel epoch }
+    ensures gained { (config : Config) (calls : List Call) (first now : Lent Source)
+        → first.log ≡ [] → AreMade config.namespaces calls first now → IsGained config now.log }
+{
+    told_apart();
+}
