@@ -1,8 +1,11 @@
 pub mod Among
 pub mod Closing
 pub mod Gained
+pub mod Growing
 pub mod Holding
 pub mod HubAsides
+pub mod Links
+pub mod Passing
 pub mod ShardCalls
 pub mod ShardLife
 pub mod ShardReads

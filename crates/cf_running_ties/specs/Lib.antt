@@ -1,4 +1,6 @@
 pub mod Held
 pub mod HubAsides
+pub mod Links
+pub mod Passing
 pub mod ShardCalls
 pub mod ShardLife
