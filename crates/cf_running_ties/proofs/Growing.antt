@@ -54,8 +54,7 @@ grown-lists site s t h = record {
   later = λ c e.
       let n : ℕ = site.shard_of c in
       let more = h.logs n in
-      let from = all-gathered c e more.0 (gathered_in (s.logs n) c e) in
-      (
+      let from = all-gathered c e more.0 (gathered_in (s.logs n) c e) in (
         from.0,
         ap (λ (log : List Entry). (gathered_in log c e).1) more.1 ∙ ap (λ (p : Option (List ℕ) × List Datum). p.1) (fold-append (gathered c e) (None, []) (s.logs n) more.0) ∙ from.1,
       );
@@ -108,11 +107,11 @@ module _ (site : Site) (s : Server) where
 
   gains-kept : (x : Entry) → Kept (server.gains site x s)
   gains-kept x = by_test Kept (can_gain site x s) _ _
-    (λ h. record { grows = record { logs = gained-log x; accepted = ([], sym (append-nil s.accepted)) }; links = refl }) (λ h. here)
+      (λ h. record { grows = record { logs = gained-log x; accepted = ([], sym (append-nil s.accepted)) }; links = refl }) (λ h. here)
 
   publishes-kept : (k : ℕ) (h : Work) → Kept (server.publishes site k h s)
   publishes-kept k (ToPublish c id d) = by_test Kept (can_gain site (Publish c d) s) _ _
-    (λ h. record { grows = record { logs = gained-log (Publish c d); accepted = (server.place_in c (server.life_of site s c), refl) }; links = refl }) (λ h. here)
+      (λ h. record { grows = record { logs = gained-log (Publish c d); accepted = (server.place_in c (server.life_of site s c), refl) }; links = refl }) (λ h. here)
   publishes-kept k other = here
 
   checks-kept : (o : Option Lookup) → Kept (server.checks_by (words_of site s) o s)

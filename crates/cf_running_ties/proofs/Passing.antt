@@ -45,20 +45,20 @@ all_passed (o ∷ os) old new told p h = both old h.0 new h.1 h.2 told (one o p.
 
 without_none : (id : ℕ) (is : List ℕ) → is_out id is ≡ false → without id is ≡ is
 without_none id [] h = refl
-without_none id (i ∷ is) h = by_test (i == id) h
+without_none id (i ∷ is) h = by_test (i == id) h (without_none id is)
   where
-    by_test : (b : Bool) → (b || is_out id is) ≡ false → (if b then without id is else i ∷ without id is) ≡ i ∷ is
-    by_test true k = absurd (cc)
-    by_test false k = ap (λ js. i ∷ js) (without_none id is k)
+    by_test : (b : Bool) → (b || is_out id is) ≡ false → (is_out id is ≡ false → without id is ≡ is) → (if b then without id is else i ∷ without id is) ≡ i ∷ is
+    by_test true k f = absurd (cc)
+    by_test false k f = ap (λ js. i ∷ js) (f k)
 
 none_under : (id : ℕ) (ks : List Call) → channel_under id ks ≡ None → filter (λ k. not (k.id == id)) ks ≡ ks
 none_under id [] h = refl
-none_under id (k ∷ ks) h = by_test (k.id == id) h
+none_under id (k ∷ ks) h = by_test (k.id == id) h (none_under id ks)
   where
-    by_test : (b : Bool) → (if b then Some k.channel else channel_under id ks) ≡ None
+    by_test : (b : Bool) → (if b then Some k.channel else channel_under id ks) ≡ None → (channel_under id ks ≡ None → filter (λ x. not (x.id == id)) ks ≡ ks)
         → cond (not b) (k ∷ filter (λ x. not (x.id == id)) ks) (filter (λ x. not (x.id == id)) ks) ≡ k ∷ ks
-    by_test true i = absurd (cc)
-    by_test false i = ap (λ xs. k ∷ xs) (none_under id ks i)
+    by_test true i f = absurd (cc)
+    by_test false i f = ap (λ xs. k ∷ xs) (f i)
 
 unanswered : (id : ℕ) (s : State) → IsUnasked id s → answered id s ≡ s
 unanswered id s u i = record s { client = record s.client { calls = without_none id s.client.calls u.calls i }; out = none_under id s.out u.out i }

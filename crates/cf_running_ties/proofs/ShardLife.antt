@@ -19,7 +19,7 @@ use Rattle.cf_machine.proofs.Names.{text_tells}
 use Rattle.cf_shard.specs.Shard.{DrawsFor, Lent}
 use Rattle.cf_running.specs.ShardLogs.{epochs_in, opening_of}
 use Rattle.cf_running_ties.specs.ShardCalls.{IsDrawn, MayAll}
-use Rattle.cf_running_ties.specs.ShardLife.{AreMade, Call, DrawsBy, FoundNoEpoch, Forgotten, IsMade, Other, Published, Ticked, Trimmed, Used, entries_of}
+use Rattle.cf_running_ties.specs.ShardLife.{AreMade, Call, DrawsBy, FoundNoEpoch, Forgotten, IsMade, Unchanged, Published, Ticked, Trimmed, Used, entries_of}
 use Rattle.cf_running_ties.proofs.Gained.{goes_on}
 use Rattle.cf_running_ties.proofs.ShardCalls.{forgets, publishes, trims, uses}
 use Rattle.cf_running_ties.proofs.ShardTicks.{ticks}
@@ -86,7 +86,7 @@ older_with s log es h k c = subst (WereGiven s) (sym (filter_map-append (opening
 
 older_if : (s : Source) (o : Option Shown) (x : Entry) → Older s (x ∷ []) → Older s (if_stands o x)
 older_if s None x h c = tt
-older_if s (Some k) x h = h
+older_if s (Some k) x h c = h c
 
 older_due : (s : Source) (ds : List (List ℕ × Due)) → Older s (due_entries ds)
 older_due s [] c = tt
@@ -115,7 +115,7 @@ call_on (Trimmed c n) old new h = same_on old.epochs new.epochs h
 call_on (Forgotten c) old new h = same_on old.epochs new.epochs h
 call_on (Ticked now) old new h = same_on old.epochs new.epochs h
 call_on FoundNoEpoch old new h = none_on old.epochs new.epochs h
-call_on Other old new h = same_on old.epochs new.epochs h
+call_on Unchanged old new h = same_on old.epochs new.epochs h
 
 call_older : (call : Call) (old new : Lent Source) → DrawsBy call old new → Older new.epochs (entries_of call old.streams)
 call_older (Published c e d) old new h = older_opening (stream_of old.streams c) c e _ old.epochs new.epochs h (λ q. tt)
@@ -124,7 +124,7 @@ call_older (Trimmed c n) old new h = older_if new.epochs (stream_of old.streams 
 call_older (Forgotten c) old new h = older_if new.epochs (stream_of old.streams c) _ (λ q. tt)
 call_older (Ticked now) old new h = older_due new.epochs (due_channels now old.streams.namespaces (fin.entries old.streams.streams))
 call_older FoundNoEpoch old new h = λ q. tt
-call_older Other old new h = λ q. tt
+call_older Unchanged old new h = λ q. tt
 
 step : (t : NamespaceTable) (call : Call) (old new : Lent Source) → IsMade t call old new → Older old.epochs old.log → Older new.epochs new.log
 step t call old new m h =
@@ -184,7 +184,7 @@ module _ (told : (s t : Source) → IsSource s → IsSource t → epoch_at s ≡
   may cfg (Forgotten c) old new m h g = forgets cfg old.streams old.log m.state.0 m.state.1 c
   may cfg (Ticked now) old new m h g = ticks cfg old.streams old.log m.state.0 m.state.1 now
   may cfg FoundNoEpoch old new m h g = tt
-  may cfg Other old new m h g = tt
+  may cfg Unchanged old new m h g = tt
 
   from : (cfg : Config) (calls : List Call) (old new : Lent Source) → AreMade cfg.namespaces calls old new → Older old.epochs old.log → MayAll cfg [] old.log → MayAll cfg [] new.log
   from cfg [] old new m h g = subst (λ (s : Lent Source). MayAll cfg [] s.log) (sym m) g

@@ -21,7 +21,7 @@ pub data Call : Type 0 where
   Ticked : (now : ℕ) → Call
   FoundNoEpoch : Call
   -- refused for another reason, or a question about a position or presence
-  Other : Call
+  Unchanged : Call
 
 -- what it adds to the log
 abbrev pub entries_of : Call → Kept → List Entry
@@ -31,7 +31,7 @@ entries_of (Trimmed c n) k = entries_of_trim k c n
 entries_of (Forgotten c) k = entries_of_forget k c
 entries_of (Ticked now) k = entries_of_tick k now
 entries_of FoundNoEpoch k = []
-entries_of Other k = []
+entries_of Unchanged k = []
 
 -- what it draws from the source
 abbrev pub DrawsBy : Call → Lent Source → Lent Source → Type 0
