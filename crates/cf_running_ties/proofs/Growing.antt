@@ -1,5 +1,5 @@
 -- What is in the logs, and what was accepted, stays, whatever section comes; and what waits on links stays but for two sections.
-use Rattle.std.proofs.Common.{◌≡◌, ℕ, zero, suc, ◌+◌, ◌==◌, ◌&&◌, nat_le, nat_lt, Bool, true, false, if◌then◌else◌, is_some, Option, Some, None, List, [], ◌∷◌, ◌++◌, slice_get, append-nil, append_assoc, inl, inr, refl, sym, ap, ◌∙◌}
+use Rattle.std.proofs.Common.{◌≡◌, ℕ, zero, suc, ◌+◌, ◌&&◌, nat_le, nat_lt, Bool, true, false, if◌then◌else◌, is_some, Option, Some, None, List, [], ◌∷◌, ◌++◌, slice_get, append-nil, append_assoc, inl, inr, refl, sym, ap, ◌∙◌}
 use Rattle.std.specs.List.{fold}
 use Rattle.std.specs.Str.{bytes_eq}
 use Rattle.std.proofs.lemmas.List.Sums.{fold-append}
@@ -9,12 +9,11 @@ use Rattle.cf_protocol.specs.LogEntry.Entry.{Open, Publish, Trim, Forget}
 use Rattle.cf_protocol.specs.Note.{Lists, Note, Close}
 use Rattle.cf_client.specs.ClientCalls.{last_id}
 use Rattle.cf_hub.specs.InNotes.{Grown, IsListed}
-use Rattle.cf_machine.specs.ClientRequest.{SentCommand}
 use Rattle.cf_machine.specs.PublicationList.{Place}
 use Rattle.cf_machine.proofs.Names.{by_test}
 use Rattle.cf_running.specs.ShardLogs.{about}
 use Rattle.cf_running.specs.Server as server
-use Rattle.cf_running.specs.Server.{Errand, Lookup, Server, Site, Work, ToPublish, after, at_number, can_gain, gathered, gathered_in, is_in, lists_of, may_send, place_of, words_of, Section, Gains, Publishes, Offers, Checks, Delivers, Attaches, Wanders, Strays, Sends, Receives, Breaks}
+use Rattle.cf_running.specs.Server.{Errand, Lookup, Server, Site, Work, ToPublish, after, can_gain, gathered, gathered_in, is_in, lists_of, may_send, place_of, words_of, Section, Gains, Publishes, Offers, Checks, Delivers, Attaches, Wanders, Strays, Sends, Receives, Breaks}
 use Rattle.cf_running.proofs.Beside.{number_tells}
 use Rattle.cf_running_ties.specs.Links.{is_at_link}
 

@@ -1,8 +1,7 @@
 -- What waits on the links of the running server is what was sent on the program's and not received, and all of it is listed.
-use Rattle.std.proofs.Common.{◌≡◌, ◌≢◌, ◌⊎◌, inl, inr, ◌<◌, ◌≤◌, ℕ, zero, suc, ◌+◌, ◌==◌, ◌&&◌, nat_lt, Bool, true, false, if◌then◌else◌, cond, is_some, Option, Some, None, List, [], ◌∷◌, ◌++◌, length, slice_get, append_assoc, refl, sym, ap, ◌∙◌, subst, arith}
+use Rattle.std.proofs.Common.{◌≡◌, ◌≢◌, ◌⊎◌, inl, inr, ◌≤◌, ℕ, zero, suc, ◌+◌, ◌==◌, nat_lt, Bool, true, false, if◌then◌else◌, cond, is_some, Option, Some, None, List, [], ◌∷◌, ◌++◌, length, slice_get, append_assoc, refl, sym, ap, ◌∙◌, subst, arith}
 use Rattle.std.specs.List.{AllZip}
 use Rattle.std.specs.Option.{option_map}
-use Rattle.std.specs.Str.{bytes_eq}
 use Rattle.std.proofs.lemmas.Bool.{and_parts}
 use Rattle.std.proofs.lemmas.Bool.Decides.{nat_tests}
 use Rattle.std.proofs.lemmas.List.{append_cancel_left, length-append}
@@ -10,16 +9,14 @@ use Rattle.cf_protocol.specs.Datum.{Datum, Placed}
 use Rattle.cf_protocol.specs.Fields.{max_u64}
 use Rattle.cf_protocol.specs.LogEntry.{Entry}
 use Rattle.cf_protocol.specs.LogEntry.Entry.{Publish}
-use Rattle.cf_protocol.specs.Names.{is_among}
 use Rattle.cf_protocol.specs.Note.{Lists, placed_at, Put}
 use Rattle.cf_protocol.specs.Position.{Position}
-use Rattle.cf_protocol.specs.Regular.{IsBody, IsInfo, IsPlaced}
+use Rattle.cf_protocol.specs.Regular.{IsBody, IsPlaced}
 use Rattle.cf_protocol.specs.Settings.{settings_of}
 use Rattle.cf_stream.specs.ChannelLists.{stands_at}
 use Rattle.cf_stream.specs.LogState.{life_in}
 use Rattle.cf_stream.specs.PublicationList.{Life, published}
 use Rattle.cf_stream.specs.StreamState.{StreamState, last_offset}
-use Rattle.cf_stream.specs.Streams.{size_at}
 use Rattle.cf_hub.specs.InNotes.{IsListed}
 use Rattle.cf_link.specs.Link.{AreLeft}
 use Rattle.cf_machine.specs.IntervalMachine.{size_of}
@@ -29,8 +26,8 @@ use Rattle.cf_machine.specs.World.{World}
 use Rattle.cf_machine.proofs.Names.{itself}
 use Rattle.cf_shard.specs.Delivery.{Carried, OfferedToAll, carried}
 use Rattle.cf_running.specs.Server as server
-use Rattle.cf_running.specs.Server.{Connection, Delivers, Offers, Publishes, Section, Server, Site, ToPublish, ToSay, Work, accepts, after, at_number, can_gain, change, comes_by, life_of, lists_of, log_of, place_in, place_of, ran, start, words_of}
-use Rattle.cf_running.proofs.Beside.{Beside, at-other, at-same, number_tells}
+use Rattle.cf_running.specs.Server.{Connection, Delivers, Offers, Publishes, Section, Server, Site, ToSay, Work, accepts, after, at_number, change, comes_by, life_of, lists_of, log_of, place_in, place_of, ran, start, words_of}
+use Rattle.cf_running.proofs.Beside.{Beside, at-same, number_tells}
 use Rattle.cf_running.proofs.Gaining.{life-more}
 use Rattle.cf_running.proofs.Steps.{stands_beside}
 use Rattle.cf_running_ties.specs.Links.{IsAnswered, IsDelivered, IsNumbered, IsSentOrLost, Lines, Waits, is_at_link, place}

@@ -1,5 +1,5 @@
 -- What says no note is passed over, and may as well be left out.
-use Rattle.std.proofs.Common.{◌≡◌, ◌≢◌, ◌⊎◌, inl, inr, ℕ, ◌==◌, ◌||◌, not, Bool, true, false, if◌then◌else◌, cond, map, Option, Some, None, List, [], ◌∷◌, ◌++◌, refl, sym, ap, ◌∙◌, subst}
+use Rattle.std.proofs.Common.{◌≡◌, ◌≢◌, inl, inr, ℕ, ◌==◌, ◌||◌, not, Bool, true, false, if◌then◌else◌, cond, map, Option, Some, None, List, [], ◌∷◌, ◌++◌, refl, sym, ap, ◌∙◌, subst}
 use Rattle.std.specs.List.{AllZip, filter}
 use Rattle.std.specs.Option.{option_map, option_to_list}
 use Rattle.cf_protocol.specs.Frame.{IsReplies}
@@ -13,7 +13,7 @@ use Rattle.cf_queue.specs.OutQueue.{Item, Text, Close}
 use Rattle.cf_hub.specs.InNotes.{SaysNote}
 use Rattle.cf_client.specs.AppItem as item
 use Rattle.cf_client.specs.AppItem.{AppItem}
-use Rattle.cf_client.specs.ClientCalls.{Call, PassesOver, State, Takes, TakesAll, answered, asks_under, channel_under}
+use Rattle.cf_client.specs.ClientCalls.{Call, PassesOver, State, Takes, TakesAll, answered, channel_under}
 use Rattle.cf_client.specs.ClientState.{is_out, without}
 use Rattle.cf_running_ties.specs.HubAsides.{IsAside, SaysSome}
 use Rattle.cf_running_ties.specs.Passing.{AllPassed, AreEnough, IsAsideAnswer, IsPassedOver, IsUnasked, SaysAside, TakesItems, TakesText}
