@@ -1,5 +1,5 @@
 -- What is in the logs, and what was accepted, stays, whatever section comes; and what waits on links stays but for two sections.
-use Rattle.std.proofs.Common.{◌≡◌, ℕ, zero, suc, ◌+◌, ◌&&◌, nat_le, nat_lt, Bool, true, false, if◌then◌else◌, is_some, Option, Some, None, List, [], ◌∷◌, ◌++◌, slice_get, append-nil, append_assoc, inl, inr, refl, sym, ap, ◌∙◌}
+use Rattle.std.proofs.Common.{◌≡◌, ◌≤◌, ℕ, zero, suc, ◌+◌, ◌&&◌, nat_le, nat_lt, Bool, true, false, if◌then◌else◌, is_some, Option, Some, None, List, [], ◌∷◌, ◌++◌, slice_get, append-nil, append_assoc, inl, inr, refl, sym, ap, ◌∙◌, arith}
 use Rattle.std.specs.List.{fold}
 use Rattle.std.specs.Str.{bytes_eq}
 use Rattle.std.proofs.lemmas.List.Sums.{fold-append}
@@ -9,6 +9,7 @@ use Rattle.cf_protocol.specs.LogEntry.Entry.{Open, Publish, Trim, Forget}
 use Rattle.cf_protocol.specs.Note.{Lists, Note, Close}
 use Rattle.cf_client.specs.ClientCalls.{last_id}
 use Rattle.cf_hub.specs.InNotes.{Grown, IsListed}
+use Rattle.cf_hub.proofs.InNotes.{grown_then}
 use Rattle.cf_machine.specs.PublicationList.{Place}
 use Rattle.cf_machine.proofs.Names.{by_test}
 use Rattle.cf_running.specs.ShardLogs.{about}
@@ -47,6 +48,13 @@ all-gathered c e (x ∷ es) p =
 pub record Grows (s t : Server) : Type 0 where
   pub logs : (n : ℕ) → (es : List Entry) × (t.logs n ≡ s.logs n ++ es)
   pub accepted : (ps : List Place) × (t.accepted ≡ s.accepted ++ ps)
+  pub count : s.count ≤ t.count
+
+at_least : (n : ℕ) → n ≤ n
+at_least n = omega arith
+
+one_above : (n : ℕ) → n ≤ n + 1
+one_above n = omega arith
 
 pub grown-lists : (site : Site) (s t : Server) → Grows s t → Grown (lists_of site s) (lists_of site t)
 grown-lists site s t h = record {
@@ -61,15 +69,7 @@ grown-lists site s t h = record {
 
 -- what is listed stays so
 pub listed-later : (old new : Lists) (c e : List ℕ) (p : Placed) → Grown old new → IsListed old c e p → IsListed new c e p
-listed-later old new c e p g h = record {
-  regular = h.regular;
-  stands = λ later k. h.stands later (record {
-    later = λ d i.
-        let a = g.later d i in
-        let b = k.later d i in
-        (a.0 ++ b.0, b.1 ∙ ap (λ (ds : List Datum). ds ++ b.0) a.1 ∙ append_assoc (old d i) a.0 b.0);
-  });
-}
+listed-later old new c e p g h = record { regular = h.regular; stands = λ later k. h.stands later (grown_then g k) }
 
 -- ---- a number stays that of its place
 
@@ -89,14 +89,14 @@ module _ (site : Site) (s : Server) where
     grows : Grows s t
     links : t.links ≡ s.links
 
-  grows_not : (t : Server) → t.logs ≡ s.logs → t.accepted ≡ s.accepted → Grows s t
-  grows_not t l a = record { logs = λ n. ([], (λ i. l i n) ∙ sym (append-nil (s.logs n))); accepted = ([], a ∙ sym (append-nil s.accepted)) }
+  grows_not : (t : Server) → t.logs ≡ s.logs → t.accepted ≡ s.accepted → s.count ≤ t.count → Grows s t
+  grows_not t l a n = record { count = n; logs = λ n. ([], (λ i. l i n) ∙ sym (append-nil (s.logs n))); accepted = ([], a ∙ sym (append-nil s.accepted)) }
 
-  still : (t : Server) → t.logs ≡ s.logs → t.accepted ≡ s.accepted → t.links ≡ s.links → Kept t
-  still t l a k = record { grows = grows_not t l a; links = k }
+  still : (t : Server) → t.logs ≡ s.logs → t.accepted ≡ s.accepted → t.links ≡ s.links → s.count ≤ t.count → Kept t
+  still t l a k n = record { grows = grows_not t l a n; links = k }
 
   here : Kept s
-  here = still s refl refl refl
+  here = still s refl refl refl (at_least s.count)
 
   gained-log : (x : Entry) (n : ℕ) → (es : List Entry) × ((server.gain site x s).logs n ≡ s.logs n ++ es)
   gained-log x n = elim (number_tells n (site.shard_of (about x))) [
@@ -106,33 +106,33 @@ module _ (site : Site) (s : Server) where
 
   gains-kept : (x : Entry) → Kept (server.gains site x s)
   gains-kept x = by_test Kept (can_gain site x s) _ _
-      (λ h. record { grows = record { logs = gained-log x; accepted = ([], sym (append-nil s.accepted)) }; links = refl }) (λ h. here)
+      (λ h. record { grows = record { logs = gained-log x; accepted = ([], sym (append-nil s.accepted)); count = at_least s.count }; links = refl }) (λ h. here)
 
   publishes-kept : (k : ℕ) (h : Work) → Kept (server.publishes site k h s)
   publishes-kept k (ToPublish c id d) = by_test Kept (can_gain site (Publish c d) s) _ _
-      (λ h. record { grows = record { logs = gained-log (Publish c d); accepted = (server.place_in c (server.life_of site s c), refl) }; links = refl }) (λ h. here)
+      (λ h. record { grows = record { logs = gained-log (Publish c d); accepted = (server.place_in c (server.life_of site s c), refl); count = at_least s.count }; links = refl }) (λ h. here)
   publishes-kept k other = here
 
   checks-kept : (o : Option Lookup) → Kept (server.checks_by (words_of site s) o s)
   checks-kept None = here
-  checks-kept (Some a) = still _ refl refl refl
+  checks-kept (Some a) = still _ refl refl refl (at_least s.count)
 
   comes-kept : (x : List ℕ) (n : ℕ) (o : Option ℕ) → Kept (server.comes_to site x n o s)
   comes-kept x n (Some k) = here
-  comes-kept x n None = by_test Kept (nat_lt n site.config.nodes) _ _ (λ h. still _ refl refl refl) (λ h. here)
+  comes-kept x n None = by_test Kept (nat_lt n site.config.nodes) _ _ (λ h. still _ refl refl refl (one_above s.count)) (λ h. here)
 
   sends-kept : (x : List ℕ) (e : Errand) (o : Option ℕ) → Kept (server.sends_by x e o s)
   sends-kept x e None = here
-  sends-kept x e (Some k) = by_test Kept (nat_le (s.clients x).fresh last_id && may_send (s.clients x) e) _ _ (λ h. still _ refl refl refl) (λ h. here)
+  sends-kept x e (Some k) = by_test Kept (nat_le (s.clients x).fresh last_id && may_send (s.clients x) e) _ _ (λ h. still _ refl refl refl (at_least s.count)) (λ h. here)
 
   parts-kept : (x : List ℕ) (o : Option ℕ) → Kept (server.parts_from x o s)
   parts-kept x None = here
-  parts-kept x (Some k) = still _ refl refl refl
+  parts-kept x (Some k) = still _ refl refl refl (at_least s.count)
 
   gets-kept : (x : List ℕ) (k : ℕ) (ns : List Note) → Kept (server.receives_first x k ns s)
   gets-kept x k [] = here
-  gets-kept x k (Close code ∷ ns) = still _ refl refl refl
-  gets-kept x k (n ∷ ns) = still _ refl refl refl
+  gets-kept x k (Close code ∷ ns) = still _ refl refl refl (at_least s.count)
+  gets-kept x k (n ∷ ns) = still _ refl refl refl (at_least s.count)
 
   receives-kept : (x : List ℕ) (o : Option ℕ) → Kept (server.receives_by x o s)
   receives-kept x None = here
@@ -148,19 +148,19 @@ module _ (site : Site) (s : Server) where
   kept (Publishes k) e = publishes-kept k (s.connections k).work
   kept (Checks i) e = checks-kept (slice_get s.lookups i)
   kept (Attaches x n) e = comes-kept x n (s.seats x)
-  kept (Wanders n) e = by_test Kept (nat_lt n site.config.nodes) _ _ (λ h. still _ refl refl refl) (λ h. here)
-  kept (Strays k c) e = by_test Kept (server.is_seat k (s.seats (s.connections k).client)) _ _ (λ h. here) (λ h. still _ refl refl refl)
+  kept (Wanders n) e = by_test Kept (nat_lt n site.config.nodes) _ _ (λ h. still _ refl refl refl (one_above s.count)) (λ h. here)
+  kept (Strays k c) e = by_test Kept (server.is_seat k (s.seats (s.connections k).client)) _ _ (λ h. here) (λ h. still _ refl refl refl (at_least s.count))
   kept (Sends x c) e = sends-kept x c (s.seats x)
   kept (Receives x) e = receives-kept x (s.seats x)
   kept (Breaks x) e = parts-kept x (s.seats x)
-  kept other e = still (after site other s) refl refl refl
+  kept other e = still (after site other s) refl refl refl (at_least s.count)
 
   delivers-grows : (n : ℕ) (is : List ℕ) → Grows s (server.delivers_first site n is s)
-  delivers-grows n [] = grows_not s refl refl
-  delivers-grows n (i ∷ rest) = grows_not _ refl refl
+  delivers-grows n [] = grows_not s refl refl (at_least s.count)
+  delivers-grows n (i ∷ rest) = grows_not _ refl refl (at_least s.count)
 
   pub grows : (x : Section) → Grows s (after site x s)
-  grows (Offers i n) = by_test (Grows s) (is_some (place_of i s.accepted)) _ _ (λ h. grows_not _ refl refl) (λ h. grows_not s refl refl)
+  grows (Offers i n) = by_test (Grows s) (is_some (place_of i s.accepted)) _ _ (λ h. grows_not _ refl refl (at_least s.count)) (λ h. grows_not s refl refl (at_least s.count))
   grows (Delivers n) = delivers-grows n (s.links n)
   grows other = (kept other refl).grows
 

@@ -1,10 +1,12 @@
 pub mod Among
+pub mod AmongGrows
 pub mod Closing
 pub mod Gained
 pub mod Growing
 pub mod Holding
 pub mod HubAsides
 pub mod Links
+pub mod WholeNodes
 pub mod Passing
 pub mod ShardCalls
 pub mod ShardLife

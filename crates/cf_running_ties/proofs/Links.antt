@@ -30,7 +30,7 @@ use Rattle.cf_running.specs.Server.{Connection, Delivers, Offers, Publishes, Sec
 use Rattle.cf_running.proofs.Beside.{Beside, at-same, number_tells}
 use Rattle.cf_running.proofs.Gaining.{life-more}
 use Rattle.cf_running.proofs.Steps.{stands_beside}
-use Rattle.cf_running_ties.specs.Links.{IsAnswered, IsDelivered, IsNumbered, IsSentOrLost, Lines, Waits, is_at_link, place}
+use Rattle.cf_running_ties.specs.Links.{IsAnswered, IsFirst, IsNumbered, IsSentOrLost, Lines, Waits, is_at_link, place}
 use Rattle.cf_running_ties.proofs.Growing.{grown-lists, grows, links-stay, listed-later, place-more}
 use Rattle.cf_running_ties.proofs.ShardCalls.{sizes_same}
 
@@ -140,16 +140,13 @@ sends site s i n x sent received new h =
 
 module _ (site : Site) (s : Server) (n : ℕ) (x : Carried) (sent received : Lines) (h : Waits site s sent received) where
   abbrev Result : Type 0
-  Result = IsDelivered site s n x × Waits site (after site (Delivers n) s) sent (at_number received n (received n ++ x ∷ []))
+  Result = IsFirst site s n x × Waits site (after site (Delivers n) s) sent (at_number received n (received n ++ x ∷ []))
 
   -- these wait, and the first is this one
   by_links : (is : List ℕ) (rest : List Carried) → s.links n ≡ is → sent n ≡ received n ++ x ∷ rest → AllZip (IsNumbered site s) is (x ∷ rest) → Result
   by_links [] rest e f z = absurd z
   by_links (i ∷ is) rest e f z = (
-    record {
-      listed = z.0.listed;
-      comes = ap (λ (t : Server). t.connections) after-is;
-    },
+    record { number = i; rest = is; waits = e; is = z.0 },
     subst (λ (t : Server). Waits site t sent new) (sym after-is) (record { at = λ m. by_node m (number_tells m n) }),
   )
     where

@@ -11,7 +11,7 @@ use Rattle.cf_hub.specs.InNotes.{IsListed}
 use Rattle.cf_machine.specs.PublicationList.{Place}
 use Rattle.cf_shard.specs.Delivery.{Carried}
 use Rattle.cf_shard.specs.LogAnswer.{IsPublished}
-use Rattle.cf_running.specs.Server.{Delivers, Offers, Section, Server, Site, ToPublish, after, at_number, can_gain, comes_by, lists_of, log_of, place_of, words_of}
+use Rattle.cf_running.specs.Server.{Delivers, Offers, Section, Server, Site, ToPublish, at_number, can_gain, lists_of, log_of, place_of}
 
 -- where a publication on its way stands
 abbrev pub place : Carried → Place
@@ -44,10 +44,12 @@ IsSentOrLost old n x new = (new ≡ at_number old n (old n ++ x ∷ [])) ⊎ (ne
 pub record Waits (site : Site) (s : Server) (sent received : Lines) : Type 0 where
   pub at : (n : ℕ) → (left : List Carried) × (sent n ≡ received n ++ left) × AllZip (IsNumbered site s) (s.links n) left
 
--- the section that delivers at a node does so with this publication, which is listed
-pub record IsDelivered (site : Site) (s : Server) (n : ℕ) (x : Carried) : Type 0 where
-  pub listed : IsListed (lists_of site s) x.channel x.epoch x.publication
-  pub comes : (after site (Delivers n) s).connections ≡ comes_by (words_of site s) n (Some (place x)) s.connections
+-- what waits first on a node's link is this publication, by its number: it is what the next delivery there delivers
+pub record IsFirst (site : Site) (s : Server) (n : ℕ) (x : Carried) : Type 0 where
+  pub number : ℕ
+  pub rest : List ℕ
+  pub waits : s.links n ≡ number ∷ rest
+  pub is : IsNumbered site s number x
 
 -- a section that puts something on a link, or takes something off one
 abbrev pub is_at_link : Section → Bool

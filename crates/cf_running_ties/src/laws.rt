@@ -19,7 +19,7 @@ ghost use Rattle.cf_machine.specs.Config.{Config};
 ghost use Rattle.cf_machine.specs.IntervalMachine.{size_of};
 ghost use Rattle.cf_running.specs.Server.{Delivers, Offers, Publishes, Section, Server, Site, after, at_number, ran, start};
 ghost use Rattle.cf_running_ties.specs.HubAsides.{MovesAmong};
-ghost use Rattle.cf_running_ties.specs.Links.{IsAnswered, IsDelivered, IsNumbered, IsSentOrLost, Lines, Waits, is_at_link};
+ghost use Rattle.cf_running_ties.specs.Links.{IsAnswered, IsFirst, IsNumbered, IsSentOrLost, Lines, Waits, is_at_link};
 ghost use Rattle.cf_running_ties.specs.ShardCalls.{IsDrawn, IsGained, IsNotLast, MayAll, answered};
 ghost use Rattle.cf_running_ties.specs.ShardLife.{AreMade, Call};
 
@@ -91,7 +91,7 @@ pub fn drawn_epochs_are_new()
 /// What comes over a node's link is listed. What a shard accepted has a number, and stays listed at its
 /// place; each node is offered just that, and is sent it or loses it, some time after it was accepted. What
 /// was sent on a link and not received is what waits there in the running server. So what is received is
-/// what the section delivers that takes the first off the link.
+/// what waits there first, which the next delivery takes.
 pub fn links_carry_what_is_listed()
     ensures accepted { (site : Site) (sections : List Section) (connection : ℕ)
         (channel : List ℕ) (datum : Datum) (position : Position)
@@ -111,7 +111,7 @@ pub fn links_carry_what_is_listed()
     ensures received { (site : Site) (server : Server) (n : ℕ) (x : Carried)
         (sent received : Lines) (left : ℕ)
         → Waits site server sent received → AreLeft (sent n) (received n ++ x ∷ []) left
-        → IsDelivered site server n x
+        → IsFirst site server n x
         × Waits site (after site (Delivers n) server)
         sent (at_number received n (received n ++ x ∷ [])) }
     ensures others { (site : Site) (server : Server) (section : Section) (sent received : Lines)

@@ -5,3 +5,4 @@
 
 pub mod asides;
 pub mod laws;
+pub mod nodes;
