@@ -6,9 +6,10 @@ pub mod Growing
 pub mod Holding
 pub mod HubAsides
 pub mod Links
-pub mod WholeNodes
+pub mod OneSession
 pub mod Passing
 pub mod ShardCalls
 pub mod ShardLife
 pub mod ShardReads
 pub mod ShardTicks
+pub mod WholeNodes
