@@ -71,6 +71,9 @@ module _ (x : Carried) where
 
 -- ---- a number stays, and what waits too
 
+pub starts : (site : Site) → Waits site start (λ n. []) (λ n. [])
+starts site = record { at = λ n. ([], refl, tt) }
+
 pub stays : (site : Site) (s : Server) (section : Section) (i : ℕ) (x : Carried) → IsNumbered site s i x → IsNumbered site (after site section s) i x
 stays site s section i x h =
     let g = grows site s section in record {

@@ -1,5 +1,5 @@
 -- A hub stays beside its node where one session changes, comes or goes, and where something happens elsewhere.
-use Rattle.std.proofs.Common.{◌≡◌, ◌≢◌, inl, inr, ◌<◌, ◌≤◌, ℕ, ◌+◌, ◌==◌, nat_lt, Bool, true, false, if◌then◌else◌, Option, Some, None, List, [], refl, sym, ap, ◌∙◌, subst, arith}
+use Rattle.std.proofs.Common.{◌≡◌, ◌≢◌, inl, inr, ◌<◌, ◌≤◌, ℕ, ◌+◌, nat_lt, Bool, true, false, if◌then◌else◌, Option, Some, None, List, refl, sym, ap, ◌∙◌, subst, arith}
 use Rattle.cf_protocol.specs.Note as note
 use Rattle.cf_hub.specs.Hub.{Node, Opens, OthersStay, attached_at, client_id, empty, fresh}
 use Rattle.cf_hub.specs.Session.{Attached}

@@ -24,7 +24,7 @@ use Rattle.cf_running.specs.Server.{Closes, Connection, Delivers, Pings, Section
 use Rattle.cf_running.proofs.Beside.{at-other, at-same, number_tells}
 use Rattle.cf_running_ties.specs.HubAsides.{MovesAmong}
 use Rattle.cf_running_ties.specs.Links.{IsFirst, place}
-use Rattle.cf_running_ties.specs.Nodes.{ClosesAnd, ClosesAndPings, ConnectedBy, IsClose, IsCloseOrPing, IsConnected, IsHubOf, Says}
+use Rattle.cf_running_ties.specs.Nodes.{ClosesAnd, ClosesAndPings, ConnectedBy, IsClose, IsCloseOrPing, IsHubOf, Says}
 
 -- ---- what is done at one connection besides
 

@@ -103,6 +103,7 @@ pub fn links_carry_what_is_listed()
     ensures offered { (count : ℕ) (x : Carried) (old new : Lines)
         → OfferedToAll IsSentOrLost count x old new
         → (n : ℕ) → (new n ≡ old n) ⊎ (new n ≡ old n ++ x ∷ []) }
+    ensures starts { (site : Site) → Waits site start (λ n. []) (λ n. []) }
     ensures sent { (site : Site) (server : Server) (number n : ℕ) (x : Carried)
         (sent received : Lines)
         → IsNumbered site server number x → Waits site server sent received

@@ -1,4 +1,4 @@
-use Rattle.cf_running_ties.proofs.Links.{accepted, offered, others, receives, sends, stays}
+use Rattle.cf_running_ties.proofs.Links.{accepted, offered, others, receives, sends, starts, stays}
 use Rattle.cf_running_ties.proofs.laws.links_carry_what_is_listed.Goals as goal
 
 pub returns-clause-accepted : goal.returns-clause-accepted
@@ -18,3 +18,6 @@ returns-clause-received c = λ site s n x sent received left h k. receives site 
 
 pub returns-clause-others : goal.returns-clause-others
 returns-clause-others c = others
+
+pub returns-clause-starts : goal.returns-clause-starts
+returns-clause-starts c = starts
