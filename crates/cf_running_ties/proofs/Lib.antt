@@ -1,5 +1,6 @@
 pub mod Among
 pub mod AmongGrows
+pub mod Bodies
 pub mod Closing
 pub mod Gained
 pub mod Growing

@@ -1,3 +1,4 @@
+pub mod Bodies
 pub mod Held
 pub mod HubAsides
 pub mod Links

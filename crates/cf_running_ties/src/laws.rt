@@ -1,15 +1,19 @@
 //! What ties the contracts of hub and shard to the sections of the running server.
 ghost use Rattle.std.specs.Prelude.{◌≡◌, ◌⊎◌, ◌+◌, ◌++◌, ◌∷◌, [], length, Bool, IsSome, false, true, ℕ, List, Option, Some};
 ghost use Rattle.cf_protocol.specs.Datum.{Datum, Placed};
+ghost use Rattle.cf_protocol.specs.Frame.{IsCommands};
 ghost use Rattle.cf_protocol.specs.LogEntry.{Entry};
 ghost use Rattle.cf_protocol.specs.Note.{Lists};
 ghost use Rattle.cf_protocol.specs.Position.{Position};
+ghost use Rattle.cf_protocol.specs.Regular.{IsInfo};
+ghost use Rattle.cf_protocol.specs.Request.{Command};
 ghost use Rattle.cf_protocol.specs.Settings.{NamespaceTable, settings_of};
 ghost use Rattle.cf_stream.specs.ChannelLists.{ReadsAt};
 ghost use Rattle.cf_stream.specs.LogState.{IsState, life_in};
 ghost use Rattle.cf_stream.specs.PublicationList.{Life, state_of};
 ghost use Rattle.cf_stream.specs.StreamAnswer.{read_of};
 ghost use Rattle.cf_stream.specs.Streams.{Kept, stream_of};
+ghost use Rattle.cf_hub.specs.Hub.{client_id};
 ghost use Rattle.cf_epochs.specs.Source.{IsSource, Source, draws_next};
 ghost use Rattle.cf_link.specs.Link.{AreLeft};
 ghost use Rattle.cf_shard.specs.Delivery.{Carried, OfferedToAll, carried};
@@ -18,6 +22,7 @@ ghost use Rattle.cf_shard.specs.ShardLog.{entries_of_forget, entries_of_publish,
 ghost use Rattle.cf_machine.specs.Config.{Config};
 ghost use Rattle.cf_machine.specs.IntervalMachine.{size_of};
 ghost use Rattle.cf_running.specs.Server.{Delivers, Offers, Publishes, Section, Server, Site, after, at_number, ran, start};
+ghost use Rattle.cf_running_ties.specs.Bodies.{BringBodies};
 ghost use Rattle.cf_running_ties.specs.HubAsides.{MovesAmong};
 ghost use Rattle.cf_running_ties.specs.Links.{IsAnswered, IsFirst, IsNumbered, IsSentOrLost, Lines, Waits, is_at_link};
 ghost use Rattle.cf_running_ties.specs.ShardCalls.{IsDrawn, IsGained, IsNotLast, MayAll, answered};
@@ -25,6 +30,7 @@ ghost use Rattle.cf_running_ties.specs.ShardLife.{AreMade, Call};
 
 use cf_epochs::laws::told_apart;
 use cf_hub::laws::what_is_said_stays;
+use cf_json::compact_reads_back;
 use cf_recovery::laws::what_is_kept_stands;
 
 /// Each move that a call of a hub makes of a session, in notes, whatever memory was refused, and whatever
@@ -120,4 +126,15 @@ pub fn links_carry_what_is_listed()
         → Waits site (after site section server) sent received }
 {
     what_is_said_stays();
+}
+
+/// What a client publishes can be read back: the data of each publish command that a text has, and the name
+/// that a hub gives the client.
+pub fn what_is_published_reads_back()
+    ensures bodies { (text : List ℕ) (commands : List Command)
+        → IsCommands text commands → BringBodies commands }
+    ensures names { (user : List ℕ) (node boot count : ℕ)
+        → IsInfo (Some (record { user = user; client = client_id node boot count })) }
+{
+    compact_reads_back();
 }
