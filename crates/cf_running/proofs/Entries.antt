@@ -28,7 +28,7 @@ use Rattle.cf_machine.proofs.Brokering.{lists-trim}
 use Rattle.cf_machine.specs.Lives.{life_by}
 use Rattle.cf_running.specs.ShardLogs.{IsLogOf, about, MayGain, happening_of}
 use Rattle.cf_running.specs.Server as server
-use Rattle.cf_running.specs.Server.{Server, Site, Connection, Work, Free, Began, HasRead, ToFinish, ToGiveUp, ToPublish, ToList, ToSay, at_number, change, gathered, gathered_in, lists_of, life_of, log_of, is_in, may_gain, can_gain, place_in, offered}
+use Rattle.cf_running.specs.Server.{Server, Site, Connection, Work, Free, Began, HasRead, ToFinish, ToGiveUp, ToPublish, ToList, ToSay, at_number, change, gathered, gathered_in, lists_of, life_of, log_of, is_in, may_gain, can_gain, place_in}
 use Rattle.cf_running.proofs.Gaining.{gain, Gains, gained-world, gains, keeps-mine, keeps-other, life-more, publish-stands, stands-below, list-cases}
 use Rattle.cf_running.proofs.Beside.{Linked, Beside, Follows, none, quietly, and_then, number_tells, at-same, at-other, connection-step}
 use Rattle.cf_running.proofs.Turns as turns
@@ -222,9 +222,9 @@ module _ (site : Site) (s : Server) (w : World) (b : Beside site s w) (over : (c
 
   -- ---- the whole
 
-  entry-beside : (x : Entry) → can_gain site x s ≡ true → (accepted : List Place) (links : ℕ → List ℕ) → (gain cfg x w.broker).accepted ≡ accepted
-      → Beside site (record (server.gain site x s) { accepted = accepted; links = links }) (broker_with (gain cfg x w.broker) w)
-  entry-beside x can accepted links e =
+  entry-beside : (x : Entry) → can_gain site x s ≡ true → (accepted : List Place) → (gain cfg x w.broker).accepted ≡ accepted
+      → Beside site (record (server.gain site x s) { accepted = accepted }) (broker_with (gain cfg x w.broker) w)
+  entry-beside x can accepted e =
       let g = its-gains x can in
       let log : List Entry = s.logs (shard x) ++ x ∷ [] in
       record {
@@ -244,16 +244,16 @@ module _ (site : Site) (s : Server) (w : World) (b : Beside site s w) (over : (c
         owns = b.owns;
       }
 
-  entry-follows : (x : Entry) → can_gain site x s ≡ true → (accepted : List Place) (links : ℕ → List ℕ) → (gain cfg x w.broker).accepted ≡ accepted
-      → Follows cfg w [] (Beside site (record (server.gain site x s) { accepted = accepted; links = links }))
-  entry-follows x can accepted links e =
+  entry-follows : (x : Entry) → can_gain site x s ≡ true → (accepted : List Place) → (gain cfg x w.broker).accepted ≡ accepted
+      → Follows cfg w [] (Beside site (record (server.gain site x s) { accepted = accepted }))
+  entry-follows x can accepted e =
       quietly cfg w (happening_of x) _ (quiet-entry w x)
-      (subst (Beside site (record (server.gain site x s) { accepted = accepted; links = links })) (sym (gained-world cfg w x (its-gains x can).allowed)) (entry-beside x can accepted links e))
+      (subst (Beside site (record (server.gain site x s) { accepted = accepted })) (sym (gained-world cfg w x (its-gains x can).allowed)) (entry-beside x can accepted e))
 
   gains-step : (x : Entry) → (gain cfg x w.broker).accepted ≡ w.broker.accepted → Follows cfg w [] (Beside site (server.gains site x s))
   gains-step x e =
       by_test (λ (v : Server). Follows cfg w [] (Beside site v)) (can_gain site x s) _ _
-      (λ can. entry-follows x can s.accepted s.links (e ∙ b.accepted)) (λ can. none cfg w (Beside site s) b)
+      (λ can. entry-follows x can s.accepted (e ∙ b.accepted)) (λ can. none cfg w (Beside site s) b)
 
   pub opens-step : (c e : List ℕ) → Follows cfg w [] (Beside site (server.gains site (Open c e) s))
   opens-step c e = gains-step (Open c e) refl
@@ -279,9 +279,8 @@ module _ (site : Site) (s : Server) (w : World) (b : Beside site s w) (over : (c
       ∙ ap (λ (o : Option Life). s.accepted ++ place_in c o)
       (sym (ap (life_by (w.broker.lists c)) at.1) ∙ (b.logs (site.shard_of c)).life c (own (site.shard_of c)))
 
-  accepts-step : (c : List ℕ) (d : Datum) (lost : ℕ → Bool) → can_gain site (Publish c d) s ≡ true → Follows cfg w [] (Beside site (server.accepts site c d lost s))
-  accepts-step c d lost can =
-      entry-follows (Publish c d) can (s.accepted ++ place_in c (life_of site s c)) (offered (length s.accepted + 1) lost s.links) (its-place c d can)
+  accepts-step : (c : List ℕ) (d : Datum) → can_gain site (Publish c d) s ≡ true → Follows cfg w [] (Beside site (server.accepts site c d s))
+  accepts-step c d can = entry-follows (Publish c d) can (s.accepted ++ place_in c (life_of site s c)) (its-place c d can)
 
 -- its answer is on its way
 answered : (k : Connection) (c : Client) (l : ClientLink) (d : List ℕ) (id : ℕ) (x : Datum) (h : Work) → h ≡ ToPublish d id x → Linked (record k { work = h }) c l
@@ -291,18 +290,18 @@ answered k c l d id x h e i =
     record { extra = j.extra; is = j.is; due = tt; settled = j.settled; right = tt }
 
 pub publishes-step : (site : Site) (s : Server) (w : World) (b : Beside site s w) (over : (c : List ℕ) → StandsOver (w.broker.lists c) (w.broker.streams c))
-    (k : ℕ) (lost : ℕ → Bool) (h : Work) → (s.connections k).work ≡ h → Follows site.config w [] (Beside site (server.publishes site k lost h s))
-publishes-step site s w b over k lost (ToPublish c id d) e =
+    (k : ℕ) (h : Work) → (s.connections k).work ≡ h → Follows site.config w [] (Beside site (server.publishes site k h s))
+publishes-step site s w b over k (ToPublish c id d) e =
     by_test (λ (v : Server). Follows site.config w [] (Beside site v)) (can_gain site (Publish c d) s) _ _
-    (λ can. and_then site.config w [] [] _ _ (accepts-step site s w b over c d lost can)
-    (λ v bv. connection-step site (server.accepts site c d lost s) v bv site.config k (λ (x : Connection). record x { work = ToSay (Put id) }) refl
-    (λ x at i. turns.idle site (server.accepts site c d lost s) v bv x (s.clients x) (record (s.connections k) { work = ToSay (Put id) })
+    (λ can. and_then site.config w [] [] _ _ (accepts-step site s w b over c d can)
+    (λ v bv. connection-step site (server.accepts site c d s) v bv site.config k (λ (x : Connection). record x { work = ToSay (Put id) }) refl
+    (λ x at i. turns.idle site (server.accepts site c d s) v bv x (s.clients x) (record (s.connections k) { work = ToSay (Put id) })
     (answered (s.connections k) (s.clients x) (v.links x) c id d (s.connections k).work e i))))
     (λ can. none site.config w (Beside site s) b)
-publishes-step site s w b over k lost Free e = none site.config w (Beside site s) b
-publishes-step site s w b over k lost (Began c id since) e = none site.config w (Beside site s) b
-publishes-step site s w b over k lost (HasRead c r) e = none site.config w (Beside site s) b
-publishes-step site s w b over k lost (ToFinish c) e = none site.config w (Beside site s) b
-publishes-step site s w b over k lost (ToGiveUp c id code) e = none site.config w (Beside site s) b
-publishes-step site s w b over k lost (ToList c id limit) e = none site.config w (Beside site s) b
-publishes-step site s w b over k lost (ToSay n) e = none site.config w (Beside site s) b
+publishes-step site s w b over k Free e = none site.config w (Beside site s) b
+publishes-step site s w b over k (Began c id since) e = none site.config w (Beside site s) b
+publishes-step site s w b over k (HasRead c r) e = none site.config w (Beside site s) b
+publishes-step site s w b over k (ToFinish c) e = none site.config w (Beside site s) b
+publishes-step site s w b over k (ToGiveUp c id code) e = none site.config w (Beside site s) b
+publishes-step site s w b over k (ToList c id limit) e = none site.config w (Beside site s) b
+publishes-step site s w b over k (ToSay n) e = none site.config w (Beside site s) b

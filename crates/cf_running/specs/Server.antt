@@ -153,25 +153,27 @@ change k f s = record s { connections = at_number s.connections k (f (s.connecti
 abbrev pub gains : Site → Entry → Server → Server
 gains site x s = if can_gain site x s then gain site x s else s
 
--- An accepted publish, which is offered on each link: a full link loses it. Its answer is on its way.
-abbrev pub offered : ℕ → (ℕ → Bool) → (ℕ → List ℕ) → ℕ → List ℕ
-offered number lost links n = if lost n then links n else links n ++ number ∷ []
-
 abbrev pub place_in : List ℕ → Option Life → List Place
 place_in c None = []
 place_in c (Some l) = record { channel = c; at = record { epoch = l.epoch; offset = length l.list + 1 } } ∷ []
 
-abbrev pub accepts : Site → List ℕ → Datum → (ℕ → Bool) → Server → Server
-accepts site c d lost s =
-    record (gain site (Publish c d) s) {
-      accepted = s.accepted ++ place_in c (life_of site s c);
-      links = offered (length s.accepted + 1) lost s.links;
-    }
+-- an accepted publish; its answer is on its way
+abbrev pub accepts : Site → List ℕ → Datum → Server → Server
+accepts site c d s = record (gain site (Publish c d) s) { accepted = s.accepted ++ place_in c (life_of site s c) }
 
-abbrev pub publishes : Site → ℕ → (ℕ → Bool) → Work → Server → Server
-publishes site k lost (ToPublish c id d) s =
-    if can_gain site (Publish c d) s then change k (λ x. record x { work = ToSay (Put id) }) (accepts site c d lost s) else s
-publishes site k lost other s = s
+abbrev pub publishes : Site → ℕ → Work → Server → Server
+publishes site k (ToPublish c id d) s =
+    if can_gain site (Publish c d) s then change k (λ x. record x { work = ToSay (Put id) }) (accepts site c d s) else s
+publishes site k other s = s
+
+-- What was accepted under a number is put on a node's link, whenever, however often and in whatever order. A full link loses it, and
+-- then this doesn't happen.
+abbrev pub place_of : ℕ → List Place → Option Place
+place_of zero ps = None
+place_of (suc i) ps = slice_get ps i
+
+abbrev pub offers : ℕ → ℕ → Server → Server
+offers i n s = if is_some (place_of i s.accepted) then record s { links = at_number s.links n (s.links n ++ i ∷ []) } else s
 
 -- a read, and a history, of a stream that stands
 abbrev pub reading_by : List ℕ → Option Position → Option Life → Connection → Connection
@@ -277,10 +279,6 @@ abbrev pub detaches : ℕ → Connection → Connection
 detaches code x = if is_free x.work then record x { session = closes_now (Close code) x.session; attached = false } else x
 
 -- what came over a link is delivered to all sessions of the node
-abbrev pub place_of : ℕ → List Place → Option Place
-place_of zero ps = None
-place_of (suc i) ps = slice_get ps i
-
 abbrev pub comes_by : Words → ℕ → Option Place → (ℕ → Connection) → ℕ → Connection
 comes_by w n None xs k = xs k
 comes_by w n (Some p) xs k = let x = xs k in if x.node == n then record x { session = comes w p.channel p.at x.session } else x
@@ -382,9 +380,11 @@ receives_by x (Some k) s = receives_first x k (s.connections k).way s
 -- ---- THE SECTIONS
 
 pub data Section : Type 0 where
-  -- at a shard: an opening, a trim or a forget; a publish, and which links lose it; a read or a history; a position; a refusal
+  -- at a shard: an opening, a trim or a forget; a publish; a publication, by its number, on one node's link; a read or a history; a
+  -- position; a refusal
   Gains : (entry : Entry) → Section
-  Publishes : (connection : ℕ) → (lost : ℕ → Bool) → Section
+  Publishes : (connection : ℕ) → Section
+  Offers : (number : ℕ) → (node : ℕ) → Section
   AsksShard : (connection : ℕ) → Section
   LooksUp : (connection : ℕ) → (channel : List ℕ) → Section
   IsRefused : (connection : ℕ) → (code : ℕ) → Section
@@ -422,7 +422,8 @@ after site (Gains (Publish c d)) s = s
 after site (Gains (Open c e)) s = gains site (Open c e) s
 after site (Gains (Trim c n)) s = gains site (Trim c n) s
 after site (Gains (Forget c)) s = gains site (Forget c) s
-after site (Publishes k lost) s = publishes site k lost (s.connections k).work s
+after site (Publishes k) s = publishes site k (s.connections k).work s
+after site (Offers i n) s = offers i n s
 after site (AsksShard k) s = change k (asks_shard site s (s.connections k).work) s
 after site (LooksUp k c) s = looks_up site k c s
 after site (IsRefused k code) s = change k (is_refused code (s.connections k).work) s

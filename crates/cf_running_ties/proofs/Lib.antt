@@ -1,8 +1,16 @@
 pub mod Among
+pub mod AmongGrows
+pub mod Bodies
 pub mod Closing
 pub mod Gained
+pub mod Growing
 pub mod Holding
 pub mod HubAsides
+pub mod Links
+pub mod OneSession
+pub mod Passing
 pub mod ShardCalls
+pub mod ShardLife
 pub mod ShardReads
 pub mod ShardTicks
+pub mod WholeNodes

@@ -1,21 +1,36 @@
 //! What ties the contracts of hub and shard to the sections of the running server.
-ghost use Rattle.std.specs.Prelude.{◌≡◌, ◌++◌, Bool, IsSome, true, ℕ, List, Option, Some};
+ghost use Rattle.std.specs.Prelude.{◌≡◌, ◌⊎◌, ◌+◌, ◌++◌, ◌∷◌, [], length, Bool, IsSome, false, true, ℕ, List, Option, Some};
 ghost use Rattle.cf_protocol.specs.Datum.{Datum, Placed};
+ghost use Rattle.cf_protocol.specs.Frame.{IsCommands};
 ghost use Rattle.cf_protocol.specs.LogEntry.{Entry};
 ghost use Rattle.cf_protocol.specs.Note.{Lists};
 ghost use Rattle.cf_protocol.specs.Position.{Position};
-ghost use Rattle.cf_protocol.specs.Settings.{settings_of};
+ghost use Rattle.cf_protocol.specs.Regular.{IsInfo};
+ghost use Rattle.cf_protocol.specs.Request.{Command};
+ghost use Rattle.cf_protocol.specs.Settings.{NamespaceTable, settings_of};
 ghost use Rattle.cf_stream.specs.ChannelLists.{ReadsAt};
 ghost use Rattle.cf_stream.specs.LogState.{IsState, life_in};
 ghost use Rattle.cf_stream.specs.PublicationList.{Life, state_of};
 ghost use Rattle.cf_stream.specs.StreamAnswer.{read_of};
 ghost use Rattle.cf_stream.specs.Streams.{Kept, stream_of};
+ghost use Rattle.cf_hub.specs.Hub.{client_id};
+ghost use Rattle.cf_epochs.specs.Source.{IsSource, Source, draws_next};
+ghost use Rattle.cf_link.specs.Link.{AreLeft};
+ghost use Rattle.cf_shard.specs.Delivery.{Carried, OfferedToAll, carried};
+ghost use Rattle.cf_shard.specs.Shard.{DrawsFor, Lent};
 ghost use Rattle.cf_shard.specs.ShardLog.{entries_of_forget, entries_of_publish, entries_of_tick, entries_of_trim, entries_of_use};
 ghost use Rattle.cf_machine.specs.Config.{Config};
 ghost use Rattle.cf_machine.specs.IntervalMachine.{size_of};
+ghost use Rattle.cf_running.specs.Server.{Delivers, Offers, Publishes, Section, Server, Site, after, at_number, ran, start};
+ghost use Rattle.cf_running_ties.specs.Bodies.{BringBodies};
 ghost use Rattle.cf_running_ties.specs.HubAsides.{MovesAmong};
+ghost use Rattle.cf_running_ties.specs.Links.{IsAnswered, IsFirst, IsNumbered, IsSentOrLost, Lines, Waits, is_at_link};
 ghost use Rattle.cf_running_ties.specs.ShardCalls.{IsDrawn, IsGained, IsNotLast, MayAll, answered};
+ghost use Rattle.cf_running_ties.specs.ShardLife.{AreMade, Call};
 
+use cf_epochs::laws::told_apart;
+use cf_hub::laws::what_is_said_stays;
+use cf_json::compact_reads_back;
 use cf_recovery::laws::what_is_kept_stands;
 
 /// Each move that a call of a hub makes of a session, in notes, whatever memory was refused, and whatever
@@ -63,3 +78,63 @@ pub fn shard_calls_are_sections()
     ensures gained { (config : Config) (log more : List Entry)
         → IsGained config log → MayAll config log more → IsGained config (log ++ more) }
 {}
+
+/// An epoch that a shard draws is none that its log ever had, where its source is one of `cf_epochs`: over
+/// any calls from an empty log, as their contracts have them. So whatever they add to the log may be gained
+/// entry by entry, and nothing is left to be assumed of epochs, of the last offset or of the log.
+pub fn drawn_epochs_are_new()
+    ensures drawn { (table : NamespaceTable) (calls : List Call) (first old new : Lent Source)
+        (channel epoch : List ℕ)
+        → first.log ≡ [] → AreMade table calls first old → IsSource new.epochs
+        → DrawsFor draws_next channel epoch old new
+        → IsDrawn (stream_of old.streams channel) old.log channel epoch }
+    ensures gained { (config : Config) (calls : List Call) (first now : Lent Source)
+        → first.log ≡ [] → AreMade config.namespaces calls first now → IsGained config now.log }
+{
+    told_apart();
+}
+
+/// What comes over a node's link is listed. What a shard accepted has a number, and stays listed at its
+/// place; each node is offered just that, and is sent it or loses it, some time after it was accepted. What
+/// was sent on a link and not received is what waits there in the running server. So what is received is
+/// what waits there first, which the next delivery takes.
+pub fn links_carry_what_is_listed()
+    ensures accepted { (site : Site) (sections : List Section) (connection : ℕ)
+        (channel : List ℕ) (datum : Datum) (position : Position)
+        → IsAnswered site (ran site start sections) connection channel datum position
+        → IsNumbered site (ran site start (sections ++ Publishes connection ∷ []))
+        (length (ran site start sections).accepted + 1) (carried channel position datum) }
+    ensures stays { (site : Site) (server : Server) (section : Section) (number : ℕ) (x : Carried)
+        → IsNumbered site server number x → IsNumbered site (after site section server) number x }
+    ensures offered { (count : ℕ) (x : Carried) (old new : Lines)
+        → OfferedToAll IsSentOrLost count x old new
+        → (n : ℕ) → (new n ≡ old n) ⊎ (new n ≡ old n ++ x ∷ []) }
+    ensures starts { (site : Site) → Waits site start (λ n. []) (λ n. []) }
+    ensures sent { (site : Site) (server : Server) (number n : ℕ) (x : Carried)
+        (sent received : Lines)
+        → IsNumbered site server number x → Waits site server sent received
+        → Waits site (after site (Offers number n) server)
+        (at_number sent n (sent n ++ x ∷ [])) received }
+    ensures received { (site : Site) (server : Server) (n : ℕ) (x : Carried)
+        (sent received : Lines) (left : ℕ)
+        → Waits site server sent received → AreLeft (sent n) (received n ++ x ∷ []) left
+        → IsFirst site server n x
+        × Waits site (after site (Delivers n) server)
+        sent (at_number received n (received n ++ x ∷ [])) }
+    ensures others { (site : Site) (server : Server) (section : Section) (sent received : Lines)
+        → is_at_link section ≡ false → Waits site server sent received
+        → Waits site (after site section server) sent received }
+{
+    what_is_said_stays();
+}
+
+/// What a client publishes can be read back: the data of each publish command that a text has, and the name
+/// that a hub gives the client.
+pub fn what_is_published_reads_back()
+    ensures bodies { (text : List ℕ) (commands : List Command)
+        → IsCommands text commands → BringBodies commands }
+    ensures names { (user : List ℕ) (node boot count : ℕ)
+        → IsInfo (Some (record { user = user; client = client_id node boot count })) }
+{
+    compact_reads_back();
+}

@@ -1,0 +1,23 @@
+use Rattle.cf_running_ties.proofs.Links.{accepted, offered, others, receives, sends, starts, stays}
+use Rattle.cf_running_ties.proofs.laws.links_carry_what_is_listed.Goals as goal
+
+pub returns-clause-accepted : goal.returns-clause-accepted
+returns-clause-accepted c = accepted c.what_is_said_stays.ensures.listed
+
+pub returns-clause-stays : goal.returns-clause-stays
+returns-clause-stays c = stays
+
+pub returns-clause-offered : goal.returns-clause-offered
+returns-clause-offered c = λ count x old new h n. offered x count old new h n
+
+pub returns-clause-sent : goal.returns-clause-sent
+returns-clause-sent c = sends
+
+pub returns-clause-received : goal.returns-clause-received
+returns-clause-received c = λ site s n x sent received left h k. receives site s n x sent received h left k
+
+pub returns-clause-others : goal.returns-clause-others
+returns-clause-others c = others
+
+pub returns-clause-starts : goal.returns-clause-starts
+returns-clause-starts c = starts

@@ -1,0 +1,35 @@
+use Rattle.cf_hub.specs.Hub.{most_sessions}
+use Rattle.cf_running.specs.Server.{lists_of}
+use Rattle.cf_running_ties.proofs.OneSession.{attaches, detaches, one, starts, stays, wanders}
+use Rattle.cf_running_ties.proofs.WholeNodes.{delivers, ticks}
+use Rattle.cf_running_ties.proofs.nodes.hubs_stay_beside_their_nodes.Goals as goal
+
+pub returns-clause-starts : goal.returns-clause-starts
+returns-clause-starts c = starts
+
+pub returns-clause-delivers : goal.returns-clause-delivers
+returns-clause-delivers c = λ is_aside site s n numbers old new x h bounded first d.
+    delivers is_aside site s n numbers old new h x (c.hub_moves_are_sections.ensures is_aside (lists_of site s)) d first most_sessions bounded
+
+pub returns-clause-ticks : goal.returns-clause-ticks
+returns-clause-ticks c = λ is_aside site s n now numbers old new h bounded d.
+    ticks is_aside site s n numbers old new h now (c.hub_moves_are_sections.ensures is_aside (lists_of site s)) d most_sessions bounded
+
+pub returns-clause-attaches : goal.returns-clause-attaches
+returns-clause-attaches c = λ is_aside site s n j now numbers old new user client h o none seat there.
+    attaches is_aside site s n numbers old h new j now user (c.hub_moves_are_sections.ensures is_aside (lists_of site s)) o none client seat there
+
+pub returns-clause-wanders : goal.returns-clause-wanders
+returns-clause-wanders c = λ is_aside site s n j now numbers old new user h o none there.
+    wanders is_aside site s n numbers old h new j now user (c.hub_moves_are_sections.ensures is_aside (lists_of site s)) o none there
+
+pub returns-clause-one : goal.returns-clause-one
+returns-clause-one c = λ is_aside site s n j k numbers old new f a h at others is node attached says.
+    one is_aside site s n numbers old h new j k f a at others is node attached says
+
+pub returns-clause-detaches : goal.returns-clause-detaches
+returns-clause-detaches c = λ is_aside site s n j k code numbers old new h at none others free.
+    detaches is_aside site s n numbers old h new j k code at none others free
+
+pub returns-clause-stays : goal.returns-clause-stays
+returns-clause-stays c = λ is_aside site s n numbers hub section h u. stays is_aside site s n numbers hub h section u

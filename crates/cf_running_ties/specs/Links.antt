@@ -1,0 +1,58 @@
+-- What is sent on the links of the nodes and received from them, beside what waits on the links of the running server.
+-- (This project's own profile.)
+use Rattle.std.specs.Prelude.{◌≡◌, ◌⊎◌, ℕ, Bool, true, false, Some, List, [], ◌∷◌, ◌++◌}
+use Rattle.std.specs.List.{AllZip}
+use Rattle.cf_protocol.specs.Datum.{Datum}
+use Rattle.cf_protocol.specs.LogEntry.{Entry}
+use Rattle.cf_protocol.specs.LogEntry.Entry.{Publish}
+use Rattle.cf_protocol.specs.Position.{Position}
+use Rattle.cf_protocol.specs.Regular.{IsBody, IsInfo}
+use Rattle.cf_hub.specs.InNotes.{IsListed}
+use Rattle.cf_machine.specs.PublicationList.{Place}
+use Rattle.cf_shard.specs.Delivery.{Carried}
+use Rattle.cf_shard.specs.LogAnswer.{IsPublished}
+use Rattle.cf_running.specs.Server.{Delivers, Offers, Section, Server, Site, ToPublish, at_number, can_gain, lists_of, log_of, place_of}
+
+-- where a publication on its way stands
+abbrev pub place : Carried → Place
+place x = record { channel = x.channel; at = record { epoch = x.epoch; offset = x.publication.offset } }
+
+-- it was accepted under this number, and is listed at its place with its datum
+pub record IsNumbered (site : Site) (s : Server) (number : ℕ) (x : Carried) : Type 0 where
+  pub accepted : place_of number s.accepted ≡ Some (place x)
+  pub listed : IsListed (lists_of site s) x.channel x.epoch x.publication
+
+-- a worker's publish may be carried out, of data that can be read back, and this is what its contract answers
+pub record IsAnswered (site : Site) (s : Server) (k : ℕ) (c : List ℕ) (d : Datum) (p : Position) : Type 0 where
+  pub id : ℕ
+  pub seen : List Entry
+  pub work : (s.connections k).work ≡ ToPublish c id d
+  pub may : can_gain site (Publish c d) s ≡ true
+  pub answer : IsPublished site.config.namespaces seen (log_of site s c ++ Publish c d ∷ []) c d p
+  pub body : IsBody d.body
+  pub info : IsInfo d.info
+
+-- by node, what was sent on its link, or received from it, in order
+abbrev pub Lines : Type 0
+Lines = ℕ → List Carried
+
+-- an offer to a node is sent on its link, or lost
+abbrev pub IsSentOrLost : Lines → ℕ → Carried → Lines → Type 0
+IsSentOrLost old n x new = (new ≡ at_number old n (old n ++ x ∷ [])) ⊎ (new ≡ old)
+
+-- what was sent on each link and not received is what waits there in the running server, number by number
+pub record Waits (site : Site) (s : Server) (sent received : Lines) : Type 0 where
+  pub at : (n : ℕ) → (left : List Carried) × (sent n ≡ received n ++ left) × AllZip (IsNumbered site s) (s.links n) left
+
+-- what waits first on a node's link is this publication, by its number: it is what the next delivery there delivers
+pub record IsFirst (site : Site) (s : Server) (n : ℕ) (x : Carried) : Type 0 where
+  pub number : ℕ
+  pub rest : List ℕ
+  pub waits : s.links n ≡ number ∷ rest
+  pub is : IsNumbered site s number x
+
+-- a section that puts something on a link, or takes something off one
+abbrev pub is_at_link : Section → Bool
+is_at_link (Offers number n) = true
+is_at_link (Delivers n) = true
+is_at_link other = false
