@@ -7,6 +7,7 @@ pub mod Growing
 pub mod Holding
 pub mod HubAsides
 pub mod Links
+pub mod Numbered
 pub mod OneSession
 pub mod Passing
 pub mod ShardCalls

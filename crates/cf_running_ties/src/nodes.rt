@@ -1,6 +1,6 @@
 //! What the contracts of a hub say of all sessions of a node.
 ghost use Rattle.std.specs.Prelude.{◌≡◌, nat_lt, Bool, None, Some, true, ℕ, List, Option};
-ghost use Rattle.cf_hub.specs.Hub.{Delivers as HubDelivers, IsBounded, Node, Opens, OthersStay, Ticks, attached_at, empty};
+ghost use Rattle.cf_hub.specs.Hub.{Delivers as HubDelivers, Node, Opens, OthersStay, Ticks, attached_at, empty};
 ghost use Rattle.cf_hub.specs.Session.{Attached};
 ghost use Rattle.cf_shard.specs.Delivery.{Carried};
 ghost use Rattle.cf_running.specs.Server.{Attaches, Connection, Delivers, Detaches, Section, Server, Site, Wanders, after, at_number, change, is_free, lists_of, start};
@@ -19,12 +19,12 @@ pub fn hubs_stay_beside_their_nodes()
         → IsHubOf is_aside site start n (λ j. None) (empty n boot) }
     ensures delivers { (is_aside : List ℕ → Bool) (site : Site) (server : Server) (n : ℕ)
         (numbers : ℕ → Option ℕ) (old new : Node) (x : Carried)
-        → IsHubOf is_aside site server n numbers old → IsBounded (attached_at old)
+        → IsHubOf is_aside site server n numbers old
         → IsFirst site server n x → HubDelivers x.channel x.epoch x.publication old new
         → ClosesAnd is_aside site server n numbers (Delivers n) new }
     ensures ticks { (is_aside : List ℕ → Bool) (site : Site) (server : Server) (n now : ℕ)
         (numbers : ℕ → Option ℕ) (old new : Node)
-        → IsHubOf is_aside site server n numbers old → IsBounded (attached_at old)
+        → IsHubOf is_aside site server n numbers old
         → Ticks now old new → ClosesAndPings is_aside site server n numbers new }
     ensures attaches { (is_aside : List ℕ → Bool) (site : Site) (server : Server) (n j now : ℕ)
         (numbers : ℕ → Option ℕ) (old new : Node) (user client : List ℕ)

@@ -1,5 +1,5 @@
-use Rattle.cf_hub.specs.Hub.{most_sessions}
 use Rattle.cf_running.specs.Server.{lists_of}
+use Rattle.cf_running_ties.proofs.Numbered.{bounded, past}
 use Rattle.cf_running_ties.proofs.OneSession.{attaches, detaches, one, starts, stays, wanders}
 use Rattle.cf_running_ties.proofs.WholeNodes.{delivers, ticks}
 use Rattle.cf_running_ties.proofs.nodes.hubs_stay_beside_their_nodes.Goals as goal
@@ -8,12 +8,12 @@ pub returns-clause-starts : goal.returns-clause-starts
 returns-clause-starts c = starts
 
 pub returns-clause-delivers : goal.returns-clause-delivers
-returns-clause-delivers c = λ is_aside site s n numbers old new x h bounded first d.
-    delivers is_aside site s n numbers old new h x (c.hub_moves_are_sections.ensures is_aside (lists_of site s)) d first most_sessions bounded
+returns-clause-delivers c = λ is_aside site s n numbers old new x h first d.
+    delivers is_aside site s n numbers old new h x (c.hub_moves_are_sections.ensures is_aside (lists_of site s)) d first (past old.sessions) (bounded old)
 
 pub returns-clause-ticks : goal.returns-clause-ticks
-returns-clause-ticks c = λ is_aside site s n now numbers old new h bounded d.
-    ticks is_aside site s n numbers old new h now (c.hub_moves_are_sections.ensures is_aside (lists_of site s)) d most_sessions bounded
+returns-clause-ticks c = λ is_aside site s n now numbers old new h d.
+    ticks is_aside site s n numbers old new h now (c.hub_moves_are_sections.ensures is_aside (lists_of site s)) d (past old.sessions) (bounded old)
 
 pub returns-clause-attaches : goal.returns-clause-attaches
 returns-clause-attaches c = λ is_aside site s n j now numbers old new user client h o none seat there.
