@@ -1,9 +1,9 @@
 pub mod Among
 pub mod AmongGrows
-pub mod Bodies
 pub mod Closing
 pub mod Gained
 pub mod Growing
+pub mod Heard
 pub mod Holding
 pub mod HubAsides
 pub mod Links

@@ -1,4 +1,4 @@
-pub mod Bodies
+pub mod Heard
 pub mod Held
 pub mod HubAsides
 pub mod Links

@@ -22,7 +22,7 @@ ghost use Rattle.cf_shard.specs.ShardLog.{entries_of_forget, entries_of_publish,
 ghost use Rattle.cf_machine.specs.Config.{Config};
 ghost use Rattle.cf_machine.specs.IntervalMachine.{size_of};
 ghost use Rattle.cf_running.specs.Server.{Delivers, Offers, Publishes, Section, Server, Site, after, at_number, ran, start};
-ghost use Rattle.cf_running_ties.specs.Bodies.{BringBodies};
+ghost use Rattle.cf_running_ties.specs.Heard.{AreHeard};
 ghost use Rattle.cf_running_ties.specs.HubAsides.{MovesAmong};
 ghost use Rattle.cf_running_ties.specs.Links.{IsAnswered, IsFirst, IsNumbered, IsSentOrLost, Lines, Waits, is_at_link};
 ghost use Rattle.cf_running_ties.specs.ShardCalls.{IsDrawn, IsGained, IsNotLast, MayAll, answered};
@@ -128,11 +128,11 @@ pub fn links_carry_what_is_listed()
     what_is_said_stays();
 }
 
-/// What a client publishes can be read back: the data of each publish command that a text has, and the name
-/// that a hub gives the client.
-pub fn what_is_published_reads_back()
-    ensures bodies { (text : List ℕ) (commands : List Command)
-        → IsCommands text commands → BringBodies commands }
+/// What a session makes of a text can be said again: each command that is answered has an id, the data of a
+/// publish can be read back, and so can the name that a hub gives a client.
+pub fn what_is_heard_is_regular()
+    ensures commands { (text : List ℕ) (commands : List Command)
+        → IsCommands text commands → AreHeard commands }
     ensures names { (user : List ℕ) (node boot count : ℕ)
         → IsInfo (Some (record { user = user; client = client_id node boot count })) }
 {

@@ -1,10 +1,11 @@
--- The data of the publish commands that a text has is the compact text of a value.
+-- The commands of a text have ids, and the data of its publishes is the compact text of a value.
 use Rattle.std.proofs.Common.{◌≡◌, ◌≤◌, ℕ, ◌==◌, nat_le, ◌&&◌, not, Bool, true, false, if◌then◌else◌, cond, Option, Some, None, List, [], ◌∷◌, ◌++◌, length, append-nil, refl, sym, subst, arith}
 use Rattle.std.specs.Prelude.{IfSome, codes}
 use Rattle.std.specs.List.{AllByRecursion, filter}
 use Rattle.std.specs.Option.{option_and_then, option_map, option_to_list}
 use Rattle.std.specs.Str.{bytes_eq}
 use Rattle.std.specs.Fmt.{decimal}
+use Rattle.std.proofs.lemmas.Bool.{and_parts}
 use Rattle.std.proofs.lemmas.Bool.Decides.{nat_tests}
 use Rattle.std.proofs.lemmas.List.{length-append}
 use Prim.Native.String.{String as Name}
@@ -12,15 +13,16 @@ use Rattle.cf_json.specs.Characters.{characters}
 use Rattle.cf_json.specs.Compact.{AreRegular, IsRegular, compact_text}
 use Rattle.cf_json.specs.Frame.{IsFrame, Values}
 use Rattle.cf_json.specs.Grammar.{Tree, null, boolean, number, text as string, array, object, Parts, no_parts, part, Place, Value, depth}
+use Rattle.cf_json.specs.Integers.{whole_of}
 use Rattle.cf_json.specs.Members.{Fields, members_of, members_onto, put}
 use Rattle.cf_protocol.specs.Command.{always, command_from, command_of, connect, data_of, history, max_data_depth, named_command, needs_id, presence, presence_stats, publish, request_of, requests, subscribe, unsubscribe}
-use Rattle.cf_protocol.specs.Fields.{as_object, each_of, flag, limit, look_up, max_u32, member, object_as, object_or_none, position, present, read_all, text, the_only, unless_null, whole}
+use Rattle.cf_protocol.specs.Fields.{as_object, as_whole, each_of, flag, limit, look_up, max_u32, member, object_as, object_or_none, position, present, read_all, read_or, text, the_only, unless_null, whole, within}
 use Rattle.cf_protocol.specs.Frame.{FrameOf, IsCommands, commands_of}
-use Rattle.cf_protocol.specs.Regular.{IsBody, IsInfo}
-use Rattle.cf_protocol.specs.Request.{Body, Command, Request, TooDeep}
+use Rattle.cf_protocol.specs.Regular.{IsBody, IsCode, IsInfo}
+use Rattle.cf_protocol.specs.Request.{Body, Command, Request, Pong, Connect, Subscribe, Unsubscribe, Publish, Presence, PresenceStats, History, Ping, Send, Other, TooDeep}
 use Rattle.cf_hub.specs.Hub.{client_id}
 use Rattle.cf_machine.proofs.Names.{by_test}
-use Rattle.cf_running_ties.specs.Bodies.{BringBodies, BringsBody, IsReadBack}
+use Rattle.cf_running_ties.specs.Heard.{AreHeard, IsHeardAs, IsReadBack}
 
 -- ---- members of regular values
 
@@ -86,6 +88,35 @@ read-by {B} P f h t k = by_object (as_object t) (as_it_is t k)
     by_object None g = tt
     by_object (Some r) g = h r g
 
+-- ---- ids
+
+code : (id : ℕ) → id ≤ max_u32 → (id == 0) ≡ false → IsCode id
+code id h e = (above id e, h)
+  where
+    above : (n : ℕ) → (n == 0) ≡ false → 1 ≤ n
+    above n i = grind (arith, nat_tests)
+
+within-high : (high n : ℕ) → IfSome (within 0 high n) (λ m. m ≤ high)
+within-high high n = by_test (λ o. IfSome o (λ m. m ≤ high)) (nat_le 0 n && nat_le n high) (Some n) None (λ h. below n high (and_parts (nat_le 0 n) (nat_le n high) h).1) (λ h. tt)
+  where
+    below : (a b : ℕ) → nat_le a b ≡ true → a ≤ b
+    below a b h = grind (arith, nat_tests)
+
+whole-high : (high : ℕ) (t : Tree) → IfSome (as_whole 0 high t) (λ m. m ≤ high)
+whole-high high (number s) = bind (λ m. m ≤ high) (within 0 high) (whole_of s) (within-high high)
+whole-high high null = tt
+whole-high high (boolean b) = tt
+whole-high high (string c) = tt
+whole-high high (array ps) = tt
+whole-high high (object ps) = tt
+
+whole-within : (high : ℕ) (r : Fields) (k : Name) → IfSome (whole high r k) (λ m. m ≤ high)
+whole-within high r k = by_member (present r k)
+  where
+    by_member : (o : Option Tree) → IfSome (read_or 0 (as_whole 0 high) o) (λ m. m ≤ high)
+    by_member None = omega arith
+    by_member (Some t) = whole-high high t
+
 module _ (back : (t : Tree) (r : List ℕ) → IsRegular t → Value t (compact_text t ++ r) r) (regular : (t : Tree) (s r : List ℕ) → Value t s r → IsRegular t) where
   body : (t : Tree) → IsRegular t → nat_le (depth t) max_data_depth ≡ true → IsBody (compact_text t)
   body t h k = (
@@ -109,6 +140,10 @@ module _ (back : (t : Tree) (r : List ℕ) → IsRegular t → Value t (compact_
       by_depth false k = tt
 
   -- ---- each request by its key
+
+  abbrev BringsBody : Request → Type 0
+  BringsBody (Publish c d) = IsReadBack d
+  BringsBody q = Unit {0}
 
   abbrev Reads : (Tree → Option Request) → Type 0
   Reads f = (t : Tree) → IsRegular t → IfSome (f t) BringsBody
@@ -177,28 +212,44 @@ module _ (back : (t : Tree) (r : List ℕ) → IsRegular t → Value t (compact_
   -- ---- commands
 
   abbrev Brings : Command → Type 0
-  Brings k = BringsBody k.request
+  Brings k = IsHeardAs k.id k.request
 
   abbrev with_id : ℕ → Request → Option Command
   with_id id q = if needs_id q && (id == 0) then None else Some (record { id = id; request = q })
 
-  by_request : (id : ℕ) (o : Option Request) → IfSome o BringsBody → IfSome (option_and_then (with_id id) o) Brings
-  by_request id None g = tt
-  by_request id (Some q) g = by_test (λ o. IfSome o Brings) (needs_id q && (id == 0)) None (Some (record { id = id; request = q })) (λ i. tt) (λ i. g)
+  heard : (id : ℕ) (q : Request) → id ≤ max_u32 → BringsBody q → (needs_id q && (id == 0)) ≡ false → IsHeardAs id q
+  heard id Pong h k e = tt
+  heard id Send h k e = tt
+  heard id (Publish c d) h k e = (code id h e, k)
+  heard id (Connect token) h k e = code id h e
+  heard id (Subscribe c since) h k e = code id h e
+  heard id (Unsubscribe c) h k e = code id h e
+  heard id (Presence c) h k e = code id h e
+  heard id (PresenceStats c) h k e = code id h e
+  heard id (History c n since b) h k e = code id h e
+  heard id Ping h k e = code id h e
+  heard id Other h k e = code id h e
+
+  by_request : (id : ℕ) → id ≤ max_u32 → (o : Option Request) → IfSome o BringsBody → IfSome (option_and_then (with_id id) o) Brings
+  by_request id h None g = tt
+  by_request id h (Some q) g = by_test (λ o. IfSome o Brings) (needs_id q && (id == 0)) None (Some (record { id = id; request = q })) (λ i. tt) (λ i. heard id q h g i)
 
   named : (r : Fields) → AreFields r → IfSome (named_command r) Brings
-  named r h =
-      bind Brings (λ id. option_and_then (with_id id) (request_of r)) (whole max_u32 r "id") (λ id. by_request id (request_of r) (only-read (each_of requests r) (each-read requests all-read r h)))
+  named r h = by_id (whole max_u32 r "id") (whole-within max_u32 r "id") (only-read (each_of requests r) (each-read requests all-read r h))
+    where
+      by_id : (o : Option ℕ) → IfSome o (λ n. n ≤ max_u32) → IfSome (request_of r) BringsBody → IfSome (option_and_then (λ id. option_and_then (with_id id) (request_of r)) o) Brings
+      by_id None g k = tt
+      by_id (Some id) g k = by_request id g (request_of r) k
 
   from : (r : Fields) → AreFields r → IfSome (command_from r) Brings
   from [] h = tt
   from (f ∷ fs) h = named (f ∷ fs) h
 
-  all-commands : (ts : List Tree) → AllByRecursion IsRegular ts → IfSome (read_all command_of ts) BringBodies
+  all-commands : (ts : List Tree) → AllByRecursion IsRegular ts → IfSome (read_all command_of ts) AreHeard
   all-commands [] h = tt
   all-commands (t ∷ ts) h = by_first (command_of t) (read-by Brings command_from from t h.0) (read_all command_of ts) (all-commands ts h.1)
     where
-      by_first : (o : Option Command) → IfSome o Brings → (os : Option (List Command)) → IfSome os BringBodies → IfSome (option_and_then (λ k. option_map (λ ks. k ∷ ks) os) o) BringBodies
+      by_first : (o : Option Command) → IfSome o Brings → (os : Option (List Command)) → IfSome os AreHeard → IfSome (option_and_then (λ k. option_map (λ ks. k ∷ ks) os) o) AreHeard
       by_first None g os k = tt
       by_first (Some c) g None k = tt
       by_first (Some c) g (Some cs) k = (g, k)
@@ -207,13 +258,13 @@ module _ (back : (t : Tree) (r : List ℕ) → IsRegular t → Value t (compact_
   values-regular [] places s h = tt
   values-regular (t ∷ ts) places s h = (regular t h.0 h.1 h.4, values-regular ts h.2 h.1 h.6)
 
-  pub bodies : (s : List ℕ) (ks : List Command) → IsCommands s ks → BringBodies ks
-  bodies s ks h = by_values h.values (values-regular h.values h.frame.1 s h.frame.2) h.are
+  pub heard_all : (s : List ℕ) (ks : List Command) → IsCommands s ks → AreHeard ks
+  heard_all s ks h = by_values h.values (values-regular h.values h.frame.1 s h.frame.2) h.are
     where
-      some : (o : Option (List Command)) → IfSome o BringBodies → o ≡ Some ks → BringBodies ks
-      some o g e = subst (λ z. IfSome z BringBodies) e g
+      some : (o : Option (List Command)) → IfSome o AreHeard → o ≡ Some ks → AreHeard ks
+      some o g e = subst (λ z. IfSome z AreHeard) e g
 
-      by_values : (ts : List Tree) → AllByRecursion IsRegular ts → commands_of ts ≡ Some ks → BringBodies ks
+      by_values : (ts : List Tree) → AllByRecursion IsRegular ts → commands_of ts ≡ Some ks → AreHeard ks
       by_values [] g e = absurd (cc)
       by_values (t ∷ ts) g e = some (read_all command_of (t ∷ ts)) (all-commands (t ∷ ts) g) e
 

@@ -1,0 +1,28 @@
+-- What the commands of a text bring. (Centrifugo's client protocol: commands and their ids; the data is this project's own profile.)
+use Rattle.std.specs.Prelude.{⊤, ℕ, List}
+use Rattle.std.specs.List.{AllByRecursion}
+use Rattle.cf_protocol.specs.Regular.{IsBody, IsCode}
+use Rattle.cf_protocol.specs.Request.{Body, Command, Data, Absent, TooDeep, Request, Pong, Connect, Subscribe, Unsubscribe, Publish, Presence, PresenceStats, History, Ping, Send, Other}
+
+-- the data can be read back, where there is some
+abbrev pub IsReadBack : Data → Type 0
+IsReadBack Absent = ⊤
+IsReadBack TooDeep = ⊤
+IsReadBack (Body b) = IsBody b
+
+-- a command that is answered has an id, and what it publishes can be read back
+abbrev pub IsHeardAs : ℕ → Request → Type 0
+IsHeardAs id Pong = ⊤
+IsHeardAs id Send = ⊤
+IsHeardAs id (Publish channel body) = IsCode id × IsReadBack body
+IsHeardAs id (Connect token) = IsCode id
+IsHeardAs id (Subscribe channel since) = IsCode id
+IsHeardAs id (Unsubscribe channel) = IsCode id
+IsHeardAs id (Presence channel) = IsCode id
+IsHeardAs id (PresenceStats channel) = IsCode id
+IsHeardAs id (History channel limit since reverse) = IsCode id
+IsHeardAs id Ping = IsCode id
+IsHeardAs id Other = IsCode id
+
+abbrev pub AreHeard : List Command → Type 0
+AreHeard = AllByRecursion (λ k. IsHeardAs k.id k.request)
