@@ -9,6 +9,7 @@ pub mod HubAsides
 pub mod Links
 pub mod OneSession
 pub mod Passing
+pub mod ReadAnswers
 pub mod ShardCalls
 pub mod ShardLife
 pub mod ShardReads

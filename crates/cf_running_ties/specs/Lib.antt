@@ -4,5 +4,6 @@ pub mod HubAsides
 pub mod Links
 pub mod Nodes
 pub mod Passing
+pub mod Reads
 pub mod ShardCalls
 pub mod ShardLife
