@@ -18,11 +18,13 @@ use Rattle.cf_json.specs.Members.{Fields, members_onto, put}
 use Rattle.cf_protocol.specs.Command.{command_from, command_of, connect, data_of, history, max_data_depth, named_command, needs_id, presence, presence_stats, publish, request_of, requests, subscribe, unsubscribe}
 use Rattle.cf_protocol.specs.Fields.{as_object, as_whole, each_of, flag, limit, look_up, max_u32, member, object_as, object_or_none, position, present, read_all, read_or, text, the_only, unless_null, whole, within}
 use Rattle.cf_protocol.specs.Frame.{IsCommands, commands_of}
+use Rattle.cf_protocol.specs.Note.{Lists}
+use Rattle.cf_protocol.specs.Outgoing.{Answer, Failed, Published, Unsubscribed}
 use Rattle.cf_protocol.specs.Regular.{IsBody, IsCode, IsInfo}
 use Rattle.cf_protocol.specs.Request.{Body, Command, Request, Pong, Connect, Subscribe, Unsubscribe, Publish, Presence, PresenceStats, History, Ping, Send, Other, TooDeep}
 use Rattle.cf_hub.specs.Hub.{client_id}
 use Rattle.cf_machine.proofs.Names.{by_test}
-use Rattle.cf_running_ties.specs.Heard.{AreHeard, IsHeardAs, IsReadBack}
+use Rattle.cf_running_ties.specs.Heard.{AreHeard, IsHeardAs, IsReadBack, SayTheirNotes}
 
 -- ---- members of regular values
 
@@ -273,3 +275,10 @@ names user node boot count = longer (decimal node) (decimal boot ++ (45 ∷ deci
   where
     longer : (a b : List ℕ) → 1 ≤ length (a ++ (45 ∷ b))
     longer a b = let e = length-append a (45 ∷ b) in omega (arith, e)
+
+pub replies : (lists : Lists) (c : List ℕ) (id code : ℕ) → IsCode id → IsCode code → SayTheirNotes lists c id code
+replies lists c id code h k = record {
+  published = record { said = Answer id Published; stays = λ later g. refl; regular = (h, tt); text = refl };
+  left = record { said = Answer id Unsubscribed; stays = λ later g. refl; regular = (h, tt); text = refl };
+  failed = record { said = Answer id (Failed code); stays = λ later g. refl; regular = (h, k); text = refl };
+}

@@ -252,7 +252,7 @@ module _
           accepted = ap (λ (o : Option Life). place_of (length s.accepted + 1) (s.accepted ++ place_in c o)) e ∙ place-last s.accepted (record { channel = c; at = q });
           listed = listed (lists_of site t) c l.epoch (record { offset = length l.list + 1; datum = d })
               (ap (λ (ds : List Datum). placed_at ds (length l.list + 1)) list-is ∙ placed-last l.list d)
-              (record { body = a.body; info = a.info; offset = fits });
+              (record { body = a.regular.0; info = a.regular.1; offset = fits });
         })
       where
         q : Position

@@ -1,5 +1,5 @@
 -- What a read and a history answer by their contracts stands in the server's lists.
-use Rattle.std.proofs.Common.{◌≡◌, ◌≤◌, ℕ, suc, ◌+◌, ◌-◌, min, max, Bool, true, false, cond, Option, Some, None, List, [], ◌∷◌, ◌++◌, length, take, drop, append-nil, refl, sym, ap, ◌∙◌, subst, arith, length-drop, length-take}
+use Rattle.std.proofs.Common.{◌≡◌, ◌≤◌, ℕ, ◌+◌, ◌-◌, min, max, Bool, false, cond, Option, Some, None, List, [], ◌∷◌, ◌++◌, length, take, drop, append-nil, refl, sym, ap, ◌∙◌, subst, arith, length-drop, length-take}
 use Rattle.std.specs.Prelude.{ℤ}
 use Rattle.std.specs.List.{AllByRecursion}
 use Rattle.std.proofs.lemmas.List.Elements.{All-drop, All-from_recursion, All-take, recursion_from_All}
@@ -7,20 +7,19 @@ use Rattle.cf_protocol.specs.Datum.{Datum, Placed, numbered}
 use Rattle.cf_protocol.specs.Fields.{max_u64}
 use Rattle.cf_protocol.specs.LogEntry.{Entry}
 use Rattle.cf_protocol.specs.LogEntry.Entry.{Open}
-use Rattle.cf_protocol.specs.Note.{Lists, Listed, Reading, placed_from}
+use Rattle.cf_protocol.specs.Note.{Lists, Reading, placed_from}
 use Rattle.cf_protocol.specs.Outgoing.{Answer, Past}
 use Rattle.cf_protocol.specs.Position.{Position}
-use Rattle.cf_protocol.specs.Regular.{ArePlaced, IsBody, IsCode, IsPosition}
+use Rattle.cf_protocol.specs.Regular.{ArePlaced, IsBody, IsPosition}
 use Rattle.cf_stream.specs.ChannelLists.{life_or}
 use Rattle.cf_stream.specs.LogState.{life_in, opening}
 use Rattle.cf_stream.specs.PublicationList.{IsListed, IsRead, Life, opened, state_of}
 use Rattle.cf_stream.specs.StreamAnswer.{Listing, allowed_by, listed_above, read_of}
 use Rattle.cf_stream.specs.Streams.{size_at}
-use Rattle.cf_hub.specs.InNotes.{AreMissed, Grown, IsSaid}
+use Rattle.cf_hub.specs.InNotes.{AreMissed, Grown}
 use Rattle.cf_hub.proofs.InNotes.{read_stays}
-use Rattle.cf_machine.specs.IntervalMachine.{size_of}
 use Rattle.cf_machine.proofs.Names.{itself}
-use Rattle.cf_shard.specs.LogAnswer.{IsCall, IsHistoryAnswer, IsReadAnswer, life_after}
+use Rattle.cf_shard.specs.LogAnswer.{IsHistoryAnswer, IsReadAnswer, life_after}
 use Rattle.cf_running.specs.Server.{Server, Section, Site, after, life_of, lists_of, log_of, ran, start}
 use Rattle.cf_running.proofs.Gaining.{life-more}
 use Rattle.cf_running.proofs.Steps.{stands_beside}

@@ -5,7 +5,7 @@ ghost use Rattle.cf_protocol.specs.Frame.{IsCommands};
 ghost use Rattle.cf_protocol.specs.LogEntry.{Entry};
 ghost use Rattle.cf_protocol.specs.Note.{Lists};
 ghost use Rattle.cf_protocol.specs.Position.{Position};
-ghost use Rattle.cf_protocol.specs.Regular.{IsInfo, IsPosition};
+ghost use Rattle.cf_protocol.specs.Regular.{IsCode, IsInfo, IsPosition};
 ghost use Rattle.cf_protocol.specs.Request.{Command};
 ghost use Rattle.cf_protocol.specs.Settings.{NamespaceTable, settings_of};
 ghost use Rattle.cf_stream.specs.ChannelLists.{ReadsAt};
@@ -23,7 +23,7 @@ ghost use Rattle.cf_shard.specs.ShardLog.{entries_of_forget, entries_of_publish,
 ghost use Rattle.cf_machine.specs.Config.{Config};
 ghost use Rattle.cf_machine.specs.IntervalMachine.{size_of};
 ghost use Rattle.cf_running.specs.Server.{Delivers, Offers, Publishes, Section, Server, Site, after, at_number, log_of, ran, start};
-ghost use Rattle.cf_running_ties.specs.Heard.{AreHeard};
+ghost use Rattle.cf_running_ties.specs.Heard.{AreHeard, SayTheirNotes};
 ghost use Rattle.cf_running_ties.specs.HubAsides.{MovesAmong};
 ghost use Rattle.cf_running_ties.specs.Links.{IsAnswered, IsFirst, IsNumbered, IsSentOrLost, Lines, Waits, is_at_link};
 ghost use Rattle.cf_running_ties.specs.Reads.{AllReadBack, IsDatum, IsListing, IsReading, SectionHas};
@@ -157,12 +157,15 @@ pub fn what_is_read_is_listed()
 }
 
 /// What a session makes of a text can be said again: each command that is answered has an id, the data of a
-/// publish can be read back, and so can the name that a hub gives a client.
+/// publish can be read back, and so can the name that a hub gives a client; and the replies that bring
+/// nothing say their notes.
 pub fn what_is_heard_is_regular()
     ensures commands { (text : List ℕ) (commands : List Command)
         → IsCommands text commands → AreHeard commands }
     ensures names { (user : List ℕ) (node boot count : ℕ)
         → IsInfo (Some (record { user = user; client = client_id node boot count })) }
+    ensures replies { (lists : Lists) (channel : List ℕ) (id code : ℕ)
+        → IsCode id → IsCode code → SayTheirNotes lists channel id code }
 {
     compact_reads_back();
 }
