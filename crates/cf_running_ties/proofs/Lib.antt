@@ -3,6 +3,7 @@ pub mod AmongGrows
 pub mod Closing
 pub mod Gained
 pub mod Growing
+pub mod Handling
 pub mod Heard
 pub mod Holding
 pub mod HubAsides

@@ -132,23 +132,19 @@ module _
       record {
         life = l;
         stands = stands;
-        said = λ id code. record {
-          said = Answer id (Past p items);
-          stays = λ later g.
-              (λ i. Some (Answer id (Past (sym at i) (placed_from (later c l.epoch) f.low f.count))))
-              ∙ ap (λ ps. Some (Answer id (Past p ps)))
-              (listing-stays c l.epoch f.low f.count (let e = ap length list in omega (arith, e, long)) later g ∙ ap (λ ds. placed_from ds f.low f.count) list ∙ sym run);
-          regular = (
-            code,
-            (
-              position,
-              subst (ArePlaced IsBody) (sym run)
-                  (from-regular l.list f.low f.count (subst (AllByRecursion IsDatum) list (all.each c l.epoch)) (omega (arith, long))
-                  (let fits = (subst IsPosition at position).offset in fits)),
-            ),
-          );
-          text = refl;
-        };
+        says = λ id later g.
+            (λ i. Some (Answer id (Past (sym at i) (placed_from (later c l.epoch) f.low f.count))))
+            ∙ ap (λ ps. Some (Answer id (Past p ps)))
+            (listing-stays c l.epoch f.low f.count (let e = ap length list in omega (arith, e, long)) later g ∙ ap (λ ds. placed_from ds f.low f.count) list ∙ sym run);
+        regular = λ id code. (
+          code,
+          (
+            position,
+            subst (ArePlaced IsBody) (sym run)
+                (from-regular l.list f.low f.count (subst (AllByRecursion IsDatum) list (all.each c l.epoch)) (omega (arith, long))
+                (let fits = (subst IsPosition at position).offset in fits)),
+          ),
+        );
       }
     where
       listing_is : (a b : Listing) → Some a ≡ Some b → a ≡ b

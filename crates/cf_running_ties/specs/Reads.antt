@@ -2,14 +2,13 @@
 use Rattle.std.specs.Prelude.{◌≡◌, ⊤, ℕ, ℤ, Bool, Option, Some, List}
 use Rattle.std.specs.List.{AllByRecursion}
 use Rattle.cf_protocol.specs.Datum.{Datum, Placed}
-use Rattle.cf_protocol.specs.Note.{Listed}
-use Rattle.cf_protocol.specs.Outgoing.{Answer, Past}
+use Rattle.cf_protocol.specs.Note.{Listed, Lists, Note, outgoing_of}
+use Rattle.cf_protocol.specs.Outgoing.{Answer, Outgoing, Past}
 use Rattle.cf_protocol.specs.Position.{Position}
-use Rattle.cf_protocol.specs.Regular.{IsBody, IsCode, IsInfo}
-use Rattle.cf_protocol.specs.Written.{outgoing_text}
+use Rattle.cf_protocol.specs.Regular.{IsBody, IsCode, IsInfo, IsRegular}
 use Rattle.cf_stream.specs.PublicationList.{Life, state_of}
 use Rattle.cf_stream.specs.StreamAnswer.{listed_above, read_of}
-use Rattle.cf_hub.specs.InNotes.{AreMissed, IsSaid}
+use Rattle.cf_hub.specs.InNotes.{AreMissed, Grown}
 use Rattle.cf_running.specs.Server.{Publishes, Section, Server, Site, ToPublish, Work, life_of, lists_of}
 use Rattle.cf_running_ties.specs.ShardCalls.{answered}
 
@@ -36,10 +35,14 @@ pub record IsReading (site : Site) (s : Server) (c : List ℕ) (since : Option P
   pub same : answered p recovered items ≡ read_of since (state_of life)
   pub missed : AreMissed (lists_of site s) c (answered p recovered items) items
 
--- the reply to a history says the note that the worker has in hand then
+-- this says the note, also when the lists have grown
+abbrev pub SaysLater : Lists → Note → Outgoing → Type 0
+SaysLater lists n o = (later : Lists) → Grown lists later → outgoing_of later n ≡ Some o
+
+-- the reply to a history says the note that the worker has in hand then, and can be read back
 pub record IsListing (site : Site) (s : Server) (c : List ℕ) (limit : ℤ) (p : Position) (items : List Placed) : Type 0 where
   pub life : Life
   pub stands : life_of site s c ≡ Some life
-  pub said : (id : ℕ) → IsCode id
-      → IsSaid (lists_of site s) (outgoing_text (Answer id (Past p items)))
-      (let found = listed_above 0 limit (state_of life) in Listed c id found.at found.low found.count)
+  pub says : (id : ℕ)
+      → SaysLater (lists_of site s) (let found = listed_above 0 limit (state_of life) in Listed c id found.at found.low found.count) (Answer id (Past p items))
+  pub regular : (id : ℕ) → IsCode id → IsRegular (Answer id (Past p items))
