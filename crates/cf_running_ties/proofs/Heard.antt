@@ -1,5 +1,5 @@
 -- The commands of a text have ids, and the data of its publishes is the compact text of a value.
-use Rattle.std.proofs.Common.{◌≡◌, ◌≤◌, ℕ, ◌==◌, nat_le, ◌&&◌, not, Bool, true, false, if◌then◌else◌, cond, Option, Some, None, List, [], ◌∷◌, ◌++◌, length, append-nil, refl, sym, subst, arith}
+use Rattle.std.proofs.Common.{◌≡◌, ◌≤◌, ℕ, ◌==◌, nat_le, ◌&&◌, not, Bool, true, false, if◌then◌else◌, cond, Option, Some, None, List, [], ◌∷◌, ◌++◌, length, append-nil, refl, subst, arith}
 use Rattle.std.specs.Prelude.{IfSome, codes}
 use Rattle.std.specs.List.{AllByRecursion, filter}
 use Rattle.std.specs.Option.{option_and_then, option_map, option_to_list}
@@ -11,18 +11,20 @@ use Rattle.std.proofs.lemmas.List.{length-append}
 use Prim.Native.String.{String as Name}
 use Rattle.cf_json.specs.Characters.{characters}
 use Rattle.cf_json.specs.Compact.{AreRegular, IsRegular, compact_text}
-use Rattle.cf_json.specs.Frame.{IsFrame, Values}
+use Rattle.cf_json.specs.Frame.{Values}
 use Rattle.cf_json.specs.Grammar.{Tree, null, boolean, number, text as string, array, object, Parts, no_parts, part, Place, Value, depth}
 use Rattle.cf_json.specs.Integers.{whole_of}
-use Rattle.cf_json.specs.Members.{Fields, members_of, members_onto, put}
-use Rattle.cf_protocol.specs.Command.{always, command_from, command_of, connect, data_of, history, max_data_depth, named_command, needs_id, presence, presence_stats, publish, request_of, requests, subscribe, unsubscribe}
+use Rattle.cf_json.specs.Members.{Fields, members_onto, put}
+use Rattle.cf_protocol.specs.Command.{command_from, command_of, connect, data_of, history, max_data_depth, named_command, needs_id, presence, presence_stats, publish, request_of, requests, subscribe, unsubscribe}
 use Rattle.cf_protocol.specs.Fields.{as_object, as_whole, each_of, flag, limit, look_up, max_u32, member, object_as, object_or_none, position, present, read_all, read_or, text, the_only, unless_null, whole, within}
-use Rattle.cf_protocol.specs.Frame.{FrameOf, IsCommands, commands_of}
+use Rattle.cf_protocol.specs.Frame.{IsCommands, commands_of}
+use Rattle.cf_protocol.specs.Note.{Lists}
+use Rattle.cf_protocol.specs.Outgoing.{Answer, Failed, Published, Unsubscribed}
 use Rattle.cf_protocol.specs.Regular.{IsBody, IsCode, IsInfo}
 use Rattle.cf_protocol.specs.Request.{Body, Command, Request, Pong, Connect, Subscribe, Unsubscribe, Publish, Presence, PresenceStats, History, Ping, Send, Other, TooDeep}
 use Rattle.cf_hub.specs.Hub.{client_id}
 use Rattle.cf_machine.proofs.Names.{by_test}
-use Rattle.cf_running_ties.specs.Heard.{AreHeard, IsHeardAs, IsReadBack}
+use Rattle.cf_running_ties.specs.Heard.{AreHeard, IsHeardAs, IsReadBack, SayTheirNotes}
 
 -- ---- members of regular values
 
@@ -273,3 +275,10 @@ names user node boot count = longer (decimal node) (decimal boot ++ (45 ∷ deci
   where
     longer : (a b : List ℕ) → 1 ≤ length (a ++ (45 ∷ b))
     longer a b = let e = length-append a (45 ∷ b) in omega (arith, e)
+
+pub replies : (lists : Lists) (c : List ℕ) (id code : ℕ) → IsCode id → IsCode code → SayTheirNotes lists c id code
+replies lists c id code h k = record {
+  published = record { said = Answer id Published; stays = λ later g. refl; regular = (h, tt); text = refl };
+  left = record { said = Answer id Unsubscribed; stays = λ later g. refl; regular = (h, tt); text = refl };
+  failed = record { said = Answer id (Failed code); stays = λ later g. refl; regular = (h, k); text = refl };
+}

@@ -3,6 +3,7 @@ pub mod AmongGrows
 pub mod Closing
 pub mod Gained
 pub mod Growing
+pub mod Handling
 pub mod Heard
 pub mod Holding
 pub mod HubAsides
@@ -10,6 +11,7 @@ pub mod Links
 pub mod Numbered
 pub mod OneSession
 pub mod Passing
+pub mod ReadAnswers
 pub mod ShardCalls
 pub mod ShardLife
 pub mod ShardReads

@@ -31,7 +31,7 @@ use Rattle.cf_running.proofs.Beside.{Beside, at-same, number_tells}
 use Rattle.cf_running.proofs.Gaining.{life-more}
 use Rattle.cf_running.proofs.Steps.{stands_beside}
 use Rattle.cf_running_ties.specs.Links.{IsAnswered, IsFirst, IsNumbered, IsSentOrLost, Lines, Waits, is_at_link, place}
-use Rattle.cf_running_ties.proofs.Growing.{grown-lists, grows, links-stay, listed-later, place-more}
+use Rattle.cf_running_ties.proofs.Growing.{Any, any-section, grown-lists, grows, links-stay, listed-later, place-more}
 use Rattle.cf_running_ties.proofs.ShardCalls.{sizes_same}
 
 -- ---- each link is offered it once
@@ -76,9 +76,9 @@ starts site = record { at = λ n. ([], refl, tt) }
 
 pub stays : (site : Site) (s : Server) (section : Section) (i : ℕ) (x : Carried) → IsNumbered site s i x → IsNumbered site (after site section s) i x
 stays site s section i x h =
-    let g = grows site s section in record {
+    let g = grows Any site s section (any-section s section) in record {
       accepted = ap (place_of i) g.accepted.1 ∙ place-more s.accepted g.accepted.0 i (place x) h.accepted;
-      listed = listed-later (lists_of site s) (lists_of site (after site section s)) x.channel x.epoch x.publication (grown-lists site s (after site section s) g) h.listed;
+      listed = listed-later (lists_of site s) (lists_of site (after site section s)) x.channel x.epoch x.publication (grown-lists Any site s (after site section s) g) h.listed;
     }
 
 zip-weaker : (P Q : ℕ → Carried → Type 0) → ((i : ℕ) (x : Carried) → P i x → Q i x) → (is : List ℕ) (xs : List Carried) → AllZip P is xs → AllZip Q is xs
@@ -99,7 +99,7 @@ others site s section sent received e h = record {
       let k = h.at n in (
         k.0,
         k.1,
-        subst (λ (links : ℕ → List ℕ). AllZip (IsNumbered site (after site section s)) (links n) k.0) (sym (links-stay site s section e))
+        subst (λ (links : ℕ → List ℕ). AllZip (IsNumbered site (after site section s)) (links n) k.0) (sym (links-stay Any site s section (any-section s section) e))
             (zip-weaker (IsNumbered site s) (IsNumbered site (after site section s)) (stays site s section) (s.links n) k.0 k.2),
       );
 }
@@ -193,7 +193,7 @@ module _ (site : Site) (s : Server) (n : ℕ) (x : Carried) (sent received : Lin
 -- ---- a publication is accepted
 
 -- the channel's stream stands over its list
-life-listed : (site : Site) (s : Server) (w : World) → Beside site s w → (c : List ℕ) (l : Life) → life_of site s c ≡ Some l → lists_of site s c l.epoch ≡ l.list
+pub life-listed : (site : Site) (s : Server) (w : World) → Beside site s w → (c : List ℕ) (l : Life) → life_of site s c ≡ Some l → lists_of site s c l.epoch ≡ l.list
 life-listed site s w b c l e =
     sym (b.listed c l.epoch) ∙ by_stream (w.broker.streams c) ((b.logs (site.shard_of c)).life c (own (site.shard_of c)) ∙ e)
   where
@@ -252,7 +252,7 @@ module _
           accepted = ap (λ (o : Option Life). place_of (length s.accepted + 1) (s.accepted ++ place_in c o)) e ∙ place-last s.accepted (record { channel = c; at = q });
           listed = listed (lists_of site t) c l.epoch (record { offset = length l.list + 1; datum = d })
               (ap (λ (ds : List Datum). placed_at ds (length l.list + 1)) list-is ∙ placed-last l.list d)
-              (record { body = a.body; info = a.info; offset = fits });
+              (record { body = a.regular.0; info = a.regular.1; offset = fits });
         })
       where
         q : Position

@@ -11,7 +11,7 @@ use Rattle.cf_running.proofs.Beside.{at-other, at-same, number_tells}
 use Rattle.cf_running_ties.specs.HubAsides.{MovesAmong}
 use Rattle.cf_running_ties.specs.Nodes.{ConnectedBy, IsConnected, IsHubOf, IsUntouched, Says}
 use Rattle.cf_running_ties.proofs.AmongGrows.{among-grows}
-use Rattle.cf_running_ties.proofs.Growing.{Grows, grown-lists, grows}
+use Rattle.cf_running_ties.proofs.Growing.{Any, Grows, any-section, grown-lists, grows}
 
 some_is : (j k : ℕ) → ◌≡◌ {A = Option ℕ} (Some j) (Some k) → j ≡ k
 some_is j k e = cc
@@ -214,8 +214,8 @@ module _ (is_aside : List ℕ → Bool) (site : Site) (s : Server) (n : ℕ) (nu
       t : Server
       t = after site x s
 
-      g : Grows s t
-      g = grows site s x
+      g : Grows Any s t
+      g = grows Any site s x (any-section s x)
 
       by_session : (o : Option Attached) (m : Option ℕ) → ConnectedBy is_aside site s n o m → ConnectedBy is_aside site t n o m
       by_session None None c = tt
@@ -226,5 +226,5 @@ module _ (is_aside : List ℕ → Bool) (site : Site) (s : Server) (n : ℕ) (nu
         here = (u k).node ∙ c.here;
         attached = (u k).attached ∙ c.attached;
         says = subst (λ z. Says is_aside (lists_of site t) a.state z) (sym ((u k).session c.here))
-            (among-grows (λ text. is_aside text ≡ true) (lists_of site s) (lists_of site t) (grown-lists site s t g) a.state (s.connections k).session c.says);
+            (among-grows (λ text. is_aside text ≡ true) (lists_of site s) (lists_of site t) (grown-lists Any site s t g) a.state (s.connections k).session c.says);
       }

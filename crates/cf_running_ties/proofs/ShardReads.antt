@@ -38,19 +38,19 @@ held-below p s h = by_value (bytes_eq p.epoch s.epoch) (nat_le p.offset s.top) (
     by_value true false c h e = absurd (cc)
     by_value false b c h e = absurd (cc)
 
-low-below : (since : Option Position) (s : StreamState) → (read_of since s).low ≤ s.top
+pub low-below : (since : Option Position) (s : StreamState) → (read_of since s).low ≤ s.top
 low-below None s = omega arith
 low-below (Some p) s =
     by_test (λ (r : Reading). r.low ≤ s.top) (still_held p s) (record { epoch = s.epoch; low = p.offset; top = s.top; recovered = true }) (record { epoch = s.epoch; low = s.top; top = s.top; recovered = false })
     (held-below p s) (λ h. omega arith)
 
-top-is : (since : Option Position) (s : StreamState) → (read_of since s).top ≡ s.top
+pub top-is : (since : Option Position) (s : StreamState) → (read_of since s).top ≡ s.top
 top-is None s = refl
 top-is (Some p) s =
     by_test (λ (r : Reading). r.top ≡ s.top) (still_held p s) (record { epoch = s.epoch; low = p.offset; top = s.top; recovered = true }) (record { epoch = s.epoch; low = s.top; top = s.top; recovered = false })
     (λ h. refl) (λ h. refl)
 
-epoch-is : (since : Option Position) (s : StreamState) → (read_of since s).epoch ≡ s.epoch
+pub epoch-is : (since : Option Position) (s : StreamState) → (read_of since s).epoch ≡ s.epoch
 epoch-is None s = refl
 epoch-is (Some p) s =
     by_test (λ (r : Reading). r.epoch ≡ s.epoch) (still_held p s) (record { epoch = s.epoch; low = p.offset; top = s.top; recovered = true }) (record { epoch = s.epoch; low = s.top; top = s.top; recovered = false })
@@ -60,7 +60,7 @@ less : (low top : ℕ) → low ≤ top → top - (top - low) ≡ low
 less low top h = omega arith
 
 -- the answer of the code is the stream's reading
-reading-is : (l : Life) (since : Option Position) (p : Position) (recovered : Bool) (items : List Placed) → IsRead l since p recovered items
+pub reading-is : (l : Life) (since : Option Position) (p : Position) (recovered : Bool) (items : List Placed) → IsRead l since p recovered items
     → answered p recovered items ≡ read_of since (state_of l)
 reading-is l since p recovered items r =
     let x : Reading = read_of since (state_of l) in

@@ -1,5 +1,5 @@
 -- What the contract of a call of a hub says of all its sessions is what sections make of all connections at its node.
-use Rattle.std.proofs.Common.{◌≡◌, ◌≢◌, ◌⊎◌, inl, inr, ◌<◌, ◌≤◌, ℕ, zero, suc, ◌+◌, ◌==◌, Bool, true, false, if◌then◌else◌, Option, Some, None, List, [], ◌∷◌, ◌++◌, refl, sym, ap, ◌∙◌, subst, arith}
+use Rattle.std.proofs.Common.{◌≡◌, ◌≢◌, ◌⊎◌, inl, inr, ◌<◌, ◌≤◌, ℕ, zero, suc, ◌==◌, Bool, true, false, if◌then◌else◌, Option, Some, None, List, [], ◌∷◌, ◌++◌, refl, sym, ap, ◌∙◌, subst, arith}
 use Rattle.std.specs.List.{AllByRecursion}
 use Rattle.std.proofs.lemmas.Bool.Decides.{nat_tests}
 use Rattle.cf_protocol.specs.Note.{Lists, PingDue}
@@ -24,6 +24,7 @@ use Rattle.cf_running.specs.Server.{Closes, Connection, Delivers, Pings, Section
 use Rattle.cf_running.proofs.Beside.{at-other, at-same, number_tells}
 use Rattle.cf_running_ties.specs.HubAsides.{MovesAmong}
 use Rattle.cf_running_ties.specs.Links.{IsFirst, place}
+use Rattle.cf_running_ties.proofs.Growing.{all-append}
 use Rattle.cf_running_ties.specs.Nodes.{ClosesAnd, ClosesAndPings, ConnectedBy, IsClose, IsCloseOrPing, IsHubOf, Says}
 
 -- ---- what is done at one connection besides
@@ -105,10 +106,6 @@ module _ (w : Words) where
   ]
 
 -- ---- the same for each session of a hub
-
-all-append : (P : Section → Type 0) (xs ys : List Section) → AllByRecursion P xs → AllByRecursion P ys → AllByRecursion P (xs ++ ys)
-all-append P [] ys h k = k
-all-append P (x ∷ xs) ys h k = (h.0, all-append P xs ys h.1 k)
 
 module _ (site : Site) (s : Server) (numbers : ℕ → Option ℕ) (plan : ℕ → List Act) where
   abbrev w : Words

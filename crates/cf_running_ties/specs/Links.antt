@@ -6,12 +6,12 @@ use Rattle.cf_protocol.specs.Datum.{Datum}
 use Rattle.cf_protocol.specs.LogEntry.{Entry}
 use Rattle.cf_protocol.specs.LogEntry.Entry.{Publish}
 use Rattle.cf_protocol.specs.Position.{Position}
-use Rattle.cf_protocol.specs.Regular.{IsBody, IsInfo}
 use Rattle.cf_hub.specs.InNotes.{IsListed}
 use Rattle.cf_machine.specs.PublicationList.{Place}
 use Rattle.cf_shard.specs.Delivery.{Carried}
 use Rattle.cf_shard.specs.LogAnswer.{IsPublished}
 use Rattle.cf_running.specs.Server.{Delivers, Offers, Section, Server, Site, ToPublish, at_number, can_gain, lists_of, log_of, place_of}
+use Rattle.cf_running_ties.specs.Reads.{IsDatum}
 
 -- where a publication on its way stands
 abbrev pub place : Carried → Place
@@ -29,8 +29,7 @@ pub record IsAnswered (site : Site) (s : Server) (k : ℕ) (c : List ℕ) (d : D
   pub work : (s.connections k).work ≡ ToPublish c id d
   pub may : can_gain site (Publish c d) s ≡ true
   pub answer : IsPublished site.config.namespaces seen (log_of site s c ++ Publish c d ∷ []) c d p
-  pub body : IsBody d.body
-  pub info : IsInfo d.info
+  pub regular : IsDatum d
 
 -- by node, what was sent on its link, or received from it, in order
 abbrev pub Lines : Type 0

@@ -1,11 +1,11 @@
 //! What ties the contracts of hub and shard to the sections of the running server.
-ghost use Rattle.std.specs.Prelude.{◌≡◌, ◌⊎◌, ◌+◌, ◌++◌, ◌∷◌, [], length, Bool, IsSome, false, true, ℕ, List, Option, Some};
+ghost use Rattle.std.specs.Prelude.{◌≡◌, ◌⊎◌, ◌+◌, ◌++◌, ◌∷◌, [], length, Bool, IsSome, false, true, ℕ, ℤ, List, Option, None, Some};
 ghost use Rattle.cf_protocol.specs.Datum.{Datum, Placed};
 ghost use Rattle.cf_protocol.specs.Frame.{IsCommands};
 ghost use Rattle.cf_protocol.specs.LogEntry.{Entry};
 ghost use Rattle.cf_protocol.specs.Note.{Lists};
 ghost use Rattle.cf_protocol.specs.Position.{Position};
-ghost use Rattle.cf_protocol.specs.Regular.{IsInfo};
+ghost use Rattle.cf_protocol.specs.Regular.{IsCode, IsInfo, IsPosition};
 ghost use Rattle.cf_protocol.specs.Request.{Command};
 ghost use Rattle.cf_protocol.specs.Settings.{NamespaceTable, settings_of};
 ghost use Rattle.cf_stream.specs.ChannelLists.{ReadsAt};
@@ -17,14 +17,16 @@ ghost use Rattle.cf_hub.specs.Hub.{client_id};
 ghost use Rattle.cf_epochs.specs.Source.{IsSource, Source, draws_next};
 ghost use Rattle.cf_link.specs.Link.{AreLeft};
 ghost use Rattle.cf_shard.specs.Delivery.{Carried, OfferedToAll, carried};
+ghost use Rattle.cf_shard.specs.LogAnswer.{IsHistoryAnswer, IsReadAnswer};
 ghost use Rattle.cf_shard.specs.Shard.{DrawsFor, Lent};
 ghost use Rattle.cf_shard.specs.ShardLog.{entries_of_forget, entries_of_publish, entries_of_tick, entries_of_trim, entries_of_use};
 ghost use Rattle.cf_machine.specs.Config.{Config};
 ghost use Rattle.cf_machine.specs.IntervalMachine.{size_of};
-ghost use Rattle.cf_running.specs.Server.{Delivers, Offers, Publishes, Section, Server, Site, after, at_number, ran, start};
-ghost use Rattle.cf_running_ties.specs.Heard.{AreHeard};
+ghost use Rattle.cf_running.specs.Server.{Delivers, Offers, Publishes, Section, Server, Site, after, at_number, log_of, ran, start};
+ghost use Rattle.cf_running_ties.specs.Heard.{AreHeard, SayTheirNotes};
 ghost use Rattle.cf_running_ties.specs.HubAsides.{MovesAmong};
 ghost use Rattle.cf_running_ties.specs.Links.{IsAnswered, IsFirst, IsNumbered, IsSentOrLost, Lines, Waits, is_at_link};
+ghost use Rattle.cf_running_ties.specs.Reads.{AllReadBack, IsDatum, IsListing, IsReading, SectionHas};
 ghost use Rattle.cf_running_ties.specs.ShardCalls.{IsDrawn, IsGained, IsNotLast, MayAll, answered};
 ghost use Rattle.cf_running_ties.specs.ShardLife.{AreMade, Call};
 
@@ -128,13 +130,42 @@ pub fn links_carry_what_is_listed()
     what_is_said_stays();
 }
 
+/// What a read and a history of a lent shard answer is listed, and is what the worker then has in hand: a
+/// reading with its publications, and the reply of its note. So it is while all data that is listed can be
+/// read back: from the start on, where all that is published can.
+pub fn what_is_read_is_listed()
+    ensures starts { (site : Site) → AllReadBack site start }
+    ensures stays { (site : Site) (server : Server) (section : Section)
+        → SectionHas IsDatum server section → AllReadBack site server
+        → AllReadBack site (after site section server) }
+    ensures reads { (site : Site) (sections : List Section) (channel : List ℕ)
+        (since : Option Position) (position : Position) (recovered : Bool)
+        (publications : List Placed) (seen : List Entry)
+        → AllReadBack site (ran site start sections) → IsPosition position
+        → IsReadAnswer site.config.namespaces seen (log_of site (ran site start sections) channel)
+        channel since position recovered publications
+        → IsReading site (ran site start sections)
+        channel since position recovered publications }
+    ensures histories { (site : Site) (sections : List Section) (channel : List ℕ)
+        (limit : ℤ) (position : Position) (publications : List Placed) (seen : List Entry)
+        → AllReadBack site (ran site start sections) → IsPosition position
+        → IsHistoryAnswer site.config.namespaces seen
+        (log_of site (ran site start sections) channel) channel None limit position publications
+        → IsListing site (ran site start sections) channel limit position publications }
+{
+    what_is_said_stays();
+}
+
 /// What a session makes of a text can be said again: each command that is answered has an id, the data of a
-/// publish can be read back, and so can the name that a hub gives a client.
+/// publish can be read back, and so can the name that a hub gives a client; and the replies that bring
+/// nothing say their notes.
 pub fn what_is_heard_is_regular()
     ensures commands { (text : List ℕ) (commands : List Command)
         → IsCommands text commands → AreHeard commands }
     ensures names { (user : List ℕ) (node boot count : ℕ)
         → IsInfo (Some (record { user = user; client = client_id node boot count })) }
+    ensures replies { (lists : Lists) (channel : List ℕ) (id code : ℕ)
+        → IsCode id → IsCode code → SayTheirNotes lists channel id code }
 {
     compact_reads_back();
 }

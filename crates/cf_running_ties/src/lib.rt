@@ -6,3 +6,4 @@
 pub mod asides;
 pub mod laws;
 pub mod nodes;
+pub mod scripts;

@@ -1,4 +1,4 @@
-use Rattle.cf_running_ties.proofs.Heard.{heard_all, names}
+use Rattle.cf_running_ties.proofs.Heard.{heard_all, names, replies}
 use Rattle.cf_running_ties.proofs.laws.what_is_heard_is_regular.Goals as goal
 
 pub returns-clause-commands : goal.returns-clause-commands
@@ -6,3 +6,6 @@ returns-clause-commands c = heard_all c.compact_reads_back.ensures.back c.compac
 
 pub returns-clause-names : goal.returns-clause-names
 returns-clause-names c = names
+
+pub returns-clause-replies : goal.returns-clause-replies
+returns-clause-replies c = replies

@@ -1,0 +1,58 @@
+-- What a session's script still asks for in a command, and what its worker has in hand in the running server.
+-- (This project's own profile.)
+use Rattle.std.specs.Prelude.{◌≡◌, ⊤, ℕ, true, Option, Some, None, List, ◌∷◌}
+use Rattle.cf_protocol.specs.Codes.{code_of}
+use Rattle.cf_protocol.specs.Datum.{Who}
+use Rattle.cf_protocol.specs.Note.{Lists}
+use Rattle.cf_protocol.specs.Outgoing.{Answer as Reply, Outcome}
+use Rattle.cf_protocol.specs.declared.codes.ErrorCode.{ErrorCode}
+use Rattle.cf_hub.specs.SessionState.{is_off}
+use Rattle.cf_session.specs.Calls.{Answer, Finish, History as ListCall, Leave, Publish as PublishCall, Read}
+use Rattle.cf_session.specs.CommandScripts.{after_finish, after_lost, after_read, replies}
+use Rattle.cf_session.specs.Script.{Ask, Say, Script}
+use Rattle.cf_machine.specs.ClientRequest.{ClientRequest, SentCommand, Subscribe, Unsubscribe, Publish, History}
+use Rattle.cf_running.specs.Server.{Began, Connection, Free, HasRead, Server, Site, ToFinish, ToGiveUp, ToList, ToPublish, ToSay, Work, lists_of}
+use Rattle.cf_running_ties.specs.Reads.{SaysLater}
+
+-- The script goes on with what the worker has in hand; `after` is what it does behind the command. What was read is in hand amid a call,
+-- before it is answered.
+abbrev pub InHand : Lists → Who → (after : Script) → Work → Script → Type 0
+InHand lists who after Free script = script ≡ after
+InHand lists who after (Began c id since) script = script ≡ Ask (Read c since) (after_read id c after)
+InHand lists who after (HasRead c r) script = ⊥
+InHand lists who after (ToFinish c) script = script ≡ Ask (Finish c) (after_finish after)
+InHand lists who after (ToGiveUp c id code) script = (e : ErrorCode) × (code ≡ code_of e) × (script ≡ Ask (Leave c) (after_lost id e after))
+InHand lists who after (ToPublish c id d) script = (d.info ≡ Some who) × (script ≡ Ask (PublishCall c d.body who) (replies id after))
+InHand lists who after (ToList c id limit) script = script ≡ Ask (ListCall c limit None) (replies id after)
+InHand lists who after (ToSay n) script = (id : ℕ) × (outcome : Outcome) × SaysLater lists n (Reply id outcome) × (script ≡ Say id outcome after)
+
+abbrev pub HasInHand : Site → Server → ℕ → Who → (after : Script) → Script → Type 0
+HasInHand site s k who after script = InHand (lists_of site s) who after (s.connections k).work script
+
+-- the worker of a connection is free, and this command is the first that came there
+pub record Hears (x : Connection) (c : SentCommand) : Type 0 where
+  pub attached : x.attached ≡ true
+  pub free : x.work ≡ Free
+  pub rest : List SentCommand
+  pub up : x.up ≡ c ∷ rest
+
+-- what may be refused: an unsubscribe only from a channel that the session hasn't got
+abbrev pub MayBeRefused : Connection → ClientRequest → Type 0
+MayBeRefused x (Subscribe c since) = ⊤
+MayBeRefused x (Unsubscribe c) = is_off (x.session.subs c) ≡ true
+MayBeRefused x (Publish c body) = ⊤
+MayBeRefused x (History c limit) = ⊤
+
+-- the broker is to be asked, once the command is heard
+abbrev pub AsksBroker : ClientRequest → Type 0
+AsksBroker (Subscribe c since) = ⊥
+AsksBroker (Unsubscribe c) = ⊥
+AsksBroker (Publish c body) = ⊤
+AsksBroker (History c limit) = ⊤
+
+-- what the script does for each answer of the broker
+abbrev pub by_answer : (after : Script) → Work → Option (Answer → Script)
+by_answer after (Began c id since) = Some (after_read id c after)
+by_answer after (ToPublish c id d) = Some (replies id after)
+by_answer after (ToList c id limit) = Some (replies id after)
+by_answer after other = None
