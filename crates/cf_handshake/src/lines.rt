@@ -36,11 +36,7 @@ pub(crate) fn has_line(head: &[u8], lines: &[HeaderSpan], name: &[u8]) -> bool
 }
 
 /// The value of the one line with this name: `None` where there is none, or where there are several.
-pub(crate) fn only_value<'h>(
-    head: &'h [u8],
-    lines: &[HeaderSpan],
-    name: &[u8],
-) -> Option<&'h [u8]>
+pub(crate) fn only_value<'h>(head: &'h [u8], lines: &[HeaderSpan], name: &[u8]) -> Option<&'h [u8]>
     requires { All (IsHeaderWithin (length head.now)) lines.now }
     ensures { option_map (λ v. v.now) result ≡ only_value (fields_of head.now lines.now) name.now }
 {
@@ -57,13 +53,7 @@ pub(crate) fn only_value<'h>(
 }
 
 /// Whether a list with this name has this item.
-pub(crate) fn lists(
-    head: &[u8],
-    lines: &[HeaderSpan],
-    name: &[u8],
-    item: &[u8],
-    case: Case,
-) -> bool
+pub(crate) fn lists(head: &[u8], lines: &[HeaderSpan], name: &[u8], item: &[u8], case: Case) -> bool
     requires { All (IsHeaderWithin (length head.now)) lines.now }
     ensures { result ≡ lists case item.now (fields_of head.now lines.now) name.now }
 {

@@ -7,4 +7,4 @@ abbrev pub invariant-loop-i : goal.invariant-loop-i
 invariant-loop-i l =
     (l.start ≤ l.i)
     × (listed_in l.case l.item l.list
-        ≡ list_any (is_item l.case l.item) (parts_from (take (l.i - l.start) (drop l.start l.list)) (drop l.i l.list)))
+    ≡ list_any (is_item l.case l.item) (parts_from (take (l.i - l.start) (drop l.start l.list)) (drop l.i l.list)))
