@@ -18,10 +18,13 @@ use std::sync::Wait;
 use std::sync::atomic::{AtomicU64, Ordering};
 use std::thread;
 use std::thread::Threads;
-use std::time::Clock;
+use std::time::{Clock, Duration};
 
 /// So many turns of a wait, and the test has failed.
 const MOST_TURNS: u64 = 100_000_000;
+
+/// So many questions, and the node isn't well.
+const MOST_TRIES: usize = 500;
 
 // Gives out the moments, and can hold the dispatcher before a turn.
 #[derive(Drop)]
@@ -230,9 +233,20 @@ fn is_told<R: Net>(rt: &R, alloc: Global, address: SocketAddr, answer: &[u8]) ->
     }
 }
 
+// Whether the node is well within some seconds: its dispatcher may sleep through a moment that is given out.
+fn becomes_well<R: Net + Clock>(rt: &R, alloc: Global, address: SocketAddr) -> bool {
+    for _ in 0..MOST_TRIES {
+        if is_told(rt, alloc, address, WELL) {
+            return true;
+        }
+        thread::sleep(rt, Duration::from_millis(20));
+    }
+    false
+}
+
 // The node is well, also two seconds after its dispatcher's last turn; a second later it is stuck.
-fn tells_health<R: Net>(rt: &R, alloc: Global, hand: &Hand, address: SocketAddr) -> bool {
-    let is_held = is_told(rt, alloc, address, WELL) && hand.hold();
+fn tells_health<R: Net + Clock>(rt: &R, alloc: Global, hand: &Hand, address: SocketAddr) -> bool {
+    let is_held = becomes_well(rt, alloc, address) && hand.hold();
     hand.moment.store(72, Ordering::SeqCst);
     let is_well = hand.two_turns() && is_told(rt, alloc, address, WELL);
     hand.moment.store(73, Ordering::SeqCst);
