@@ -52,10 +52,12 @@ module _ {S : Type 0} (contents : S → Option (List ℕ)) where
 
   module _ (remaining : S → Option (List ℕ)) where
     -- a head is read up to its end, and answered by an opening
-    abbrev pub Opens : S → WireState S → Type 0
-    Opens old wire =
-        (mid : S) × (bytes : List ℕ) × (end : ℕ) × Comes remaining old mid bytes (Some end)
-        × OpensBy mid (take end bytes) (drop end bytes) wire
+    pub record Opens (old : S) (wire : WireState S) : Type 0 where
+      pub mid : S
+      pub bytes : List ℕ
+      pub end : ℕ
+      pub comes : Comes remaining old mid bytes (Some end)
+      pub opens : OpensBy mid (take end bytes) (drop end bytes) wire
 
     -- a head is read up to its end, and refused
     pub record RefusesHead (old : S) (refused : Refused S) : Type 0 where

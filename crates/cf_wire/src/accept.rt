@@ -151,7 +151,10 @@ fn refuse<S: Write>(mut stream: S, refusal: Refusal) -> Refused<S>
     ensures fault { result.fault ≡ WireFault.Handshake }
     ensures tells { Tells S.contents stream refusal result }
 {
-    let answered = tell(&mut stream, refusal.answer()).is_ok();
+    let answered = match tell(&mut stream, refusal.answer()) {
+        Ok(()) => true,
+        Err(_) => false,
+    };
     Refused {
         fault: WireFault::Handshake,
         stream,
@@ -172,10 +175,13 @@ impl<S: Read + Write + Drop> Wire<S> {
         ensures opens { IfOk result (Opens S.contents S.remaining stream) }
         ensures refuses { IfErr result (Refuses S.contents S.remaining stream) }
     {
-        match read_head(alloc, &mut stream) {
-            Ok((bytes, Some(end))) => Wire::answer(alloc, stream, &bytes[..end], &bytes[end..]),
-            Ok((_, None)) => Err(Refused::silently(WireFault::Handshake, stream)),
-            Err(fault) => Err(Refused::silently(fault, stream)),
+        let (bytes, end) = match read_head(alloc, &mut stream) {
+            Ok(read) => read,
+            Err(fault) => return Err(Refused::silently(fault, stream)),
+        };
+        match end {
+            Some(end) => Wire::answer(alloc, stream, &bytes[..end], &bytes[end..]),
+            None => Err(Refused::silently(WireFault::Handshake, stream)),
         }
     }
 

@@ -54,7 +54,10 @@ pub(crate) fn read_head<S: Read>(
         let from = head.len();
         head.extend_from_slice(&chunk[..count])?;
         if let Some(end) = head_end(head.as_slice(), from) {
-            return Ok((head, Some(end).filter(|end| *end <= LONGEST_HEAD)));
+            if end > LONGEST_HEAD {
+                return Ok((head, None));
+            }
+            return Ok((head, Some(end)));
         }
     }
     Ok((head, None))
