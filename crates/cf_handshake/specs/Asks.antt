@@ -1,5 +1,5 @@
 -- What the head of a request asks for. (RFC 6455, 4.2.1 and 4.4; RFC 9110, 7.8; RFC 9112, 3.2.)
-use Rattle.std.specs.Prelude.{◌≡◌, ◌≤◌, ℕ, Bool, true, false, cond, not, ◌&&◌, ◌||◌, ◌==◌, List, [], map, length, codes, bytes_eq, is_some, Option, None, Some}
+use Rattle.std.specs.Prelude.{◌≡◌, ◌≤◌, ℕ, Bool, false, cond, not, ◌&&◌, ◌||◌, ◌==◌, List, [], map, length, codes, bytes_eq, is_some, Option, None, Some}
 use Rattle.std.specs.List.{starts_with}
 use Rattle.httparse.specs.Grammar.{RequestHead, ReadsRequest}
 use Rattle.httparse.specs.Spans.{name_and_value}
@@ -7,7 +7,6 @@ use Rattle.websocket.specs.Headers.{Fields}
 use Rattle.websocket.specs.Handshake.{IsValidKey, accept_key_of}
 use Rattle.cf_handshake.specs.Lines.{has_line, lists, only_value}
 use Rattle.cf_handshake.specs.declared.lines.Case.TheVariants.{Matters, Ignored}
-use Rattle.cf_handshake.specs.declared.answer.Opening.{Opening}
 use Rattle.cf_handshake.specs.declared.answer.Refusal.TheVariants.{BadRequest, UpgradeRequired}
 use Rattle.cf_handshake.specs.declared.asked.Asked.{Asked}
 use Rattle.cf_handshake.specs.declared.asked.Asked.TheVariants.{Socket, Health, Refused}

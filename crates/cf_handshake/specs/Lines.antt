@@ -1,5 +1,5 @@
 -- The lines of a head by their names, and the lists in them. (RFC 9110, 5.1 to 5.3 and 5.6.1.)
-use Rattle.std.specs.Prelude.{ℕ, Bool, true, false, cond, ◌||◌, ◌==◌, List, [], ◌∷◌, ◌++◌, bytes_eq, Option, None, Some}
+use Rattle.std.specs.Prelude.{ℕ, Bool, true, false, cond, ◌==◌, List, [], ◌∷◌, ◌++◌, bytes_eq, Option, None, Some}
 use Rattle.std.specs.List.{list_any}
 use Rattle.httparse.specs.Grammar.{trim_ows}
 use Rattle.httparse.specs.Ascii.{comma}

@@ -94,7 +94,11 @@ pub(crate) fn serve<R: Wait + Clock, H: House, G: Gate>(
 
 // A connection whose head is whole: the handshake is answered, or the question whether the node
 // lives. Empty where there is no answer.
-fn opened<'a, H: House>(house: &'a H, connection: Connection<'a, H>, now: u64) -> Connection<'a, H> {
+fn opened<'a, H: House>(
+    house: &'a H,
+    connection: Connection<'a, H>,
+    now: u64,
+) -> Connection<'a, H> {
     let Connection::Head(head) = connection else {
         return Connection::Empty;
     };
@@ -109,11 +113,7 @@ fn opened<'a, H: House>(house: &'a H, connection: Connection<'a, H>, now: u64) -
 }
 
 // A connection that speaks, at a desk of its own. Empty where memory is refused.
-fn seated<'a, H: House>(
-    house: &'a H,
-    wire: Wire<Gather<Socket>>,
-    now: u64,
-) -> Connection<'a, H> {
+fn seated<'a, H: House>(house: &'a H, wire: Wire<Gather<Socket>>, now: u64) -> Connection<'a, H> {
     let desk = SessionDesk::new(house, now);
     match Box::new(house.alloc(), Open { wire, desk }) {
         Ok(open) => Connection::Open(open),

@@ -23,7 +23,11 @@ pub(crate) struct Leaving {
 impl Leaving {
     /// What is refused at this moment, with the answer to who asks whether the node lives. `None` where
     /// there is nothing to be read: the socket failed, or memory was refused, or the head was too long.
-    pub(crate) fn new(refused: Refused<Gather<Socket>>, is_well: bool, now: u64) -> Option<Leaving> {
+    pub(crate) fn new(
+        refused: Refused<Gather<Socket>>,
+        is_well: bool,
+        now: u64,
+    ) -> Option<Leaving> {
         let Refused {
             fault,
             mut stream,

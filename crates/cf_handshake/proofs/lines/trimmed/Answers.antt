@@ -1,4 +1,4 @@
-use Rattle.std.proofs.Common.{◌≡◌, List, [], ℕ, length, reverse, slice_range, sym, ap, ◌∙◌, refl, arith}
+use Rattle.std.proofs.Common.{◌≡◌, List, ℕ, length, reverse, slice_range, sym, ap, ◌∙◌, refl, arith}
 use Rattle.std.proofs.lemmas.List.{reverse-reverse}
 use Rattle.std.proofs.lemmas.Slice.{between_to_end}
 use Rattle.httparse.specs.Grammar.{skip_ows, trim_ows}
