@@ -77,6 +77,10 @@ impl<'a, R: Wait, N: Naming, E: Epochs + Drop> House for Around<'a, R, N, E> {
         self.shared.catch_up();
     }
 
+    fn is_well(&self, now: u64) -> bool {
+        self.shared.is_well(now)
+    }
+
     fn note_refused(&self) {
         if let Some(counts) = self.setup.counts {
             counts.add_refused();

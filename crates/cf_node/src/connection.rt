@@ -1,6 +1,7 @@
 //! One connection: a socket whose head is collected, and then a wire and its session.
 use crate::desk::SessionDesk;
 use crate::house::House;
+use crate::leaving::Leaving;
 use crate::socket::Socket;
 use cf_dispatch::is_head_over;
 use cf_queue::Out;
@@ -21,6 +22,8 @@ pub(crate) enum Connection<'a, H: House> {
     /// The head has not come whole.
     Head(Head),
     Open(Box<Open<'a, H>>),
+    /// It gets no WebSocket, and was told so.
+    Leaving(Leaving),
 }
 
 /// A socket, and what came of its head.
@@ -102,6 +105,7 @@ impl<'a, H: House> Connection<'a, H> {
             Connection::Empty => true,
             Connection::Head(head) => !is_head_over(head.accepted, now),
             Connection::Open(open) => open.desk.clerk.look_after(now),
+            Connection::Leaving(leaving) => !leaving.is_over(now),
         }
     }
 
@@ -115,6 +119,10 @@ impl<'a, H: House> Connection<'a, H> {
             }
             Connection::Open(open) => {
                 open.wire.stream_mut().stream_mut().notice(readable, ended);
+                true
+            }
+            Connection::Leaving(leaving) => {
+                leaving.notice(readable, ended);
                 true
             }
         }

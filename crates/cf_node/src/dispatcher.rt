@@ -18,13 +18,14 @@ const LONGEST_SLEEP: u64 = 500;
 
 /// The dispatcher's end of the node's link, and the hub under its lock.
 #[derive(Drop)]
-pub(crate) struct NodePost<'a, R> {
+pub(crate) struct NodePost<'a, R, G> {
     pub(crate) rt: &'a R,
+    pub(crate) gate: &'a G,
     pub(crate) receiver: Receiver<Delivery>,
     pub(crate) shared: &'a Shared,
 }
 
-impl<'a, R: Wait + Clock> Post for NodePost<'a, R> {
+impl<'a, R: Wait + Clock, G: Gate> Post for NodePost<'a, R, G> {
     ghost use Rattle.std.specs.Prelude.{◌≡◌, ◌++◌, ◌∷◌, [], MatchOption};
     ghost use Rattle.cf_link.specs.Link.{IsSameLink};
 
@@ -39,6 +40,7 @@ impl<'a, R: Wait + Clock> Post for NodePost<'a, R> {
     ghost wakes = { λ old new. new ≡ old };
 
     fn receive(&mut self) -> Option<Delivery> {
+        self.shared.beat(self.gate.now(self.rt));
         self.receiver
             .receive_within(self.rt, Duration::from_millis(LONGEST_SLEEP))
     }

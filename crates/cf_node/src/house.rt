@@ -38,6 +38,9 @@ pub(crate) trait House {
     /// The worker that serves has sent what waited in the hub, as far as the sockets took it.
     fn catch_up(&self);
 
+    /// Whether the worker that brings publications has turned within two seconds.
+    fn is_well(&self, now: u64) -> bool;
+
     /// A connection is not served, for want of descriptors or memory.
     fn note_refused(&self);
 

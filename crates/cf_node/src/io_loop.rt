@@ -5,6 +5,8 @@ use crate::desk::SessionDesk;
 use crate::door::{Accepted, Door, LISTENER, WAKER};
 use crate::gate::{Gate, IO_LOOP};
 use crate::house::House;
+use crate::leaving::Leaving;
+use crate::socket::Socket;
 use cf_dispatch::{Agenda, SESSIONS_AT_ONCE, Seats, Seconds, take_batch};
 use cf_queue::Out;
 use cf_wire::{Gather, Wire};
@@ -71,6 +73,8 @@ struct IoLoop<'a, H: House> {
     buffer: Vec<u8>,
     accepts: Accepts,
     seconds: Seconds,
+    // The moment of this turn.
+    now: u64,
 }
 
 /// Serves until `stop` isn't 0, and then closes all sessions with 3001.
@@ -88,19 +92,33 @@ pub(crate) fn serve<R: Wait + Clock, H: House, G: Gate>(
     Ok(())
 }
 
-// A connection whose head is whole: the handshake is answered. None where it is refused.
+// A connection whose head is whole: the handshake is answered, or the question whether the node
+// lives. Empty where there is no answer.
 fn opened<'a, H: House>(
     house: &'a H,
     connection: Connection<'a, H>,
     now: u64,
-) -> Option<Box<Open<'a, H>>> {
+) -> Connection<'a, H> {
     let Connection::Head(head) = connection else {
-        return None;
+        return Connection::Empty;
     };
     let gather = Gather::new(house.alloc(), head.into_socket(), GATHERED);
-    let wire = Wire::accept(house.alloc(), gather).ok()?;
+    match Wire::accept(house.alloc(), gather) {
+        Ok(wire) => seated(house, wire, now),
+        Err(refused) => match Leaving::new(refused, house.is_well(now), now) {
+            Some(leaving) => Connection::Leaving(leaving),
+            None => Connection::Empty,
+        },
+    }
+}
+
+// A connection that speaks, at a desk of its own. Empty where memory is refused.
+fn seated<'a, H: House>(house: &'a H, wire: Wire<Gather<Socket>>, now: u64) -> Connection<'a, H> {
     let desk = SessionDesk::new(house, now);
-    Box::new(house.alloc(), Open { wire, desk }).ok()
+    match Box::new(house.alloc(), Open { wire, desk }) {
+        Ok(open) => Connection::Open(open),
+        Err(_) => Connection::Empty,
+    }
 }
 
 impl<'a, H: House> IoLoop<'a, H> {
@@ -117,6 +135,7 @@ impl<'a, H: House> IoLoop<'a, H> {
             buffer: Vec::new(alloc),
             accepts: Accepts::All,
             seconds: Seconds::new(),
+            now: 0,
         }
     }
 
@@ -156,6 +175,7 @@ impl<'a, H: House> IoLoop<'a, H> {
 
     // One turn: what is ready is noted, who has a turn to come has it, and then comes a new second.
     fn turn(&mut self, events: &Events, now: u64) {
+        self.now = now;
         self.house.look();
         let mut count: usize = 0;
         for event in events {
@@ -304,32 +324,35 @@ impl<'a, H: House> IoLoop<'a, H> {
         }
     }
 
-    // Opens a connection whose head is whole. Where the handshake is refused it is over.
+    // Answers a connection whose head is whole. Where there is no answer it is over.
     fn open(&mut self, place: usize) {
         let Some(connection) = self.places.get_mut(place) else {
             return;
         };
         let head = mem::replace(connection, Connection::Empty);
-        match opened(self.house, head, self.seconds.done()) {
-            Some(open) => {
-                *connection = Connection::Open(open);
-                self.serve(place, true);
-            }
-            None => self.end(place),
+        *connection = opened(self.house, head, self.now);
+        if matches!(connection, Connection::Empty) {
+            self.vacate(place);
+        } else {
+            self.serve(place, true);
         }
     }
 
     // Turns the connection at a place, where its client is heard or only served.
     fn serve(&mut self, place: usize, hears: bool) {
-        let Some(Connection::Open(open)) = self.places.get_mut(place) else {
-            return;
-        };
-        let turned = open.turn(&mut self.buffer, self.seconds.done(), hears);
-        if let Some(number) = open.desk.clerk.member.standing.number() {
-            if let Some(owner) = self.owners.get_mut(number as usize) {
-                *owner = place;
+        let turned = match self.places.get_mut(place) {
+            Some(Connection::Open(open)) => {
+                let turned = open.turn(&mut self.buffer, self.seconds.done(), hears);
+                if let Some(number) = open.desk.clerk.member.standing.number() {
+                    if let Some(owner) = self.owners.get_mut(number as usize) {
+                        *owner = place;
+                    }
+                }
+                turned
             }
-        }
+            Some(Connection::Leaving(leaving)) => leaving.turn(),
+            _ => return,
+        };
         match turned {
             Turned::Idle => {}
             Turned::More => self.owe(place),
@@ -349,7 +372,13 @@ impl<'a, H: House> IoLoop<'a, H> {
                 let Open { wire: _, mut desk } = Box::into_inner(open);
                 desk.clerk.give_up();
             }
+            Connection::Leaving(_) => {}
         }
+        self.vacate(place);
+    }
+
+    // A place stands empty again.
+    fn vacate(&mut self, place: usize) {
         self.agenda.remove(place);
         let _ = self.free.push(place);
     }

@@ -16,6 +16,7 @@ mod door;
 mod gate;
 mod house;
 mod io_loop;
+mod leaving;
 mod member;
 mod node;
 mod rounds;

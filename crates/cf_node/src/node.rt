@@ -135,6 +135,7 @@ impl<'a, N: Naming> Node<'a, N> {
         thread::scope(thread::scope_env(), rt, |scope| {
             let mut post = NodePost {
                 rt,
+                gate,
                 receiver,
                 shared,
             };

@@ -1,4 +1,6 @@
 //! What a node's two workers share.
+ghost use Rattle.std.specs.Prelude.{◌≤◌, ◌+◌, ◌↔◌, IsTrue};
+
 use cf_hub::{Delivered, Hub};
 use cf_shard::Delivery;
 use mio::Waker;
@@ -16,6 +18,9 @@ const LONGEST_WAY: u32 = 25;
 /// The most times that it yields to a loop that waits for the hub.
 const MOST_YIELDS: u32 = 1000;
 
+/// A worker that took no turn for more seconds than these doesn't live.
+const SECONDS_FOR_TURN: u64 = 2;
+
 /// The hub, and what wakes the IO loop when there is something to send.
 #[derive(Drop)]
 pub(crate) struct Shared {
@@ -27,6 +32,15 @@ pub(crate) struct Shared {
     behind: AtomicU64,
     // Not 0 while the loop waits for the hub.
     wanted: AtomicU64,
+    // The moment of the dispatcher's last turn, in seconds.
+    beat: AtomicU64,
+}
+
+// Whether a worker that took its last turn at one moment lives at another. Both are in seconds.
+fn lives(turned: u64, now: u64) -> bool
+    ensures { IsTrue result ↔ (now ≤ turned + SECONDS_FOR_TURN) }
+{
+    now.saturating_sub(turned) <= SECONDS_FOR_TURN
 }
 
 impl Shared {
@@ -37,7 +51,18 @@ impl Shared {
             woken: AtomicU64::new(0),
             behind: AtomicU64::new(0),
             wanted: AtomicU64::new(0),
+            beat: AtomicU64::new(0),
         }
+    }
+
+    /// The dispatcher takes a turn at this moment.
+    pub(crate) fn beat(&self, now: u64) {
+        self.beat.store(now, Ordering::SeqCst);
+    }
+
+    /// Whether the dispatcher has turned within two seconds.
+    pub(crate) fn is_well(&self, now: u64) -> bool {
+        lives(self.beat.load(Ordering::SeqCst), now)
     }
 
     /// Wakes the IO loop, unless it was woken since it last looked.

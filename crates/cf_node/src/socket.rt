@@ -6,6 +6,7 @@ use mio::net::TcpStream;
 use std::alloc::Global;
 use std::io;
 use std::io::{ErrorKind, Read, Write};
+use std::net::Shutdown;
 
 #[derive(Drop)]
 pub(crate) struct Socket {
@@ -36,6 +37,11 @@ impl Socket {
     pub(crate) fn notice(&mut self, readable: bool, ended: bool) {
         self.readable = self.readable || readable || ended;
         self.ended = self.ended || ended;
+    }
+
+    /// Tells the peer that nothing more is written.
+    pub(crate) fn shut(&self) -> io::Result<()> {
+        self.stream.shutdown(Shutdown::Write)
     }
 
     /// Gives these bytes to the next reads, before what the peer sends from now on.

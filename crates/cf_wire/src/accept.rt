@@ -1,20 +1,23 @@
 //! The opening handshake of a wire.
-ghost use Rattle.std.specs.Prelude.{◌≡◌, [], Some, IfOk};
+ghost use Rattle.std.specs.Prelude.{◌≡◌, [], Some, false, IfOk, IfErr, OnOk};
+ghost use Rattle.std.specs.Io.KnownBytes.{Appends};
 ghost use Rattle.tungstenite.specs.Socket.{IsFresh};
-ghost use Rattle.cf_wire.specs.Refused.{fault_by, fault_by_kind};
+ghost use Rattle.cf_handshake.specs.Answers.{opening_text};
+ghost use Rattle.cf_wire.specs.Answered.{AppendsSome, Opens, OpensBy, Refuses, RefusesBy, Tells};
+ghost use Rattle.cf_wire.specs.Refused.{IsOutside, fault_by_kind};
 ghost use Rattle.cf_wire.specs.declared.end.Stage.TheVariants as stage;
 
 use crate::end::Stage;
+use crate::gather::write_all_of;
+use crate::head::read_head;
 use crate::wire::Wire;
+use cf_handshake::{Asked, Opening, Refusal, asked_of};
 use std::alloc::{AllocError, AllocFailed, Global};
 use std::io;
 use std::io::{ErrorKind, Read, Write};
 use thiserror::Error as ErrorType;
-use tungstenite::handshake::server::start;
-use tungstenite::{Error, HandshakeError, NoCallback, NoMask, Role, WebSocket, WebSocketConfig};
+use tungstenite::{NoMask, Role, WebSocket, WebSocketConfig};
 
-/// The longest head of a request, in bytes.
-const LONGEST_HEAD: usize = 16_384;
 /// How many bytes one read of the stream asks for: more than a client mostly says at once. The socket keeps at most two such
 /// buffers, also while its client says nothing.
 const READ_BYTES: usize = 512;
@@ -23,12 +26,15 @@ const LONGEST_MESSAGE: usize = 131_072;
 /// How many bytes of output wait at most: one text of a session's queue, and what is owed to pings.
 const LONGEST_OUTPUT: usize = 2_097_152;
 
-/// Why there is no wire. The stream is dropped.
+/// Why there is no wire.
 #[derive(Clone, Copy, Debug, PartialEq, Eq, Drop, ErrorType)]
 pub enum WireFault {
     /// What came is no request for a WebSocket, or its head is longer than 16,384 bytes.
     #[error("no WebSocket handshake")]
     Handshake,
+    /// It is asked whether the node lives.
+    #[error("no WebSocket, but the node's health is asked for")]
+    Health,
     /// The stream failed, ended or would block before the handshake was done.
     #[error("the stream failed")]
     StreamFault,
@@ -38,45 +44,67 @@ pub enum WireFault {
 }
 
 impl From<AllocError> for WireFault {
+    ghost use Rattle.cf_wire.specs.declared.accept.WireFault.TheVariants.{Memory};
+
+    ghost from_gives = { λ _ fault. fault ≡ Memory };
+
     fn from(_error: AllocError) -> WireFault {
         WireFault::Memory
     }
 }
 
 impl<T: Drop> From<AllocFailed<T>> for WireFault {
+    ghost use Rattle.cf_wire.specs.declared.accept.WireFault.TheVariants.{Memory};
+
+    ghost from_gives = { λ _ fault. fault ≡ Memory };
+
     fn from(_error: AllocFailed<T>) -> WireFault {
         WireFault::Memory
     }
 }
 
-/// A stream whose head was read already: the head is read again from here, and then the stream.
+impl From<io::Error> for WireFault {
+    ghost use Rattle.cf_wire.specs.Refused.{IsOutside, fault_by};
+
+    ghost from_gives = { λ error fault. (fault ≡ fault_by error) × IsOutside fault };
+
+    fn from(error: io::Error) -> WireFault {
+        fault_of_kind(error.kind())
+    }
+}
+
+/// Why there is no wire over a stream that failed so.
+fn fault_of_kind(kind: ErrorKind) -> WireFault
+    ensures kind { result ≡ fault_by_kind kind }
+    ensures outside { IsOutside result }
+{
+    match kind {
+        ErrorKind::OutOfMemory => WireFault::Memory,
+        _ => WireFault::StreamFault,
+    }
+}
+
+/// A stream over which there is no wire.
 #[derive(Drop)]
-struct Headed<S> {
-    head: Vec<u8>,
-    at: usize,
-    stream: S,
+pub struct Refused<S> {
+    /// Why there is none.
+    pub fault: WireFault,
+    /// The stream. Of what was sent on it, nothing behind the head is lost but what had been read with it.
+    pub stream: S,
+    /// Whether an answer that refuses the handshake stands on the stream, whole.
+    pub answered: bool,
 }
 
-impl<S: Read> Read for Headed<S> {
-    fn read(&mut self, buf: &mut [u8]) -> io::Result<usize> {
-        if self.at >= self.head.len() {
-            return self.stream.read(buf);
+impl<S> Refused<S> {
+    // Nothing was answered.
+    fn silently(fault: WireFault, stream: S) -> Refused<S>
+        ensures { result ≡ record { fault = fault; stream = stream; answered = false } }
+    {
+        Refused {
+            fault,
+            stream,
+            answered: false,
         }
-        let from = self.at;
-        let count = buf.len().min(self.head.len() - from);
-        buf[..count].copy_from_slice(&self.head[from..from + count]);
-        self.at = from + count;
-        Ok(count)
-    }
-}
-
-impl<S: Write> Write for Headed<S> {
-    fn write(&mut self, buf: &[u8]) -> io::Result<usize> {
-        self.stream.write(buf)
-    }
-
-    fn flush(&mut self) -> io::Result<()> {
-        self.stream.flush()
     }
 }
 
@@ -90,101 +118,120 @@ fn config() -> WebSocketConfig
         .max_frame_size(Some(LONGEST_MESSAGE))
 }
 
-/// Where the head ends: behind the first blank line that ends after `from`.
-fn head_end(bytes: &[u8], from: usize) -> Option<usize> {
-    let start = from.saturating_sub(3).min(bytes.len());
-    let at = bytes[start..]
-        .windows(4)
-        .position(|part| part == b"\r\n\r\n".as_slice())?;
-    Some(at.saturating_add(start).saturating_add(4))
-}
-
-/// Reads up to the end of the head: the bytes read, and where the head ends.
-fn read_head<S: Read>(alloc: Global, stream: &mut S) -> Result<(Vec<u8>, usize), WireFault> {
-    let mut head = Vec::new(alloc);
-    let mut chunk = [0u8; READ_BYTES];
-    for _ in 0..LONGEST_HEAD {
-        let count = match stream.read(&mut chunk) {
-            Ok(0) => return Err(WireFault::StreamFault),
-            Ok(count) => count,
-            Err(error) => return Err(fault_of_kind(error.kind())),
-        };
-        let from = head.len();
-        head.extend_from_slice(&chunk[..count])?;
-        match head_end(head.as_slice(), from) {
-            Some(end) if end <= LONGEST_HEAD => return Ok((head, end)),
-            Some(_) => return Err(WireFault::Handshake),
-            None => {}
-        }
-        if head.len() >= LONGEST_HEAD {
-            return Err(WireFault::Handshake);
-        }
-    }
-    Err(WireFault::Handshake)
-}
-
-/// Why there is no wire over a stream that failed so.
-fn fault_of_kind(kind: ErrorKind) -> WireFault
-    ensures { result ≡ fault_by_kind kind }
+/// Writes an answer, and lets go of it.
+fn tell<S: Write>(stream: &mut S, text: &[u8]) -> io::Result<()>
+    ensures told { OnOk result (Appends (S.contents stream.old) (S.contents stream.new) text.now) }
+    ensures begun { AppendsSome (S.contents stream.old) (S.contents stream.new) text.now }
 {
-    match kind {
-        ErrorKind::OutOfMemory => WireFault::Memory,
-        _ => WireFault::StreamFault,
-    }
+    let (_, written) = write_all_of(stream, text);
+    written?;
+    stream.flush()
 }
 
-/// Why there is no wire where the handshake failed so.
-fn fault_of(error: &Error) -> WireFault
-    ensures { result ≡ fault_by error.now }
+/// Answers that a WebSocket is opened, and gives what was read behind the head.
+fn tell_opening<S: Write>(
+    alloc: Global,
+    stream: &mut S,
+    opening: &Opening,
+    rest: &[u8],
+) -> Result<Vec<u8>, WireFault>
+    ensures told { OnOk result (Appends (S.contents stream.old) (S.contents stream.new)
+        (opening_text opening.now)) }
+    ensures rest { IfOk result (λ input. input.items ≡ rest.now) }
+    ensures outside { IfErr result IsOutside }
 {
-    match error {
-        Error::OutOfMemory => WireFault::Memory,
-        Error::Io(cause) => fault_of_kind(cause.kind()),
-        Error::HandshakeIncomplete => WireFault::StreamFault,
-        _ => WireFault::Handshake,
+    let text = opening.answer(alloc)?;
+    let input = rest.to_vec(alloc)?;
+    tell(stream, text.as_slice())?;
+    Ok(input)
+}
+
+/// Answers that a handshake is refused, and says so.
+fn refuse<S: Write>(mut stream: S, refusal: Refusal) -> Refused<S>
+    ensures fault { result.fault ≡ WireFault.Handshake }
+    ensures tells { Tells S.contents stream refusal result }
+{
+    let answered = match tell(&mut stream, refusal.answer()) {
+        Ok(()) => true,
+        Err(_) => false,
+    };
+    Refused {
+        fault: WireFault::Handshake,
+        stream,
+        answered,
     }
 }
 
 impl<S: Read + Write + Drop> Wire<S> {
-    /// Answers the request for a WebSocket whose head, up to its blank line, has come; its path and subprotocols are passed
-    /// over. What the peer sent behind the head is the wire's first input.
-    pub fn accept(alloc: Global, mut stream: S) -> Result<Wire<S>, WireFault>
+    /// Reads the head of a request, and answers it: a WebSocket is opened by 101, and what came behind the head is the wire's
+    /// first input; what is no opening handshake is refused by 400 or 426. A head of more than 16,384 bytes, and who asks whether
+    /// the node lives, is not answered here. The stream is given back where there is no wire.
+    pub fn accept(alloc: Global, mut stream: S) -> Result<Wire<S>, Refused<S>>
         ensures open { IfOk result (λ wire. wire.stage ≡ stage.Open) }
         ensures fresh { IfOk result (λ wire.
             IsFresh (record wire.socket { input = [] }) wire.socket.stream Role.Server) }
         ensures limit { IfOk result (λ wire.
             wire.socket.conn.config.max_message_size ≡ Some LONGEST_MESSAGE) }
+        ensures opens { IfOk result (Opens S.contents S.remaining stream) }
+        ensures refuses { IfErr result (Refuses S.contents S.remaining stream) }
     {
-        let (mut head, end) = read_head(alloc, &mut stream)?;
-        let rest = head.get(end..).unwrap_or(&[]).to_vec(alloc)?;
-        head.truncate(end);
-        let headed = Headed {
-            head,
-            at: 0,
-            stream,
+        let (bytes, end) = match read_head(alloc, &mut stream) {
+            Ok(read) => read,
+            Err(fault) => return Err(Refused::silently(fault, stream)),
         };
-        match start(alloc, headed, NoCallback, Some(config())).handshake() {
-            Ok(socket) => {
-                let Headed {
-                    head: _,
-                    at: _,
-                    stream,
-                } = socket.into_inner();
-                let socket = WebSocket::from_partially_read(
+        match end {
+            Some(end) => Wire::answer(alloc, stream, &bytes[..end], &bytes[end..]),
+            None => Err(Refused::silently(WireFault::Handshake, stream)),
+        }
+    }
+
+    /// Answers a head, behind which this was read.
+    fn answer(alloc: Global, stream: S, head: &[u8], rest: &[u8]) -> Result<Wire<S>, Refused<S>>
+        ensures open { IfOk result (λ wire. wire.stage ≡ stage.Open) }
+        ensures fresh { IfOk result (λ wire.
+            IsFresh (record wire.socket { input = [] }) wire.socket.stream Role.Server) }
+        ensures limit { IfOk result (λ wire.
+            wire.socket.conn.config.max_message_size ≡ Some LONGEST_MESSAGE) }
+        ensures opens { IfOk result (OpensBy S.contents stream head.now rest.now) }
+        ensures refuses { IfErr result (RefusesBy S.contents stream head.now) }
+    {
+        match asked_of(head) {
+            Asked::Socket(opening) => Wire::open(alloc, stream, &opening, rest),
+            Asked::Health => Err(Refused::silently(WireFault::Health, stream)),
+            Asked::Refused(refusal) => Err(refuse(stream, refusal)),
+        }
+    }
+
+    /// Opens the WebSocket of a client, behind whose head this was read.
+    fn open(
+        alloc: Global,
+        mut stream: S,
+        opening: &Opening,
+        rest: &[u8],
+    ) -> Result<Wire<S>, Refused<S>>
+        ensures open { IfOk result (λ wire. wire.stage ≡ stage.Open) }
+        ensures fresh { IfOk result (λ wire.
+            IsFresh (record wire.socket { input = [] }) wire.socket.stream Role.Server) }
+        ensures limit { IfOk result (λ wire.
+            wire.socket.conn.config.max_message_size ≡ Some LONGEST_MESSAGE) }
+        ensures told { IfOk result (λ wire. Appends (S.contents stream)
+            (S.contents wire.socket.stream) (opening_text opening.now)) }
+        ensures input { IfOk result (λ wire. wire.socket.input ≡ rest.now) }
+        ensures outside { IfErr result (λ refused. IsOutside refused.fault) }
+    {
+        match tell_opening(alloc, &mut stream, opening, rest) {
+            Ok(input) => Ok(Wire {
+                socket: WebSocket::from_partially_read(
                     alloc,
                     stream,
                     NoMask,
-                    rest,
+                    input,
                     Role::Server,
                     Some(config()),
-                );
-                Ok(Wire {
-                    socket,
-                    stage: Stage::Open,
-                })
-            }
-            Err(HandshakeError::Interrupted(_)) => Err(WireFault::StreamFault),
-            Err(HandshakeError::Failure(error)) => Err(fault_of(&error)),
+                ),
+                stage: Stage::Open,
+            }),
+            Err(fault) => Err(Refused::silently(fault, stream)),
         }
     }
 }

@@ -83,7 +83,7 @@ impl<S: Write> Gather<S> {
 }
 
 /// Writes until all is written or a write fails, and says how many bytes were.
-fn write_all_of<S: Write>(stream: &mut S, bytes: &[u8]) -> (usize, io::Result<()>)
+pub(crate) fn write_all_of<S: Write>(stream: &mut S, bytes: &[u8]) -> (usize, io::Result<()>)
     ensures bound { result.0 ≤ length bytes.now }
     ensures all { OnOk result.1 (result.0 ≡ length bytes.now) }
     ensures bytes { Appends (S.contents stream.old) (S.contents stream.new)

@@ -7,9 +7,10 @@ mod accept;
 mod desk;
 mod end;
 mod gather;
+mod head;
 mod wire;
 
-pub use accept::WireFault;
+pub use accept::{Refused, WireFault};
 pub use desk::Desk;
 pub use end::{Stage, TurnEnd, WireEnd};
 pub use gather::Gather;

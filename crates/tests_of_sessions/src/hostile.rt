@@ -17,7 +17,7 @@ fn failing_wire(alloc: Global, fails: usize) -> Result<Wire<Pieces>, WireFault> 
     let input = texts(alloc, 3)?;
     let mut stream = stream_of(alloc, input.as_slice(), 3)?;
     stream.fails = fails;
-    Wire::accept(alloc, stream)
+    Wire::accept(alloc, stream).map_err(|refused| refused.fault)
 }
 
 /// How many calls of the stream were made before a turn that meets no failure, and after it.

@@ -2,6 +2,8 @@
 #![tactic(auto)]
 
 #[cfg(test)]
+mod handshake;
+#[cfg(test)]
 mod hostile;
 #[cfg(test)]
 mod hub;

@@ -408,7 +408,10 @@ fn refusal_of(alloc: Global, head: &str) -> Option<WireFault> {
         return None;
     };
     stream.input = input;
-    Wire::accept(alloc, stream).err()
+    match Wire::accept(alloc, stream) {
+        Ok(_) => None,
+        Err(refused) => Some(refused.fault),
+    }
 }
 
 /// Whether a head of so many bytes is no request.
@@ -440,6 +443,8 @@ fn is_told(alloc: Global, fault: WireFault, words: &str) -> bool {
 #[test]
 fn faults_in_words(rt: HostRuntime) {
     assert!(rt; is_told(rt.alloc(), WireFault::Handshake, "no WebSocket handshake"));
+    let health = "no WebSocket, but the node's health is asked for";
+    assert!(rt; is_told(rt.alloc(), WireFault::Health, health));
     assert!(rt; is_told(rt.alloc(), WireFault::StreamFault, "the stream failed"));
     assert!(rt; is_told(rt.alloc(), WireFault::Memory, "out of memory"));
 }
@@ -449,7 +454,8 @@ type GatheringWire = Wire<Gather<Pieces>>;
 /// A wire over three texts whose output is gathered.
 fn gathering_wire(alloc: Global) -> Result<GatheringWire, WireFault> {
     let stream = three_texts(alloc, 1_000_000)?;
-    Wire::accept(alloc, Gather::new(alloc, stream, 65_536))
+    let gather = Gather::new(alloc, stream, 65_536);
+    Wire::accept(alloc, gather).map_err(|refused| refused.fault)
 }
 
 /// Whether what a turn sends waits, while the stream is blocked too.

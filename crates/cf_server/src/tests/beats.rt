@@ -1,9 +1,9 @@
-//! What comes with the seconds: pings, the checks of positions, and presence.
+//! What comes with the seconds: pings, the checks of positions, presence, and whether a node lives.
 ghost use Rattle.std.specs.Prelude.{◌≡◌};
 ghost use Rattle.cf_broker.specs.Shards.{names};
 
 use super::nodes::{Opened, broker_to, default_settings, open};
-use super::peer::{Peer, connect};
+use super::peer::{Peer, answer_to, connect};
 use cf_broker::{Broker, Passes, Words, shard_of};
 use cf_epochs::BootEpochs;
 use cf_node::{DISPATCHER, Gate, Node};
@@ -18,10 +18,13 @@ use std::sync::Wait;
 use std::sync::atomic::{AtomicU64, Ordering};
 use std::thread;
 use std::thread::Threads;
-use std::time::Clock;
+use std::time::{Clock, Duration};
 
 /// So many turns of a wait, and the test has failed.
 const MOST_TURNS: u64 = 100_000_000;
+
+/// So many questions, and the node isn't well.
+const MOST_TRIES: usize = 500;
 
 // Gives out the moments, and can hold the dispatcher before a turn.
 #[derive(Drop)]
@@ -45,6 +48,7 @@ impl Hand {
 
     // Whether the dispatcher is held within so many turns of a wait.
     fn hold(&self) -> bool {
+        self.is_held.store(0, Ordering::SeqCst);
         self.holds.store(1, Ordering::SeqCst);
         for _ in 0..MOST_TURNS {
             if self.is_held.load(Ordering::SeqCst) == 1 {
@@ -213,6 +217,44 @@ fn sees<N: Naming, R: Wait + Net>(
     }
 }
 
+const HEALTH: &[u8] = b"GET /health HTTP/1.1\r\nHost: localhost\r\n\r\n";
+
+const WELL: &[u8] =
+    b"HTTP/1.1 200 OK\r\nContent-Type: text/plain\r\nContent-Length: 2\r\nConnection: close\r\n\r\nok";
+
+const STUCK: &[u8] =
+    b"HTTP/1.1 503 Service Unavailable\r\nContent-Type: text/plain\r\nContent-Length: 5\r\nConnection: close\r\n\r\nstuck";
+
+// Whether who asks whether the node lives is answered so.
+fn is_told<R: Net>(rt: &R, alloc: Global, address: SocketAddr, answer: &[u8]) -> bool {
+    match answer_to(rt, alloc, address, HEALTH) {
+        Some(told) => told.as_slice() == answer,
+        None => false,
+    }
+}
+
+// Whether the node is well within some seconds: its dispatcher may sleep through a moment that is given out.
+fn becomes_well<R: Net + Clock>(rt: &R, alloc: Global, address: SocketAddr) -> bool {
+    for _ in 0..MOST_TRIES {
+        if is_told(rt, alloc, address, WELL) {
+            return true;
+        }
+        thread::sleep(rt, Duration::from_millis(20));
+    }
+    false
+}
+
+// The node is well, also two seconds after its dispatcher's last turn; a second later it is stuck.
+fn tells_health<R: Net + Clock>(rt: &R, alloc: Global, hand: &Hand, address: SocketAddr) -> bool {
+    let is_held = becomes_well(rt, alloc, address) && hand.hold();
+    hand.moment.store(72, Ordering::SeqCst);
+    let is_well = hand.two_turns() && is_told(rt, alloc, address, WELL);
+    hand.moment.store(73, Ordering::SeqCst);
+    let is_stuck = hand.two_turns() && is_told(rt, alloc, address, STUCK);
+    hand.let_go();
+    is_held && is_well && is_stuck
+}
+
 // Runs a node while its client sees 70 seconds.
 fn run_one<N, R>(
     rt: &R,
@@ -234,7 +276,8 @@ where
         let _ = scope.spawn(move || {
             let _ = node.run(rt, broker, passes, hand, stop);
         });
-        let seen = sees(rt, stage, &mut own, address);
+        let seen = sees(rt, stage, &mut own, address)
+            && tells_health(rt, stage.alloc, hand, address);
         stop.store(1, Ordering::SeqCst);
         seen
     })
@@ -279,7 +322,8 @@ where
     run_staged(rt, &stage, node, passes, address)
 }
 
-// A client that missed a publication is told so at its second check, is pinged every 25 seconds, and is present 70 seconds on.
+// A client that missed a publication is told so at its second check, is pinged every 25 seconds, and is present 70 seconds on. The
+// node lives while its dispatcher turns.
 #[test]
 fn beats(rt: HostRuntime) {
     let settings = default_settings(&rt);

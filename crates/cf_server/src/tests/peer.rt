@@ -32,6 +32,20 @@ pub(super) fn connect<N: Net>(
     }
 }
 
+/// What a node answers to a request, up to where it ends the connection.
+pub(super) fn answer_to<N: Net>(
+    rt: &N,
+    alloc: Global,
+    address: SocketAddr,
+    request: &[u8],
+) -> Option<Vec<u8>> {
+    let mut stream = TcpStream::connect(rt, address).ok()?;
+    stream.write_all(request).ok()?;
+    let mut answer = Vec::new(alloc);
+    stream.read_to_end(&mut answer).ok()?;
+    Some(answer)
+}
+
 impl<S: Read + Write> Peer<S> {
     // Asks for a WebSocket, and reads the answer to its empty line.
     fn shakes_hands(&mut self) -> bool {

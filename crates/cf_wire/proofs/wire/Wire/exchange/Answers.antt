@@ -1,4 +1,4 @@
-use Rattle.std.proofs.Common.{◌+◌, arith, refl, sym, ◌∙◌, inl, inr}
+use Rattle.std.proofs.Common.{◌+◌, arith, refl, inl, inr}
 use Rattle.cf_wire.specs.Turn.{going, emptied}
 use Rattle.cf_wire.proofs.Turns.{turns_then, turns_quiet, turns_done, turns_go_on, turns_wait}
 use Rattle.cf_wire.proofs.wire.Wire.exchange.Goals as goal

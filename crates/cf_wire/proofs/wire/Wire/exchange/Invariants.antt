@@ -1,4 +1,4 @@
-use Rattle.std.proofs.Common.{◌≡◌, ◌≤◌}
+use Rattle.std.proofs.Common.{◌≡◌}
 use Rattle.cf_wire.specs.declared.end.Stage.TheVariants.{Open}
 use Rattle.cf_wire.specs.Turn.{Part, place, going, most_bytes}
 use Rattle.cf_wire.proofs.wire.Wire.exchange.Given as goal

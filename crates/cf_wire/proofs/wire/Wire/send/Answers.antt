@@ -1,4 +1,4 @@
-use Rattle.std.proofs.Common.{ap, sym, refl, subst, inr}
+use Rattle.std.proofs.Common.{ap, refl, subst, inr}
 use Rattle.tungstenite.specs.Content.{text}
 use Rattle.tungstenite.specs.declared.message.Message.TheVariants as message
 use Rattle.cf_queue.specs.declared.queue.Out.TheVariants.{Text}

@@ -1,0 +1,11 @@
+use Rattle.std.proofs.Common.{refl}
+use Rattle.std.specs.Fmt.{digits}
+use Rattle.cf_handshake.proofs.answer.Refusal.answer.Goals as goal
+
+pub returns-in-BadRequest : goal.returns-in-BadRequest
+unfolding digits
+returns-in-BadRequest c = rw c.in-BadRequest.is refl
+
+pub returns-in-UpgradeRequired : goal.returns-in-UpgradeRequired
+unfolding digits
+returns-in-UpgradeRequired c = rw c.in-UpgradeRequired.is refl

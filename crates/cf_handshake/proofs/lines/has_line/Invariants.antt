@@ -1,0 +1,8 @@
+use Rattle.std.proofs.Common.{◌≡◌, drop}
+use Rattle.websocket.specs.Headers.{fields_of}
+use Rattle.cf_handshake.specs.Lines.{has_line}
+use Rattle.cf_handshake.proofs.lines.has_line.Given as goal
+
+abbrev pub invariant-loop-line : goal.invariant-loop-line
+invariant-loop-line l =
+    has_line (fields_of l.head l.lines) l.name ≡ has_line (fields_of l.head (drop l.line-index l.lines)) l.name
