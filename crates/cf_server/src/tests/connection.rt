@@ -110,7 +110,10 @@ impl<S: Read + Write + Drop> Connection<S> {
     // What the application gets by a text.
     fn take(&mut self, text: &str) -> Result<Vec<AppEvent>, Broken> {
         let events = self.client.on_text(text)?;
-        if events.iter().any(|event| matches!(event, AppEvent::PongDue)) {
+        if events
+            .iter()
+            .any(|event| matches!(event, AppEvent::PongDue))
+        {
             self.say(PONG)?;
         }
         Ok(events)

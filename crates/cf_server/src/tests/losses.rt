@@ -42,7 +42,7 @@ struct Reader<S> {
 }
 
 // A client that asks for the news of the node at this address.
-fn reader<N: Net + AllocGlobal>(rt: &N, address: SocketAddr) -> Option<Reader<N::Stream>> {
+fn subscribe<N: Net + AllocGlobal>(rt: &N, address: SocketAddr) -> Option<Reader<N::Stream>> {
     let alloc = rt.alloc();
     let mut connection = open(rt, alloc, address).ok()?;
     connection.send(|client| client.ask(NEWS)).ok()?;
@@ -118,13 +118,13 @@ struct Audience<S> {
 }
 
 // Two readers at each node.
-fn audience<N: Net + AllocGlobal>(
+fn gather<N: Net + AllocGlobal>(
     rt: &N,
     addresses: (SocketAddr, SocketAddr),
 ) -> Option<Audience<N::Stream>> {
     let mut readers = Vec::new(rt.alloc());
     for address in [addresses.0, addresses.0, addresses.1, addresses.1] {
-        readers.push(reader(rt, address)?).ok()?;
+        readers.push(subscribe(rt, address)?).ok()?;
     }
     Some(Audience { readers })
 }
@@ -177,7 +177,9 @@ impl<S: Read + Write + Drop> Author<S> {
     fn put_next(&mut self) -> Option<()> {
         self.put = self.put.saturating_add(1);
         let body = self.put.to_string(self.alloc).ok()?;
-        self.connection.send(|client| client.put(NEWS, body.as_str())).ok()
+        self.connection
+            .send(|client| client.put(NEWS, body.as_str()))
+            .ok()
     }
 
     // It publishes some, and asks where the stream stands: a node answers in the order of the commands.
@@ -218,7 +220,7 @@ impl<S: Read + Write + Drop> Author<S> {
 
 // Whether four readers have all that a fifth client published.
 fn all_get_all<N: Net + AllocGlobal>(rt: &N, addresses: (SocketAddr, SocketAddr)) -> Option<bool> {
-    let mut audience = audience(rt, addresses)?;
+    let mut audience = gather(rt, addresses)?;
     audience.settles()?;
     let mut author = Author {
         alloc: rt.alloc(),

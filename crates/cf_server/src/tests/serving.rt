@@ -1,5 +1,5 @@
 //! Nodes that serve clients over real sockets.
-use super::nodes::{default_settings};
+use super::nodes::default_settings;
 use super::peer::{Peer, connect};
 use super::together::{Task, two_nodes};
 use cf_broker::Words;
