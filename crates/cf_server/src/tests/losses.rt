@@ -25,18 +25,18 @@ const COUNT: u64 = 200;
 /// How many of them are on their way to the node at once.
 const BURST: u64 = 10;
 
-/// A publication that a reader got.
+/// A publication that came.
 #[derive(Drop)]
-struct Got {
+struct Heard {
     position: Position,
     body: String,
 }
 
-/// A client that is subscribed to the news, and what it got.
+/// A client that is subscribed to the news, and what came.
 #[derive(Drop)]
 struct Reader<S> {
     connection: Connection<S>,
-    got: Vec<Got>,
+    heard: Vec<Heard>,
     // It doesn't wait for the answer to an ask.
     is_live: bool,
 }
@@ -48,7 +48,7 @@ fn subscribe<N: Net + AllocGlobal>(rt: &N, address: SocketAddr) -> Option<Reader
     connection.send(|client| client.ask(NEWS)).ok()?;
     Some(Reader {
         connection,
-        got: Vec::new(alloc),
+        heard: Vec::new(alloc),
         is_live: false,
     })
 }
@@ -74,7 +74,7 @@ impl<S: Read + Write + Drop> Reader<S> {
                 (recovered == was_recovering).then_some(())
             }
             AppEvent::Published { position, body, .. } => {
-                self.got.push(Got { position, body }).ok()
+                self.heard.push(Heard { position, body }).ok()
             }
             AppEvent::Resubscribing { .. } => self.ask_again(),
             AppEvent::PongDue => Some(()),
@@ -96,17 +96,17 @@ impl<S: Read + Write + Drop> Reader<S> {
         self.ask_again()
     }
 
-    // It got all, once each and in order.
+    // All came, once each and in order.
     fn has_all(&self) -> bool {
-        let Some(first) = self.got.first() else {
+        let Some(first) = self.heard.first() else {
             return false;
         };
         let epoch = &first.position.epoch;
-        self.got.len() as u64 == COUNT
-            && self.got.iter().zip(1..=COUNT).all(|(got, number)| {
-                got.position.epoch == *epoch
-                    && got.position.offset == number
-                    && got.body.as_str().parse::<u64>() == Ok(number)
+        self.heard.len() as u64 == COUNT
+            && self.heard.iter().zip(1..=COUNT).all(|(one, number)| {
+                one.position.epoch == *epoch
+                    && one.position.offset == number
+                    && one.body.as_str().parse::<u64>() == Ok(number)
             })
     }
 }
