@@ -73,11 +73,11 @@ pub(super) fn open<N: Net>(
     Ok(connection)
 }
 
-// Whether there is nothing to be done but to wait.
-fn would_block(error: &SocketError) -> bool {
+// A stream that would block only waits; any other error is the end.
+fn wait_or_break(error: SocketError) -> Result<(), Broken> {
     match error {
-        SocketError::Io(cause) => cause.kind() == ErrorKind::WouldBlock,
-        _ => false,
+        SocketError::Io(cause) if cause.kind() == ErrorKind::WouldBlock => Ok(()),
+        error => Err(Broken::Socket(error)),
     }
 }
 
@@ -102,8 +102,10 @@ impl<S: Read + Write + Drop> Connection<S> {
         match self.socket.read() {
             Ok(Message::Text(text)) => self.take(text.as_str()),
             Ok(_) => Ok(Vec::new(self.alloc)),
-            Err(error) if would_block(&error) => Ok(Vec::new(self.alloc)),
-            Err(error) => Err(Broken::Socket(error)),
+            Err(error) => {
+                wait_or_break(error)?;
+                Ok(Vec::new(self.alloc))
+            }
         }
     }
 
@@ -125,8 +127,8 @@ impl<S: Read + Write + Drop> Connection<S> {
             return Err(Broken::Client(ClientFault::Memory));
         };
         match self.socket.send(message) {
-            Err(error) if !would_block(&error) => Err(Broken::Socket(error)),
-            _ => Ok(()),
+            Ok(()) => Ok(()),
+            Err(error) => wait_or_break(error),
         }
     }
 }

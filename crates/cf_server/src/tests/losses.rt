@@ -193,11 +193,16 @@ impl<S: Read + Write + Drop> Author<S> {
     // It takes what came. None where a command was refused.
     fn turn(&mut self) -> Option<()> {
         for event in self.connection.hear().ok()? {
-            match event {
-                AppEvent::Listed { position, .. } => self.answered = position.offset,
-                AppEvent::Refused { .. } => return None,
-                _ => {}
-            }
+            self.take(&event)?;
+        }
+        Some(())
+    }
+
+    fn take(&mut self, event: &AppEvent) -> Option<()> {
+        match event {
+            AppEvent::Listed { position, .. } => self.answered = position.offset,
+            AppEvent::Refused { .. } => return None,
+            _ => {}
         }
         Some(())
     }
