@@ -2,6 +2,7 @@
 //! `tungstenite`, which carries the texts. No call of a connection waits for its node, so that one thread can have many.
 use cf_client::{AppEvent, Client, ClientFault};
 use std::alloc::Global;
+use std::io;
 use std::io::{ErrorKind, Read, Write};
 use std::net::{Net, OpenStream, SocketAddr, TcpStream};
 use thiserror::Error;
@@ -37,14 +38,20 @@ pub(super) struct Connection<S> {
     socket: WebSocket<S, NoMask>,
 }
 
+// A stream to the node at this address, which keeps nothing back to send more at once.
+fn stream_to<N: Net>(rt: &N, address: SocketAddr) -> io::Result<N::Stream> {
+    let stream = TcpStream::connect(rt, address)?;
+    stream.set_nodelay(true)?;
+    Ok(stream)
+}
+
 // A WebSocket to the node at this address. The handshake waits for the node; from then on nothing does.
 fn dial<N: Net>(
     rt: &N,
     alloc: Global,
     address: SocketAddr,
 ) -> Result<WebSocket<N::Stream, NoMask>, SocketError> {
-    let stream = TcpStream::connect(rt, address)?;
-    stream.set_nodelay(true)?;
+    let stream = stream_to(rt, address)?;
     let request = request_of(alloc, NODE)?;
     let handshake = start(alloc, NONCE, NoMask, request, stream, None)?;
     match handshake.handshake() {

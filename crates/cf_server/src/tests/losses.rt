@@ -117,7 +117,7 @@ struct Audience<S> {
     readers: Vec<Reader<S>>,
 }
 
-// Two readers at each node.
+// Two readers at each node, all of them subscribed.
 fn gather<N: Net + AllocGlobal>(
     rt: &N,
     addresses: (SocketAddr, SocketAddr),
@@ -126,7 +126,9 @@ fn gather<N: Net + AllocGlobal>(
     for address in [addresses.0, addresses.0, addresses.1, addresses.1] {
         readers.push(subscribe(rt, address)?).ok()?;
     }
-    Some(Audience { readers })
+    let mut audience = Audience { readers };
+    audience.settles()?;
+    Some(audience)
 }
 
 impl<S: Read + Write + Drop> Audience<S> {
@@ -171,6 +173,18 @@ struct Author<S> {
     // How many it has put, and how many of them were answered.
     put: u64,
     answered: u64,
+}
+
+// A client of the node at this address, which has published nothing yet.
+fn hire<N: Net + AllocGlobal>(rt: &N, address: SocketAddr) -> Option<Author<N::Stream>> {
+    let alloc = rt.alloc();
+    let connection = open(rt, alloc, address).ok()?;
+    Some(Author {
+        alloc,
+        connection,
+        put: 0,
+        answered: 0,
+    })
 }
 
 impl<S: Read + Write + Drop> Author<S> {
@@ -223,16 +237,10 @@ impl<S: Read + Write + Drop> Author<S> {
     }
 }
 
-// Whether four readers have all that a fifth client published.
+// Whether the readers have all that a client of the first node published.
 fn all_get_all<N: Net + AllocGlobal>(rt: &N, addresses: (SocketAddr, SocketAddr)) -> Option<bool> {
     let mut audience = gather(rt, addresses)?;
-    audience.settles()?;
-    let mut author = Author {
-        alloc: rt.alloc(),
-        connection: open(rt, rt.alloc(), addresses.0).ok()?,
-        put: 0,
-        answered: 0,
-    };
+    let mut author = hire(rt, addresses.0)?;
     author.publishes_all(&mut audience)?;
     audience.comes_back()?;
     Some(audience.has_all())
