@@ -1,10 +1,13 @@
 //! The program's words, the texts of its faults, and what its parts do in tests of their own.
 mod beats;
+mod connection;
 mod dispatching;
+mod losses;
 mod nodes;
 mod peer;
 mod serving;
 mod speaking;
+mod together;
 
 use crate::command_line::{self, DEFAULT_LINK, DEFAULT_NAMESPACES, Job, Options, ServeOptions};
 use crate::config_of;

@@ -25,7 +25,12 @@ pub(super) struct Settings {
 
 /// The default namespaces, and no tokens.
 pub(super) fn default_settings<R: Abort + AllocGlobal>(rt: &R) -> Settings {
-    let namespaces = read_namespaces(rt.alloc(), DEFAULT_NAMESPACES).expect(rt, "namespaces");
+    settings_of(rt, DEFAULT_NAMESPACES)
+}
+
+/// These namespaces, and no tokens.
+pub(super) fn settings_of<R: Abort + AllocGlobal>(rt: &R, namespaces: &str) -> Settings {
+    let namespaces = read_namespaces(rt.alloc(), namespaces).expect(rt, "namespaces");
     let tokens = read_tokens(rt.alloc(), "").expect(rt, "tokens");
     Settings { namespaces, tokens }
 }

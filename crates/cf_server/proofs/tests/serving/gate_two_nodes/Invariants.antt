@@ -3,4 +3,4 @@ use Rattle.cf_server.proofs.tests.serving.gate_two_nodes.Given as goal
 
 -- the words that were just made, and the namespaces that were read
 abbrev pub ghosts-two_nodes : goal.ghosts-two_nodes
-ghosts-two_nodes g a = record { words = by_number a.words; namespaces = a.namespaces.now }
+ghosts-two_nodes g a = record { words = by_number a.words; namespaces = a.settings.now.namespaces }
