@@ -95,6 +95,7 @@ fn options(rt: HostRuntime) {
     let line = "cf_server simulate --explain --ns chat=3,300,ph --nodes 8";
     asks(&rt, alloc, line, Some(Job::Simulate(EIGHT_NODES)));
     asks(&rt, alloc, "cf_server", Some(Job::Simulate(DEFAULTS)));
+    asks(&rt, alloc, "cf_server --version", Some(Job::Version));
     let line = "cf_server serve --boot 7 --nodes 2 --tokens t=ann";
     asks(&rt, alloc, line, Some(Job::Serve(SEVENTH_START)));
     let line = "cf_server serve --boot 7 --nodes 2 --tokens t=ann --link 65536";
