@@ -284,18 +284,18 @@ module _ (site : Site) (s : Server) (w : World) (b : Beside site s w) (over : (c
 
 -- its answer is on its way
 answered : (k : Connection) (c : Client) (l : ClientLink) (d : List ℕ) (id : ℕ) (x : Datum) (h : Work) → h ≡ ToPublish d id x → Linked (record k { work = h }) c l
-    → Linked (record k { work = ToSay (Put id) }) c l
+    → Linked (record k { work = ToSay d (Put id) }) c l
 answered k c l d id x h e i =
     let j : Linked (record k { work = ToPublish d id x }) c l = subst (λ z. Linked (record k { work = z }) c l) e i in
-    record { extra = j.extra; is = j.is; due = tt; settled = j.settled; right = tt }
+    record { extra = j.extra; is = j.is; due = j.due; settled = j.settled; right = tt }
 
 pub publishes-step : (site : Site) (s : Server) (w : World) (b : Beside site s w) (over : (c : List ℕ) → StandsOver (w.broker.lists c) (w.broker.streams c))
     (k : ℕ) (h : Work) → (s.connections k).work ≡ h → Follows site.config w [] (Beside site (server.publishes site k h s))
 publishes-step site s w b over k (ToPublish c id d) e =
     by_test (λ (v : Server). Follows site.config w [] (Beside site v)) (can_gain site (Publish c d) s) _ _
     (λ can. and_then site.config w [] [] _ _ (accepts-step site s w b over c d can)
-    (λ v bv. connection-step site (server.accepts site c d s) v bv site.config k (λ (x : Connection). record x { work = ToSay (Put id) }) refl
-    (λ x at i. turns.idle site (server.accepts site c d s) v bv x (s.clients x) (record (s.connections k) { work = ToSay (Put id) })
+    (λ v bv. connection-step site (server.accepts site c d s) v bv site.config k (λ (x : Connection). record x { work = ToSay c (Put id) }) refl
+    (λ x at i. turns.idle site (server.accepts site c d s) v bv x (s.clients x) (record (s.connections k) { work = ToSay c (Put id) })
     (answered (s.connections k) (s.clients x) (v.links x) c id d (s.connections k).work e i))))
     (λ can. none site.config w (Beside site s) b)
 publishes-step site s w b over k Free e = none site.config w (Beside site s) b
@@ -304,4 +304,4 @@ publishes-step site s w b over k (HasRead c r) e = none site.config w (Beside si
 publishes-step site s w b over k (ToFinish c) e = none site.config w (Beside site s) b
 publishes-step site s w b over k (ToGiveUp c id code) e = none site.config w (Beside site s) b
 publishes-step site s w b over k (ToList c id limit) e = none site.config w (Beside site s) b
-publishes-step site s w b over k (ToSay n) e = none site.config w (Beside site s) b
+publishes-step site s w b over k (ToSay c n) e = none site.config w (Beside site s) b

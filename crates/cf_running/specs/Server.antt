@@ -45,8 +45,8 @@ pub data Work : Type 0 where
   -- a publish or a history was heard, and the broker is to be asked
   ToPublish : (channel : List ℕ) → (id : ℕ) → (datum : Datum) → Work
   ToList : (channel : List ℕ) → (id : ℕ) → (limit : ℤ) → Work
-  -- an answer is on its way to the hub
-  ToSay : (note : Note) → Work
+  -- an answer to a command for this channel is on its way to the hub
+  ToSay : (channel : List ℕ) → (note : Note) → Work
 
 -- a connection: whose it was when it came, and to which node
 pub record Connection : Type 0 where
@@ -163,7 +163,7 @@ accepts site c d s = record (gain site (Publish c d) s) { accepted = s.accepted 
 
 abbrev pub publishes : Site → ℕ → Work → Server → Server
 publishes site k (ToPublish c id d) s =
-    if can_gain site (Publish c d) s then change k (λ x. record x { work = ToSay (Put id) }) (accepts site c d s) else s
+    if can_gain site (Publish c d) s then change k (λ x. record x { work = ToSay c (Put id) }) (accepts site c d s) else s
 publishes site k other s = s
 
 -- What was accepted under a number is put on a node's link, whenever, however often and in whatever order. A full link loses it, and
@@ -183,7 +183,7 @@ reading_by c since (Some l) x = record x { work = HasRead c (read_of since (stat
 abbrev pub listing_by : List ℕ → ℕ → ℤ → Option Life → Connection → Connection
 listing_by c id limit None x = x
 listing_by c id limit (Some l) x =
-    let found = listed_above 0 limit (state_of l) in record x { work = ToSay (Listed c id found.at found.low found.count) }
+    let found = listed_above 0 limit (state_of l) in record x { work = ToSay c (Listed c id found.at found.low found.count) }
 
 abbrev pub asks_shard : Site → Server → Work → Connection → Connection
 asks_shard site s (Began c id since) x = reading_by c since (life_of site s c) x
@@ -193,8 +193,8 @@ asks_shard site s other x = x
 -- what is asked is refused
 abbrev pub is_refused : ℕ → Work → Connection → Connection
 is_refused code (Began c id since) x = record x { work = ToGiveUp c id code }
-is_refused code (ToPublish c id d) x = record x { work = ToSay (Fails c id code) }
-is_refused code (ToList c id limit) x = record x { work = ToSay (Fails c id code) }
+is_refused code (ToPublish c id d) x = record x { work = ToSay c (Fails c id code) }
+is_refused code (ToList c id limit) x = record x { work = ToSay c (Fails c id code) }
 is_refused code other x = x
 
 -- ---- under a hub's lock, or where a worker reads a text
@@ -220,7 +220,7 @@ begins_by w id other rest x = x
 
 -- it leaves a channel
 abbrev pub leaves_by : ℕ → ClientRequest → List SentCommand → Connection → Connection
-leaves_by id (Unsubscribe c) rest x = record x { up = rest; session = leaves c x.session; work = ToSay (Left id) }
+leaves_by id (Unsubscribe c) rest x = record x { up = rest; session = leaves c x.session; work = ToSay c (Left id) }
 leaves_by id other rest x = x
 
 -- it is to publish, under this name, or to list
@@ -231,10 +231,10 @@ calls_by info id other rest x = x
 
 -- it refuses a subscribe, a publish or a history, or an unsubscribe from a channel that the session hasn't got
 abbrev pub refuses_by : ℕ → ℕ → ClientRequest → List SentCommand → Connection → Connection
-refuses_by code id (Unsubscribe c) rest x = if is_off (x.session.subs c) then record x { up = rest; work = ToSay (Fails c id code) } else x
-refuses_by code id (Subscribe c since) rest x = record x { up = rest; work = ToSay (Fails c id code) }
-refuses_by code id (PublishRequest c body) rest x = record x { up = rest; work = ToSay (Fails c id code) }
-refuses_by code id (History c limit) rest x = record x { up = rest; work = ToSay (Fails c id code) }
+refuses_by code id (Unsubscribe c) rest x = if is_off (x.session.subs c) then record x { up = rest; work = ToSay c (Fails c id code) } else x
+refuses_by code id (Subscribe c since) rest x = record x { up = rest; work = ToSay c (Fails c id code) }
+refuses_by code id (PublishRequest c body) rest x = record x { up = rest; work = ToSay c (Fails c id code) }
+refuses_by code id (History c limit) rest x = record x { up = rest; work = ToSay c (Fails c id code) }
 
 -- what was read reaches the hub; the subscription is finished in one of three ways, or given up; an answer is said
 abbrev pub read_done : Words → Work → Connection → Connection
@@ -255,12 +255,24 @@ abbrev pub drops : Connection → Connection
 drops x = if x.session.closed then record x { work = Free } else x
 
 abbrev pub gives_up : Work → Connection → Connection
-gives_up (ToGiveUp c id code) x = record x { session = leaves c x.session; work = ToSay (Fails c id code) }
+gives_up (ToGiveUp c id code) x = record x { session = leaves c x.session; work = ToSay c (Fails c id code) }
 gives_up other x = x
 
 abbrev pub says : Words → Work → Connection → Connection
-says w (ToSay n) x = record x { session = push w n x.session; work = Free }
+says w (ToSay c n) x = record x { session = push w n x.session; work = Free }
 says w other x = x
+
+-- an error is said in place of the answer, as where memory for its text is refused
+abbrev pub error_for : ℕ → List ℕ → Note → Note
+error_for code c (Put id) = Fails c id code
+error_for code c (Left id) = Fails c id code
+error_for code c (Listed d id at low count) = Fails c id code
+error_for code c (Fails d id other) = Fails d id code
+error_for code c n = n
+
+abbrev pub errs : ℕ → Work → Connection → Connection
+errs code (ToSay c n) x = record x { work = ToSay c (error_for code c n) }
+errs code other x = x
 
 -- something happens at a session that the hub still has
 abbrev pub at_session : (Session → Session) → Connection → Connection
@@ -400,6 +412,7 @@ pub data Section : Type 0 where
   GivesUp : (connection : ℕ) → Section
   Drops : (connection : ℕ) → Section
   Says : (connection : ℕ) → Section
+  Errs : (connection : ℕ) → (code : ℕ) → Section
   Takes : (connection : ℕ) → Section
   Detaches : (connection : ℕ) → (code : ℕ) → Section
   -- at a hub, by others
@@ -438,6 +451,7 @@ after site (FinishesAmid k count code) s = change k (breaks_off (words_of site s
 after site (GivesUp k) s = change k (gives_up (s.connections k).work) s
 after site (Drops k) s = change k drops s
 after site (Says k) s = change k (says (words_of site s) (s.connections k).work) s
+after site (Errs k code) s = change k (errs code (s.connections k).work) s
 after site (Takes k) s = change k takes s
 after site (Detaches k code) s = change k (detaches code) s
 after site (Delivers n) s = delivers_first site n (s.links n) s

@@ -1,11 +1,12 @@
 -- What the sections of a connection's worker make of the work in hand is what its script makes of the answers.
-use Rattle.std.proofs.Common.{◌≡◌, ℕ, ◌&&◌, ◌||◌, not, Bool, true, false, if◌then◌else◌, Option, Some, None, List, [], ◌∷◌, refl, sym, ap, ◌∙◌, subst}
+use Rattle.std.proofs.Common.{◌≡◌, ℕ, ◌&&◌, ◌||◌, not, Bool, true, false, if◌then◌else◌, Option, Some, List, [], ◌∷◌, refl, sym, ap, ◌∙◌, subst}
 use Rattle.std.specs.Prelude.{ℤ}
 use Rattle.cf_protocol.specs.Codes.{code_of}
 use Rattle.cf_protocol.specs.Datum.{Datum, Placed, Who}
 use Rattle.cf_protocol.specs.LogEntry.Entry.{Publish as PublishEntry}
-use Rattle.cf_protocol.specs.Note.{Fails, Left, Listed, Lists, Note, Put}
-use Rattle.cf_protocol.specs.Outgoing.{Failed, Past, Published, Unsubscribed}
+use Rattle.cf_protocol.specs.Note.{Close, End, Fails, Left, Listed, Lists, Note, PingDue, Pub, Put}
+use Rattle.cf_protocol.specs.Note as note
+use Rattle.cf_protocol.specs.Outgoing.{Answer as Reply, Failed, Past, Published, Unsubscribed}
 use Rattle.cf_protocol.specs.Position.{Position}
 use Rattle.cf_protocol.specs.declared.codes.ErrorCode.{ErrorCode}
 use Rattle.cf_stream.specs.PublicationList.{Life, state_of}
@@ -16,12 +17,11 @@ use Rattle.cf_session.specs.CommandScripts.{after_begin, after_finish, after_lea
 use Rattle.cf_session.specs.Script.{Script}
 use Rattle.cf_machine.specs.ClientLink.{finishes_over}
 use Rattle.cf_machine.specs.ClientRequest.{ClientRequest, SentCommand, Subscribe, Unsubscribe, Publish, History, request_of}
-use Rattle.cf_machine.specs.Session.{Words}
 use Rattle.cf_running.specs.Server as server
-use Rattle.cf_running.specs.Server.{AsksShard, Began, Begins, Calls, Connection, Finishes, FinishesOver, Free, GivesUp, HasRead, IsRefused, Leaves, Publishes, ReadDone, Refuses, Says, Server, Site, ToFinish, ToGiveUp, ToList, ToPublish, ToSay, Work, accepts, after, can_gain, change, life_of, lists_of, ran, words_of}
+use Rattle.cf_running.specs.Server.{AsksShard, Began, Begins, Calls, Connection, Errs, Finishes, FinishesOver, Free, GivesUp, HasRead, IsRefused, Leaves, Publishes, ReadDone, Refuses, Says, Server, Site, ToFinish, ToGiveUp, ToList, ToPublish, ToSay, Work, accepts, after, can_gain, change, life_of, lists_of, ran, words_of}
 use Rattle.cf_running.proofs.Beside.{at-same}
-use Rattle.cf_running_ties.specs.InHand.{AsksBroker, HasInHand, Hears, InHand, MayBeRefused, by_answer}
-use Rattle.cf_running_ties.specs.Reads.{IsListing}
+use Rattle.cf_running_ties.specs.InHand.{AsksBroker, HasInHand, Hears, InHand, MayBeRefused, by_answer, id_of}
+use Rattle.cf_running_ties.specs.Reads.{IsListing, SaysLater}
 
 module _ (site : Site) (s : Server) (k : ℕ) (who : Who) (next : Script) where
   abbrev x : Connection
@@ -52,7 +52,7 @@ module _ (site : Site) (s : Server) (k : ℕ) (who : Who) (next : Script) where
   refused c e h may =
       let f : SentCommand → List SentCommand → Connection → Connection = λ d. server.refuses_by (code_of e) d.id d.request in
       let is = heard c h f in
-      goes (server.hears_by f) (ToSay (Fails (channel c.request) c.id (code_of e))) (refuses c.id e next)
+      goes (server.hears_by f) (ToSay (channel c.request) (Fails (channel c.request) c.id (code_of e))) (refuses c.id e next)
       (ap (λ (y : Connection). y.work) is.1 ∙ by_request c.request may is.0)
       (c.id, Failed (code_of e), λ later g. refl, refl)
     where
@@ -62,9 +62,9 @@ module _ (site : Site) (s : Server) (k : ℕ) (who : Who) (next : Script) where
       channel (Publish d body) = d
       channel (History d limit) = d
 
-      by_request : (r : ClientRequest) → MayBeRefused x r → (rest : List SentCommand) → (server.refuses_by (code_of e) c.id r rest x).work ≡ ToSay (Fails (channel r) c.id (code_of e))
+      by_request : (r : ClientRequest) → MayBeRefused x r → (rest : List SentCommand) → (server.refuses_by (code_of e) c.id r rest x).work ≡ ToSay (channel r) (Fails (channel r) c.id (code_of e))
       by_request (Subscribe d since) m rest = refl
-      by_request (Unsubscribe d) m rest = ap (λ (b : Bool). (if b then record x { up = rest; work = ToSay (Fails d c.id (code_of e)) } else x).work) m
+      by_request (Unsubscribe d) m rest = ap (λ (b : Bool). (if b then record x { up = rest; work = ToSay d (Fails d c.id (code_of e)) } else x).work) m
       by_request (Publish d body) m rest = refl
       by_request (History d limit) m rest = refl
 
@@ -84,7 +84,7 @@ module _ (site : Site) (s : Server) (k : ℕ) (who : Who) (next : Script) where
   leaves c d a h r =
       let f : SentCommand → List SentCommand → Connection → Connection = λ q. server.leaves_by q.id q.request in
       let is = heard c h f in
-      goes (server.hears_by f) (ToSay (Left c.id)) (after_leave c.id next a)
+      goes (server.hears_by f) (ToSay d (Left c.id)) (after_leave c.id next a)
       (ap (λ (y : Connection). y.work) (is.1 ∙ ap (λ q. server.leaves_by c.id q is.0 x) r)) (c.id, Unsubscribed, λ later g. refl, refl)
 
   pub calls : (c : SentCommand) → Hears x c → AsksBroker c.request → HasInHand site (after site (Calls k (Some who)) s) k who next (granted who c.id (request_of c.request) next)
@@ -114,16 +114,16 @@ module _ (site : Site) (s : Server) (k : ℕ) (who : Who) (next : Script) where
           goes (server.is_refused (code_of e) x.work) (ToGiveUp c id (code_of e)) (f (Refused e)) (ap (λ w. (server.is_refused (code_of e) w x).work) i)
           (e, refl, ap (λ (g : Answer → Script). g (Refused e)) (sym (same (after_read id c next) f j)))
       by_work (ToPublish c id d) i j =
-          goes (server.is_refused (code_of e) x.work) (ToSay (Fails c id (code_of e))) (f (Refused e)) (ap (λ w. (server.is_refused (code_of e) w x).work) i)
+          goes (server.is_refused (code_of e) x.work) (ToSay c (Fails c id (code_of e))) (f (Refused e)) (ap (λ w. (server.is_refused (code_of e) w x).work) i)
           (id, Failed (code_of e), λ later g. refl, ap (λ (g : Answer → Script). g (Refused e)) (sym (same (replies id next) f j)))
       by_work (ToList c id limit) i j =
-          goes (server.is_refused (code_of e) x.work) (ToSay (Fails c id (code_of e))) (f (Refused e)) (ap (λ w. (server.is_refused (code_of e) w x).work) i)
+          goes (server.is_refused (code_of e) x.work) (ToSay c (Fails c id (code_of e))) (f (Refused e)) (ap (λ w. (server.is_refused (code_of e) w x).work) i)
           (id, Failed (code_of e), λ later g. refl, ap (λ (g : Answer → Script). g (Refused e)) (sym (same (replies id next) f j)))
       by_work Free i j = absurd (cc)
       by_work (HasRead c r) i j = absurd (cc)
       by_work (ToFinish c) i j = absurd (cc)
       by_work (ToGiveUp c id code) i j = absurd (cc)
-      by_work (ToSay n) i j = absurd (cc)
+      by_work (ToSay c n) i j = absurd (cc)
 
   pub reads : (c : List ℕ) (id : ℕ) (since : Option Position) (l : Life) → x.work ≡ Began c id since → life_of site s c ≡ Some l
       → HasInHand site (ran site s (AsksShard k ∷ ReadDone k ∷ [])) k who next (after_read id c next Done)
@@ -147,24 +147,24 @@ module _ (site : Site) (s : Server) (k : ℕ) (who : Who) (next : Script) where
   pub published : (c : List ℕ) (id : ℕ) (d : Datum) → x.work ≡ ToPublish c id d → can_gain site (PublishEntry c d) s ≡ true
       → HasInHand site (after site (Publishes k) s) k who next (replies id next (Found Published))
   published c id d w can =
-      let t : Server = change k (λ (y : Connection). record y { work = ToSay (Put id) }) (accepts site c d s) in
+      let t : Server = change k (λ (y : Connection). record y { work = ToSay c (Put id) }) (accepts site c d s) in
       let is : after site (Publishes k) s ≡ t = ap (λ z. server.publishes site k z s) w ∙ ap (λ (b : Bool). if b then t else s) can in
       subst (λ (v : Server). HasInHand site v k who next (replies id next (Found Published))) (sym is)
       (subst (λ z. InHand (lists_of site t) who next z (replies id next (Found Published)))
-      (sym (ap (λ (y : Connection). y.work) (at-same s.connections k (record x { work = ToSay (Put id) }))))
+      (sym (ap (λ (y : Connection). y.work) (at-same s.connections k (record x { work = ToSay c (Put id) }))))
       (id, Published, λ later g. refl, refl))
 
   pub listed : (c : List ℕ) (id : ℕ) (limit : ℤ) (p : Position) (items : List Placed) → x.work ≡ ToList c id limit → IsListing site s c limit p items
       → HasInHand site (after site (AsksShard k) s) k who next (replies id next (Found (Past p items)))
   listed c id limit p items w h =
       let found = listed_above 0 limit (state_of h.life) in
-      goes (server.asks_shard site s x.work) (ToSay (Listed c id found.at found.low found.count)) (replies id next (Found (Past p items)))
+      goes (server.asks_shard site s x.work) (ToSay c (Listed c id found.at found.low found.count)) (replies id next (Found (Past p items)))
       (ap (λ z. (server.asks_shard site s z x).work) w ∙ ap (λ o. (server.listing_by c id limit o x).work) h.stands)
       (id, Past p items, h.says id, refl)
 
   pub gives_up : (c : List ℕ) (id : ℕ) (e : ErrorCode) (a : Answer) → x.work ≡ ToGiveUp c id (code_of e) → HasInHand site (after site (GivesUp k) s) k who next (after_lost id e next a)
   gives_up c id e a w =
-      goes (server.gives_up x.work) (ToSay (Fails c id (code_of e))) (after_lost id e next a) (ap (λ z. (server.gives_up z x).work) w)
+      goes (server.gives_up x.work) (ToSay c (Fails c id (code_of e))) (after_lost id e next a) (ap (λ z. (server.gives_up z x).work) w)
       (id, Failed (code_of e), λ later g. refl, refl)
 
   pub finished : (c : List ℕ) (a : Answer) → x.work ≡ ToFinish c
@@ -174,5 +174,25 @@ module _ (site : Site) (s : Server) (k : ℕ) (who : Who) (next : Script) where
     goes (server.finishes_by (finishes_over (words_of site s)) x.work) Free next (ap (λ z. (server.finishes_by (finishes_over (words_of site s)) z x).work) w) refl,
   )
 
-  pub said : (n : Note) → x.work ≡ ToSay n → HasInHand site (after site (Says k) s) k who next next
-  said n w = goes (server.says (words_of site s) x.work) Free next (ap (λ z. (server.says (words_of site s) z x).work) w) refl
+  pub said : (c : List ℕ) (n : Note) → x.work ≡ ToSay c n → HasInHand site (after site (Says k) s) k who next next
+  said c n w = goes (server.says (words_of site s) x.work) Free next (ap (λ z. (server.says (words_of site s) z x).work) w) refl
+
+  -- an error in place of an answer
+  pub errs : (c : List ℕ) (n : Note) (id : ℕ) (e : ErrorCode) → x.work ≡ ToSay c n → id_of n ≡ Some id → HasInHand site (after site (Errs k (code_of e)) s) k who next (refuses id e next)
+  errs c n id e w i =
+      goes (server.errs (code_of e) x.work) (ToSay c (server.error_for (code_of e) c n)) (refuses id e next) (ap (λ z. (server.errs (code_of e) z x).work) w)
+      (id, Failed (code_of e), by_note n i, refl)
+    where
+      as_id : (i j : ℕ) → ◌≡◌ {A = Option ℕ} (Some i) (Some j) → i ≡ j
+      as_id i j h = cc
+
+      by_note : (m : Note) → id_of m ≡ Some id → SaysLater lists (server.error_for (code_of e) c m) (Reply id (Failed (code_of e)))
+      by_note (Put j) h later g = ap (λ z. Some (Reply z (Failed (code_of e)))) (as_id j id h)
+      by_note (Left j) h later g = ap (λ z. Some (Reply z (Failed (code_of e)))) (as_id j id h)
+      by_note (Listed d j at low count) h later g = ap (λ z. Some (Reply z (Failed (code_of e)))) (as_id j id h)
+      by_note (Fails d j other) h later g = ap (λ z. Some (Reply z (Failed (code_of e)))) (as_id j id h)
+      by_note (note.Reply d j was r) h later g = absurd (cc)
+      by_note (Pub d q) h later g = absurd (cc)
+      by_note (End d) h later g = absurd (cc)
+      by_note PingDue h later g = absurd (cc)
+      by_note (Close code) h later g = absurd (cc)

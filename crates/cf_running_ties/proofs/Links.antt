@@ -233,7 +233,7 @@ module _
 
   module _ (k : ℕ) (c : List ℕ) (d : Datum) (p : Position) (a : IsAnswered site s k c d p) where
     abbrev t : Server
-    t = change k (λ (x : Connection). record x { work = ToSay (Put a.id) }) (accepts site c d s)
+    t = change k (λ (x : Connection). record x { work = ToSay c (Put a.id) }) (accepts site c d s)
 
     run-is : ran site start (sections ++ Publishes k ∷ []) ≡ t
     run-is =

@@ -1,15 +1,17 @@
 -- A hub stays beside its node where one session changes, comes or goes, and where something happens elsewhere.
-use Rattle.std.proofs.Common.{◌≡◌, ◌≢◌, inl, inr, ◌<◌, ◌≤◌, ℕ, ◌+◌, nat_lt, Bool, true, false, if◌then◌else◌, Option, Some, None, List, refl, sym, ap, ◌∙◌, subst, arith}
+use Rattle.std.proofs.Common.{◌≡◌, ◌≢◌, inl, inr, ◌<◌, ◌≤◌, ℕ, ◌+◌, nat_lt, Bool, true, false, if◌then◌else◌, Option, Some, None, List, [], ◌∷◌, option_map, refl, sym, ap, ◌∙◌, subst, arith}
 use Rattle.cf_protocol.specs.Note as note
-use Rattle.cf_hub.specs.Hub.{Node, Opens, OthersStay, attached_at, client_id, empty, fresh}
+use Rattle.cf_hub.specs.AlikeMoves.{Notes, Texts}
+use Rattle.cf_hub.specs.Hub.{InState, Meets, Node, One, moves as moved_by, Opens, OthersStay, attached_at, client_id, empty, fresh}
 use Rattle.cf_hub.specs.Session.{Attached}
 use Rattle.cf_hub.specs.SessionState.{closes_now, opens}
+use Rattle.cf_hub.specs.WantOfMemory.{Both}
 use Rattle.cf_running.specs.Server as server
-use Rattle.cf_running.specs.Server.{Attaches, Connection, Detaches, Section, Server, Site, Wanders, after, at_number, change, lists_of, nowhere, start}
+use Rattle.cf_running.specs.Server.{Attaches, Closes, Connection, Detaches, Section, Server, Site, Wanders, after, at_number, at_session, change, lists_of, nowhere, start}
 use Rattle.cf_protocol.specs.Names.{with}
 use Rattle.cf_running.proofs.Beside.{at-other, at-same, number_tells}
-use Rattle.cf_running_ties.specs.HubAsides.{MovesAmong}
-use Rattle.cf_running_ties.specs.Nodes.{ConnectedBy, IsConnected, IsHubOf, IsUntouched, Says}
+use Rattle.cf_running_ties.specs.HubAsides.{KeepSaying, MovesAmong, MovesOrCloses}
+use Rattle.cf_running_ties.specs.Nodes.{ConnectedBy, IsConnected, IsHubOf, IsUntouched, Moves, MovesBehindClose, Says}
 use Rattle.cf_running_ties.proofs.AmongGrows.{among-grows}
 use Rattle.cf_running_ties.proofs.Growing.{Any, Grows, any-section, grown-lists, grows}
 
@@ -87,6 +89,85 @@ module _ (is_aside : List ℕ → Bool) (site : Site) (s : Server) (n : ℕ) (nu
     where
       here : at_number s.connections k (f (s.connections k)) k ≡ f (s.connections k)
       here = at-same s.connections k (f (s.connections k))
+
+  -- the session of a number that has a connection
+  its_session : (a : Option Attached) (o : Option ℕ) → ConnectedBy is_aside site s n a o → (k : ℕ) → o ≡ Some k → (b : Attached) × (a ≡ Some b) × IsConnected is_aside site s n k b
+  its_session None None c k e = absurd (cc)
+  its_session None (Some i) c k e = absurd c
+  its_session (Some a) None c k e = absurd (cc)
+  its_session (Some a) (Some i) c k e = (a, refl, subst (λ z. IsConnected is_aside site s n z a) (some_is i k e) c)
+
+  -- it makes a move
+  pub moves : (new : Node) (j k : ℕ) (f : Texts → Texts) (g : Notes → Notes) (t : Connection → Connection) → numbers j ≡ Some k → One j f old new
+      → KeepSaying (λ text. is_aside text ≡ true) (lists_of site s) f g → Moves g t → IsHubOf is_aside site (change k t s) n numbers new
+  moves new j k f g t at o keep m =
+      let b = its_session (attached_at old j) (numbers j) (h.each j) k at in
+      let c = b.2 in
+      let x : Connection = s.connections k in
+      one new j k t (moved_by f b.0) at o.others (o.here ∙ ap (option_map (moved_by f)) b.1) (m.node x ∙ c.here) (m.attached x ∙ c.attached)
+      (subst (λ z. Says is_aside (lists_of site s) (f b.0.state) z) (sym (m.session x c.attached)) (keep b.0.state x.session c.says))
+
+  -- it is closed, and then makes a move
+  closed_move : (code : ℕ) (g : Notes → Notes) (t : Connection → Connection) → Moves g t → Moves (λ z. g (closes_now (note.Close code) z)) (λ y. t (at_session (closes_now (note.Close code)) y))
+  closed_move code g t m = record {
+    node = λ y. m.node (close y) ∙ (place y.attached y).0;
+    attached = λ y. m.attached (close y) ∙ (place y.attached y).1;
+    session = λ y e. m.session (close y) ((place y.attached y).1 ∙ e) ∙ ap (λ (b : Bool). g (if b then record y { session = closes_now (note.Close code) y.session } else y).session) e;
+  }
+    where
+      close : Connection → Connection
+      close y = at_session (closes_now (note.Close code)) y
+
+      place : (b : Bool) (y : Connection) → ((if b then record y { session = closes_now (note.Close code) y.session } else y).node ≡ y.node)
+          × ((if b then record y { session = closes_now (note.Close code) y.session } else y).attached ≡ y.attached)
+      place true y = (refl, refl)
+      place false y = (refl, refl)
+
+  -- two changes of one connection are one
+  twice : (k : ℕ) (u t : Connection → Connection) → change k t (change k u s) ≡ change k (λ y. t (u y)) s
+  twice k u t i = record s { connections = λ m. at m i }
+    where
+      mid : ℕ → Connection
+      mid = at_number s.connections k (u (s.connections k))
+
+      at : (m : ℕ) → at_number mid k (t (mid k)) m ≡ at_number s.connections k (t (u (s.connections k))) m
+      at m = elim (number_tells m k) [
+        | inl e ↦
+            ap (at_number mid k (t (mid k))) e.1 ∙ at-same mid k (t (mid k)) ∙ ap t (at-same s.connections k (u (s.connections k)))
+            ∙ sym (ap (at_number s.connections k (t (u (s.connections k)))) e.1 ∙ at-same s.connections k (t (u (s.connections k))))
+        | inr e ↦ at-other mid k (t (mid k)) m e.1 ∙ at-other s.connections k (u (s.connections k)) m e.1 ∙ sym (at-other s.connections k (t (u (s.connections k))) m e.1)
+      ]
+
+  -- it meets a call that may want memory
+  pub meets : (new : Node) (j k : ℕ) (R : Bool → Texts → Texts → Type 0) (g : Notes → Notes) (t : Connection → Connection) → numbers j ≡ Some k → Meets j R old new
+      → ((hit : Bool) (a to : Texts) (b : Notes) → Says is_aside (lists_of site s) a b → R hit a to → MovesOrCloses (λ text. is_aside text ≡ true) (lists_of site s) g to b)
+      → Moves g t → MovesBehindClose is_aside site s n k numbers t new
+  meets new j k R g t at o r m =
+      let b = its_session (attached_at old j) (numbers j) (h.each j) k at in
+      by_new (attached_at new j) refl b.0 b.2 (subst (λ z. Both (InState (R o.hit)) z (attached_at new j)) b.1 o.here)
+    where
+      x : Connection
+      x = s.connections k
+
+      by_new : (y : Option Attached) → attached_at new j ≡ y → (a : Attached) → IsConnected is_aside site s n k a → Both (InState (R o.hit)) (Some a) y → MovesBehindClose is_aside site s n k numbers t new
+      by_new None e a c both = absurd both
+      by_new (Some y) e a c both =
+          elim (r o.hit a.state y.state x.session c.says both.0) [
+            | inl says ↦ record {
+              closes = [];
+              are = tt;
+              is = one new j k t y at o.others e (m.node x ∙ c.here) (m.attached x ∙ c.attached) (subst (λ z. Says is_aside (lists_of site s) y.state z) (sym (m.session x c.attached)) says);
+            }
+            | inr says ↦
+                let u : Connection → Connection = at_session (closes_now (note.Close says.0)) in
+                let v = closed_move says.0 g t m in record {
+                  closes = Closes k says.0 ∷ [];
+                  are = (tt, tt);
+                  is = subst (λ (z : Server). IsHubOf is_aside site z n numbers new) (sym (twice k u t))
+                      (one new j k (λ z. t (u z)) y at o.others e (v.node x ∙ c.here) (v.attached x ∙ c.attached)
+                      (subst (λ z. Says is_aside (lists_of site s) y.state z) (sym (v.session x c.attached)) says.1));
+                }
+          ]
 
   -- ---- one comes
 

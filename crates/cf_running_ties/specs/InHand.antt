@@ -3,7 +3,7 @@
 use Rattle.std.specs.Prelude.{◌≡◌, ⊤, ℕ, true, Option, Some, None, List, ◌∷◌}
 use Rattle.cf_protocol.specs.Codes.{code_of}
 use Rattle.cf_protocol.specs.Datum.{Who}
-use Rattle.cf_protocol.specs.Note.{Lists}
+use Rattle.cf_protocol.specs.Note.{Fails, Left, Listed, Lists, Note, Put}
 use Rattle.cf_protocol.specs.Outgoing.{Answer as Reply, Outcome}
 use Rattle.cf_protocol.specs.declared.codes.ErrorCode.{ErrorCode}
 use Rattle.cf_hub.specs.SessionState.{is_off}
@@ -24,7 +24,7 @@ InHand lists who after (ToFinish c) script = script ≡ Ask (Finish c) (after_fi
 InHand lists who after (ToGiveUp c id code) script = (e : ErrorCode) × (code ≡ code_of e) × (script ≡ Ask (Leave c) (after_lost id e after))
 InHand lists who after (ToPublish c id d) script = (d.info ≡ Some who) × (script ≡ Ask (PublishCall c d.body who) (replies id after))
 InHand lists who after (ToList c id limit) script = script ≡ Ask (ListCall c limit None) (replies id after)
-InHand lists who after (ToSay n) script = (id : ℕ) × (outcome : Outcome) × SaysLater lists n (Reply id outcome) × (script ≡ Say id outcome after)
+InHand lists who after (ToSay c n) script = (id : ℕ) × (outcome : Outcome) × SaysLater lists n (Reply id outcome) × (script ≡ Say id outcome after)
 
 abbrev pub HasInHand : Site → Server → ℕ → Who → (after : Script) → Script → Type 0
 HasInHand site s k who after script = InHand (lists_of site s) who after (s.connections k).work script
@@ -56,3 +56,11 @@ by_answer after (Began c id since) = Some (after_read id c after)
 by_answer after (ToPublish c id d) = Some (replies id after)
 by_answer after (ToList c id limit) = Some (replies id after)
 by_answer after other = None
+
+-- the command that an answer answers
+abbrev pub id_of : Note → Option ℕ
+id_of (Put id) = Some id
+id_of (Left id) = Some id
+id_of (Listed c id at low count) = Some id
+id_of (Fails c id code) = Some id
+id_of other = None

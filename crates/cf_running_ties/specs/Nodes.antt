@@ -5,7 +5,7 @@ use Rattle.cf_protocol.specs.Note.{Lists}
 use Rattle.cf_hub.specs.AlikeMoves.{Notes, Texts}
 use Rattle.cf_hub.specs.Hub.{Node, attached_at}
 use Rattle.cf_hub.specs.Session.{Attached}
-use Rattle.cf_running.specs.Server.{Closes, Connection, Pings, Section, Server, Site, lists_of, ran}
+use Rattle.cf_running.specs.Server.{Closes, Connection, Pings, Section, Server, Site, change, lists_of, ran}
 use Rattle.cf_running_ties.specs.HubAsides.{SaysAmong}
 
 -- what a session of texts says among such asides are the notes of the other
@@ -60,3 +60,17 @@ pub record IsUntouched (n : ℕ) (old new : Connection) : Type 0 where
   pub node : new.node ≡ old.node
   pub attached : new.attached ≡ old.attached
   pub session : old.node ≡ n → new.session ≡ old.session
+
+-- ---- the sections of a call for one session
+
+-- what a section makes of a connection is this move of its session, while it is attached; where it is stays
+pub record Moves (g : Notes → Notes) (t : Connection → Connection) : Type 0 where
+  pub node : (y : Connection) → (t y).node ≡ y.node
+  pub attached : (y : Connection) → (t y).attached ≡ y.attached
+  pub session : (y : Connection) → y.attached ≡ true → (t y).session ≡ g y.session
+
+-- connection k makes it, perhaps after it was closed, and the hub is the node's
+pub record MovesBehindClose (is_aside : List ℕ → Bool) (site : Site) (s : Server) (n k : ℕ) (numbers : ℕ → Option ℕ) (t : Connection → Connection) (hub : Node) : Type 0 where
+  pub closes : List Section
+  pub are : AllByRecursion IsClose closes
+  pub is : IsHubOf is_aside site (change k t (ran site s closes)) n numbers hub

@@ -1,11 +1,15 @@
 //! What the contracts of a hub say of all sessions of a node.
 ghost use Rattle.std.specs.Prelude.{◌≡◌, nat_lt, Bool, None, Some, true, ℕ, List, Option};
-ghost use Rattle.cf_hub.specs.Hub.{Delivers as HubDelivers, Node, Opens, OthersStay, Ticks, attached_at, empty};
+ghost use Rattle.cf_hub.specs.AlikeMoves.{Notes, Texts};
+ghost use Rattle.cf_hub.specs.Hub.{Delivers as HubDelivers, Meets, Node, One, Opens, OthersStay, Ticks, attached_at, empty};
 ghost use Rattle.cf_hub.specs.Session.{Attached};
+ghost use Rattle.cf_hub.specs.WantOfMemory.{OrCloses};
+ghost use Rattle.cf_hub.specs.Wordings.{plain};
 ghost use Rattle.cf_shard.specs.Delivery.{Carried};
 ghost use Rattle.cf_running.specs.Server.{Attaches, Connection, Delivers, Detaches, Section, Server, Site, Wanders, after, at_number, change, is_free, lists_of, start};
+ghost use Rattle.cf_running_ties.specs.HubAsides.{KeepSaying, MovesOrCloses};
 ghost use Rattle.cf_running_ties.specs.Links.{IsFirst};
-ghost use Rattle.cf_running_ties.specs.Nodes.{ClosesAnd, ClosesAndPings, IsHubOf, IsUntouched, Says};
+ghost use Rattle.cf_running_ties.specs.Nodes.{ClosesAnd, ClosesAndPings, IsHubOf, IsUntouched, Moves, MovesBehindClose, Says};
 
 use crate::laws::hub_moves_are_sections;
 
@@ -62,3 +66,24 @@ pub fn hubs_stay_beside_their_nodes()
 {
     hub_moves_are_sections();
 }
+
+/// What the contract of a call says of one session of a hub is what a section makes of its connection,
+/// perhaps behind a close. By `hub_moves_are_sections` it is so of each move and of each meeting that a
+/// contract of `Hub` states.
+pub fn calls_for_one_session_are_sections()
+    ensures moves { (is_aside : List ℕ → Bool) (site : Site) (server : Server) (n j k : ℕ)
+        (numbers : ℕ → Option ℕ) (old new : Node) (f : Texts → Texts) (g : Notes → Notes)
+        (t : Connection → Connection)
+        → IsHubOf is_aside site server n numbers old → numbers j ≡ Some k → One j f old new
+        → KeepSaying (λ text. is_aside text ≡ true) (lists_of site server) f g → Moves g t
+        → IsHubOf is_aside site (change k t server) n numbers new }
+    ensures meets { (is_aside : List ℕ → Bool) (site : Site) (server : Server) (n j k : ℕ)
+        (numbers : ℕ → Option ℕ) (old new : Node) (f : Texts → Texts) (g : Notes → Notes)
+        (t : Connection → Connection)
+        → IsHubOf is_aside site server n numbers old → numbers j ≡ Some k
+        → Meets j (λ hit. OrCloses hit plain f) old new
+        → ((hit : Bool) (a to : Texts) (b : Notes)
+        → Says is_aside (lists_of site server) a b → OrCloses hit plain f a to
+        → MovesOrCloses (λ text. is_aside text ≡ true) (lists_of site server) g to b) → Moves g t
+        → MovesBehindClose is_aside site server n k numbers t new }
+{}

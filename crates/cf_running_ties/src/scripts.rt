@@ -13,8 +13,8 @@ ghost use Rattle.cf_session.specs.Calls.{Answer, Done, Found, Refused};
 ghost use Rattle.cf_session.specs.CommandScripts.{after_begin, after_finish, after_leave, after_lost, after_read, granted, refuses, replies};
 ghost use Rattle.cf_session.specs.Script.{Script};
 ghost use Rattle.cf_machine.specs.ClientRequest.{SentCommand, Subscribe, Unsubscribe, request_of};
-ghost use Rattle.cf_running.specs.Server.{AsksShard, Began, Begins, Calls, Finishes, FinishesOver, GivesUp, IsRefused, Leaves, Publishes, ReadDone, Refuses, Says, Server, Site, ToFinish, ToGiveUp, ToList, ToPublish, ToSay, after, can_gain, life_of, ran};
-ghost use Rattle.cf_running_ties.specs.InHand.{AsksBroker, HasInHand, Hears, MayBeRefused, by_answer};
+ghost use Rattle.cf_running.specs.Server.{AsksShard, Began, Begins, Calls, Errs, Finishes, FinishesOver, GivesUp, IsRefused, Leaves, Publishes, ReadDone, Refuses, Says, Server, Site, ToFinish, ToGiveUp, ToList, ToPublish, ToSay, after, can_gain, life_of, ran};
+ghost use Rattle.cf_running_ties.specs.InHand.{AsksBroker, HasInHand, Hears, MayBeRefused, by_answer, id_of};
 ghost use Rattle.cf_running_ties.specs.Reads.{IsListing};
 
 /// Where a session's script begins a command, a section takes it in hand: what the script goes on with,
@@ -43,7 +43,8 @@ pub fn commands_are_taken_in_hand()
 {}
 
 /// What a worker has in hand goes as its session's script: by each answer of broker and hub, a section
-/// makes of it what the script goes on with, until the reply is said and the worker is free.
+/// makes of it what the script goes on with, until the reply is said and the worker is free; and where
+/// memory for a reply is refused, an error takes its place.
 pub fn work_goes_as_the_script()
     ensures refused { (site : Site) (server : Server) (k : ℕ) (who : Who) (next : Script)
         (e : ErrorCode) (f : Answer → Script)
@@ -76,7 +77,12 @@ pub fn work_goes_as_the_script()
         → (server.connections k).work ≡ ToFinish channel
         → HasInHand site (after site (Finishes k) server) k who next (after_finish next answer)
         × HasInHand site (after site (FinishesOver k) server) k who next (after_finish next answer) }
-    ensures said { (site : Site) (server : Server) (k : ℕ) (who : Who) (next : Script) (n : Note)
-        → (server.connections k).work ≡ ToSay n
+    ensures fails { (site : Site) (server : Server) (k : ℕ) (who : Who) (next : Script)
+        (channel : List ℕ) (n : Note) (id : ℕ) (e : ErrorCode)
+        → (server.connections k).work ≡ ToSay channel n → id_of n ≡ Some id
+        → HasInHand site (after site (Errs k (code_of e)) server) k who next
+        (refuses id e next) }
+    ensures said { (site : Site) (server : Server) (k : ℕ) (who : Who) (next : Script)
+        (channel : List ℕ) (n : Note) → (server.connections k).work ≡ ToSay channel n
         → HasInHand site (after site (Says k) server) k who next next }
 {}

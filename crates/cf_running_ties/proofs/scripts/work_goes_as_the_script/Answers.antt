@@ -1,4 +1,4 @@
-use Rattle.cf_running_ties.proofs.Handling.{broker_refuses, finished, gives_up, listed, published, reads, said}
+use Rattle.cf_running_ties.proofs.Handling.{broker_refuses, errs, finished, gives_up, listed, published, reads, said}
 use Rattle.cf_running_ties.proofs.scripts.work_goes_as_the_script.Goals as goal
 
 pub returns-clause-refused : goal.returns-clause-refused
@@ -21,3 +21,6 @@ returns-clause-finished c = finished
 
 pub returns-clause-said : goal.returns-clause-said
 returns-clause-said c = said
+
+pub returns-clause-fails : goal.returns-clause-fails
+returns-clause-fails c = errs
