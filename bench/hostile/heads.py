@@ -3,7 +3,8 @@
 
 One connection sends 16,384 bytes of a head without a blank line, and is dropped at once, with no answer. Another sends its head in
 three pieces, a tenth of a second apart, and its first frame in one write with the last of them: it is shaken hands with and answered.
-A third sends one byte less than the longest head, and is answered; a fourth a request that isn't one, and is dropped.
+A third sends one byte less than the longest head, and is answered. What is no handshake is told so, and dropped once it was read: bytes
+that are no request, with 200,000 more behind them, by 400, and a request without an upgrade by 426. `/health` is answered by 200.
 """
 import time
 
@@ -48,6 +49,14 @@ def is_answered(got):
     return got.startswith(b"HTTP/1.1 101 ") and b'"connect":{"client":' in got
 
 
+# What a request gets that opens no WebSocket: the words, the request, how the answer begins and how it ends.
+TOLD = [
+    ("no request, and more behind it", b"no request\r\n\r\n" + b"x" * 200_000, b"HTTP/1.1 400 ", b"\r\n\r\nbad request\n"),
+    ("a request without an upgrade", b"GET / HTTP/1.1\r\nHost: x\r\n\r\n", b"HTTP/1.1 426 ", b"\r\n\r\nupgrade required\n"),
+    ("the health", b"GET /health HTTP/1.0\r\n\r\n", b"HTTP/1.1 200 ", b"\r\n\r\nok"),
+]
+
+
 def check(program, seconds):
     with Server(program) as server:
         stays = Peer(server.port)
@@ -62,13 +71,14 @@ def check(program, seconds):
         got, _ = answer(server.port, [head_of(LONGEST - 1) + HELLO])
         if not is_answered(got):
             faults.append(f"a head of 16,383 bytes: {got[:60]!r}")
-        got, ended = answer(server.port, [b"no request\r\n\r\n"])
-        if got.startswith(b"HTTP/1.1 101 ") or not ended:
-            faults.append(f"no request: {got[:40]!r}, {'dropped' if ended else 'not dropped'}")
+        for words, request, begins, ends in TOLD:
+            got, ended = answer(server.port, [request])
+            if not (got.startswith(begins) and got.endswith(ends) and ended):
+                faults.append(f"{words}: {got[:40]!r}, {'dropped' if ended else 'not dropped'}")
         stays.send({"ping": {}})
         if stays.code is not None:
             faults.append("a client beside them was closed")
-    return not faults, "; ".join(faults) or "16,384 bytes without a blank line are dropped, a head in three pieces with a frame behind it is answered, so is one of 16,383 bytes"
+    return not faults, "; ".join(faults) or "16,384 bytes without a blank line are dropped, a head in three pieces with a frame behind it is answered, so is one of 16,383 bytes; 400, 426 and the health are told"
 
 
 if __name__ == "__main__":

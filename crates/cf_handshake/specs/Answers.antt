@@ -14,13 +14,16 @@ abbrev pub protocol_line : Bool → List ℕ
 protocol_line true = field_line (codes "Sec-WebSocket-Protocol") (codes "centrifuge-json")
 protocol_line false = []
 
+-- what stands behind the key
+abbrev pub opening_end : Bool → List ℕ
+opening_end offers_json = crlf ++ protocol_line offers_json ++ crlf
+
 abbrev pub opening_text : Opening → List ℕ
 opening_text opening =
     status_line (codes "101 Switching Protocols")
     ++ field_line (codes "Upgrade") (codes "websocket")
     ++ field_line (codes "Connection") (codes "Upgrade")
-    ++ field_line (codes "Sec-WebSocket-Accept") opening.accept
-    ++ protocol_line opening.offers_json ++ crlf
+    ++ codes "Sec-WebSocket-Accept: " ++ opening.accept ++ opening_end opening.offers_json
 
 -- an answer with a body, after which the connection is closed
 abbrev pub closing_text : List ℕ → List ℕ → List ℕ → List ℕ → List ℕ

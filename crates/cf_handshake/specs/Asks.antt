@@ -11,7 +11,7 @@ use Rattle.cf_handshake.specs.declared.answer.Refusal.TheVariants.{BadRequest, U
 use Rattle.cf_handshake.specs.declared.asked.Asked.{Asked}
 use Rattle.cf_handshake.specs.declared.asked.Asked.TheVariants.{Socket, Health, Refused}
 
--- a request's parts: of its version the minor number, and of each line the name, and the value without the white space around it
+-- a request's parts: of its version the minor number, of each line the name and the value without the white space around it
 pub record Request : Type 0 where
   pub method : List ℕ
   pub target : List ℕ
@@ -69,7 +69,8 @@ offers_json lines = lists Matters (codes "centrifuge-json") lines (codes "Sec-We
 -- a valid key opens a WebSocket by the key that answers it
 abbrev pub AsksWithKey : Option (List ℕ) → Bool → Asked → Type 0
 AsksWithKey None json asked = asked ≡ Refused BadRequest
-AsksWithKey (Some key) json (Socket opening) = IsValidKey key × (opening.accept ≡ accept_key_of key) × (opening.offers_json ≡ json)
+AsksWithKey (Some key) json (Socket opening) =
+    IsValidKey key × (opening.accept ≡ accept_key_of key) × (opening.offers_json ≡ json)
 AsksWithKey (Some key) json Health = ⊥
 AsksWithKey (Some key) json (Refused refusal) = ¬ (IsValidKey key) × (refusal ≡ BadRequest)
 
@@ -77,8 +78,8 @@ AsksWithKey (Some key) json (Refused refusal) = ¬ (IsValidKey key) × (refusal 
 abbrev pub AsksByKey : Fields → Asked → Type 0
 AsksByKey lines asked = AsksWithKey (only_value lines (codes "Sec-WebSocket-Key")) (offers_json lines) asked
 
--- the first rule that is broken decides: 1. `GET`, and one host; 2. where no line asks for an upgrade, the path; 3. HTTP/1.1, an upgrade
--- to `websocket`; 4. version 13; 5. one key, base64 of sixteen bytes
+-- the first rule that is broken decides: 1. `GET`, and one host; 2. where no line asks for an upgrade, the path; 3. HTTP/1.1, and
+-- an upgrade to `websocket`; 4. version 13; 5. one key, the base64 of sixteen bytes
 abbrev pub Asks : Request → Asked → Type 0
 Asks r asked =
     cond (not (bytes_eq r.method (codes "GET")) || not (has_host r.minor r.lines)) (asked ≡ Refused BadRequest)

@@ -1,6 +1,6 @@
 //! The texts that answer the head of a request.
 ghost use Rattle.std.specs.Prelude.{◌≡◌, IfOk};
-ghost use Rattle.cf_handshake.specs.Answers.{health_text, opening_text, refusal_text};
+ghost use Rattle.cf_handshake.specs.Answers.{health_text, opening_end, opening_text, refusal_text};
 
 use std::alloc::{AllocError, Global};
 
@@ -28,16 +28,23 @@ impl Opening {
         ensures { IfOk result (λ text. text.items ≡ opening_text self.now) }
     {
         let mut text = Vec::new(alloc);
-        text.extend_from_slice(b"HTTP/1.1 101 Switching Protocols\r\n")?;
-        text.extend_from_slice(b"Upgrade: websocket\r\nConnection: Upgrade\r\n")?;
-        text.extend_from_slice(b"Sec-WebSocket-Accept: ")?;
+        text.extend_from_slice(
+            b"HTTP/1.1 101 Switching Protocols\r\nUpgrade: websocket\r\nConnection: Upgrade\r\nSec-WebSocket-Accept: ",
+        )?;
         text.extend_from_slice(&self.accept)?;
-        text.extend_from_slice(b"\r\n")?;
-        if self.offers_json {
-            text.extend_from_slice(b"Sec-WebSocket-Protocol: centrifuge-json\r\n")?;
-        }
-        text.extend_from_slice(b"\r\n")?;
+        text.extend_from_slice(self.end())?;
         Ok(text)
+    }
+
+    // The lines behind the key.
+    fn end(&self) -> &'static [u8]
+        ensures { result.now ≡ opening_end self.now.offers_json }
+    {
+        if self.offers_json {
+            b"\r\nSec-WebSocket-Protocol: centrifuge-json\r\n\r\n"
+        } else {
+            b"\r\n\r\n"
+        }
     }
 }
 

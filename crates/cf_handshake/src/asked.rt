@@ -46,8 +46,9 @@ fn asked_by(head: &[u8], found: &RequestSpans, lines: &[HeaderSpan]) -> Asked
     requires method { IsWithin (length head.now) found.now.method }
     requires path { IsWithin (length head.now) found.now.path }
     requires lines { All (IsHeaderWithin (length head.now)) lines.now }
-    ensures { Asks (request (span_bytes head.now found.now.method) (span_bytes head.now found.now.path)
-        found.now.version (fields_of head.now lines.now)) result }
+    ensures { Asks (request (span_bytes head.now found.now.method)
+        (span_bytes head.now found.now.path) found.now.version (fields_of head.now lines.now))
+        result }
 {
     if found.method.of(head) != b"GET".as_slice() || !has_host(head, lines, found.version) {
         return Asked::Refused(Refusal::BadRequest);

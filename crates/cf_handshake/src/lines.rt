@@ -38,7 +38,8 @@ pub(crate) fn has_line(head: &[u8], lines: &[HeaderSpan], name: &[u8]) -> bool
 /// The value of the one line with this name: `None` where there is none, or where there are several.
 pub(crate) fn only_value<'h>(head: &'h [u8], lines: &[HeaderSpan], name: &[u8]) -> Option<&'h [u8]>
     requires { All (IsHeaderWithin (length head.now)) lines.now }
-    ensures { option_map (λ v. v.now) result ≡ only_value (fields_of head.now lines.now) name.now }
+    ensures { option_map (λ v. v.now) result
+        ≡ only_value (fields_of head.now lines.now) name.now }
 {
     let mut found = None;
     for line in lines {
