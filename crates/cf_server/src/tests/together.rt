@@ -109,64 +109,30 @@ where
     let _ = node.run(rt, broker, passes, gate, stop);
 }
 
-// The task is done, and then the nodes are to stop.
-fn run_and_stop<R: Net + AllocGlobal, T: Task>(
-    rt: &R,
-    task: &T,
-    addresses: (SocketAddr, SocketAddr),
-    stop: &AtomicU64,
-) -> bool {
-    let is_so = task.run(rt, addresses);
-    stop.store(1, Ordering::SeqCst);
-    is_so
-}
-
-// Runs the second node while the task is done.
-fn run_second<N, R, T>(
-    rt: &R,
-    broker: &Broker<N, BootEpochs>,
-    gate: &AllFour,
-    theirs: Ready<'_, N>,
-    task: &T,
-    addresses: (SocketAddr, SocketAddr),
-    stop: &AtomicU64,
-) -> bool
-where
-    N: Naming + Send + Sync,
-    R: Threads + Wait + Clock + Net + AllocGlobal + Sync,
-    T: Task + Sync,
-{
-    let done = thread::join(
-        rt,
-        || serve(rt, broker, gate, theirs, stop),
-        || run_and_stop(rt, task, addresses, stop),
-    );
-    done.1
-}
-
-// Runs two nodes while the task is done.
+// Runs two nodes while the task is done, after which they are to stop.
 fn run_two<N, R, T>(
     rt: &R,
     broker: &Broker<N, BootEpochs>,
     gate: &AllFour,
-    ours: Ready<'_, N>,
-    theirs: Ready<'_, N>,
+    nodes: (Ready<'_, N>, Ready<'_, N>),
     task: &T,
     addresses: (SocketAddr, SocketAddr),
 ) -> bool
 where
     N: Naming + Send + Sync,
     R: Threads + Wait + Clock + Net + AllocGlobal + Sync,
-    T: Task + Sync,
+    T: Task,
 {
+    let (ours, theirs) = nodes;
     let stop = AtomicU64::new(0);
     let stop = &stop;
-    let done = thread::join(
-        rt,
-        || serve(rt, broker, gate, ours, stop),
-        || run_second(rt, broker, gate, theirs, task, addresses, stop),
-    );
-    done.1
+    thread::scope(thread::scope_env(), rt, |scope| {
+        let ours = scope.spawn(move || serve(rt, broker, gate, ours, stop));
+        let theirs = scope.spawn(move || serve(rt, broker, gate, theirs, stop));
+        let is_so = ours.is_ok() && theirs.is_ok() && task.run(rt, addresses);
+        stop.store(1, Ordering::SeqCst);
+        is_so
+    })
 }
 
 // The same with passes for each, behind a gate that lets all four workers on at once.
@@ -182,13 +148,12 @@ fn run_gated<N, R, T>(
 where
     N: Naming + Send + Sync,
     R: Threads + Wait + Clock + Net + Abort + AllocGlobal + Sync,
-    T: Task + Sync,
+    T: Task,
 {
     let gate = AllFour::new(task.pace());
     let lent = passes.lend(rt.alloc(), broker).expect(rt, "memory");
-    let ours = (ours, lent);
-    let theirs = (theirs, passes);
-    let is_so = run_two(rt, broker, &gate, ours, theirs, task, addresses);
+    let nodes = ((ours, lent), (theirs, passes));
+    let is_so = run_two(rt, broker, &gate, nodes, task, addresses);
     Outcome {
         is_so: is_so && gate.failed.load(Ordering::SeqCst) == 0,
         lost: broker.lost(0).saturating_add(broker.lost(1)),
@@ -206,7 +171,7 @@ pub(super) fn two_nodes<N, R, T>(
 where
     N: Naming + Send + Sync,
     R: Threads + Wait + Clock + Net + Abort + AllocGlobal + Sync,
-    T: Task + Sync,
+    T: Task,
     requires room { 0 < room }
     requires words { words ≡ names N.words 16 }
     requires namespaces { settings.now.namespaces ≡ N.namespaces }
