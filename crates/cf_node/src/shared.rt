@@ -15,6 +15,12 @@ const MOST_BEHIND: u64 = 262_144;
 /// The most milliseconds for which it does.
 const LONGEST_WAY: u32 = 25;
 
+/// A publication of so many bytes is large.
+const LARGE: usize = 16_384;
+
+/// So many bytes of a large publication are worth a millisecond.
+const PACE: usize = 32_768;
+
 /// The most times that it yields to a loop that waits for the hub.
 const MOST_YIELDS: u32 = 1000;
 
@@ -30,6 +36,8 @@ pub(crate) struct Shared {
     woken: AtomicU64,
     // So many bytes were brought to the hub since the loop had last sent what waited there.
     behind: AtomicU64,
+    // So many milliseconds pass before the next publication is brought to the hub.
+    rest: AtomicU64,
     // Not 0 while the loop waits for the hub.
     wanted: AtomicU64,
     // The moment of the dispatcher's last turn, in seconds.
@@ -50,6 +58,7 @@ impl Shared {
             waker,
             woken: AtomicU64::new(0),
             behind: AtomicU64::new(0),
+            rest: AtomicU64::new(0),
             wanted: AtomicU64::new(0),
             beat: AtomicU64::new(0),
         }
@@ -100,14 +109,26 @@ impl Shared {
         self.behind.store(0, Ordering::SeqCst);
     }
 
-    /// So many bytes more were brought to clients' queues in the hub.
+    /// So many bytes more were brought to clients' queues in the hub. Where they are a large
+    /// publication, its readers are left some time for it, a millisecond for each 32,768 bytes begun.
     pub(crate) fn fall_behind(&self, bytes: usize) {
         self.behind.fetch_add(bytes as u64, Ordering::SeqCst);
+        if bytes >= LARGE {
+            self.rest.store((bytes / PACE) as u64 + 1, Ordering::SeqCst);
+        }
+    }
+
+    // The time passes that is left to the readers of what was brought last.
+    fn rest<R: Clock>(&self, rt: &R) {
+        for _ in 0..self.rest.swap(0, Ordering::SeqCst) {
+            thread::sleep(rt, Duration::from_millis(1));
+        }
     }
 
     /// The dispatcher gives way to an IO loop that is behind by 262,144 bytes, for some 25
-    /// milliseconds at most, and to one that waits for the hub.
+    /// milliseconds at most, to one that waits for the hub, and to the readers of a large publication.
     pub(crate) fn give_way<R: Clock>(&self, rt: &R) {
+        self.rest(rt);
         for _ in 0..LONGEST_WAY {
             if self.behind.load(Ordering::SeqCst) < MOST_BEHIND {
                 break;
