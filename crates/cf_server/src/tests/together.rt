@@ -179,14 +179,14 @@ where
     let Opened {
         sender: to_ours,
         node: ours,
-        address: ann,
+        address: first,
     } = open::<N, R>(rt, 0, room, &settings.namespaces, &settings.tokens);
     let Opened {
         sender: to_theirs,
         node: theirs,
-        address: bob,
+        address: second,
     } = open::<N, R>(rt, 1, room, &settings.namespaces, &settings.tokens);
     let senders = Vec::from_array(rt.alloc(), [to_ours, to_theirs]).expect(rt, "memory");
     let (broker, passes) = broker_to::<N, R>(rt, words, &settings.namespaces, senders);
-    run_gated(rt, &*broker, passes, ours, theirs, task, (ann, bob))
+    run_gated(rt, &*broker, passes, ours, theirs, task, (first, second))
 }
