@@ -11,8 +11,8 @@ use std::marker::Brand;
 use std::net::{Net, SocketAddr};
 use std::thread;
 
-/// So many turns of a wait, and the test has failed.
-const MOST_TURNS: u64 = 10_000_000;
+/// So many turns of one of its three waits, and the test has failed: ten million in all.
+const MOST_TURNS: u64 = 3_333_333;
 
 /// The namespace of `news`.
 const NAMESPACES: &str = "=1000,2592000,phs";
