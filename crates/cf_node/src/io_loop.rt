@@ -155,8 +155,10 @@ impl<'a, H: House> IoLoop<'a, H> {
             }
             turn = turn.wrapping_add(1);
             if gate.may(node, IO_LOOP, turn) {
+                // What the sockets have got by this moment is heard in this turn.
+                let now = gate.now(rt);
                 self.wait(&mut events)?;
-                self.turn(&events, gate.now(rt));
+                self.turn(&events, now);
             } else {
                 thread::yield_now();
             }
