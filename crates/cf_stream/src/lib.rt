@@ -5,13 +5,14 @@
 
 mod answer;
 mod due;
+mod keys;
 mod opening;
 mod refusal;
 mod ring;
 mod stream;
 mod streams;
 
-pub use answer::{History, Recovery};
+pub use answer::{History, Published, Recovery};
 pub use due::{Due, DueWalk};
 pub use opening::Epochs;
 pub use refusal::StreamRefusal;
