@@ -293,12 +293,13 @@ impl Stream {
         ensures newer { IfSome result (λ n.
             after self.now (self.now.top - n) ≡ after self.now (start_of self.now since)) }
     {
-        let held = self.inner.ring.len();
+        let inner = self.inner.as_ref();
+        let held = inner.ring.len();
         match since {
             None => Some(held),
             Some(since) => {
-                if since.epoch == self.inner.epoch {
-                    Some(self.inner.top.saturating_sub(since.offset).min(held as u64) as usize)
+                if since.epoch == inner.epoch {
+                    Some(inner.top.saturating_sub(since.offset).min(held as u64) as usize)
                 } else {
                     None
                 }
