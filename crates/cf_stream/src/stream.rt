@@ -10,7 +10,7 @@ ghost use Rattle.cf_stream.specs.Quiet.{IsQuiet};
 
 use crate::answer::{History, Published, Recovery};
 use crate::due::Due;
-use crate::keys::{KeptKey, MOST_KEYS, offset_in, remember};
+use crate::keys::RecentKeys;
 use crate::refusal::StreamRefusal;
 use crate::ring::{copies, make_room, put};
 use cf_protocol::{Epoch, Info, Position, Publication};
@@ -52,7 +52,7 @@ struct Inner {
     published: u64,
     used: u64,
     ring: HeapCircularBuffer<Publication>,
-    recent: HeapCircularBuffer<KeptKey>,
+    recent: RecentKeys,
     alloc: Global,
 }
 
@@ -164,7 +164,7 @@ impl Stream {
         if key.is_empty() {
             None
         } else {
-            offset_in(&self.inner.recent, key)
+            self.inner.recent.offset_of(key)
         }
     }
 
@@ -231,11 +231,11 @@ impl Stream {
             ≡ Some (record { offset = self.old.top + 1; datum = datum_of body info })) }
     {
         let inner = self.inner.as_mut();
-        make_room(&mut inner.recent, MOST_KEYS)?;
+        inner.recent.make_room(inner.alloc, key.as_str())?;
         make_room(&mut inner.ring, inner.size)?;
         let offset = inner.top + 1;
         let publication = Publication { offset, body, info };
-        remember(&mut inner.recent, key, offset);
+        inner.recent.remember(key, offset);
         put(&mut inner.ring, inner.size, publication);
         inner.top = offset;
         inner.published = now;
@@ -438,7 +438,6 @@ fn after_top(alloc: Global, epoch: Epoch, size: usize, top: u64) -> Result<Strea
     ensures { IfOk result (λ s. s ≡ started epoch size top) }
 {
     let ring = HeapCircularBuffer::with_capacity(alloc, 0)?;
-    let recent = HeapCircularBuffer::with_capacity(alloc, 0)?;
     let inner = Inner {
         epoch,
         size,
@@ -446,7 +445,7 @@ fn after_top(alloc: Global, epoch: Epoch, size: usize, top: u64) -> Result<Strea
         published: 0,
         used: 0,
         ring,
-        recent,
+        recent: RecentKeys::new(),
         alloc,
     };
     Ok(Stream {
