@@ -6,6 +6,7 @@ use crate::command_line::ServeOptions;
 use crate::fault::{Fault, Setting};
 use crate::report::report;
 use crate::running::{Running, hear, wait_for_workers};
+use crate::sizes::{Listener, Sizes};
 use crate::{namespaces_of, tokens_of};
 use cf_broker::{Broker, Passes, Words};
 use cf_epochs::{Boot, BootEpochs};
@@ -104,10 +105,11 @@ where
         nodes,
         addresses,
     } = open_nodes::<N, R>(rt, options, &running.counts, namespaces, tokens)?;
-    let (broker, passes) = open_broker::<N>(alloc, boot, words, namespaces, senders)?;
+    let (broker, mut passes) = open_broker::<N>(alloc, boot, words, namespaces, senders)?;
     let broker = &*broker;
-    let nodes = with_passes(alloc, broker, passes, nodes)?;
-    run_nodes(rt, broker, &running, nodes, addresses.as_slice())
+    let nodes = with_passes(alloc, broker, &mut passes, nodes)?;
+    let mut sizes = Sizes::new(rt, broker, passes, namespaces);
+    run_nodes(rt, broker, &running, nodes, addresses.as_slice(), &mut sizes)
 }
 
 // The broker and its passes. It lies in a box, since a function that lends a broker of its own is dear to prove.
@@ -180,7 +182,7 @@ fn open_node<'a, N: Naming, R: Net + AllocGlobal>(
 fn with_passes<'a, N: Naming>(
     alloc: Global,
     broker: &Broker<N, BootEpochs>,
-    mut passes: Passes<N>,
+    passes: &mut Passes<N>,
     nodes: Vec<Node<'a, N>>,
 ) -> Result<Vec<Ready<'a, N>>, AllocError> {
     let mut ready = Vec::new(alloc);
@@ -219,17 +221,19 @@ fn listen<R: Net>(
     }
 }
 
-// Runs each node in a thread of its own until standard input ends, or a node doesn't go on.
-fn run_nodes<N, R>(
+// Runs each node in a thread of its own until standard input, whose lines are heard, ends, or a node doesn't go on.
+fn run_nodes<N, R, L>(
     rt: &R,
     broker: &Broker<N, BootEpochs>,
     running: &Running,
     nodes: Vec<Ready<'_, N>>,
     addresses: &[SocketAddr],
+    listener: &mut L,
 ) -> Result<(), Fault>
 where
     N: Naming + Send + Sync,
     R: Input + Print + Eprint + AllocGlobal + Threads + Wait + Clock + Net + Sync,
+    L: Listener,
 {
     let stop = AtomicU64::new(0);
     let stop = &stop;
@@ -255,7 +259,7 @@ where
             None => {
                 // Where nobody can tell what goes wrong, the nodes serve all the same.
                 let _ = scope.spawn(move || report(rt, broker, running, stop));
-                watch(rt, running, addresses)
+                watch(rt, running, addresses, listener)
             }
         };
         stop.store(1, Ordering::SeqCst);
@@ -263,14 +267,20 @@ where
     })
 }
 
-// Says where the nodes listen once their workers have begun, and waits for the end of the input.
-fn watch<R>(rt: &R, running: &Running, addresses: &[SocketAddr]) -> Result<(), Fault>
+// Says where the nodes listen once their workers have begun, and hears the input to its end.
+fn watch<R, L>(
+    rt: &R,
+    running: &Running,
+    addresses: &[SocketAddr],
+    listener: &mut L,
+) -> Result<(), Fault>
 where
     R: Input + Print + AllocGlobal + Clock + Net,
+    L: Listener,
 {
     wait_for_workers(rt, running, addresses.len())?;
     for (node, address) in addresses.iter().enumerate() {
         println!(rt; "node {node} {address}")?;
     }
-    hear(rt, running)
+    hear(rt, running, listener)
 }
