@@ -40,6 +40,8 @@ pub(crate) struct Head {
 pub(crate) struct Open<'a, H: House> {
     pub(crate) wire: Wire<Gather<Socket>>,
     pub(crate) desk: SessionDesk<'a, H>,
+    /// Its last turn in which texts were heard spent the bounds of one.
+    pub(crate) is_spent: bool,
 }
 
 impl Head {
@@ -154,6 +156,9 @@ impl<'a, H: House> Open<'a, H> {
         let end = self.wire.turn(&mut self.desk);
         if !gives_back(&mut self.wire, buffer) {
             return Turned::Over;
+        }
+        if hears {
+            self.is_spent = self.desk.is_spent(end == TurnEnd::More);
         }
         match end {
             TurnEnd::Idle if self.has_more() => Turned::More,

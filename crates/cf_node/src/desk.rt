@@ -70,6 +70,8 @@ pub(crate) struct SessionDesk<'a, H: House> {
     pub(crate) owed: bool,
     // Texts are heard in this turn.
     hears: bool,
+    // Something was heard in it, or carried on.
+    has_heard: bool,
     budget: Budget,
 }
 
@@ -97,6 +99,7 @@ impl<'a, H: House> Desk for SessionDesk<'a, H> {
     fn heard(&mut self, text: &str) {
         self.talk.hear(&mut self.clerk, &mut self.budget, text);
         self.owed = true;
+        self.has_heard = true;
     }
 
     fn next(&mut self) -> Option<Out> {
@@ -121,6 +124,7 @@ impl<'a, H: House> SessionDesk<'a, H> {
             taken: VecDeque::new(alloc),
             owed: false,
             hears: false,
+            has_heard: false,
             budget: Budget::new(0),
         }
     }
@@ -130,11 +134,13 @@ impl<'a, H: House> SessionDesk<'a, H> {
     pub(crate) fn begin(&mut self, now: u64, hears: bool) {
         self.clerk.now = now;
         self.hears = hears;
+        self.has_heard = false;
         if hears {
             self.budget = Budget::new(UNITS);
             if !self.talk.session.is_idle() {
                 self.talk.go_on(&mut self.clerk, &mut self.budget);
                 self.owed = true;
+                self.has_heard = true;
             }
         }
     }
@@ -144,6 +150,12 @@ impl<'a, H: House> SessionDesk<'a, H> {
         self.hears
             && !self.clerk.is_over()
             && (self.budget.is_spent() || !self.talk.session.is_idle())
+    }
+
+    /// Whether a turn in which texts were heard spent the bounds of one, where it left off before all
+    /// was heard.
+    pub(crate) fn is_spent(&self, left_off: bool) -> bool {
+        self.goes_on() || left_off && self.has_heard
     }
 
     // What goes out next.

@@ -1,5 +1,6 @@
 //! The worker that serves the sockets: it turns a connection that has something to read or
-//! something to send, and no other, in the order of an agenda.
+//! something to send, and no other, in the order of an agenda. A connection that has spent what one
+//! turn carries out goes on behind all others, and once what it brought them is sent.
 use crate::connection::{Connection, Head, Open, Turned, takes_more};
 use crate::desk::SessionDesk;
 use crate::door::{Accepted, Door, LISTENER, WAKER};
@@ -25,8 +26,14 @@ const MOST_ACCEPTED: usize = 64;
 /// So many bytes are gathered before they are written within a turn.
 const GATHERED: usize = 65_536;
 
-/// The most times that sessions are asked for in a row.
-const MOST_BATCHES: usize = 64;
+/// The most times that sessions are asked for in a row: then others are heard.
+const MOST_BATCHES: usize = 4;
+
+/// So many connections are heard before those are served that got something by it.
+const HEARD_AT_ONCE: usize = 16;
+
+/// The most turns by which a connection that has spent a turn's bounds waits for what is to be sent.
+const MOST_WAITED: u32 = 16;
 
 /// So many sockets are told of at one wait.
 const MOST_EVENTS: usize = 512;
@@ -67,6 +74,12 @@ struct IoLoop<'a, H: House> {
     owners: Vec<usize>,
     // The places that have a turn to come.
     agenda: Agenda,
+    // Those of them that have spent the bounds of their last one.
+    spenders: Agenda,
+    // For how many turns these have waited for what is to be sent.
+    waited: u32,
+    // The hub may have something for sessions that it wasn't asked for.
+    is_behind: bool,
     // The places whose sessions the hub has just named.
     batch: Vec<Named>,
     // A buffer for what one turn sends, so that idle connections keep none.
@@ -115,7 +128,12 @@ fn opened<'a, H: House>(
 // A connection that speaks, at a desk of its own. Empty where memory is refused.
 fn seated<'a, H: House>(house: &'a H, wire: Wire<Gather<Socket>>, now: u64) -> Connection<'a, H> {
     let desk = SessionDesk::new(house, now);
-    match Box::new(house.alloc(), Open { wire, desk }) {
+    let open = Open {
+        wire,
+        desk,
+        is_spent: false,
+    };
+    match Box::new(house.alloc(), open) {
         Ok(open) => Connection::Open(open),
         Err(_) => Connection::Empty,
     }
@@ -131,6 +149,9 @@ impl<'a, H: House> IoLoop<'a, H> {
             free: Vec::new(alloc),
             owners: Vec::new(alloc),
             agenda: Agenda::new(alloc),
+            spenders: Agenda::new(alloc),
+            waited: 0,
+            is_behind: false,
             batch: Vec::new(alloc),
             buffer: Vec::new(alloc),
             accepts: Accepts::All,
@@ -169,6 +190,8 @@ impl<'a, H: House> IoLoop<'a, H> {
     // Waits for readiness, where nothing is left to do.
     fn wait(&mut self, events: &mut Events) -> io::Result<()> {
         let is_done = self.agenda.is_empty()
+            && self.spenders.is_empty()
+            && !self.is_behind
             && self.accepts != Accepts::More
             && !self.seconds.is_late();
         let patience = if is_done { PATIENCE } else { 0 };
@@ -189,7 +212,10 @@ impl<'a, H: House> IoLoop<'a, H> {
         }
         self.serve_named();
         self.serve_agenda();
-        self.house.catch_up();
+        self.serve_spender();
+        if !self.is_behind {
+            self.house.catch_up();
+        }
         if self.seconds.turn_ends(now, count >= MOST_EVENTS) {
             self.on_second();
         }
@@ -238,7 +264,11 @@ impl<'a, H: House> IoLoop<'a, H> {
 
     // A turn of the connection at a place is to come.
     fn owe(&mut self, place: usize) {
-        if self.agenda.add(place).is_err() {
+        let agenda = match self.places.get(place) {
+            Some(Connection::Open(open)) if open.is_spent => &mut self.spenders,
+            _ => &mut self.agenda,
+        };
+        if agenda.add(place).is_err() {
             self.end(place);
         }
     }
@@ -305,11 +335,30 @@ impl<'a, H: House> IoLoop<'a, H> {
 
     // Each that has a turn to come has one, in their order, and who got something by it is served.
     fn serve_agenda(&mut self) {
-        for _ in 0..self.agenda.len() {
+        for heard in 0..self.agenda.len() {
             if let Some(place) = self.agenda.next() {
                 self.hear(place);
-                self.serve_named();
+                if heard % HEARD_AT_ONCE == 0 {
+                    self.serve_named();
+                }
             }
+        }
+    }
+
+    // One that has spent the bounds of its last turn goes on, where nothing is left to be sent, or it
+    // has waited for that for long.
+    fn serve_spender(&mut self) {
+        if self.spenders.is_empty() {
+            return;
+        }
+        if self.is_behind && self.waited < MOST_WAITED {
+            self.waited += 1;
+            return;
+        }
+        self.waited = 0;
+        if let Some(place) = self.spenders.next() {
+            self.hear(place);
+            self.serve_named();
         }
     }
 
@@ -382,11 +431,13 @@ impl<'a, H: House> IoLoop<'a, H> {
     // A place stands empty again.
     fn vacate(&mut self, place: usize) {
         self.agenda.remove(place);
+        self.spenders.remove(place);
         let _ = self.free.push(place);
     }
 
-    // Turns those for which the hub has something.
+    // Turns those for which the hub has something, some of them, and notes whether there may be more.
     fn serve_named(&mut self) {
+        self.is_behind = false;
         if self.batch.reserve(SESSIONS_AT_ONCE).is_err() {
             return;
         }
@@ -397,6 +448,7 @@ impl<'a, H: House> IoLoop<'a, H> {
             }
             self.serve_batch();
         }
+        self.is_behind = true;
     }
 
     // Turns those for which something was taken. The room for the next ones is kept.
