@@ -1,12 +1,12 @@
 -- What an entry makes of a shard's log, its happening makes of the machine's broker.
 use Rattle.std.proofs.Common.{◌≡◌, ◌≢◌, ◌<◌, ◌⊎◌, inl, inr, ℕ, ◌+◌, ◌==◌, ◌&&◌, ◌||◌, nat_lt, not, Bool, true, false, if◌then◌else◌, cond, is_some, Option, Some, None, List, [], ◌∷◌, ◌++◌, length, append-nil, append_assoc, refl, sym, ap, subst, ◌∙◌, arith, IsSome, IsSomeAnd}
+use Rattle.std.specs.Prelude.{fold}
 use Rattle.std.specs.Option.{option_map}
 use Rattle.std.specs.List.{filter_map}
 use Rattle.std.specs.Str.{bytes_eq}
 use Rattle.std.proofs.lemmas.Bool.{both_ways, false_from_ne_true, and_parts}
 use Rattle.std.proofs.lemmas.Bool.Decides.{nat_tests}
 use Rattle.std.proofs.lemmas.List.Elements.{filter_map-append}
-use Rattle.std.specs.Prelude.{fold}
 use Rattle.cf_protocol.specs.Names.{with, is_among}
 use Rattle.cf_protocol.specs.Datum.{Datum}
 use Rattle.cf_protocol.specs.Note.{Lists}
@@ -173,9 +173,9 @@ both_sized n (Some s) (Some t) h = refl
 both_sized n None (Some t) h = absurd (cc)
 both_sized n (Some s) None h = absurd (cc)
 
-same_size : (p : Option Settings) → size_among p ≡ size_among (option_map (λ (s : Settings). s) p)
-same_size None = refl
-same_size (Some s) = refl
+size-unchanged : (p : Option Settings) → size_among p ≡ size_among (option_map (λ (s : Settings). s) p)
+size-unchanged None = refl
+size-unchanged (Some s) = refl
 
 -- ---- an entry is allowed, and does what it does
 
@@ -258,7 +258,7 @@ module _ (cfg : Config) (mine : List ℕ → Bool) (log : List Entry) (w : World
       by_name : (t : Bool) → size_by (if t then Some n else w.broker.sizes q) (settings_of cfg.namespaces q)
           ≡ size_among (option_map (λ (s : Settings). cond t (record s { size = n }) s) (settings_of sizes q))
       by_name true = both_sized n (settings_of cfg.namespaces q) (settings_of sizes q) (set_up-same log cfg.namespaces (namespace_of q))
-      by_name false = l.size q own ∙ same_size (settings_of sizes q)
+      by_name false = l.size q own ∙ size-unchanged (settings_of sizes q)
 
   pub gains : (x : Entry) → IsIn mine x → MayGain cfg log x → Gains cfg mine sizes w x
   gains (Open c e) its may =
