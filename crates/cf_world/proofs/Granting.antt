@@ -252,8 +252,8 @@ module _ {cfg : Config} {table : NamespaceTable} {b : Code} {hubs : ℕ → Opti
 
 module _ {cfg : Config} {table : NamespaceTable} {b : Code} {hubs : ℕ → Option Node} {peers : List ℕ → Option Peer} {m : World}
     (t : AreTied cfg table b hubs peers m) (x : List ℕ) (s : Seat) (p : Peer) (found : peers x ≡ Some p) (sits : p.seat ≡ Some s)
-    (c body : List ℕ) (peers' : List ℕ → Option Peer) (becomes : Becomes x p (sent_state (Publish c body) (state_of p.client)) peers peers')
-    (stays : Stays) (calls : (lists : PublicationLists) → CallsAreAlike lists) (moves : (lists : PublicationLists) → MovesAreAlike lists) (g : IsGranted cfg m x p (Publish c body)) where
+    (c body : List ℕ) (peers' : List ℕ → Option Peer) (becomes : Becomes x p (sent_state (Publish c key body) (state_of p.client)) peers peers')
+    (stays : Stays) (calls : (lists : PublicationLists) → CallsAreAlike lists) (moves : (lists : PublicationLists) → MovesAreAlike lists) (g : IsGranted cfg m x p (Publish c key body)) where
   abbrev puts : ClientRequest
   puts = Publish c body
 

@@ -54,7 +54,7 @@ asks-too false false e f rest h = refl
 pub list-set-up : (table : NamespaceTable) (c : List ℕ) (limit : ℤ) → first_failed (checks table (request_of (History c limit))) ≡ None → IsSome (settings_of table c)
 list-set-up table c limit h = set-up table c (asks-too (is_bad_channel c) (not (is_some (settings_of table c))) _ _ _ h)
 
-pub publish-set-up : (table : NamespaceTable) (c body : List ℕ) → first_failed (checks table (request_of (Publish c body))) ≡ None → IsSome (settings_of table c)
+pub publish-set-up : (table : NamespaceTable) (c body : List ℕ) → first_failed (checks table (request_of (Publish c key body))) ≡ None → IsSome (settings_of table c)
 publish-set-up table c body h = set-up table c (asks-too (is_bad_channel c) (not (is_some (settings_of table c))) _ _ _ h)
 
 -- ---- it would open a stream while no epoch waits
@@ -69,13 +69,13 @@ module _ (l : ClientLink) (w : World) where
   unrefused : (e : ClientRequest) → asks_too_much e w.broker ≡ true → refusal_of e l w ≡ None
   unrefused (Subscribe c from) h = absurd (cc)
   unrefused (Unsubscribe c) h = absurd (cc)
-  unrefused (Publish c body) h = ap (λ (b : Bool). if b then Some AtLastOffset else None) (unopened (w.broker.streams c) w.broker.waiting (not-true (can_open c w.broker) h))
+  unrefused (Publish c key body) h = ap (λ (b : Bool). if b then Some AtLastOffset else None) (unopened (w.broker.streams c) w.broker.waiting (not-true (can_open c w.broker) h))
   unrefused (History c limit) h = refl
 
 accepted-lacks : (e : ClientRequest) (b : Broker) → lacks_epoch Accepted e b ≡ asks_too_much e b
 accepted-lacks (Subscribe c from) b = refl
 accepted-lacks (Unsubscribe c) b = refl
-accepted-lacks (Publish c body) b = refl
+accepted-lacks (Publish c key body) b = refl
 accepted-lacks (History c limit) b = refl
 
 module _ (e : ClientRequest) (b : Broker) where
@@ -119,7 +119,7 @@ module _ (table : NamespaceTable) (errand : Errand) (p : Peer) (m : Broker) (c :
   pub put-lacks : (body channel text : List ℕ) → request_by errand client ≡ Publish c body → channel ≡ c → text ≡ body → can_open c m ≡ false
       → passes table (record { id = client.fresh; request = request.Publish channel (request.Body text) }) ≡ lacks_by table (sent_by errand p) m
   put-lacks body channel text is e f none =
-      (λ i. passes table (record { id = client.fresh; request = request.Publish (e i) (request.Body (f i)) })) ∙ unopened-lacks (Publish c body) is (ap not none)
+      (λ i. passes table (record { id = client.fresh; request = request.Publish (e i) (request.Body (f i)) })) ∙ unopened-lacks (Publish c key body) is (ap not none)
 
   pub list-lacks : (limit most : ℤ) (channel : List ℕ) → request_by errand client ≡ History c limit → channel ≡ c → most ≡ limit → can_open c m ≡ false
       → passes table (record { id = client.fresh; request = request.History channel most None false }) ≡ lacks_by table (sent_by errand p) m
