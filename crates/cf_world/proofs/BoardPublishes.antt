@@ -221,27 +221,6 @@ module _ (table : NamespaceTable) (m : Broker) (b new : Code) (c key e : List �
 
 -- ---- a publish that is refused
 
-module _ (table : NamespaceTable) (m : Broker) (b new : Code) (c key : List ℕ) (h : ShowsBroker table b m) where
-  full_by : (k : Option Shown) (o : Option StreamState) → stream_of b.streams c ≡ k → m.streams c ≡ o → IsAtLast k key
-      → (is_full o ≡ true) × (repeats m.keys c key o ≡ false) × ((es : List (List ℕ)) → stands_or_opens o es ≡ true)
-  full_by None o i j last = absurd last
-  full_by (Some sh) None i j last = absurd (shows_here table b m h c c b.epochs (Some sh) None i j)
-  full_by (Some sh) (Some s) i j last =
-      let shows : Shows sh (life_of (m.lists c) (m.keys c) s) = (shows_here table b m h c c b.epochs (Some sh) (Some s) i j).0 in
-      let top : last_offset ≡ s.top = sym last.1 ∙ (shows.top ∙ sym (h.standing c s j).top) in
-      (subst (λ (n : ℕ). not (nat_lt n last_offset) ≡ true) top refl, known sh.recent (m.keys c s.epoch) key false shows.remembered (ap is_some last.0), λ es. refl)
-
-  pub full_shows : (d : Datum) → new.streams ≡ b.streams → new.epochs ≡ b.epochs → new.accepted ≡ b.accepted
-      → IsAtLast (stream_of b.streams c) key → Publishes table m c key d new outcome.AtLastOffset
-  full_shows d streams epochs accepted last =
-      let full = full_by (stream_of b.streams c) (m.streams c) refl refl last in (
-        full.2 m.waiting,
-        full.1,
-        full.0,
-        shows-same table b new m h streams (ap (λ (v : WaitingEpochs). v.waiting.items) epochs)
-            (λ x. ap (λ (v : WaitingEpochs). contains_text v.came x) epochs) accepted,
-      )
-
 -- none was drawn: none waits
 record NoneDrawn (b : Code) (m : Broker) (c : List ℕ) (new : WaitingEpochs) : Type 0 where
   none : can_open c m ≡ false

@@ -9,7 +9,7 @@ use Rattle.cf_protocol.specs.Names.{is_among}
 use Rattle.cf_protocol.specs.Epoch.{IsEpoch}
 use Rattle.cf_protocol.specs.Datum.{Datum}
 use Rattle.cf_protocol.specs.Settings.{NamespaceTable}
-use Rattle.cf_stream.specs.Keys.{is_no_key, recent, repeat_of}
+use Rattle.cf_stream.specs.Keys.{is_no_key, offset_of, recent, repeat_of}
 use Rattle.cf_stream.specs.Stream.{Shown}
 use Rattle.cf_stream.specs.StreamState.{StreamState, last_offset, opens_in}
 use Rattle.cf_stream.specs.Streams.{Kept, stream_of, stood_or, size_at}
@@ -51,7 +51,7 @@ life_of list keys s = record { epoch = s.epoch; list = list s.epoch; keys = keys
 no_repeat : (key : List ℕ) → false ≡ is_some (repeat_of key [])
 no_repeat key = by_value (is_no_key key)
   where
-    by_value : (t : Bool) → false ≡ is_some (cond t (None {ℕ}) None)
+    by_value : (t : Bool) → false ≡ is_some (cond t None (offset_of key []))
     by_value true = refl
     by_value false = refl
 

@@ -146,8 +146,8 @@ module _ (lists : Lists) (b : Broker) (id : ℕ) (l : ClientLink) where
   pub met_leave : (c : List ℕ) → met lists b (with_id id (Unsubscribe c)) Accepted l ≡ after (with_id id (Unsubscribe c)) (push (wording b.lists) (Left id) (leaves c l.session)) l.channels l
   met_leave c = refl
 
-  pub met_publish : (c body : List ℕ) → met lists b (with_id id (Publish c key body)) Accepted l ≡ after (with_id id (Publish c key body)) (push (wording b.lists) (PutDone id) l.session) l.channels l
-  met_publish c body = refl
+  pub met_publish : (c key body : List ℕ) → met lists b (with_id id (Publish c key body)) Accepted l ≡ after (with_id id (Publish c key body)) (push (wording b.lists) (PutDone id) l.session) l.channels l
+  met_publish c key body = refl
 
   pub met_history : (c : List ℕ) (limit : ℤ) (s : StreamState) → b.streams c ≡ Some s
       → met lists b (with_id id (History c limit)) Accepted l
