@@ -15,7 +15,7 @@ returns-in_ok-from_str-in-Put c =
     IfOk-weaker c.would_pass.result _ _
     (λ lacks pass. λ table m p shows there may.
     pass p there may
-    ∙ put-lacks c.args.namespaces.now c.args.errand.now p m c.in-Put.channel.now c.in-Put.body.now _ _ (ap (λ (e : Errand). request_by e (state_of p.client).client) c.in-Put.is)
+    ∙ put-lacks c.args.namespaces.now c.args.errand.now p m c.in-Put.channel.now c.in-Put.key.now c.in-Put.body.now _ _ (ap (λ (e : Errand). request_by e (state_of p.client).client) c.in-Put.is)
     c.in_ok-channel-in-Put.ensures.ok c.in_ok-from_str-in-Put.ensures.ok (sym (c.can_open.ensures table m shows) ∙ closed))
     c.would_pass.ensures
 
