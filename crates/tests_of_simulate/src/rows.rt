@@ -142,10 +142,13 @@ START / publishkey news k 1 / publishkey news k 2 / publish news 3 / deliver 0 1
 deliver 0 3 / take ann / take ann / take ann / putkey ann news k 4 / take ann
 => ann news sub aaaa 0 fresh / ann news pub aaaa 1 1 / ann news pub aaaa 2 3
 
-# repeated_publish: a client that lost the reply sends its publish again
-START / connect bob 0 / putkey bob news k 1 / break bob / connect bob 0 / putkey bob news k 1
-take bob / deliver 0 1 / deliver 0 2 / take ann / take ann
-=> ann news sub aaaa 0 fresh / ann news pub aaaa 1 1
+# repeated_publish: a publish whose reply was lost is sent again, under the same key
+epoch aaaa / connect ann 0 / connect bob 0 / ask bob news / read bob news / finish bob news / take bob
+putkey ann news ann-1 {"text":"hello"} / break ann / deliver 0 1 / take bob / connect ann 0
+putkey ann news ann-1 {"text":"hello"} / take ann / deliver 0 2 / take bob
+putkey ann news ann-2 {"text":"again"} / take ann / deliver 0 2 / take bob
+=> bob news sub aaaa 0 fresh / bob news pub aaaa 1 {"text":"hello"}
+bob news pub aaaa 2 {"text":"again"}
 
 # another key is another publication, and so is the key in another channel
 START / epoch bbbb / publishkey news k 1 / publishkey other k 2 / publishkey news l 3
