@@ -304,11 +304,10 @@ impl<'a> Explainer<'a> {
         if !world.streams().has_namespace(namespace.as_str()) {
             return Ok(false);
         }
-        let words = namespace_words(self.alloc, namespace.as_str())?;
+        let namespace = namespace_words(self.alloc, namespace.as_str())?;
         let count = size.count();
-        remarks.add(format!(in self.alloc;
-            "   a stream of {words} holds {count} at most"
-        )?.as_str())?;
+        let words = format!(in self.alloc; "   a stream of {namespace} holds {count} at most")?;
+        remarks.add(words.as_str())?;
         for watched in self.watched.iter() {
             watched.tell_loss(self.alloc, remarks, world)?;
         }

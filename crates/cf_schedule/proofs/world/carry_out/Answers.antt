@@ -16,7 +16,7 @@ returns-clause-ok c = elim c.match-event.branch [
   | in-AskFrom+in_ok-ask_from-in-AskFrom w ↦ goes-so c.args.parts.now (ap seen w.in-AskFrom.is ∙ (λ i. said.AskFrom (sym w.as_str-in-AskFrom.ensures i) (sym w.as_str-in-AskFrom-2.ensures i))) w.parts-is w.in_ok-ask_from-in-AskFrom.ensures
   | in-Read+in_ok-read-in-Read w ↦ goes-so c.args.parts.now (ap seen w.in-Read.is ∙ (λ i. said.Read (sym w.as_str-in-Read.ensures i) (sym w.as_str-in-Read-2.ensures i))) w.parts-is w.in_ok-read-in-Read.ensures
   | in-Finish+in_ok-finish-in-Finish w ↦ goes-so c.args.parts.now (ap seen w.in-Finish.is ∙ (λ i. said.Finish (sym w.as_str-in-Finish.ensures i) (sym w.as_str-in-Finish-2.ensures i))) w.parts-is w.in_ok-finish-in-Finish.ensures
-  | in-Publish+in_ok-publish-in-Publish w ↦ goes-so c.args.parts.now (ap seen w.in-Publish.is ∙ (λ i. said.Publish (sym w.as_str-in-Publish.ensures i) (sym w.key_text-in-Publish.ensures i) (sym w.as_str-in-Publish-2.ensures.characters i))) w.parts-is w.in_ok-publish-in-Publish.ensures
+  | in-Publish+in_ok-publish-in-Publish w ↦ goes-so c.args.parts.now (ap seen w.in-Publish.is ∙ (λ i. said.Publish (sym w.as_str-in-Publish.ensures i) (sym w.key_text.ensures i) (sym w.as_str-in-Publish-2.ensures.characters i))) w.parts-is w.in_ok-publish-in-Publish.ensures
   | in-PublishBy+in_ok-put-in-PublishBy w ↦ goes-so c.args.parts.now (ap seen w.in-PublishBy.is ∙ (λ i. said.PublishBy (sym w.as_str-in-PublishBy.ensures i) (sym w.as_str-in-PublishBy-2.ensures i) (sym w.key_text-in-PublishBy.ensures i) (sym w.as_str-in-PublishBy-3.ensures.characters i))) w.parts-is w.in_ok-put-in-PublishBy.ensures
   | in-Deliver+in_ok-deliver-in-Deliver w ↦ goes-so c.args.parts.now (ap seen w.in-Deliver.is) w.parts-is w.in_ok-deliver-in-Deliver.ensures
   | in-Break w ↦ goes-so c.args.parts.now (ap seen w.in-Break.is ∙ (λ i. said.Break (sym w.as_str-in-Break.ensures i))) w.parts-is w.break_off.ensures
