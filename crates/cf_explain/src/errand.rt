@@ -3,7 +3,7 @@
 use crate::event::client_of;
 use cf_client::Client;
 use cf_protocol::{Command, Data, Request, write_command};
-use cf_schedule::{Event, World};
+use cf_schedule::{Event, World, key_text};
 use std::alloc::{AllocError, Global};
 
 /// The text of the command that a client sends where it carries out this event. None where the event is no command, or the
@@ -46,8 +46,14 @@ fn request_of(
         Event::Leave { channel, .. } => Request::Unsubscribe {
             channel: String::from_str(alloc, channel.as_str())?,
         },
-        Event::PublishBy { channel, body, .. } => Request::Publish {
+        Event::PublishBy {
+            channel,
+            key,
+            body,
+            ..
+        } => Request::Publish {
             channel: String::from_str(alloc, channel.as_str())?,
+            key: String::from_str(alloc, key_text(key))?,
             body: Data::Body(String::from_str(alloc, body.as_str())?),
         },
         Event::ListHistory { channel, limit, .. } => Request::History {

@@ -181,8 +181,9 @@ fn short_call(report: &Report, namespaces: &Namespaces, tokens: &Tokens) {
 // A publish.
 fn request(alloc: Global) -> Result<Request, NoMemory> {
     let channel = String::from_str(alloc, "news")?;
+    let key = String::from_str(alloc, "k")?;
     let body = Data::Body(String::from_str(alloc, "1")?);
-    Ok(Request::Publish { channel, body })
+    Ok(Request::Publish { channel, key, body })
 }
 
 fn refusal_call(report: &Report, namespaces: &Namespaces, request: &Request) {

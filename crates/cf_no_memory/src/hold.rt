@@ -3,7 +3,7 @@
 use crate::NoMemory;
 use crate::report::Report;
 use cf_protocol::{Epoch, read_namespaces};
-use cf_stream::{Due, Epochs, Stream, Streams};
+use cf_stream::{Due, Epochs, LARGEST_SIZE, Published, Stream, Streams};
 use std::alloc::Global;
 
 /// One epoch for each stream.
@@ -20,30 +20,48 @@ impl Epochs for Always {
     }
 }
 
-// A stream that holds ten publications.
+// A stream that holds ten publications, under a key each.
 fn filled(alloc: Global) -> Result<Stream, NoMemory> {
     let epoch = Epoch::from_text("aaaa");
     if epoch.is_empty() {
         return Err(NoMemory);
     }
     let mut stream = Stream::start(alloc, epoch, 10)?;
-    for _ in 0..12 {
-        stream.publish(String::from_str(alloc, "1")?, None, 0)?;
+    for number in 0..12 {
+        let body = String::from_str(alloc, "1")?;
+        let key = format!(in alloc; "k{number}")?;
+        stream.publish(body, key, None, 0)?;
     }
     Ok(stream)
 }
 
-/// `position`, `resize`, `trim` and `tick` of a stream.
+/// `publish` of a repeat, `position`, `resize`, `trim` and `tick` of a stream.
 pub fn stream_calls(report: &Report) -> Result<(), NoMemory> {
     let mut stream = filled(report.alloc())?;
-    resize_call(report, &mut stream);
+    repeat_call(report, &mut stream)?;
+    resize_calls(report, &mut stream);
     trim_calls(report, &mut stream);
     Ok(())
 }
 
-fn resize_call(report: &Report, stream: &mut Stream) {
+fn repeat_call(report: &Report, stream: &mut Stream) -> Result<(), NoMemory> {
+    let body = String::from_str(report.alloc(), "2")?;
+    let key = String::from_str(report.alloc(), "k1")?;
+    report.begin("Stream::publish of a repeat");
+    let published = stream.publish(body, key, None, 0);
+    report.end();
+    let Published { position, repeated } = published?;
+    let offset = position.offset;
+    report.say(format_args!("offset {offset}, repeated {repeated}"));
+    Ok(())
+}
+
+fn resize_calls(report: &Report, stream: &mut Stream) {
     report.begin("Stream::resize");
     stream.resize(8);
+    report.end();
+    report.begin("Stream::resize to more");
+    stream.resize(LARGEST_SIZE);
     report.end();
     let held = stream.held();
     report.say(format_args!("held {held}"));
@@ -89,15 +107,11 @@ fn publish_three(
     channel: &str,
     now: u64,
 ) -> Result<(), NoMemory> {
-    for _ in 0..3 {
+    for number in 0..3 {
         if streams.is_set_up(channel) {
-            streams.publish(
-                &mut Always,
-                channel,
-                String::from_str(alloc, "1")?,
-                None,
-                now,
-            )?;
+            let body = String::from_str(alloc, "1")?;
+            let key = format!(in alloc; "k{number}")?;
+            streams.publish(&mut Always, channel, body, key, None, now)?;
         }
     }
     Ok(())
@@ -114,11 +128,14 @@ fn due_count(streams: &Streams, now: u64) -> u64 {
     count
 }
 
-/// `position`, `last`, `held`, `trim`, `due`, `tick`, `forget` and `forget_all` of the streams of all channels.
+/// `position`, `last`, `held`, `repeat_of`, `set_size`, `trim`, `due`, `tick`, `forget` and `forget_all` of the streams of all
+/// channels.
 pub fn streams_calls(report: &Report) -> Result<(), NoMemory> {
     let mut streams = filled_all(report.alloc())?;
     held_call(report, &streams);
     look_calls(report, &streams);
+    repeat_of_call(report, &streams);
+    set_size_call(report, &mut streams);
     due_calls(report, &mut streams);
     tick_calls(report, &mut streams);
     forget_calls(report, &mut streams);
@@ -140,6 +157,23 @@ fn look_calls(report: &Report, streams: &Streams) {
     let holds = streams.last("c7").is_some();
     report.end();
     report.say(format_args!("stands {stands}, holds {holds}"));
+}
+
+fn repeat_of_call(report: &Report, streams: &Streams) {
+    report.begin("Streams::repeat_of");
+    let repeats = streams.repeat_of("c7", "k2").is_some();
+    report.end();
+    report.say(format_args!("repeats {repeats}"));
+}
+
+fn set_size_call(report: &Report, streams: &mut Streams) {
+    if streams.has_namespace("") {
+        report.begin("Streams::set_size");
+        streams.set_size("", 1);
+        report.end();
+    }
+    let held = streams.held("c7");
+    report.say(format_args!("held {held}"));
 }
 
 fn due_calls(report: &Report, streams: &mut Streams) {

@@ -32,7 +32,8 @@ fn append_calls(report: &Report, word: &ShardWord, owner: &mut Owner, pass: &mut
         pass,
         &Entry::Opened("news", Epoch::from_text("aaaa")),
     );
-    word.append(owner, pass, &Entry::Published("news", "1", None));
+    word.append(owner, pass, &Entry::Published("news", "k", "1", None));
+    word.append(owner, pass, &Entry::Sized("", 5));
     report.end();
 }
 

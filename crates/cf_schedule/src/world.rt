@@ -6,6 +6,7 @@ ghost use Rattle.cf_world.specs.Tie.{GoesOn, Tied, Writes, client_of, hub_of, se
 
 use crate::config::Config;
 use crate::event::Event;
+use crate::name::key_text;
 use cf_client::Client;
 use cf_hub::Hub;
 use cf_stream::Streams;
@@ -109,12 +110,20 @@ fn carry_out(
         Event::AskFrom { client, channel } => parts.ask_from(client.as_str(), channel.as_str())?,
         Event::Read { client, channel } => parts.read(client.as_str(), channel.as_str())?,
         Event::Finish { client, channel } => parts.finish(client.as_str(), channel.as_str())?,
-        Event::Publish { channel, body } => parts.publish(channel.as_str(), body.as_str())?,
+        Event::Publish { channel, key, body } => {
+            parts.publish(channel.as_str(), key_text(key), body.as_str())?
+        }
         Event::PublishBy {
             client,
             channel,
+            key,
             body,
-        } => parts.put(client.as_str(), channel.as_str(), body.as_str())?,
+        } => parts.put(
+            client.as_str(),
+            channel.as_str(),
+            key_text(key),
+            body.as_str(),
+        )?,
         Event::Deliver { node, publication } => parts.deliver(*node, *publication)?,
         Event::Take { client } => return parts.take(at, client.as_str()),
         Event::Break { client } => parts.break_off(client.as_str()),
@@ -122,6 +131,7 @@ fn carry_out(
         Event::Trim { channel, count } => parts.trim(channel.as_str(), *count),
         Event::Forget { channel } => parts.forget(channel.as_str()),
         Event::BrokerRestart => parts.restart_broker(),
+        Event::SetSize { namespace, size } => parts.set_size(namespace.as_str(), size.count()),
         Event::Restart { node } => parts.restart(*node)?,
         Event::Check { client, channel } => parts.check(client.as_str(), channel.as_str())?,
         Event::ListHistory {

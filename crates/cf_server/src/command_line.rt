@@ -100,6 +100,9 @@ const SCHEDULE_NOTES: &str = "A schedule has a line for each event, its words pa
   leave X C       X sends the unsubscribe command
   put X C DATA    X publishes JSON data to C
   list X C LIMIT  X asks for what C's stream holds, at most LIMIT publications
+  publishkey C KEY DATA  as publish, under a key: where it is among the last 100 keys of C, nothing is published
+  putkey X C KEY DATA    as put, under a key
+  size NAME=K            a stream of namespace NAME holds the newest K publications and no more, from now on
 A line that is empty or begins with # is passed over. An event that can't happen changes nothing; --explain says why.
 Where a line is none of these, nothing of the schedule is run, and `line N: unreadable` says which. What is commonly behind it: lines
 that end in CR LF, two spaces or a space at the end, a byte order mark before the first line, DATA that is no JSON.

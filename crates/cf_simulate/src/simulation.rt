@@ -106,7 +106,7 @@ fn write_events<W: Write>(
     one_event_more();
     let events = schedule.events.as_slice();
     let mut world = World::new(alloc, config)?;
-    let mut explainer = Explainer::new(alloc);
+    let mut explainer = Explainer::new(alloc, &config.namespaces);
     for (done, event) in events.iter().enumerate() {
         let line = schedule.line(done);
         let lines = event_text(
@@ -128,7 +128,7 @@ fn event_text(
     alloc: Global,
     world: &mut World,
     explains: bool,
-    explainer: &mut Explainer,
+    explainer: &mut Explainer<'_>,
     at: usize,
     event: &Event,
     line: Line<'_>,
@@ -150,7 +150,7 @@ fn event_text(
 fn explained_text(
     alloc: Global,
     world: &mut World,
-    explainer: &mut Explainer,
+    explainer: &mut Explainer<'_>,
     at: usize,
     event: &Event,
     line: Line<'_>,

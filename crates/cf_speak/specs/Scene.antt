@@ -20,7 +20,7 @@ pub record Scene : Type 0 where
   pub number : Option ℕ
   -- the code with which it was closed before that
   pub turned_away : Option CloseCode
-  -- the channel to which the client published, until its reply
+  -- the channel to which the client published anything new, until its reply
   pub due : Option (List ℕ)
   -- memory was refused by streams or presence, or for a client id
   pub is_short : Bool

@@ -25,7 +25,7 @@ use std::collections::BTreeMap;
 const NOW: u64 = 0;
 
 /// A node with the session of one client, and with streams and presence of its own. A publication of the client is brought to
-/// the node right after the reply to its command.
+/// the node right after the reply to its command; a publish that repeats one brings nothing.
 #[derive(Drop)]
 pub struct Solo {
     hub: Hub,
@@ -180,19 +180,33 @@ impl Solo {
         self.presence.leave(channel, client_in(&self.hub, number));
     }
 
-    fn publish(&mut self, channel: String, body: String, info: Info) -> Result<(), ErrorCode>
+    // What a publish brings is due after its reply. A repeat brings nothing.
+    fn publish(
+        &mut self,
+        channel: String,
+        key: String,
+        body: String,
+        info: Info,
+    ) -> Result<(), ErrorCode>
         requires { IsSetUp (scene_of self.old).streams (string_bytes channel) }
         ensures step { DoesCall self.old
-            (call.Publish (string_bytes channel) (string_bytes body) info) (Answer.Publish result)
-            self.new }
+            (call.Publish (string_bytes channel) (string_bytes key) (string_bytes body) info)
+            (Answer.Publish result) self.new }
         ensures short { Remembers self.old self.new }
         ensures namespaces { IsSetUpAs self.old self.new }
     {
-        match self
-            .streams
-            .publish(&mut self.epochs, channel.as_str(), body, Some(info), NOW)
-        {
-            Ok(_) => {
+        match self.streams.publish(
+            &mut self.epochs,
+            channel.as_str(),
+            body,
+            key,
+            Some(info),
+            NOW,
+        ) {
+            Ok(published) => {
+                if published.repeated {
+                    return Ok(());
+                }
                 self.due = Some(channel);
                 Ok(())
             }
@@ -388,9 +402,10 @@ impl Node for Solo {
             }
             Action::Publish {
                 channel,
+                key,
                 body,
                 info,
-            } => Some(Answer::Publish(self.publish(channel, body, info))),
+            } => Some(Answer::Publish(self.publish(channel, key, body, info))),
             Action::History {
                 channel,
                 limit,
