@@ -109,7 +109,14 @@ where
     let broker = &*broker;
     let nodes = with_passes(alloc, broker, &mut passes, nodes)?;
     let mut sizes = Sizes::new(rt, broker, passes, namespaces);
-    run_nodes(rt, broker, &running, nodes, addresses.as_slice(), &mut sizes)
+    run_nodes(
+        rt,
+        broker,
+        &running,
+        nodes,
+        addresses.as_slice(),
+        &mut sizes,
+    )
 }
 
 // The broker and its passes. It lies in a box, since a function that lends a broker of its own is dear to prove.

@@ -38,8 +38,7 @@ fn lines_are_heard(rt: HostRuntime) {
         b"0123456789012345678901234567890123456789abcdefgh",
         b"ijk\nsize chat=5\nsize =1",
     ];
-    let wanted =
-        "size =200||other|0123456789012345678901234567890123456789abcd|size chat=5|";
+    let wanted = "size =200||other|0123456789012345678901234567890123456789abcd|size chat=5|";
     match heard(rt.alloc(), &parts) {
         Some(text) => assert!(rt; text.as_str() == wanted),
         None => assert!(rt; false, "memory"),
