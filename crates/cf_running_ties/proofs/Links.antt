@@ -322,16 +322,16 @@ module _ (site : Site) (s : Server) (k : ℕ) (c key : List ℕ) (d : Datum) (p 
       by_found None i = absurd (let f : true ≡ false = sym again ∙ ap (λ (x : Published). x.repeated) i in cc)
 
   -- a stream that opens has no keys
-  none : repeat_of key [] ≡ None
-  none = by_test (λ o. o ≡ None) (is_no_key key) None (offset_of key []) (λ h. refl) (λ h. refl)
+  no-repeat : repeat_of key [] ≡ None
+  no-repeat = by_test (λ o. o ≡ None) (is_no_key key) None (offset_of key []) (λ h. refl) (λ h. refl)
 
   repeats-one : (o : Option Life) → IsPublishedIn (life_or o p.position.epoch) key p.position p.repeated → server.repeats key o ≡ true
   repeats-one (Some l) h = found l h
   repeats-one None h =
-      absurd (let f : true ≡ false = sym (found (opened p.position.epoch) h) ∙ ap (λ (o : Option ℕ). is_some o) none in cc)
+      absurd (let f : true ≡ false = sym (found (opened p.position.epoch) h) ∙ ap (λ (o : Option ℕ). is_some o) no-repeat in cc)
 
-  its-log : log_of site s c ≡ a.answer.before
-  its-log =
+  same-log : log_of site s c ≡ a.answer.before
+  same-log =
       sym (ap (λ (b : Bool). if b then log_of site s c else log_of site s c ++ Publish c key d ∷ []) again) ∙ a.answer.gained
       ∙ ap (λ (b : Bool). a.answer.before ++ publishing b (life_in site.config.namespaces a.answer.before c) c p.position.epoch key d) again
       ∙ append-nil a.answer.before
@@ -340,7 +340,7 @@ module _ (site : Site) (s : Server) (k : ℕ) (c key : List ℕ) (d : Datum) (p 
   repeated =
       let one : server.repeats key (life_of site s c) ≡ true =
       repeats-one (life_of site s c)
-      (subst (λ (log : List Entry). IsPublishedIn (life_or (life_in site.config.namespaces log c) p.position.epoch) key p.position p.repeated) (sym its-log) a.answer.answered.is) in
+      (subst (λ (log : List Entry). IsPublishedIn (life_or (life_in site.config.namespaces log c) p.position.epoch) key p.position p.repeated) (sym same-log) a.answer.answered.is) in
       subst (λ (t : Server). AddsNothing s t)
       (sym (ap (λ (h : Work). server.publishes site k h s) a.work
       ∙ ap (λ (b : Bool). if b then change k (answers c a.id) s

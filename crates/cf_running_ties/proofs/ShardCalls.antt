@@ -1,5 +1,5 @@
 -- The entries of a call may be gained one after another.
-use Rattle.std.proofs.Common.{◌≡◌, ◌≢◌, ◌≤◌, ℕ, ◌==◌, nat_lt, ◌&&◌, not, Bool, true, false, cond, is_some, IsSome, Option, Some, None, List, [], ◌∷◌, ◌++◌, length, refl, ap, subst, ◌∙◌, arith}
+use Rattle.std.proofs.Common.{◌≡◌, ◌≢◌, ◌≤◌, ℕ, ◌==◌, nat_lt, ◌&&◌, not, Bool, true, false, cond, is_some, IsSome, Option, Some, None, List, [], ◌∷◌, ◌++◌, length, refl, sym, ap, subst, ◌∙◌, arith}
 use Rattle.std.specs.Prelude.{is_none}
 use Rattle.std.proofs.lemmas.Bool.Decides.{nat_tests}
 use Rattle.cf_protocol.specs.Settings.{settings_of}
@@ -119,8 +119,7 @@ module _ (cfg : Config) (k : Kept) (log : List Entry) (is : IsState cfg.namespac
           absurd (subst (λ z. AreAlike (Some s) z) j (subst (λ o. AreAlike o life) i shows))
       by_stream (Some s) i (Some l) j =
           let alike : Shows s l × (s.size ≡ size_at k.namespaces c) = subst (λ z. AreAlike (Some s) z) j (subst (λ o. AreAlike o life) i shows) in
-          let new : repeat_of key l.keys ≡ None = ap (λ (o : Option Life). repeat_of key (life_or o p.epoch).keys) (sym j) ∙ fresh in
-          (
+          let new : repeat_of key l.keys ≡ None = ap (λ (o : Option Life). repeat_of key (life_or o p.epoch).keys) (sym j) ∙ fresh in (
             subst (λ o. (is_some (settings_of cfg.namespaces c) && (is_below o && not (repeats key o))) ≡ true) (sym j)
                 (may_add (Some l) (below-life s (Some l) alike (not_stuck s l i alike.0 new) (subst IsWithin j (fits cfg log gained c))) (ap (λ (o : Option ℕ). is_some o) new)),
             tt,
