@@ -1,7 +1,7 @@
 //! One stream, and the streams of all channels.
 use crate::shown::says;
 use cf_protocol::{Epoch, Info, Position, read_namespaces};
-use cf_stream::{Epochs, Stream, StreamRefusal, Streams};
+use cf_stream::{Epochs, LAST_OFFSET, Stream, StreamRefusal, Streams};
 use std::alloc::Global;
 use std::process::Abort;
 
@@ -279,6 +279,21 @@ fn keys_are_remembered(rt: HostRuntime) {
     assert!(rt; stream.held() == 3);
 }
 
+// A repeat is answered at the last offset too, and after a trim to nothing.
+#[test]
+fn repeat_at_last_offset(rt: HostRuntime) {
+    let alloc = rt.alloc();
+    let Some(mut stream) = started_late(alloc) else {
+        panic!(rt; "no memory");
+    };
+    assert!(rt; keyed(alloc, &mut stream, 1) == Some((LAST_OFFSET, false)));
+    assert!(rt; keyed(alloc, &mut stream, 1) == Some((LAST_OFFSET, true)));
+    assert!(rt; keyed(alloc, &mut stream, 2).is_none());
+    stream.trim(0);
+    assert!(rt; keyed(alloc, &mut stream, 1) == Some((LAST_OFFSET, true)));
+    assert!(rt; stream.held() == 0);
+}
+
 /// A stream of 10,000 that was given as many.
 fn great(alloc: Global) -> Option<Stream> {
     let epoch = aaaa();
@@ -305,6 +320,11 @@ fn great_stream(rt: HostRuntime) {
         panic!(rt; "no memory");
     };
     assert!(rt; !gone.recovered);
+    let Ok(listed) = stream.history(None, -1, 0) else {
+        panic!(rt; "no memory");
+    };
+    assert!(rt; listed.publications.len() == 300);
+    assert!(rt; listed.publications.iter().all(|one| one.offset <= 300));
     stream.resize(2);
     stream.resize(5);
     let Ok(lost) = stream.recover(at(9997), 0) else {
