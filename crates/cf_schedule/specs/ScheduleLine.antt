@@ -46,7 +46,7 @@ IsData s body = (t : Tree) × (at : Span) × Document s t at × (depth t ≤ max
 
 -- ---- lines
 
--- the line says this event, in a schedule over so many nodes
+-- The line says this event, in a schedule over so many nodes. A publish that has no key has the empty one.
 abbrev pub Says : ℕ → List ℕ → Event → Type 0
 Says nodes line (Epoch e) = IsEpochWord e × (line ≡ spaced (codes "epoch" ∷ e ∷ []))
 Says nodes line (Connect x n) = IsClientName x × (n < nodes) × (line ≡ spaced (codes "connect" ∷ x ∷ decimal n ∷ []))
