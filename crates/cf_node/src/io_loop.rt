@@ -420,7 +420,7 @@ impl<'a, H: House> IoLoop<'a, H> {
             Connection::Empty => return,
             Connection::Head(_) => {}
             Connection::Open(open) => {
-                let Open { wire: _, mut desk } = Box::into_inner(open);
+                let Open { mut desk, .. } = Box::into_inner(open);
                 desk.clerk.give_up();
             }
             Connection::Leaving(_) => {}
