@@ -17,7 +17,7 @@ impl Listener for Heard {
 }
 
 // What is heard of an input whose parts come one after another.
-fn heard(alloc: Global, parts: &[&[u8]]) -> Option<String> {
+fn lines_of(alloc: Global, parts: &[&[u8]]) -> Option<String> {
     let mut line = Line::new(alloc).ok()?;
     let mut heard = Heard {
         text: String::new(alloc),
@@ -39,7 +39,7 @@ fn lines_are_heard(rt: HostRuntime) {
         b"ijk\nsize chat=5\nsize =1",
     ];
     let wanted = "size =200||other|0123456789012345678901234567890123456789abcd|size chat=5|";
-    match heard(rt.alloc(), &parts) {
+    match lines_of(rt.alloc(), &parts) {
         Some(text) => assert!(rt; text.as_str() == wanted),
         None => assert!(rt; false, "memory"),
     }
