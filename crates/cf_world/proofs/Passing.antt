@@ -118,10 +118,10 @@ module _ (table : NamespaceTable) (errand : Errand) (p : Peer) (m : Broker) (c :
       ap (λ (t : Bool). t && passes table (command_of (record { id = client.fresh; request = e }))) (sym lacks)
       ∙ ap (λ (r : ClientRequest). asks_too_much r m && passes table (command_of (record { id = client.fresh; request = r }))) (sym is)
 
-  pub put-lacks : (key body channel text : List ℕ) → request_by errand client ≡ Publish c key body → channel ≡ c → text ≡ body → can_open c m ≡ false
-      → passes table (record { id = client.fresh; request = request.Publish channel (request.Body text) }) ≡ lacks_by table (sent_by errand p) m
-  put-lacks key body channel text is e f none =
-      (λ i. passes table (record { id = client.fresh; request = request.Publish (e i) (request.Body (f i)) })) ∙ unopened-lacks (Publish c key body) is (ap not none)
+  pub put-lacks : (key body channel under text : List ℕ) → request_by errand client ≡ Publish c key body → channel ≡ c → under ≡ key → text ≡ body → can_open c m ≡ false
+      → passes table (record { id = client.fresh; request = request.Publish channel under (request.Body text) }) ≡ lacks_by table (sent_by errand p) m
+  put-lacks key body channel under text is e g f none =
+      (λ i. passes table (record { id = client.fresh; request = request.Publish (e i) (g i) (request.Body (f i)) })) ∙ unopened-lacks (Publish c key body) is (ap not none)
 
   pub list-lacks : (limit most : ℤ) (channel : List ℕ) → request_by errand client ≡ History c limit → channel ≡ c → most ≡ limit → can_open c m ≡ false
       → passes table (record { id = client.fresh; request = request.History channel most None false }) ≡ lacks_by table (sent_by errand p) m
