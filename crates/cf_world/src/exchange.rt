@@ -90,7 +90,7 @@ impl World {
         let Some(granted) = self.send(name, &errand)? else {
             return Ok(());
         };
-        publish_in(&mut self.broker, &mut self.hubs, self.alloc, granted, key)?;
+        publish_in(&mut self.broker, &mut self.hubs, self.alloc, granted)?;
         Ok(())
     }
 
@@ -148,27 +148,26 @@ fn unsubscribe_in(hubs: &mut Vec<Hub>, alloc: Global, granted: Granted) -> Resul
     }
 }
 
-// The command is a publish: its datum is published under the key that came with it, or the publish refused.
+// The command is a publish: its datum is published under its key, or the publish refused.
 fn publish_in(
     broker: &mut Broker,
     hubs: &mut Vec<Hub>,
     alloc: Global,
     granted: Granted,
-    key: &str,
 ) -> Result<(), Short>
-    ensures { OnOk result ((id : ℕ) (channel body : List ℕ)
+    ensures { OnOk result ((id : ℕ) (channel key body : List ℕ)
         → shown_command granted.command
-        ≡ command_of (record { id = id; request = request.Publish channel key.now body })
+        ≡ command_of (record { id = id; request = request.Publish channel key body })
         → (table : NamespaceTable) (m : Shared) → AreFresh m → IsBody body
         → IsInfo (who_in (seated (hub_at hubs.old) granted.seat))
         → ShowsBroker table broker.old m
-        → Puts table m granted.seat channel key.now body id broker.new (hub_at hubs.old)
+        → Puts table m granted.seat channel key body id broker.new (hub_at hubs.old)
         (hub_at hubs.new)) }
 {
     let Granted { seat, command } = granted;
     let Command { id, request } = command;
     match request {
-        Request::Publish { channel, body } => match body {
+        Request::Publish { channel, key, body } => match body {
             Data::Body(body) => {
                 put_in(
                     broker,
@@ -177,7 +176,7 @@ fn publish_in(
                     seat,
                     id,
                     channel.as_str(),
-                    key,
+                    key.as_str(),
                     body.as_str(),
                 )?;
                 Ok(())

@@ -41,19 +41,16 @@ pub(crate) fn lacks_epoch(
         → lacks ≡ lacks_by namespaces.now (sent_by errand.now p) m) }
 {
     match errand {
-        Errand::Put { channel, body, .. } => {
+        Errand::Put { channel, key, body } => {
             if broker.can_open(channel) {
                 return Ok(false);
             }
-            let channel = String::from_str(alloc, channel)?;
-            let body = Data::Body(String::from_str(alloc, body)?);
-            would_pass(
-                alloc,
-                namespaces,
-                peers,
-                name,
-                Request::Publish { channel, body },
-            )
+            let request = Request::Publish {
+                channel: String::from_str(alloc, channel)?,
+                key: String::from_str(alloc, key)?,
+                body: Data::Body(String::from_str(alloc, body)?),
+            };
+            would_pass(alloc, namespaces, peers, name, request)
         }
         Errand::List { channel, limit } => {
             if broker.can_open(channel) {
