@@ -23,7 +23,7 @@ InHand lists who after (Began c id since) script = script ≡ Ask (Read c since)
 InHand lists who after (HasRead c r) script = ⊥
 InHand lists who after (ToFinish c) script = script ≡ Ask (Finish c) (after_finish after)
 InHand lists who after (ToGiveUp c id code) script = (e : ErrorCode) × (code ≡ code_of e) × (script ≡ Ask (Leave c) (after_lost id e after))
-InHand lists who after (ToPublish c id key d) script = (d.info ≡ Some who) × (script ≡ Ask (PublishCall c d.body who) (replies id after))
+InHand lists who after (ToPublish c id key d) script = (d.info ≡ Some who) × (script ≡ Ask (PublishCall c key d.body who) (replies id after))
 InHand lists who after (ToList c id limit) script = script ≡ Ask (ListCall c limit None) (replies id after)
 InHand lists who after (ToSay c n) script = (id : ℕ) × (outcome : Outcome) × SaysLater lists n (Reply id outcome) × (script ≡ Say id outcome after)
 
