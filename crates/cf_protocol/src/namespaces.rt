@@ -1,7 +1,7 @@
 //! The namespaces that are set up.
-ghost use Rattle.std.specs.Prelude.{◌≡◌, ◌≤◌, ℕ, List, IfSome, IfOk, MatchOption};
+ghost use Rattle.std.specs.Prelude.{◌≡◌, ◌≤◌, ℕ, List, IfSome, IfOk, MatchOption, is_some};
 ghost use Rattle.std.specs.List.Sorted.{IsPermutation};
-ghost use Rattle.cf_protocol.specs.Settings.{NamespaceTable, settings_of, namespace_of, named, IsUsable, with_size};
+ghost use Rattle.cf_protocol.specs.Settings.{NamespaceTable, entry_at, settings_of, namespace_of, named, IsUsable, with_size};
 ghost use Rattle.cf_protocol.specs.SettingsText.{IsNamespaces, IsNamespace, IsSettings, IsReadAs, letters_of};
 ghost use Rattle.cf_protocol.specs.SettingsRead.{IsFoundBy, AddsLetter, HasMost, Adds};
 ghost use Rattle.cf_protocol.specs.declared.settings.Settings.{Settings as SettingsValue};
@@ -56,6 +56,13 @@ impl Namespaces {
         ensures usable { IfSome result IsUsable }
     {
         value_of(&self.entries, namespace_of(channel)).copied()
+    }
+
+    /// Whether a namespace of this name is set up.
+    pub fn contains(&self, name: &str) -> bool
+        ensures { result ≡ is_some (entry_at self.now name.now) }
+    {
+        value_of(&self.entries, name).is_some()
     }
 
     /// Sets the size of a namespace that is set up. It takes no memory.

@@ -4,7 +4,7 @@ use Rattle.std.specs.Prelude.{fold}
 use Rattle.std.specs.Option.{option_map}
 use Rattle.std.specs.List.{filter_map}
 use Rattle.std.specs.Str.{bytes_eq}
-use Rattle.std.proofs.lemmas.Bool.{both_ways, false_from_ne_true, and_parts}
+use Rattle.std.proofs.lemmas.Bool.{both_ways, false_from_ne_true}
 use Rattle.std.proofs.lemmas.Bool.Decides.{nat_tests}
 use Rattle.std.proofs.lemmas.List.Elements.{filter_map-append}
 use Rattle.cf_protocol.specs.Names.{with, is_among}
@@ -54,7 +54,7 @@ life-open : (b : Broker) (c e : List ℕ) → b.lists c e ≡ [] → b.keys c e 
 life-open b c e none no_keys q =
     at_one b c b.lists b.keys (with b.streams c (Some (opens_in e))) (λ x. Some (opened_life e))
     (ap (life_by (b.lists c) (b.keys c)) (with-same b.streams c (Some (opens_in e))) ∙ (λ i. Some (record { epoch = e; list = none i; keys = no_keys i; held = 0 })))
-    (λ x ne. (refl, (refl, with-other b.streams c (Some (opens_in e)) x ne))) q
+    (λ x ne. (refl, refl, with-other b.streams c (Some (opens_in e)) x ne)) q
 
 -- a publish where a stream stands that isn't at the last offset, and that repeats none of it
 abbrev pub added : ℕ → (channel key : List ℕ) → Datum → StreamState → Broker → Broker
@@ -88,7 +88,7 @@ life-added sizes size b c key d s z e q =
       held = (with_one_more (z i) s).held;
     }))
     ∙ sym (ap (λ (o : Option StreamState). option_map (published (sizes c) key d) (life_by (b.lists c) (b.keys c) o)) e))
-    (λ x ne. (with-other b.lists c more x ne, (with-other b.keys c known x ne, with-other b.streams c (Some grown) x ne))) q
+    (λ x ne. (with-other b.lists c more x ne, with-other b.keys c known x ne, with-other b.streams c (Some grown) x ne)) q
 
 life-trim : (b : Broker) (c : List ℕ) (n : ℕ) (s : StreamState) → b.streams c ≡ Some s
     → (q : List ℕ) → life_at (trim c n b) q ≡ cond (bytes_eq c q) (option_map (kept_newest n) (life_at b q)) (life_at b q)
@@ -97,14 +97,14 @@ life-trim b c n s e q =
     ∙ at_one b c b.lists b.keys (with b.streams c (Some (with_at_most n s))) (λ x. option_map (kept_newest n) (life_at b x))
     (ap (life_by (b.lists c) (b.keys c)) (with-same b.streams c (Some (with_at_most n s)))
     ∙ sym (ap (λ (o : Option StreamState). option_map (kept_newest n) (life_by (b.lists c) (b.keys c) o)) e))
-    (λ x ne. (refl, (refl, with-other b.streams c (Some (with_at_most n s)) x ne))) q
+    (λ x ne. (refl, refl, with-other b.streams c (Some (with_at_most n s)) x ne)) q
 
 life-forget : (b : Broker) (c : List ℕ)
     → (q : List ℕ) → life_at (forget c b) q ≡ cond (bytes_eq c q) None (life_at b q)
 life-forget b c q =
     at_one b c b.lists b.keys (with b.streams c None) (λ x. None)
     (ap (life_by (b.lists c) (b.keys c)) (with-same b.streams c None))
-    (λ x ne. (refl, (refl, with-other b.streams c None x ne))) q
+    (λ x ne. (refl, refl, with-other b.streams c None x ne)) q
 
 life-size : (among : List ℕ → Bool) (n : ℕ) (b : Broker)
     → (q : List ℕ) → life_at (set_size among n b) q ≡ cond (among q) (option_map (kept_newest n) (life_at b q)) (life_at b q)
@@ -133,7 +133,7 @@ Accepts key o = IsSomeAnd o (λ l. (length l.list < last_offset) × (repeat_of k
 pub stands-below : (lists : List ℕ → List Datum) (keys : List ℕ → List (List ℕ)) (key : List ℕ) (o : Option StreamState) → StandsOver lists o → Accepts key (life_by lists keys o)
     → (s : StreamState) × (o ≡ Some s) × (nat_lt s.top last_offset ≡ true) × (repeat_of key (keys s.epoch) ≡ None)
 stands-below lists keys key None k h = absurd h
-stands-below lists keys key (Some s) k h = (s, (refl, (below s.top (length (lists s.epoch)) k.0 h.0, h.1)))
+stands-below lists keys key (Some s) k h = (s, refl, below s.top (length (lists s.epoch)) k.0 h.0, h.1)
   where
     below : (a n : ℕ) → a ≡ n → n < last_offset → nat_lt a last_offset ≡ true
     below a n e h = grind (arith, nat_tests)
@@ -244,23 +244,23 @@ no_keys (k ∷ ks) ds h e = absurd (let none : length ds ≡ 0 = ap (λ (l : Lis
 module _ (cfg : Config) (mine : List ℕ → Bool) (log : List Entry) (w : World)
     (waits : w.broker.waiting ≡ []) (over : (c : List ℕ) → StandsOver (w.broker.lists c) (w.broker.streams c))
     (keyed : (c e : List ℕ) → length (w.broker.keys c e) ≡ length (w.broker.lists c e)) (l : IsLogOf mine cfg.namespaces log w.broker) where
-  abbrev sizes : NamespaceTable
-  sizes = sizes_in cfg.namespaces log
+  abbrev its_sizes : NamespaceTable
+  its_sizes = sizes_in cfg.namespaces log
 
   -- a channel's size, where it is set
   sized : (name : List ℕ) (n : ℕ) (q : List ℕ) → mine q ≡ true
-      → size_by (if mine q && in_namespace name q then Some n else w.broker.sizes q) (settings_of cfg.namespaces q) ≡ size_at (with_size name n sizes) q
+      → size_by (if mine q && in_namespace name q then Some n else w.broker.sizes q) (settings_of cfg.namespaces q) ≡ size_at (with_size name n its_sizes) q
   sized name n q own =
       ap (λ (t : Bool). size_by (if t && in_namespace name q then Some n else w.broker.sizes q) (settings_of cfg.namespaces q)) own
       ∙ by_name (in_namespace name q)
-      ∙ sym (ap size_among (entry_at-with_size name n sizes (namespace_of q)))
+      ∙ sym (ap size_among (entry_at-with_size name n its_sizes (namespace_of q)))
     where
       by_name : (t : Bool) → size_by (if t then Some n else w.broker.sizes q) (settings_of cfg.namespaces q)
-          ≡ size_among (option_map (λ (s : Settings). cond t (record s { size = n }) s) (settings_of sizes q))
-      by_name true = both_sized n (settings_of cfg.namespaces q) (settings_of sizes q) (set_up-same log cfg.namespaces (namespace_of q))
-      by_name false = l.size q own ∙ size-unchanged (settings_of sizes q)
+          ≡ size_among (option_map (λ (s : Settings). cond t (record s { size = n }) s) (settings_of its_sizes q))
+      by_name true = both_sized n (settings_of cfg.namespaces q) (settings_of its_sizes q) (set_up-same log cfg.namespaces (namespace_of q))
+      by_name false = l.size q own ∙ size-unchanged (settings_of its_sizes q)
 
-  pub gains : (x : Entry) → IsIn mine x → MayGain cfg log x → Gains cfg mine sizes w x
+  pub gains : (x : Entry) → IsIn mine x → MayGain cfg log x → Gains cfg mine its_sizes w x
   gains (Open c e) its may =
       let own : mine c ≡ true = its c (itself c) in
       let none : w.broker.streams c ≡ None = stands-not (w.broker.lists c) (w.broker.keys c) (w.broker.streams c) (l.life c own ∙ may.0) in
@@ -284,14 +284,14 @@ module _ (cfg : Config) (mine : List ℕ → Bool) (log : List Entry) (w : World
         allowed =
             set_up (is_some (settings_of cfg.namespaces c)) (can_open c w.broker) (at_last_offset c w.broker) may.0
             (ap (λ (o : Option StreamState). stands_or_opens o w.broker.waiting) at.1) (ap is_full at.1 ∙ ap not at.2);
-        life = λ q. ap (λ (b : Broker). life_at b q) same ∙ life-added (size_at sizes) size w.broker c key d at.0 (l.size c own) at.1 q;
+        life = λ q. ap (λ (b : Broker). life_at b q) same ∙ life-added (size_at its_sizes) size w.broker c key d at.0 (l.size c own) at.1 q;
         size = λ q i. ap (λ (b : Broker). size_by (b.sizes q) (settings_of cfg.namespaces q)) same ∙ l.size q i;
         same_size = λ q h. ap (λ (b : Broker). b.sizes q) same;
         listed = λ q i. elim (list-cases w.broker.lists c at.0.epoch d q i) [
           | inl h ↦ inl (ap (λ (b : Broker). b.lists q i) same ∙ h)
           | inr h ↦ inr (
-            subst (λ (z : List ℕ). IsSomeAnd (life_at w.broker z) (λ k. k.epoch ≡ i)) (sym h.0)
-            (subst (λ (o : Option StreamState). IsSomeAnd (life_by (w.broker.lists c) (w.broker.keys c) o) (λ k. k.epoch ≡ i)) (sym at.1) (sym h.1)))
+              subst (λ (z : List ℕ). IsSomeAnd (life_at w.broker z) (λ k. k.epoch ≡ i)) (sym h.0)
+              (subst (λ (o : Option StreamState). IsSomeAnd (life_by (w.broker.lists c) (w.broker.keys c) o) (λ k. k.epoch ≡ i)) (sym at.1) (sym h.1)))
         ];
         waits = ap (λ (b : Broker). b.waiting) same ∙ waits;
       }

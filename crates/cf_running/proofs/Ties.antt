@@ -1,5 +1,5 @@
 -- A shard's log stands beside the machine's broker.
-use Rattle.std.proofs.Common.{◌≡◌, ℕ, ℤ, ◌-◌, Bool, true, false, Option, Some, None, List, [], ◌∷◌, ◌++◌, length, refl, sym, ap, subst, ◌∙◌}
+use Rattle.std.proofs.Common.{◌≡◌, ℕ, ℤ, ◌-◌, Bool, true, Option, Some, None, List, [], ◌∷◌, ◌++◌, length, refl, sym, ap, subst, ◌∙◌}
 use Rattle.std.specs.Option.{option_map}
 use Rattle.cf_protocol.specs.Datum.{Datum, Placed}
 use Rattle.cf_protocol.specs.Position.{Position}
@@ -13,11 +13,12 @@ use Rattle.cf_stream.specs.StreamAnswer.{read_of}
 use Rattle.cf_stream.specs.PublicationList.{Life, IsRead, IsListed, state_of}
 use Rattle.cf_machine.specs.Config.{Config}
 use Rattle.cf_machine.specs.LooseRun.{Happening}
-use Rattle.cf_machine.specs.PublicationList.{Broker, StandsOver, stands_at}
+use Rattle.cf_machine.specs.PublicationList.{Broker, StandsOver, is_repeat, repeats, stands_at}
 use Rattle.cf_machine.specs.World.{World, start}
 use Rattle.cf_machine.proofs.Headline.{streams_stand, keys_beside}
 use Rattle.cf_machine.specs.Lives.{life_by}
 use Rattle.cf_running.specs.ShardLogs.{IsTied, IsIn, IsApart, MayGain, after, Goes, IsStream, ReadsAs, ListsAs}
+use Rattle.cf_running.specs.Server as server
 use Rattle.cf_running.proofs.Gaining.{size-unset, gain, Gains, gained-world, gains, keeps-mine, keeps-other}
 
 -- at the start
@@ -66,7 +67,8 @@ stream_of lists keys (Some s) l k e =
     let of_some : Option Life → Life = λ o. elim o [ None ↦ l | Some z ↦ z ] in
     let same : ◌≡◌ {A = Life} (record { epoch = s.epoch; list = lists s.epoch; keys = keys s.epoch; held = s.held }) l = ap of_some e in (
       ap (λ (n : ℕ). Some (record { epoch = s.epoch; top = n; held = s.held })) k.0 ∙ ap (λ (z : Life). Some (state_of z)) same,
-      (ap lists (sym (ap (λ (z : Life). z.epoch) same)) ∙ ap (λ (z : Life). z.list) same, ap keys (sym (ap (λ (z : Life). z.epoch) same)) ∙ ap (λ (z : Life). z.keys) same),
+      ap lists (sym (ap (λ (z : Life). z.epoch) same)) ∙ ap (λ (z : Life). z.list) same,
+      ap keys (sym (ap (λ (z : Life). z.epoch) same)) ∙ ap (λ (z : Life). z.keys) same,
     )
 
 pub its_stream : (cfg : Config) (mine : List ℕ → Bool) (past : List Happening) (log : List Entry) (c : List ℕ) (l : Life)
@@ -90,6 +92,19 @@ its_position cfg mine past log c t own = by_life (life_in cfg.namespaces log c) 
     by_life None e =
         let b : Broker = (after cfg past).broker in sym (ap stands_at (its_none (b.lists c) (b.keys c) (b.streams c) (t.log_of.life c own ∙ e)))
     by_life (Some l) e = sym (ap stands_at (its_stream cfg mine past log c l t own e).stream)
+
+-- what a publish repeats
+pub its_repeat : (cfg : Config) (mine : List ℕ → Bool) (past : List Happening) (log : List Entry) (c key : List ℕ)
+    → IsTied mine cfg.namespaces log (after cfg past).broker → mine c ≡ true
+    → server.repeats key (life_in cfg.namespaces log c) ≡ is_repeat c key (after cfg past).broker
+its_repeat cfg mine past log c key t own = ap (server.repeats key) (sym (t.log_of.life c own)) ∙ by_stream (b.streams c)
+  where
+    b : Broker
+    b = (after cfg past).broker
+
+    by_stream : (o : Option StreamState) → server.repeats key (life_by (b.lists c) (b.keys c) o) ≡ repeats b.keys c key o
+    by_stream None = refl
+    by_stream (Some s) = refl
 
 pub reads-as : (b : Broker) (c : List ℕ) (l : Life) (since : Option Position) (p : Position) (recovered : Bool) (ps : List Placed)
     → IsStream b c l → IsRead l since p recovered ps → ReadsAs b c since p recovered ps

@@ -9,13 +9,13 @@ ghost use Rattle.cf_stream.specs.LogState.{life_in};
 ghost use Rattle.cf_stream.specs.PublicationList.{IsListed, IsRead, Life};
 ghost use Rattle.cf_machine.specs.Config.{Config};
 ghost use Rattle.cf_machine.specs.LooseRun.{Happening};
-ghost use Rattle.cf_machine.specs.PublicationList.{stands_at};
+ghost use Rattle.cf_machine.specs.PublicationList.{is_repeat, stands_at};
 ghost use Rattle.cf_machine.specs.World.{start};
 ghost use Rattle.cf_machine.specs.Examples.{news};
 ghost use Rattle.cf_machine.specs.Trace.{Closed, Published, Subscribed};
 ghost use Rattle.cf_running.specs.Examples.{ann_gets, at, broken_off, comes_back, comes_between, sent_twice, shown, shrunk};
 ghost use Rattle.cf_running.specs.Running.{IsInLogs, IsLooseRun};
-ghost use Rattle.cf_running.specs.Server.{Section, Site, Told, lists_of, ran, start as server_start, told};
+ghost use Rattle.cf_running.specs.Server.{Section, Site, Told, lists_of, ran, repeats, start as server_start, told};
 ghost use Rattle.cf_running.specs.ShardLogs.{Goes, IsApart, IsIn, IsTied, ListsAs, MayGain, ReadsAs, after};
 
 /// A shard's log stands beside the machine's broker: at the start, and after each entry that the log may
@@ -38,14 +38,19 @@ pub fn logs_are_tied()
         → Goes config (after config past) its entry (IsTied mine config.namespaces log) }
 {}
 
-/// What is answered off a shard's log is what the machine has: where a stream stands, and what is read
-/// and listed of it.
+/// What is answered off a shard's log is what the machine has: where a stream stands, whether a publish
+/// repeats one of it, and what is read and listed of it.
 pub fn answers_are_the_machines()
     ensures positions { (config : Config) (mine : List ℕ → Bool) (past : List Happening)
         (log : List Entry) (channel : List ℕ)
         → IsTied mine config.namespaces log (after config past).broker → mine channel ≡ true
         → option_map stands_in (life_in config.namespaces log channel)
         ≡ stands_at ((after config past).broker.streams channel) }
+    ensures repeats { (config : Config) (mine : List ℕ → Bool) (past : List Happening)
+        (log : List Entry) (channel key : List ℕ)
+        → IsTied mine config.namespaces log (after config past).broker → mine channel ≡ true
+        → repeats key (life_in config.namespaces log channel)
+        ≡ is_repeat channel key (after config past).broker }
     ensures reads { (config : Config) (mine : List ℕ → Bool) (past : List Happening)
         (log : List Entry) (channel : List ℕ) (life : Life) (since : Option Position)
         (position : Position) (recovered : Bool) (publications : List Placed)

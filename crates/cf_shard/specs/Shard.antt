@@ -5,7 +5,7 @@ use Rattle.std.specs.declared.alloc.Global.{Global}
 use Rattle.std.specs.FinMap as fin
 use Rattle.cf_protocol.specs.Datum.{Datum, Who}
 use Rattle.cf_protocol.specs.LogEntry.{Entry}
-use Rattle.cf_protocol.specs.Settings.{NamespaceTable}
+use Rattle.cf_protocol.specs.Settings.{NamespaceTable, with_size}
 use Rattle.cf_presence.specs.Presence.{Channels, coded_channels}
 use Rattle.atomic_table.specs.Seated.{TableId}
 use Rattle.cf_order.specs.Passes.{OwnerState}
@@ -14,8 +14,8 @@ use Rattle.cf_stream.specs.declared.refusal.StreamRefusal.{StreamRefusal}
 use Rattle.cf_stream.specs.declared.refusal.StreamRefusal.TheVariants.{AtLastOffset, WrongEpoch, NoEpoch, Memory}
 use Rattle.cf_stream.specs.FreshEpochs.{Draws, DrawsNone}
 use Rattle.cf_stream.specs.LogState.{IsState}
-use Rattle.cf_stream.specs.Stream.{pushed, used_at}
-use Rattle.cf_stream.specs.Streams.{Kept, coded_kept, put_at, stood_or_opened, stream_of}
+use Rattle.cf_stream.specs.Stream.{given, used_at}
+use Rattle.cf_stream.specs.Streams.{Kept, coded_kept, put_at, resized_in, stood_or_opened, stream_of}
 use Rattle.cf_shard.specs.declared.refusal.Refused.{Refused}
 use Rattle.cf_shard.specs.declared.refusal.Refused.TheVariants.{AtLastOffset as LastOffset, WrongEpoch as OtherEpoch, NoEpoch as NoneDrawn, Memory as NoMemory, AtLastCount as LastCount}
 
@@ -35,15 +35,14 @@ lent_code {E} e =
 abbrev pub no_streams : NamespaceTable → Kept
 no_streams t = record { namespaces = t; streams = fin.empty }
 
--- the owner is of this word, the streams are those of these namespaces, and what the owner's log leaves
+-- the owner is of this word, and the streams are what its log leaves, which begins with these namespaces
 pub record IsShard (namespaces : NamespaceTable) (word : TableId) (streams : Kept) (owner : OwnerState) : Type 0 where
   pub named : owner.word ≡ word
-  pub settings : streams.namespaces ≡ namespaces
-  pub state : IsState streams owner.log
+  pub state : IsState namespaces streams owner.log
 
--- the streams are those of these namespaces, and what the log leaves
+-- the streams are what the log leaves, which begins with these namespaces
 abbrev pub IsStateOf : {E : Type 0} → NamespaceTable → Lent E → Type 0
-IsStateOf t s = (s.streams.namespaces ≡ t) × IsState s.streams s.log
+IsStateOf t s = IsState t s.streams s.log
 
 -- what is published: its body, and by which client, if by one
 abbrev pub datum_of : String Global → Option Who → Datum
@@ -65,12 +64,18 @@ StreamsStay old new = (new.streams ≡ old.streams) × (new.log ≡ old.log)
 
 -- ---- what a call makes of streams and epochs
 
--- the streams after a publish, and after a read or a history, at a moment: the channel's stream opens in this epoch where there is none
-abbrev pub after_publish : Kept → (channel epoch : List ℕ) → Datum → (now : ℕ) → Kept
-after_publish k c e d now = put_at k c (Some (pushed (stood_or_opened k c e) d now))
+-- the streams after a publish under this key, and after a read or a history, at a moment: the channel's stream opens in this epoch
+-- where there is none
+abbrev pub after_publish : Kept → (channel epoch key : List ℕ) → Datum → (now : ℕ) → Kept
+after_publish k c e key d now = put_at k c (Some (given (stood_or_opened k c e) key d now))
 
 abbrev pub after_use : Kept → (channel epoch : List ℕ) → (now : ℕ) → Kept
 after_use k c e now = put_at k c (Some (used_at (stood_or_opened k c e) now))
+
+-- the sizes that streams are held to after a namespace got another size, and each channel's stream then
+pub record IsResized (name : List ℕ) (size : ℕ) (old new : Kept) : Type 0 where
+  pub sizes : new.namespaces ≡ with_size name size old.namespaces
+  pub streams : (q : List ℕ) → stream_of new q ≡ resized_in name size q (stream_of old q)
 
 -- the epoch of the channel's stream: drawn where none stood
 abbrev pub DrawsFor : {E : Type 0} → (E → Option (List ℕ) → E → Type 0) → (channel epoch : List ℕ) → (old new : Lent E) → Type 0

@@ -1,19 +1,19 @@
 //! What lies under a shard's lock.
-ghost use Rattle.std.specs.Prelude.{◌≡◌, ◌≢◌, ◌↔◌, ◌++◌, [], length, if◌then◌else◌, IfOk, IfErr, OnOk, OnErr, IsErrOf, IsTrue, IsSome, IsSomeAnd, None, Some, List, ℕ};
+ghost use Rattle.std.specs.Prelude.{◌≡◌, ◌≢◌, ◌↔◌, ◌≤◌, ◌++◌, [], length, if◌then◌else◌, MatchBool, IfOk, IfErr, OnOk, OnErr, IsErrOf, IsTrue, IsSome, None, Some, Ok, true, false, List, ℕ};
 ghost use Rattle.std.specs.FinMap as fin;
 ghost use Rattle.std.specs.String.{string_bytes};
 ghost use mathlib.Core.List.{IsPrefix};
-ghost use Rattle.cf_protocol.specs.Settings.{settings_of};
+ghost use Rattle.cf_protocol.specs.Settings.{settings_of, entry_at};
 ghost use Rattle.cf_protocol.specs.Shown.{shown_users};
 ghost use Rattle.cf_presence.specs.Presence.{clients_of, entered, left, still, users_of, user_count};
-ghost use Rattle.cf_stream.specs.ChannelLists.{ReadsAt, ListsAt, StandsAt};
-ghost use Rattle.cf_stream.specs.Stream.{trimmed};
-ghost use Rattle.cf_stream.specs.Streams.{stream_of, put_at, after_tick, seconds_at, IsOfAnother};
+ghost use Rattle.cf_stream.specs.ChannelLists.{PublishesAt, ReadsAt, ListsAt, StandsAt};
+ghost use Rattle.cf_stream.specs.Stream.{trimmed, IsAtLast};
+ghost use Rattle.cf_stream.specs.Streams.{stream_of, put_at, repeat_at, after_tick, seconds_at, IsOfAnother};
 ghost use Rattle.std.specs.Option.{option_map};
 ghost use Rattle.cf_shard.specs.Delivery.{OfferedToAll, carried};
-ghost use Rattle.cf_shard.specs.LogAnswer.{Follows, IsPosition, IsPublished, IsReadAnswer, IsHistoryAnswer, IsTrimmed, IsForgotten, IsTicked};
-ghost use Rattle.cf_shard.specs.Shard.{no_streams, after_publish, after_use, datum_of, DrawsFor, FindsNoEpoch, IsFull, IsStateOf, LacksRoom, StreamsStay};
-ghost use Rattle.cf_shard.specs.ShardLog.{entries_of_publish, entries_of_use, entries_of_trim, entries_of_forget, entries_of_tick};
+ghost use Rattle.cf_shard.specs.LogAnswer.{Follows, IsPosition, IsPublished, IsReadAnswer, IsHistoryAnswer, IsTrimmed, IsForgotten, IsSized, IsTicked};
+ghost use Rattle.cf_shard.specs.Shard.{no_streams, after_publish, after_use, datum_of, DrawsFor, FindsNoEpoch, IsFull, IsResized, IsStateOf, LacksRoom, StreamsStay};
+ghost use Rattle.cf_shard.specs.ShardLog.{entries_of_publish, entries_of_use, entries_of_trim, entries_of_forget, entries_of_size, entries_of_tick};
 
 use crate::delivery::{Links, copies_of, offer_all};
 use crate::entries::{
@@ -25,7 +25,7 @@ use crate::refusal::Refused;
 use cf_order::{Entry, MOST_ENTRIES, Owner, Pass, ShardWord};
 use cf_presence::{Presence, Stats};
 use cf_protocol::{Info, Position, Publication};
-use cf_stream::{Epochs, History, LAST_OFFSET, Recovery, Streams};
+use cf_stream::{Epochs, History, LARGEST_SIZE, Published, Recovery, Streams};
 use std::alloc::Global;
 use std::collections::BTreeMap;
 use std::marker::{Model, PhantomData};
@@ -82,9 +82,11 @@ impl<N: Naming, E: Epochs, const I: usize> Shard<N, E, I> {
     }
 
     /// Publishes to a channel at a moment in seconds, offers the publication to each node, and answers its position. The
-    /// channel's stream opens where there is none. `AtLastOffset` at the stream's last offset, `NoEpoch` where a stream would
-    /// open and none was drawn, `Memory` where a growth was refused, `AtLastCount` where the log has no room. The copies for
-    /// all nodes are made first.
+    /// channel's stream opens where there is none. A publish whose key is among the last hundred of the stream is a repeat: it is
+    /// a use of the stream, is answered with the position of the publication that it repeats, and adds, draws and offers
+    /// nothing. The empty key is none. Of a publish that is no repeat: `AtLastOffset` at the stream's last offset, `NoEpoch`
+    /// where a stream would open and none was drawn, `Memory` where a growth was refused, `AtLastCount` where the log has no
+    /// room. The copies for all nodes, and that of the key, are made first.
     pub fn publish<L: Links>(
         &mut self,
         word: &ShardWord,
@@ -92,29 +94,38 @@ impl<N: Naming, E: Epochs, const I: usize> Shard<N, E, I> {
         links: &mut L,
         channel: &str,
         body: String,
+        key: String,
         info: Option<Info>,
         now: u64,
-    ) -> Result<Position, Refused>
+    ) -> Result<Published, Refused>
         requires word { (word.now ≡ N.words I) × (pass.old.word ≡ N.words I) }
         requires set_up { IsSome (settings_of N.namespaces channel.now) }
-        ensures streams { IfOk result (λ p. self.new.streams ≡
-            after_publish self.old.streams channel.now p.epoch (datum_of body info) now) }
-        ensures log { IfOk result (λ p. self.new.log ≡ self.old.log ++
-            entries_of_publish self.old.streams channel.now p.epoch (datum_of body info)) }
-        ensures answer { IfOk result (λ p. StandsAt self.new.streams channel.now (Some p)) }
-        ensures by_log { IfOk result (λ p. IsPublished N.namespaces
-            pass.old.log pass.new.log channel.now (datum_of body info) p) }
-        ensures own { IfOk result (λ _. Follows pass.old pass.new 1) }
-        ensures drawn { IfOk result (λ p. DrawsFor E.draws channel.now p.epoch self.old self.new) }
-        ensures offered { IfOk result (λ p. OfferedToAll L.offers (L.nodes links.old)
-            (carried channel.now p (datum_of body info)) links.old links.new) }
+        ensures streams { IfOk result (λ p. self.new.streams ≡ after_publish self.old.streams
+            channel.now p.position.epoch (string_bytes key) (datum_of body info) now) }
+        ensures log { IfOk result (λ p. self.new.log ≡ self.old.log ++ entries_of_publish p.repeated
+            self.old.streams channel.now p.position.epoch (string_bytes key) (datum_of body info)) }
+        ensures answer { IfOk result (λ p.
+            PublishesAt self.old.streams channel.now (string_bytes key) p.position p.repeated
+            × (p.repeated ≡ false → StandsAt self.new.streams channel.now (Some p.position))) }
+        ensures by_log { IfOk result (λ p. IsPublished N.namespaces pass.old.log pass.new.log
+            channel.now (string_bytes key) (datum_of body info) p) }
+        ensures own { IfOk result (λ p. Follows pass.old pass.new (if p.repeated then 0 else 1)) }
+        ensures drawn { IfOk result (λ p.
+            DrawsFor E.draws channel.now p.position.epoch self.old self.new) }
+        ensures offered { IfOk result (λ p. MatchBool p.repeated (links.new ≡ links.old)
+            (OfferedToAll L.offers (L.nodes links.old)
+            (carried channel.now p.position (datum_of body info)) links.old links.new)) }
         ensures presence { self.new.presence ≡ self.old.presence }
+        ensures repeat { (p : Position) →
+            repeat_at (stream_of self.old.streams channel.now) (string_bytes key) ≡ Some p →
+            result ≡ Ok (record { position = p; repeated = true }) }
         ensures last { IsErrOf result Refused.AtLastOffset ↔
-            IsSomeAnd (stream_of self.old.streams channel.now) (λ s. s.top ≡ LAST_OFFSET) }
+            IsAtLast (stream_of self.old.streams channel.now) (string_bytes key) }
         ensures no_epoch { IsErrOf result Refused.NoEpoch →
             FindsNoEpoch E.draws channel.now self.old self.new }
-        ensures count { IsErrOf result Refused.AtLastCount → IsFull self.old.log
-            (entries_of_publish self.old.streams channel.now [] (datum_of body info)) }
+        ensures count { IsErrOf result Refused.AtLastCount →
+            IsFull self.old.log (entries_of_publish false
+            self.old.streams channel.now [] (string_bytes key) (datum_of body info)) }
         ensures refusals { IfErr result (λ e. e ≢ Refused.WrongEpoch) }
         ensures undrawn { IfErr result (λ e. e ≢ Refused.NoEpoch →
             self.new.epochs ≡ self.old.epochs) }
@@ -124,6 +135,12 @@ impl<N: Naming, E: Epochs, const I: usize> Shard<N, E, I> {
         ensures state { IsStateOf N.namespaces self.old }
     {
         word.follow(&mut self.owner, pass);
+        if self.streams.repeat_of(channel, key.as_str()).is_some() {
+            let repeated = self
+                .streams
+                .publish(&mut *self.epochs, channel, body, key, info, now)?;
+            return Ok(repeated);
+        }
         let stood = top_of(self.streams.position(channel));
         if let Err(refusal) = room_to_publish(stood, self.owner.count()) {
             return Err(refusal);
@@ -134,10 +151,12 @@ impl<N: Naming, E: Epochs, const I: usize> Shard<N, E, I> {
             info,
         };
         let copies = copies_of(self.alloc, links.count(), channel, &publication)?;
-        let position = self.streams.publish(
+        let lent = key.clone()?;
+        let published = self.streams.publish(
             &mut *self.epochs,
             channel,
             publication.body,
+            key,
             publication.info,
             now,
         )?;
@@ -148,10 +167,42 @@ impl<N: Naming, E: Epochs, const I: usize> Shard<N, E, I> {
             pass,
             stood,
             channel,
-            &position,
+            lent.as_str(),
+            &published.position,
         );
-        offer_all(links, copies, &position);
-        Ok(position)
+        offer_all(links, copies, &published.position);
+        Ok(published)
+    }
+
+    /// Sets how many publications the streams of a namespace may hold. Of those that hold more the newest stay. It takes no
+    /// memory. `AtLastCount` where the log has no room.
+    pub fn set_size(
+        &mut self,
+        word: &ShardWord,
+        pass: &mut Pass,
+        name: &str,
+        size: usize,
+    ) -> Result<(), Refused>
+        requires word { (word.now ≡ N.words I) × (pass.old.word ≡ N.words I) }
+        requires set_up { IsSome (entry_at N.namespaces name.now) }
+        requires sized { (1 ≤ size) × (size ≤ LARGEST_SIZE) }
+        ensures streams { OnOk result (IsResized name.now size self.old.streams self.new.streams) }
+        ensures log { OnOk result (self.new.log ≡ self.old.log ++ entries_of_size name.now size) }
+        ensures by_log { OnOk result (IsSized pass.old.log pass.new.log name.now size) }
+        ensures aside { (self.new.presence ≡ self.old.presence)
+            × (self.new.epochs ≡ self.old.epochs) }
+        ensures err { IfErr result (λ e.
+            LacksRoom (entries_of_size name.now size) e self.old self.new) }
+        ensures seen { Follows pass.old pass.new 0 }
+        ensures whole { pass.new.log ≡ self.new.log }
+    {
+        word.follow(&mut self.owner, pass);
+        if self.owner.count() >= MOST_ENTRIES {
+            return Err(Refused::AtLastCount);
+        }
+        self.streams.set_size(name, size);
+        word.append(&mut self.owner, pass, &Entry::Sized(name, size));
+        Ok(())
     }
 
     /// The publications of a channel after a position, where all are held, at a moment in seconds, and the length of the log

@@ -1,5 +1,5 @@
 //! The streams of all channels.
-ghost use Rattle.std.specs.Prelude.{◌≡◌, ◌≢◌, ◌+◌, ◌≤◌, ◌↔◌, IfOk, IfErr, OnErr, IsErrOf, IsSomeAnd, IsTrue, option_copied, Some, None, Ok, true, false, if◌then◌else◌, List, [], ◌∷◌, ℕ, map, filter, IsSome};
+ghost use Rattle.std.specs.Prelude.{◌≡◌, ◌≢◌, ◌+◌, ◌≤◌, ◌↔◌, IfOk, IfErr, OnErr, IsErrOf, IsSomeAnd, IsTrue, option_copied, Some, None, Ok, true, false, if◌then◌else◌, List, [], ◌∷◌, ℕ, map, filter, IsSome, is_some};
 ghost use Rattle.std.specs.Option.{option_map};
 ghost use Rattle.std.specs.BTreeMap.{get_by_text, IsOrdered};
 ghost use Rattle.std.specs.FinMap as fin;
@@ -69,6 +69,13 @@ impl Streams {
         ensures { IsTrue result ↔ IsSetUp self.now channel.now }
     {
         self.namespaces.find(channel).is_some()
+    }
+
+    /// Whether a namespace of this name is set up.
+    pub fn has_namespace(&self, name: &str) -> bool
+        ensures { result ≡ is_some (entry_at self.now.namespaces name.now) }
+    {
+        self.namespaces.contains(name)
     }
 
     /// Where the publication stands that a publish to a channel with this key repeats, if it repeats one. It takes no memory, opens

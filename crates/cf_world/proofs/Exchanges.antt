@@ -85,18 +85,18 @@ module _ {cfg : Config} {table : NamespaceTable} {b : Code} {hubs : ℕ → Opti
       (leave_granted t x g.seat p sent.found sent.sits c peers' (becomes q is) stays calls moves (granted q is) n refl hubs'
       (as_before (λ (f : Hubs). AtHub g.seat.node (LeftTold g.seat.session c n) f hubs') (did n c (command q is))))
 
-  pub put_done : (c body : List ℕ) → asked ≡ Publish c body → AreFresh m.broker → IsBody body → (new : Code) (hubs' : ℕ → Option Node)
-      → ((id : ℕ) (channel text : List ℕ) → shown_command g.command ≡ command_of (record { id = id; request = Publish channel text }) → (namespaces : NamespaceTable) (shared : Broker)
-      → AreFresh shared → IsBody text → IsInfo (who_in (seated mid g.seat)) → ShowsBroker namespaces b shared → Puts namespaces shared g.seat channel text id new mid hubs')
+  pub put_done : (c key body : List ℕ) → asked ≡ Publish c key body → AreFresh m.broker → IsBody body → (new : Code) (hubs' : ℕ → Option Node)
+      → ((id : ℕ) (channel under text : List ℕ) → shown_command g.command ≡ command_of (record { id = id; request = Publish channel under text }) → (namespaces : NamespaceTable) (shared : Broker)
+      → AreFresh shared → IsBody text → IsInfo (who_in (seated mid g.seat)) → ShowsBroker namespaces b shared → Puts namespaces shared g.seat channel under text id new mid hubs')
       → AreTied cfg table new hubs' peers' (happens cfg m (event_by e x))
-  put_done c body is fresh is_body new hubs' did =
-      let q : ClientRequest = Publish c body in
+  put_done c key body is fresh is_body new hubs' did =
+      let q : ClientRequest = Publish c key body in
       let n : ℕ = (m.links x).client.fresh in
-      let info : IsInfo (who_in (seated hubs g.seat)) = info_regular t x g.seat p sent.found sent.sits c body peers' (becomes q is) stays calls moves (granted q is) in
+      let info : IsInfo (who_in (seated hubs g.seat)) = info_regular t x g.seat p sent.found sent.sits c key body peers' (becomes q is) stays calls moves (granted q is) in
       let here : IsInfo (who_in (seated mid g.seat)) = subst (λ (f : Hubs). IsInfo (who_in (seated f g.seat))) (λ i j. sym (sent.same j) i) info in
       happened q is new hubs'
-      (put_granted t x g.seat p sent.found sent.sits c body peers' (becomes q is) stays calls moves (granted q is) n refl (not-false (can_open c m.broker) (opens q is)) new hubs'
-      (as_before (λ (f : Hubs). Puts cfg.namespaces m.broker g.seat c body n new f hubs') (did n c body (command q is) cfg.namespaces m.broker fresh is_body here t.broker)))
+      (put_granted t x g.seat p sent.found sent.sits c key body peers' (becomes q is) stays calls moves (granted q is) n refl (not-false (can_open c m.broker) (opens q is)) new hubs'
+      (as_before (λ (f : Hubs). Puts cfg.namespaces m.broker g.seat c key body n new f hubs') (did n c key body (command q is) cfg.namespaces m.broker fresh is_body here t.broker)))
 
   pub list_done : (c : List ℕ) (limit : ℤ) → asked ≡ History c limit → AreFresh m.broker → Missing → (new : Code) (hubs' : ℕ → Option Node)
       → ((id : ℕ) (channel : List ℕ) (most : ℤ) → shown_command g.command ≡ command_of (record { id = id; request = History channel most }) → (namespaces : NamespaceTable) (shared : Broker)

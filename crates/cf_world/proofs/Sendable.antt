@@ -25,7 +25,7 @@ abbrev pub fits : Errand → Client → Bool
 fits (errand.Ask channel) v = is_idle (v.modes channel.now)
 fits (errand.AskFrom channel) v = is_idle (v.modes channel.now)
 fits (errand.Leave channel) v = not (is_idle (v.modes channel.now))
-fits (errand.Put channel body) v = true
+fits (errand.Put channel key body) v = true
 fits (errand.List channel limit) v = true
 
 abbrev fault_by : Bool → Option ClientFault → Option ClientFault
@@ -39,7 +39,7 @@ fault_is : (e : Errand) (s : State) → send_fault e s ≡ fault_by (fits e s.cl
 fault_is (errand.Ask channel) s = refl
 fault_is (errand.AskFrom channel) s = refl
 fault_is (errand.Leave channel) s = turned (is_idle (s.client.modes channel.now)) (call_fault s)
-fault_is (errand.Put channel body) s = refl
+fault_is (errand.Put channel key body) s = refl
 fault_is (errand.List channel limit) s = refl
 
 none_by : (mode : Bool) (rest : Option ClientFault) → fault_by mode rest ≡ None → (mode ≡ true) × (rest ≡ None)
@@ -73,14 +73,14 @@ module _ (cfg : Config) (m : World) (x : List ℕ) (e : Errand) where
       by_errand (errand.Ask channel) = refl
       by_errand (errand.AskFrom channel) = refl
       by_errand (errand.Leave channel) = refl
-      by_errand (errand.Put channel body) = refl
+      by_errand (errand.Put channel key body) = refl
       by_errand (errand.List channel limit) = refl
 
   effect_is : (v : Errand) → effect cfg m (event_by v x) ≡ exchange cfg x (request_by v (m.links x).client) m
   effect_is (errand.Ask channel) = refl
   effect_is (errand.AskFrom channel) = refl
   effect_is (errand.Leave channel) = refl
-  effect_is (errand.Put channel body) = refl
+  effect_is (errand.Put channel key body) = refl
   effect_is (errand.List channel limit) = refl
 
   -- the command can't be sent, or its mode doesn't fit

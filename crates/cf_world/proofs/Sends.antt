@@ -81,7 +81,7 @@ is_regular : (e : Errand) (v : ClientView) → call_fault (state_of v) ≡ None 
 is_regular (errand.Ask channel) v left from back = (fresh_code v left, tt)
 is_regular (errand.AskFrom channel) v left from back = (fresh_code v left, from)
 is_regular (errand.Leave channel) v left from back = fresh_code v left
-is_regular (errand.Put channel body) v left from back = (fresh_code v left, back)
+is_regular (errand.Put channel key body) v left from back = (fresh_code v left, back)
 is_regular (errand.List channel limit) v left from back = (fresh_code v left, back, tt)
 
 -- a command that passes, and lacks no epoch, asks for no more than there is

@@ -54,28 +54,28 @@ abbrev pub request_by : Errand → Client → ClientRequest
 request_by (errand.Ask channel) x = Subscribe channel.now None
 request_by (errand.AskFrom channel) x = Subscribe channel.now (last_of (x.modes channel.now))
 request_by (errand.Leave channel) x = Unsubscribe channel.now
-request_by (errand.Put channel body) x = Publish channel.now body.now
+request_by (errand.Put channel key body) x = Publish channel.now key.now body.now
 request_by (errand.List channel limit) x = History channel.now limit
 
 abbrev pub send_fault : Errand → State → Option ClientFault
 send_fault (errand.Ask channel) s = ask_fault channel.now s
 send_fault (errand.AskFrom channel) s = ask_fault channel.now s
 send_fault (errand.Leave channel) s = leave_fault channel.now s
-send_fault (errand.Put channel body) s = call_fault s
+send_fault (errand.Put channel key body) s = call_fault s
 send_fault (errand.List channel limit) s = call_fault s
 
 -- a position from which it asks is read back
 abbrev pub AsksFrom : ClientRequest → Type 0
 AsksFrom (Subscribe c from) = IsFrom from
 AsksFrom (Unsubscribe c) = ⊤
-AsksFrom (Publish c body) = ⊤
+AsksFrom (Publish c key body) = ⊤
 AsksFrom (History c limit) = ⊤
 
 -- what a client makes of an errand that it sends
 abbrev pub sent_state : ClientRequest → State → State
 sent_state (Subscribe c from) s = asked c from s
 sent_state (Unsubscribe c) s = left c s
-sent_state (Publish c body) s = called c s
+sent_state (Publish c key body) s = called c s
 sent_state (History c limit) s = called c s
 
 -- ---- one client changes, and the others stay

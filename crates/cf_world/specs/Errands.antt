@@ -10,7 +10,7 @@ abbrev pub event_by : Errand → List ℕ → Event
 event_by (errand.Ask channel) x = Ask x channel.now
 event_by (errand.AskFrom channel) x = AskFrom x channel.now
 event_by (errand.Leave channel) x = Leave x channel.now
-event_by (errand.Put channel body) x = PublishBy x channel.now body.now
+event_by (errand.Put channel key body) x = PublishBy x channel.now key.now body.now
 event_by (errand.List channel limit) x = ListHistory x channel.now limit
 
 -- what it brings is read back
@@ -18,5 +18,5 @@ abbrev pub IsReadBack : Errand → Type 0
 IsReadBack (errand.Ask channel) = ⊤
 IsReadBack (errand.AskFrom channel) = ⊤
 IsReadBack (errand.Leave channel) = ⊤
-IsReadBack (errand.Put channel body) = IsBody body.now
+IsReadBack (errand.Put channel key body) = IsBody body.now
 IsReadBack (errand.List channel limit) = IsTrue (is_limit limit)

@@ -9,6 +9,11 @@ pub(crate) enum Errand<'a> {
     AskFrom { channel: &'a str },
     /// To be subscribed no longer.
     Leave { channel: &'a str },
-    Put { channel: &'a str, body: &'a str },
+    /// To publish, under a key, which may be the empty one.
+    Put {
+        channel: &'a str,
+        key: &'a str,
+        body: &'a str,
+    },
     List { channel: &'a str, limit: i32 },
 }

@@ -76,17 +76,17 @@ impl World {
         Ok(())
     }
 
-    /// A client publishes a datum to a channel.
-    pub fn put(&mut self, name: &str, channel: &str, body: &str) -> Result<(), Short>
+    /// A client publishes a datum to a channel, under a key, which may be the empty one.
+    pub fn put(&mut self, name: &str, channel: &str, key: &str, body: &str) -> Result<(), Short>
         requires { IsBody body.now }
         ensures { OnOk result
-            (GoesOn (said.PublishBy name.now channel.now body.now) self.old self.new) }
+            (GoesOn (said.PublishBy name.now channel.now key.now body.now) self.old self.new) }
     {
         calls_are_alike();
         moves_are_alike();
         what_is_said_stays();
         epochs_are_fresh();
-        let errand = Errand::Put { channel, body };
+        let errand = Errand::Put { channel, key, body };
         let Some(granted) = self.send(name, &errand)? else {
             return Ok(());
         };
@@ -148,26 +148,26 @@ fn unsubscribe_in(hubs: &mut Vec<Hub>, alloc: Global, granted: Granted) -> Resul
     }
 }
 
-// The command is a publish: its datum is published, or the publish refused.
+// The command is a publish: its datum is published under its key, or the publish refused.
 fn publish_in(
     broker: &mut Broker,
     hubs: &mut Vec<Hub>,
     alloc: Global,
     granted: Granted,
 ) -> Result<(), Short>
-    ensures { OnOk result ((id : ℕ) (channel body : List ℕ)
+    ensures { OnOk result ((id : ℕ) (channel key body : List ℕ)
         → shown_command granted.command
-        ≡ command_of (record { id = id; request = request.Publish channel body })
+        ≡ command_of (record { id = id; request = request.Publish channel key body })
         → (table : NamespaceTable) (m : Shared) → AreFresh m → IsBody body
         → IsInfo (who_in (seated (hub_at hubs.old) granted.seat))
         → ShowsBroker table broker.old m
-        → Puts table m granted.seat channel body id broker.new (hub_at hubs.old)
+        → Puts table m granted.seat channel key body id broker.new (hub_at hubs.old)
         (hub_at hubs.new)) }
 {
     let Granted { seat, command } = granted;
     let Command { id, request } = command;
     match request {
-        Request::Publish { channel, body } => match body {
+        Request::Publish { channel, key, body } => match body {
             Data::Body(body) => {
                 put_in(
                     broker,
@@ -176,6 +176,7 @@ fn publish_in(
                     seat,
                     id,
                     channel.as_str(),
+                    key.as_str(),
                     body.as_str(),
                 )?;
                 Ok(())

@@ -41,19 +41,16 @@ pub(crate) fn lacks_epoch(
         → lacks ≡ lacks_by namespaces.now (sent_by errand.now p) m) }
 {
     match errand {
-        Errand::Put { channel, body } => {
+        Errand::Put { channel, key, body } => {
             if broker.can_open(channel) {
                 return Ok(false);
             }
-            let channel = String::from_str(alloc, channel)?;
-            let body = Data::Body(String::from_str(alloc, body)?);
-            would_pass(
-                alloc,
-                namespaces,
-                peers,
-                name,
-                Request::Publish { channel, body },
-            )
+            let request = Request::Publish {
+                channel: String::from_str(alloc, channel)?,
+                key: String::from_str(alloc, key)?,
+                body: Data::Body(String::from_str(alloc, body)?),
+            };
+            would_pass(alloc, namespaces, peers, name, request)
         }
         Errand::List { channel, limit } => {
             if broker.can_open(channel) {
@@ -104,7 +101,7 @@ fn passes(alloc: Global, namespaces: &Namespaces, command: &Command) -> Result<b
     Ok(text.len() <= LONGEST_TEXT)
 }
 
-/// A client's datum is published, and the client is told.
+/// A client's datum is published under a key, and the client is told.
 pub(crate) fn put_in(
     broker: &mut Broker,
     hubs: &mut Vec<Hub>,
@@ -112,16 +109,18 @@ pub(crate) fn put_in(
     seat: Seat,
     id: u32,
     channel: &str,
+    key: &str,
     body: &str,
 ) -> Result<(), Short>
     ensures { OnOk result ((table : NamespaceTable) (m : Shared) → AreFresh m → IsBody body.now
         → IsInfo (who_in (seated (hub_at hubs.old) seat)) → ShowsBroker table broker.old m
-        → Puts table m seat channel.now body.now id broker.new (hub_at hubs.old)
+        → Puts table m seat channel.now key.now body.now id broker.new (hub_at hubs.old)
         (hub_at hubs.new)) }
 {
     let info = info_in(hubs, alloc, seat)?;
-    match broker.publish(channel, body, info)? {
+    match broker.publish(channel, key, body, info)? {
         Published::Accepted => answer_in(hubs, alloc, seat, id, Outcome::Published),
+        Published::Repeated => answer_in(hubs, alloc, seat, id, Outcome::Published),
         Published::AtLastOffset => refuse_in(hubs, alloc, seat, id, ErrorCode::LimitExceeded),
         Published::NoEpoch => Ok(()),
         Published::NotSetUp => Ok(()),

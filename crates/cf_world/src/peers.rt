@@ -220,7 +220,7 @@ impl Peer {
             Errand::Ask { channel } => self.client.ask(channel),
             Errand::AskFrom { channel } => self.client.ask_from(channel),
             Errand::Leave { channel } => self.client.leave(channel),
-            Errand::Put { channel, body } => self.client.put(channel, body),
+            Errand::Put { channel, key, body } => self.client.put_key(channel, key, body),
             Errand::List { channel, limit } => self.client.list(channel, *limit),
         }
     }
