@@ -13,7 +13,7 @@ use cf_presence::Stats;
 use cf_protocol::{Info, Position};
 use cf_session::Session;
 use cf_shard::{Naming, ReadAnswer, Refused};
-use cf_stream::{Epochs, History};
+use cf_stream::{Epochs, History, Published};
 use std::alloc::Global;
 use std::cell::RefCell;
 use std::collections::BTreeMap;
@@ -97,16 +97,17 @@ impl<'a, R: Wait, N: Naming, E: Epochs + Drop> House for Around<'a, R, N, E> {
         &self,
         channel: &str,
         body: String,
+        key: String,
         info: Info,
         now: u64,
-    ) -> Result<Position, Refused> {
+    ) -> Result<Published, Refused> {
         let shard = shard_of(channel);
         let Some(mut pass) = taken(&self.passes, self.broker, shard) else {
             return Err(Refused::NoEpoch);
         };
         let answer = self
             .broker
-            .publish(self.rt, &mut pass, channel, body, Some(info), now);
+            .publish(self.rt, &mut pass, channel, body, key, Some(info), now);
         put_back(&self.passes, shard, pass);
         answer
     }

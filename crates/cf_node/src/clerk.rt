@@ -91,7 +91,11 @@ impl<'a, H: House> Node for Clerk<'a, H> {
                 channel,
                 body,
                 info,
-            } => Some(Answer::Publish(self.publish(channel.as_str(), body, info))),
+            } => {
+                // Until the session's action brings a key.
+                let key = String::new(self.house.alloc());
+                Some(Answer::Publish(self.publish(channel.as_str(), body, key, info)))
+            }
             Action::History {
                 channel,
                 limit,
@@ -226,10 +230,10 @@ impl<'a, H: House> Clerk<'a, H> {
         self.member.remove(channel);
     }
 
-    fn publish(&self, channel: &str, body: String, info: Info) -> Result<(), ErrorCode>
+    fn publish(&self, channel: &str, body: String, key: String, info: Info) -> Result<(), ErrorCode>
         requires { IsSome (settings_of H.namespaces channel.now) }
     {
-        match self.house.publish(channel, body, info, self.now) {
+        match self.house.publish(channel, body, key, info, self.now) {
             Ok(_) => Ok(()),
             Err(refused) => Err(broker_error(refused)),
         }

@@ -8,7 +8,7 @@ use cf_presence::Stats;
 use cf_protocol::{Info, Position};
 use cf_session::Session;
 use cf_shard::{ReadAnswer, Refused};
-use cf_stream::History;
+use cf_stream::{History, Published};
 use std::alloc::Global;
 use std::collections::BTreeMap;
 use std::sync::MutexGuard;
@@ -47,14 +47,15 @@ pub(crate) trait House {
     /// A session was closed since its client was too slow.
     fn note_slow(&self);
 
-    /// A publish by a client.
+    /// A publish by a client, under a key, which may be none.
     fn publish(
         &self,
         channel: &str,
         body: String,
+        key: String,
         info: Info,
         now: u64,
-    ) -> Result<Position, Refused>
+    ) -> Result<Published, Refused>
         requires { IsSome (settings_of namespaces channel.now) };
 
     /// A read of a channel's stream.

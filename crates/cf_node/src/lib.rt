@@ -21,8 +21,10 @@ mod member;
 mod node;
 mod rounds;
 mod shared;
+mod sizes;
 mod socket;
 
 pub use counts::Counts;
 pub use gate::{DISPATCHER, Gate, IO_LOOP};
 pub use node::{Node, Setup};
+pub use sizes::set_size;
