@@ -16,11 +16,11 @@ use Rattle.cf_stream.specs.Keys.{KeyAt, recent, repeat_of, repeated_in}
 use Rattle.cf_stream.specs.Stream.{Shown, IsAtLast, answer_by, answer_to, repeated_by}
 use Rattle.cf_stream.specs.StreamState.{StreamState, last_offset, with_one_more}
 use Rattle.cf_stream.specs.Streams.{stream_of, stood_or, size_at}
-use Rattle.cf_stream.specs.PublicationList.{Life, Shows, offered, published}
-use Rattle.cf_stream.specs.ChannelLists.{ChangesAt, life_or, life_with}
+use Rattle.cf_stream.specs.PublicationList.{Life, offered, published}
+use Rattle.cf_stream.specs.ChannelLists.{ChangesAt, life_with}
 use Rattle.cf_stream.specs.declared.answer.Published.{Published}
 use Rattle.cf_stream.specs.FreshEpochs.{Draws, DrawsNone, IsNoEpoch}
-use Rattle.cf_world.specs.BrokerTie.{IsAccepted, IsDatum, ShowsBroker, FindsNone, Publishes, size_in}
+use Rattle.cf_world.specs.BrokerTie.{IsAccepted, IsDatum, ShowsBroker, FindsNone, Publishes}
 use Rattle.cf_machine.specs.FreshEpochs.{AreFresh}
 use Rattle.cf_machine.specs.Lives.{life_at}
 use Rattle.cf_machine.specs.PublicationList.{Broker, Keys, opened, open_at, can_open, is_full, is_repeat, repeats, stands_or_opens, keys_with, list_with, add_at}
@@ -215,9 +215,13 @@ module _ (table : NamespaceTable) (m : Broker) (b new : Code) (c key e : List �
       let l1 : Life = life_of (m1.lists c) (m1.keys c) o.state in
       let again = told true (answered_again (repeated_by sh key) sh.epoch sh.top p answer yes') in
       let here : life_with size key d e (life_at m c) ≡ Some l1 =
-      ap (λ (l : Life). Some (offered size key d l)) o.life ∙ ap (λ (t : Bool). Some (cond t l1 (published size key d l1))) again.0 in
-      (set_up, opens.1, again.1, subst (λ (x : Broker). ShowsBroker table new x) (as_it_was (m.streams c) m.waiting again.1)
-          (opened_shows table b new m m1 h (stream_of b.streams c) c e o ns (life_with size key d e) ch here accepted))
+      ap (λ (l : Life). Some (offered size key d l)) o.life ∙ ap (λ (t : Bool). Some (cond t l1 (published size key d l1))) again.0 in (
+        set_up,
+        opens.1,
+        again.1,
+        subst (λ (x : Broker). ShowsBroker table new x) (as_it_was (m.streams c) m.waiting again.1)
+            (opened_shows table b new m m1 h (stream_of b.streams c) c e o ns (life_with size key d e) ch here accepted),
+      )
 
 -- ---- a publish that is refused
 

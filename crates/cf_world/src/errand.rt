@@ -4,16 +4,25 @@
 #[derive(Clone, Copy)]
 pub(crate) enum Errand<'a> {
     /// To be subscribed, from no position.
-    Ask { channel: &'a str },
+    Ask {
+        channel: &'a str,
+    },
     /// To be subscribed, from the last position that it had there.
-    AskFrom { channel: &'a str },
+    AskFrom {
+        channel: &'a str,
+    },
     /// To be subscribed no longer.
-    Leave { channel: &'a str },
+    Leave {
+        channel: &'a str,
+    },
     /// To publish, under a key, which may be the empty one.
     Put {
         channel: &'a str,
         key: &'a str,
         body: &'a str,
     },
-    List { channel: &'a str, limit: i32 },
+    List {
+        channel: &'a str,
+        limit: i32,
+    },
 }
