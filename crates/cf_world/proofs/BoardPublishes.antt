@@ -16,11 +16,11 @@ use Rattle.cf_stream.specs.Keys.{KeyAt, recent, repeat_of, repeated_in}
 use Rattle.cf_stream.specs.Stream.{Shown, IsAtLast, answer_by, answer_to, repeated_by}
 use Rattle.cf_stream.specs.StreamState.{StreamState, last_offset, with_one_more}
 use Rattle.cf_stream.specs.Streams.{stream_of, stood_or, size_at}
-use Rattle.cf_stream.specs.PublicationList.{Life, Shows, offered, published}
-use Rattle.cf_stream.specs.ChannelLists.{ChangesAt, life_or, life_with}
+use Rattle.cf_stream.specs.PublicationList.{Life, offered, published}
+use Rattle.cf_stream.specs.ChannelLists.{ChangesAt, life_with}
 use Rattle.cf_stream.specs.declared.answer.Published.{Published}
 use Rattle.cf_stream.specs.FreshEpochs.{Draws, DrawsNone, IsNoEpoch}
-use Rattle.cf_world.specs.BrokerTie.{IsAccepted, IsDatum, ShowsBroker, FindsNone, Publishes, size_in}
+use Rattle.cf_world.specs.BrokerTie.{IsAccepted, IsDatum, ShowsBroker, FindsNone, Publishes}
 use Rattle.cf_machine.specs.FreshEpochs.{AreFresh}
 use Rattle.cf_machine.specs.Lives.{life_at}
 use Rattle.cf_machine.specs.PublicationList.{Broker, Keys, opened, open_at, can_open, is_full, is_repeat, repeats, stands_or_opens, keys_with, list_with, add_at}
