@@ -89,13 +89,10 @@ impl<'a, H: House> Node for Clerk<'a, H> {
             }
             Action::Publish {
                 channel,
+                key,
                 body,
                 info,
-            } => {
-                // Until the session's action brings a key.
-                let key = String::new(self.house.alloc());
-                Some(Answer::Publish(self.publish(channel.as_str(), body, key, info)))
-            }
+            } => Some(Answer::Publish(self.publish(channel.as_str(), body, key, info))),
             Action::History {
                 channel,
                 limit,
