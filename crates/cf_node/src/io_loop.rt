@@ -264,12 +264,21 @@ impl<'a, H: House> IoLoop<'a, H> {
 
     // A turn of the connection at a place is to come.
     fn owe(&mut self, place: usize) {
-        let agenda = match self.places.get(place) {
-            Some(Connection::Open(open)) if open.is_spent => &mut self.spenders,
-            _ => &mut self.agenda,
+        let is_added = if self.has_spent(place) {
+            self.spenders.add(place).is_ok()
+        } else {
+            self.agenda.add(place).is_ok()
         };
-        if agenda.add(place).is_err() {
+        if !is_added {
             self.end(place);
+        }
+    }
+
+    // Whether the connection at a place has spent the bounds of its last turn.
+    fn has_spent(&self, place: usize) -> bool {
+        match self.places.get(place) {
+            Some(Connection::Open(open)) => open.is_spent,
+            _ => false,
         }
     }
 
