@@ -14,7 +14,7 @@ use Rattle.cf_stream.specs.declared.answer.Published.{Published}
 use Rattle.cf_stream.proofs.ChannelChanges.{RepeatsAt-from}
 use Rattle.std.specs.Option.{option_map}
 use Rattle.cf_stream.specs.StreamState.{last_offset}
-use Rattle.cf_stream.specs.Streams.{IsOfAnother, Kept, repeat_at, size_at, stream_of}
+use Rattle.cf_stream.specs.Streams.{IsOfAnother, StreamMap, repeat_at, size_at, stream_of}
 use Rattle.cf_shard.specs.LogAnswer.{HasNoRoom, HasNone, IsAtLast, IsNew, IsOutside, RefusesEntry, RefusesHistory, RefusesPublish, RefusesRead}
 use Rattle.cf_shard.specs.Shard.{IsFull}
 use Rattle.cf_shard.specs.declared.refusal.Refused.{Refused}
@@ -67,7 +67,7 @@ err_same : {X : Type 0} {a b : Refused} → IsErrOf {T = X} (Err a) b → a ≡ 
 err_same e = cc (e)
 
 -- streams of these namespaces, and the log that left them, which the caller's pass has then seen where the call is refused
-module _ (t : NamespaceTable) (k : Kept) (was log : List Entry) (c : List ℕ) (state : IsState t k was) where
+module _ (t : NamespaceTable) (k : StreamMap) (was log : List Entry) (c : List ℕ) (state : IsState t k was) where
   shows : ShowsAt (size_at k.namespaces c) (stream_of k c) (life_in t was c)
   shows = state.lists.at c
 

@@ -82,7 +82,7 @@ impl Client {
 
     /// What always holds of a client: the ids that are out are older than the next one, no two channels ask under one, and no
     /// ask has that of a call.
-    pub fn is_sound(&self)
+    pub fn invariant(&self)
         ensures { AreApart (state_of self.now).client }
     {
         let _known = &self.known;

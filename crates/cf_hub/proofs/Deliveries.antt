@@ -4,7 +4,7 @@ use Rattle.std.proofs.lemmas.Bool.Decides.{Decides-eqb, nat_tests}
 use Rattle.std.proofs.lemmas.List.{length-append}
 use Rattle.cf_protocol.specs.Datum.{Placed}
 use Rattle.cf_protocol.specs.Position.{Position}
-use Rattle.cf_followers.specs.Follows.{AreFollows, follows, sessions_of}
+use Rattle.cf_subscribers.specs.Follows.{AreFollows, follows, sessions_of}
 use Rattle.cf_queue.specs.OutQueue.{Item}
 use Rattle.cf_hub.specs.declared.delivered.Fate.{Fate}
 use Rattle.cf_hub.specs.declared.delivered.Fate.TheVariants as fate

@@ -1,7 +1,7 @@
 -- A session that was just attached.
 use Rattle.std.proofs.Common.{◌≡◌, ◌≢◌, ℕ, ◌==◌, ◌<◌, ◌+◌, is_some, Bool, true, false, Some, None, List, [], arith, refl, sym, ap, ◌∙◌}
 use Rattle.std.proofs.lemmas.Bool.Decides.{Decides-eqb}
-use Rattle.cf_followers.specs.Follows.{Follow}
+use Rattle.cf_subscribers.specs.Follows.{Follow}
 use Rattle.cf_queue.specs.OutQueue.{Item}
 use Rattle.cf_hub.specs.declared.session.Session.{Session}
 use Rattle.cf_hub.specs.declared.delivered.Fate.TheVariants as fate

@@ -4,7 +4,7 @@ use Rattle.std.specs.Cmp.Lexicographic.{bytes_decides}
 use Rattle.std.specs.Prelude.{OnOk, Result, Ok, Err, ⊤}
 use Rattle.std.specs.declared.alloc.AllocError.{AllocError}
 use Rattle.std.specs.Str.{bytes_eq}
-use Rattle.cf_recovery.specs.Kept.{Kept, nothing_kept}
+use Rattle.cf_recovery.specs.ArrivalBuffer.{ArrivalBuffer, nothing_kept}
 use Rattle.cf_protocol.specs.Datum.{Placed}
 use Rattle.cf_protocol.specs.Names.{with}
 use Rattle.cf_protocol.specs.Position.{Position}
@@ -142,7 +142,7 @@ spoken refused p c q mark v o s n a mid b e at is moves (inr h) =
 
 -- ---- a subscription begins
 
-pub put_begun : (r : Result ⊤ AllocError) (m n : Subscriptions) (c : List ℕ) (id : ℕ) (since : Option Position) (waiting : Kept) (q : OutQueue) → waiting ≡ nothing_kept
+pub put_begun : (r : Result ⊤ AllocError) (m n : Subscriptions) (c : List ℕ) (id : ℕ) (since : Option Position) (waiting : ArrivalBuffer) (q : OutQueue) → waiting ≡ nothing_kept
     → OnOk r (SetsAt m n c (Some (code.Asked id since waiting))) → OnOk r (with_queue (subs_of n) q ≡ begins plain c id since (with_queue (subs_of m) q))
 put_begun (Ok x) m n c id since waiting q e h =
     put_state m n c (Some (code.Asked id since waiting)) q h ∙ ap (λ k. put_sub c (Asked id since (held k [])) (with_queue (subs_of m) q)) e

@@ -3,7 +3,7 @@ use Rattle.std.proofs.Common.{◌≡◌, ◌||◌, ◌+◌, ℕ, Bool, true, fal
 use Rattle.std.specs.Cmp.Lexicographic.{bytes_decides}
 use Rattle.std.specs.Str.{bytes_eq}
 use Rattle.cf_queue.specs.OutQueue.{OutQueue, Item}
-use Rattle.cf_recovery.specs.Kept.{places}
+use Rattle.cf_recovery.specs.ArrivalBuffer.{places}
 use Rattle.cf_recovery.specs.Release.{falls_short}
 use Rattle.cf_stream.specs.declared.answer.Recovery.{Recovery}
 use Rattle.cf_hub.specs.declared.reply.Answered.{Answered}

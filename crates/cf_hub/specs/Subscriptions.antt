@@ -8,7 +8,7 @@ use Rattle.std.specs.declared.string.String.{String}
 use Rattle.cf_protocol.specs.Datum.{Placed}
 use Rattle.cf_protocol.specs.Note.{Reading}
 use Rattle.cf_protocol.specs.Position.{Position}
-use Rattle.cf_recovery.specs.Kept.{arrival, given_up, with_arrival}
+use Rattle.cf_recovery.specs.ArrivalBuffer.{arrival, given_up, with_arrival}
 use Rattle.cf_recovery.specs.Verdict.{Verdict, Drop, Pass, Insufficient, verdict}
 use Rattle.cf_recovery.specs.declared.verdict.Verdict.{Verdict as Answer}
 use Rattle.cf_recovery.specs.declared.verdict.Verdict.TheVariants as answer

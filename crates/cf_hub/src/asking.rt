@@ -26,7 +26,7 @@ pub struct Asked {
 
 impl Hub {
     ghost use Rattle.std.specs.Prelude.{◌≡◌, ◌↔◌, ℕ, List, false, IsTrue};
-    ghost use Rattle.cf_followers.specs.Follows.{AreFollows};
+    ghost use Rattle.cf_subscribers.specs.Follows.{AreFollows};
     ghost use Rattle.cf_hub.specs.Asking.{asked_of};
     ghost use Rattle.cf_hub.specs.Hub.{IsBounded, attached_at, sub_at};
     ghost use Rattle.cf_hub.specs.Rows.{Agrees};

@@ -1,6 +1,6 @@
 //! One node's sessions and rows.
 ghost use Rattle.std.specs.Prelude.{◌≡◌, ◌==◌, None, length, not, slice_get, option_map, option_and_then};
-ghost use Rattle.cf_followers.specs.Follows.{channels_of, sessions_of};
+ghost use Rattle.cf_subscribers.specs.Follows.{channels_of, sessions_of};
 ghost use Rattle.cf_queue.specs.Meaning.{meaning};
 ghost use Rattle.cf_queue.specs.OutQueue.{Close};
 ghost use Rattle.cf_hub.specs.Delivery.{total};
@@ -17,7 +17,7 @@ use crate::sessions::{
     bring_one, close_one, count_more, drop_one, leave_one, settle_all, take_one,
 };
 use crate::wording::push_text;
-use cf_followers::Followers;
+use cf_subscribers::Subscribers;
 use cf_protocol::{Epoch, Publication};
 use cf_queue::Out;
 use std::alloc::Global;
@@ -38,7 +38,7 @@ pub struct Hub {
     pub(crate) sessions: Sessions,
     /// Each number below this one has a session.
     pub(crate) free_from: u32,
-    pub(crate) rows: Followers,
+    pub(crate) rows: Subscribers,
     pub(crate) refused: u64,
     pub(crate) listed: Listed,
     pub(crate) alloc: Global,
@@ -79,7 +79,7 @@ impl Hub {
             used: 0,
             sessions: Sessions::new(alloc),
             free_from: 0,
-            rows: Followers::new(alloc),
+            rows: Subscribers::new(alloc),
             refused: 0,
             listed: Listed::new(alloc),
             alloc,

@@ -17,7 +17,7 @@ use crate::listed::Listed;
 use crate::places::Sessions;
 use crate::said::Said;
 use crate::session::{Session, Step};
-use cf_followers::Followers;
+use cf_subscribers::Subscribers;
 use cf_protocol::{Epoch, Position, Publication};
 use cf_queue::Out;
 use cf_stream::Recovery;
@@ -309,7 +309,7 @@ pub(crate) fn next_in(listed: &mut Listed, sessions: &Sessions) -> Option<u32>
 }
 
 /// Removes the rows of what ended.
-pub(crate) fn settle(rows: &mut Followers, session: u32, channel: &str, fate: Fate)
+pub(crate) fn settle(rows: &mut Subscribers, session: u32, channel: &str, fate: Fate)
     ensures { rows.new ≡ rows_after fate channel.now session rows.old }
 {
     match fate {
@@ -340,7 +340,7 @@ fn fate_now(sessions: &Sessions, number: u32, channel: &str) -> Fate
 }
 
 /// Removes the rows of what ended in a call that met all followers of a channel.
-pub(crate) fn settle_all(rows: &mut Followers, sessions: &Sessions, channel: &str)
+pub(crate) fn settle_all(rows: &mut Subscribers, sessions: &Sessions, channel: &str)
     requires { AgreedBefore channel.now (attached_in sessions.now) rows.old }
     ensures { Agrees (attached_in sessions.now) rows.new }
 {

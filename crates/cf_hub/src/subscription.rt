@@ -1,6 +1,6 @@
 //! How far a session is with a channel.
 ghost use Rattle.std.specs.Prelude.{◌≡◌, ◌⊎◌, ◌≢◌, true, OnOk, OnErr, None, Some, option_map};
-ghost use Rattle.cf_recovery.specs.Kept.{arrival, given_up, with_arrival};
+ghost use Rattle.cf_recovery.specs.ArrivalBuffer.{arrival, given_up, with_arrival};
 ghost use Rattle.cf_hub.specs.Subscriptions.{SetsAt, coming, keeps, loses, progress_at};
 
 use cf_protocol::{Epoch, Position, Publication};

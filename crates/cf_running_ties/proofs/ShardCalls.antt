@@ -15,7 +15,7 @@ use Rattle.cf_stream.specs.LogState.{IsState, life_in, opening, if_stands}
 use Rattle.cf_stream.specs.PublicationList.{IsPublished, Life, Shows, opened}
 use Rattle.cf_stream.specs.Stream.{Shown, answer_by}
 use Rattle.cf_stream.specs.StreamState.{last_offset}
-use Rattle.cf_stream.specs.Streams.{Kept, size_at, stream_of}
+use Rattle.cf_stream.specs.Streams.{StreamMap, size_at, stream_of}
 use Rattle.cf_stream.proofs.PublicationLists.{repeats_alike}
 use Rattle.cf_machine.specs.Config.{Config}
 use Rattle.cf_machine.proofs.Names.{itself}
@@ -43,7 +43,7 @@ under n m e h f = by_value (nat_lt m last_offset) refl
 opened_below : nat_lt 0 last_offset ≡ true
 opened_below = grind (arith, nat_tests)
 
-module _ (cfg : Config) (k : Kept) (log : List Entry) (is : IsState cfg.namespaces k log) (c : List ℕ) where
+module _ (cfg : Config) (k : StreamMap) (log : List Entry) (is : IsState cfg.namespaces k log) (c : List ℕ) where
   abbrev life : Option Life
   life = life_in cfg.namespaces log c
 

@@ -13,7 +13,7 @@ use Rattle.cf_stream.specs.PublicationList.{IsRead, Life, opened, state_of}
 use Rattle.cf_stream.specs.Stream.{Shown}
 use Rattle.cf_stream.specs.StreamState.{StreamState}
 use Rattle.cf_stream.specs.StreamAnswer.{most_in_reply, read_of, still_held}
-use Rattle.cf_stream.specs.Streams.{Kept, size_at, stream_of}
+use Rattle.cf_stream.specs.Streams.{StreamMap, size_at, stream_of}
 use Rattle.cf_machine.specs.Config.{Config}
 use Rattle.cf_machine.proofs.Names.{by_test}
 use Rattle.cf_shard.specs.ShardLog.{entries_of_use}
@@ -77,7 +77,7 @@ abbrev of_some : Life → Option Life → Life
 of_some d None = d
 of_some d (Some l) = l
 
-module _ (cfg : Config) (k : Kept) (log : List Entry) (is : IsState cfg.namespaces k log) (c : List ℕ) where
+module _ (cfg : Config) (k : StreamMap) (log : List Entry) (is : IsState cfg.namespaces k log) (c : List ℕ) where
   abbrev life : List Entry → Option Life
   life l = life_in cfg.namespaces l c
 

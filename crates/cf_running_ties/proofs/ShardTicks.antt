@@ -20,7 +20,7 @@ use Rattle.cf_stream.specs.ChannelLists.{ShowsAt}
 use Rattle.cf_stream.specs.LogState.{IsState, due_entries, due_entry, life_in}
 use Rattle.cf_stream.specs.PublicationList.{Life, kept_newest}
 use Rattle.cf_stream.specs.Stream.{Shown}
-use Rattle.cf_stream.specs.Streams.{Kept, due_channels, due_of, seconds_at, size_at}
+use Rattle.cf_stream.specs.Streams.{StreamMap, due_channels, due_of, seconds_at, size_at}
 use Rattle.cf_stream.proofs.Channels.{same_key}
 use Rattle.cf_machine.specs.Config.{Config}
 use Rattle.cf_machine.proofs.Names.{itself}
@@ -137,7 +137,7 @@ module _ (cfg : Config) where
       by_due (Some ToForget) a b = (k.0, b ToForget)
       by_due (Some ToEmpty) a b = (k.0, b ToEmpty)
 
-  pub ticks : (k : Kept) (log : List Entry) → IsState cfg.namespaces k log → (now : ℕ) → MayAll cfg log (entries_of_tick k now)
+  pub ticks : (k : StreamMap) (log : List Entry) → IsState cfg.namespaces k log → (now : ℕ) → MayAll cfg log (entries_of_tick k now)
   ticks k log is now =
       all-may now k.namespaces (fin.entries k.streams) log (sorted_apart (fin.entries k.streams) (fin.entries_sorted k.streams))
       (each-more (λ q s. find q (fin.entries k.streams) ≡ Some s) (Stands log) (fin.entries k.streams)

@@ -7,7 +7,7 @@ use Rattle.cf_protocol.specs.Settings.{NamespaceTable, settings_of}
 use Rattle.cf_stream.specs.ChannelLists.{PublishesAt}
 use Rattle.cf_stream.specs.FreshEpochs.{DrawsNone}
 use Rattle.cf_stream.specs.declared.answer.Published.{Published as Answer}
-use Rattle.cf_stream.specs.Streams.{Kept, stream_of}
+use Rattle.cf_stream.specs.Streams.{StreamMap, stream_of}
 use Rattle.cf_epochs.specs.Source.{IsSource, Source, draws_next}
 use Rattle.cf_shard.specs.Shard.{DrawsFor, IsStateOf, Lent}
 use Rattle.cf_shard.specs.ShardLog.{entries_of_forget, entries_of_publish, entries_of_size, entries_of_tick, entries_of_trim, entries_of_use}
@@ -27,7 +27,7 @@ pub data Call : Type 0 where
   Unchanged : Call
 
 -- what it adds to the log
-abbrev pub entries_of : Call → Kept → List Entry
+abbrev pub entries_of : Call → StreamMap → List Entry
 entries_of (Published c key d p) k = entries_of_publish p.repeated k c p.position.epoch key d
 entries_of (Used c e) k = entries_of_use k c e
 entries_of (Trimmed c n) k = entries_of_trim k c n
@@ -46,7 +46,7 @@ DrawsBy other old new = new.epochs ≡ old.epochs
 
 -- a publish that is carried out is of a namespace that is set up, is none that is refused at the last offset, and is answered off the
 -- stream's list
-abbrev pub IsAllowed : NamespaceTable → Call → Kept → Type 0
+abbrev pub IsAllowed : NamespaceTable → Call → StreamMap → Type 0
 IsAllowed t (Published c key d p) k = IsSome (settings_of t c) × IsNotLast (stream_of k c) key × PublishesAt k c key p.position p.repeated
 IsAllowed t other k = ⊤
 

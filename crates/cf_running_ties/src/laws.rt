@@ -13,7 +13,7 @@ ghost use Rattle.cf_stream.specs.declared.answer.Published.{Published};
 ghost use Rattle.cf_stream.specs.LogState.{IsState, life_in};
 ghost use Rattle.cf_stream.specs.PublicationList.{Life, state_of};
 ghost use Rattle.cf_stream.specs.StreamAnswer.{read_of};
-ghost use Rattle.cf_stream.specs.Streams.{Kept, stream_of};
+ghost use Rattle.cf_stream.specs.Streams.{StreamMap, stream_of};
 ghost use Rattle.cf_hub.specs.Hub.{client_id};
 ghost use Rattle.cf_epochs.specs.Source.{IsSource, Source, draws_next};
 ghost use Rattle.cf_link.specs.Link.{AreLeft};
@@ -49,7 +49,7 @@ pub fn hub_moves_are_sections()
 /// epoch that is drawn is new to its channel; so the log is gained entry by entry from the start. And what
 /// a read answers is what the worker then has in hand.
 pub fn shard_calls_are_sections()
-    ensures publishes { (config : Config) (streams : Kept) (log : List Entry)
+    ensures publishes { (config : Config) (streams : StreamMap) (log : List Entry)
         (channel key : List ℕ) (datum : Datum) (position : Position) (repeated : Bool)
         → IsState config.namespaces streams log → IsGained config log
         → IsDrawn (stream_of streams channel) log channel position.epoch
@@ -58,23 +58,23 @@ pub fn shard_calls_are_sections()
         → IsSome (settings_of config.namespaces channel)
         → MayAll config log
         (entries_of_publish repeated streams channel position.epoch key datum) }
-    ensures uses { (config : Config) (streams : Kept) (log : List Entry) (channel epoch : List ℕ)
+    ensures uses { (config : Config) (streams : StreamMap) (log : List Entry) (channel epoch : List ℕ)
         → IsState config.namespaces streams log
         → IsDrawn (stream_of streams channel) log channel epoch
         → MayAll config log (entries_of_use streams channel epoch) }
-    ensures trims { (config : Config) (streams : Kept) (log : List Entry)
+    ensures trims { (config : Config) (streams : StreamMap) (log : List Entry)
         (channel : List ℕ) (count : ℕ)
         → IsState config.namespaces streams log
         → MayAll config log (entries_of_trim streams channel count) }
-    ensures forgets { (config : Config) (streams : Kept) (log : List Entry) (channel : List ℕ)
+    ensures forgets { (config : Config) (streams : StreamMap) (log : List Entry) (channel : List ℕ)
         → IsState config.namespaces streams log
         → MayAll config log (entries_of_forget streams channel) }
     ensures sizes { (config : Config) (log : List Entry) (name : List ℕ) (size : ℕ)
         → MayAll config log (entries_of_size name size) }
-    ensures ticks { (config : Config) (streams : Kept) (log : List Entry) (now : ℕ)
+    ensures ticks { (config : Config) (streams : StreamMap) (log : List Entry) (now : ℕ)
         → IsState config.namespaces streams log
         → MayAll config log (entries_of_tick streams now) }
-    ensures reads { (config : Config) (streams : Kept) (log : List Entry) (channel : List ℕ)
+    ensures reads { (config : Config) (streams : StreamMap) (log : List Entry) (channel : List ℕ)
         (since : Option Position) (position : Position) (recovered : Bool)
         (publications : List Placed) (life : Life)
         → IsState config.namespaces streams log

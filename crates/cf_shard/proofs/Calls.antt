@@ -17,7 +17,7 @@ use Rattle.cf_protocol.specs.Settings.{NamespaceTable}
 use Rattle.cf_order.specs.Passes.{OwnerState, PassState, caught_up}
 use Rattle.cf_stream.specs.Stream.{position_of, Shown, answer_by, answer_to, given, pushed, repeated_by, used_at}
 use Rattle.cf_stream.specs.Keys.{is_no_key}
-use Rattle.cf_stream.specs.Streams.{Kept, repeat_at, stream_of, size_at, stood_or, stood_or_opened}
+use Rattle.cf_stream.specs.Streams.{StreamMap, repeat_at, stream_of, size_at, stood_or, stood_or_opened}
 use Rattle.cf_stream.specs.PublicationList.{Life}
 use Rattle.cf_stream.specs.ChannelLists.{ShowsAt, StandsAt, PublishesAt, ReadsAt, ListsAt}
 use Rattle.cf_stream.specs.LogState.{IsState, Adds, life_in, opening, publishing, if_stands}
@@ -50,32 +50,32 @@ if_stands_alike size None (Some l) x h = absurd h
 if_stands_alike size (Some s) None x h = absurd h
 
 -- a stream stands exactly where the log says so
-pub opening_by_log : (t : NamespaceTable) (w : TableId) (k : Kept) (o : OwnerState) (c e : List ℕ) (es : List Entry) → IsShard t w k o → opening (stream_of k c) c e es ≡ opening (life_in t o.log c) c e es
+pub opening_by_log : (t : NamespaceTable) (w : TableId) (k : StreamMap) (o : OwnerState) (c e : List ℕ) (es : List Entry) → IsShard t w k o → opening (stream_of k c) c e es ≡ opening (life_in t o.log c) c e es
 opening_by_log t w k o c e es h =
     opening_alike (size_at k.namespaces c) (stream_of k c) (life_in t o.log c) c e es (h.state.lists.at c)
 
-pub if_stands_by_log : (t : NamespaceTable) (w : TableId) (k : Kept) (o : OwnerState) (c : List ℕ) (x : Entry) → IsShard t w k o → if_stands (stream_of k c) x ≡ if_stands (life_in t o.log c) x
+pub if_stands_by_log : (t : NamespaceTable) (w : TableId) (k : StreamMap) (o : OwnerState) (c : List ℕ) (x : Entry) → IsShard t w k o → if_stands (stream_of k c) x ≡ if_stands (life_in t o.log c) x
 if_stands_by_log t w k o c x h =
     if_stands_alike (size_at k.namespaces c) (stream_of k c) (life_in t o.log c) x (h.state.lists.at c)
 
 -- the entries by what was asked of the streams
-pub opening_stood : (k : Kept) (c : List ℕ) (position : Option Position) (stood : Option ℕ) (e : List ℕ) (es : List Entry) → position ≡ option_map position_of (stream_of k c) → stood ≡ option_map (λ (p : Position). p.offset) position
+pub opening_stood : (k : StreamMap) (c : List ℕ) (position : Option Position) (stood : Option ℕ) (e : List ℕ) (es : List Entry) → position ≡ option_map position_of (stream_of k c) → stood ≡ option_map (λ (p : Position). p.offset) position
     → opening stood c e es ≡ opening (stream_of k c) c e es
 opening_stood k c position stood e es at is =
     ap (λ (o : Option ℕ). opening o c e es) is ∙ opening_map (λ (p : Position). p.offset) position c e es
     ∙ ap (λ (o : Option Position). opening o c e es) at ∙ opening_map position_of (stream_of k c) c e es
 
 -- the streams stay the state of the log
-pub kept : (t : NamespaceTable) (w : TableId) (old new : Kept) (o o' : OwnerState) (es : List Entry) → IsShard t w old o → Adds old new es → o'.word ≡ o.word
+pub kept : (t : NamespaceTable) (w : TableId) (old new : StreamMap) (o o' : OwnerState) (es : List Entry) → IsShard t w old o → Adds old new es → o'.word ≡ o.word
     → o'.log ≡ o.log ++ es → IsShard t w new o'
 kept t w old new o o' es h adds word log = record { named = word ∙ h.named; state = subst (IsState t new) (sym log) (adds.state t o.log h.state) }
 
 -- where a channel's stream stands, read off the log
-pub position_by_log : (t : NamespaceTable) (w : TableId) (k : Kept) (o : OwnerState) (c : List ℕ) (p : Option Position) → IsShard t w k o → StandsAt k c p → IsPosition t o.log c p
+pub position_by_log : (t : NamespaceTable) (w : TableId) (k : StreamMap) (o : OwnerState) (c : List ℕ) (p : Option Position) → IsShard t w k o → StandsAt k c p → IsPosition t o.log c p
 position_by_log t w k o c p h s = s.off (life_in t o.log) h.state.lists
 
 -- where a stream stands after a publish that is no repeat
-pub stands_after : (k : Kept) (c key : List ℕ) (d : Datum) (now : ℕ) (p : Published) → p ≡ answer_to (stood_or_opened k c p.position.epoch) key → p.repeated ≡ false
+pub stands_after : (k : StreamMap) (c key : List ℕ) (d : Datum) (now : ℕ) (p : Published) → p ≡ answer_to (stood_or_opened k c p.position.epoch) key → p.repeated ≡ false
     → StandsAt (after_publish k c p.position.epoch key d now) c (Some p.position)
 stands_after k c key d now p is fresh =
     let s : Shown = stood_or_opened k c p.position.epoch in
@@ -89,7 +89,7 @@ stands_after k c key d now p is fresh =
     ∙ ap (option_map position_of) (sym (stream_of-put_at k c (Some (given s key d now)) c ∙ ap (λ b. cond b (Some (given s key d now)) (stream_of k c)) ((bytes_eq-Decides c c).1 refl))))
 
 -- each call at the point of the log that the owner has
-pub published_by_log : (t : NamespaceTable) (w : TableId) (k new : Kept) (o o' : OwnerState) (c key : List ℕ) (d : Datum) (p : Published) (seen after : List Entry) → IsShard t w k o → IsShard t w new o'
+pub published_by_log : (t : NamespaceTable) (w : TableId) (k new : StreamMap) (o o' : OwnerState) (c key : List ℕ) (d : Datum) (p : Published) (seen after : List Entry) → IsShard t w k o → IsShard t w new o'
     → PublishesAt k c key p.position p.repeated → (p.repeated ≡ false → StandsAt new c (Some p.position)) → IsPrefix seen o.log
     → o'.log ≡ o.log ++ publishing p.repeated (stream_of k c) c p.position.epoch key d → after ≡ o'.log → IsPublished t seen after c key d p
 published_by_log t w k new o o' c key d p seen after h h' answers stands begins log is = record {
@@ -105,7 +105,7 @@ published_by_log t w k new o o' c key d p seen after h h' answers stands begins 
   };
 }
 
-pub read_by_log : (t : NamespaceTable) (w : TableId) (k : Kept) (o : OwnerState) (c : List ℕ) (since : Option Position) (p : Position) (recovered : Bool) (items : List Placed) (seen after : List Entry) → IsShard t w k o → ReadsAt k c since p recovered items → IsPrefix seen o.log
+pub read_by_log : (t : NamespaceTable) (w : TableId) (k : StreamMap) (o : OwnerState) (c : List ℕ) (since : Option Position) (p : Position) (recovered : Bool) (items : List Placed) (seen after : List Entry) → IsShard t w k o → ReadsAt k c since p recovered items → IsPrefix seen o.log
     → after ≡ o.log ++ opening (stream_of k c) c p.epoch [] → IsReadAnswer t seen after c since p recovered items
 read_by_log t w k o c since p recovered items seen after h reads begins log = record {
   before = o.log;
@@ -114,7 +114,7 @@ read_by_log t w k o c since p recovered items seen after h reads begins log = re
   answered = reads.off (life_in t o.log) h.state.lists;
 }
 
-pub history_by_log : (t : NamespaceTable) (w : TableId) (k : Kept) (o : OwnerState) (c : List ℕ) (since : Option Position) (limit : ℤ) (p : Position) (items : List Placed) (seen after : List Entry) → IsShard t w k o → ListsAt k c since limit p items → IsPrefix seen o.log
+pub history_by_log : (t : NamespaceTable) (w : TableId) (k : StreamMap) (o : OwnerState) (c : List ℕ) (since : Option Position) (limit : ℤ) (p : Position) (items : List Placed) (seen after : List Entry) → IsShard t w k o → ListsAt k c since limit p items → IsPrefix seen o.log
     → after ≡ o.log ++ opening (stream_of k c) c p.epoch [] → IsHistoryAnswer t seen after c since limit p items
 history_by_log t w k o c since limit p items seen after h lists begins log = record {
   before = o.log;
@@ -123,7 +123,7 @@ history_by_log t w k o c since limit p items seen after h lists begins log = rec
   answered = lists.off (life_in t o.log) h.state.lists;
 }
 
-pub one_by_log : (t : NamespaceTable) (w : TableId) (k : Kept) (o : OwnerState) (c : List ℕ) (x : Entry) (seen after : List Entry) → IsShard t w k o → IsPrefix seen o.log → after ≡ o.log ++ if_stands (stream_of k c) x
+pub one_by_log : (t : NamespaceTable) (w : TableId) (k : StreamMap) (o : OwnerState) (c : List ℕ) (x : Entry) (seen after : List Entry) → IsShard t w k o → IsPrefix seen o.log → after ≡ o.log ++ if_stands (stream_of k c) x
     → IsCall seen after (λ log. if_stands (life_in t log c) x) (λ log. Unit {0})
 one_by_log t w k o c x seen after h begins log = record {
   before = o.log;
@@ -133,7 +133,7 @@ one_by_log t w k o c x seen after h begins log = record {
 }
 
 -- a channel without a stream has no entry, and stays without one
-pub none_noted : (k : Kept) (c : List ℕ) (x : Entry) (log after : List Entry) → stream_of k c ≡ None → after ≡ log → after ≡ log ++ if_stands (stream_of k c) x
+pub none_noted : (k : StreamMap) (c : List ℕ) (x : Entry) (log after : List Entry) → stream_of k c ≡ None → after ≡ log → after ≡ log ++ if_stands (stream_of k c) x
 none_noted k c x log after none is = is ∙ (sym (append-nil log) ∙ ap (λ (o : Option Shown). log ++ if_stands o x) (sym none))
 
 -- the owner after a call's entries
@@ -166,7 +166,7 @@ top_was None n key h = absurd h
 top_was (Some s) n key h = ap Some h.1
 
 -- the channel's stream has this top, and the key repeats nothing
-pub stood_at : (k : Kept) (c key : List ℕ) (position : Option Position) (stood : Option ℕ) (n : ℕ) → position ≡ option_map position_of (stream_of k c) → stood ≡ option_map (λ (p : Position). p.offset) position
+pub stood_at : (k : StreamMap) (c key : List ℕ) (position : Option Position) (stood : Option ℕ) (n : ℕ) → position ≡ option_map position_of (stream_of k c) → stood ≡ option_map (λ (p : Position). p.offset) position
     → repeat_at (stream_of k c) key ≡ None
     → (stood ≡ Some n → IsSomeAnd (stream_of k c) (λ s. (repeated_by s key ≡ None) × (s.top ≡ n))) × (IsSomeAnd (stream_of k c) (λ s. (repeated_by s key ≡ None) × (s.top ≡ n)) → stood ≡ Some n)
 stood_at k c key position stood n at is new =
@@ -179,13 +179,13 @@ opened_new None e key size new = elim (is_no_key key) as (λ b. cond {A = Option
 opened_new (Some s) e key size new = none_mapped _ (repeated_by s key) new
 
 -- a publish that repeats nothing is no repeat
-is_fresh : (k : Kept) (c key : List ℕ) (p : Published) → p ≡ answer_to (stood_or_opened k c p.position.epoch) key → repeat_at (stream_of k c) key ≡ None → p.repeated ≡ false
+is_fresh : (k : StreamMap) (c key : List ℕ) (p : Published) → p ≡ answer_to (stood_or_opened k c p.position.epoch) key → repeat_at (stream_of k c) key ≡ None → p.repeated ≡ false
 is_fresh k c key p is new =
     let s : Shown = stood_or_opened k c p.position.epoch in
     ap (λ (x : Published). x.repeated) is ∙ ap (λ (r : Option ℕ). (answer_by r s.epoch s.top).repeated) (opened_new (stream_of k c) p.position.epoch key (size_at k.namespaces c) new)
 
 -- the owner after a publish that repeats nothing, whose entries were made by what was asked of the streams, and under a copy of its key
-pub publish_noted : (k : Kept) (o o1 o2 : OwnerState) (c lent key : List ℕ) (d : Datum) (position : Option Position) (stood : Option ℕ) (p : Published) → o1 ≡ o
+pub publish_noted : (k : StreamMap) (o o1 o2 : OwnerState) (c lent key : List ℕ) (d : Datum) (position : Option Position) (stood : Option ℕ) (p : Published) → o1 ≡ o
     → (p.repeated ≡ false → o2 ≡ record o1 { log = o1.log ++ opening stood c p.position.epoch (Publish c lent d ∷ []) }) → position ≡ option_map position_of (stream_of k c)
     → stood ≡ option_map (λ (p : Position). p.offset) position → p ≡ answer_to (stood_or_opened k c p.position.epoch) key → repeat_at (stream_of k c) key ≡ None → lent ≡ key
     → (p.repeated ≡ false) × (o2.word ≡ o.word) × (o2.log ≡ o.log ++ publishing p.repeated (stream_of k c) c p.position.epoch key d)

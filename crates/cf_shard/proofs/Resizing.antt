@@ -8,7 +8,7 @@ use Rattle.cf_protocol.specs.Settings.{NamespaceTable, entry_at, namespace_of, s
 use Rattle.cf_protocol.specs.declared.settings.Settings.{Settings}
 use Rattle.cf_protocol.proofs.Sizes.{entry_at-with_size}
 use Rattle.cf_stream.specs.LogState.{IsState, sizes_in}
-use Rattle.cf_stream.specs.Streams.{Kept, seconds_at, seconds_of}
+use Rattle.cf_stream.specs.Streams.{StreamMap, seconds_at, seconds_of}
 
 some_map : {X Y : Type 0} (f : X → Y) (o : Option X) → IsSome o → IsSome (option_map f o)
 some_map f None h = absurd (cc (h))
@@ -42,11 +42,11 @@ seconds_in t (Size name n ∷ log) k =
     seconds_in (with_size name n t) log k ∙ ap seconds_of (entry_at-with_size name n t k) ∙ seconds_map (bytes_eq k name) n (entry_at t k)
 
 -- the same of the streams' own settings
-pub name_stays_up : (t : NamespaceTable) (s : Kept) (log : List Entry) (k : List ℕ) → IsState t s log → IsSome (entry_at t k) → IsSome (entry_at s.namespaces k)
+pub name_stays_up : (t : NamespaceTable) (s : StreamMap) (log : List Entry) (k : List ℕ) → IsState t s log → IsSome (entry_at t k) → IsSome (entry_at s.namespaces k)
 name_stays_up t s log k h up = subst (λ (x : NamespaceTable). IsSome (entry_at x k)) (sym h.settings) (up_in t log k up)
 
-pub stays_up : (t : NamespaceTable) (s : Kept) (log : List Entry) (c : List ℕ) → IsState t s log → IsSome (settings_of t c) → IsSome (settings_of s.namespaces c)
+pub stays_up : (t : NamespaceTable) (s : StreamMap) (log : List Entry) (c : List ℕ) → IsState t s log → IsSome (settings_of t c) → IsSome (settings_of s.namespaces c)
 stays_up t s log c h up = name_stays_up t s log (namespace_of c) h up
 
-pub seconds_stay : (t : NamespaceTable) (s : Kept) (log : List Entry) (c : List ℕ) → IsState t s log → seconds_at s.namespaces c ≡ seconds_at t c
+pub seconds_stay : (t : NamespaceTable) (s : StreamMap) (log : List Entry) (c : List ℕ) → IsState t s log → seconds_at s.namespaces c ≡ seconds_at t c
 seconds_stay t s log c h = ap (λ (x : NamespaceTable). seconds_at x c) h.settings ∙ seconds_in t log (namespace_of c)

@@ -12,7 +12,7 @@ use Rattle.cf_protocol.specs.declared.codes.ErrorCode.TheVariants as error
 use Rattle.cf_protocol.specs.Position.{Position}
 use Rattle.cf_stream.specs.FreshEpochs.{Draws, DrawsNone}
 use Rattle.cf_stream.specs.Stream.{Shown, IsRecovery, IsHistory, IsStuck, given, newest_of, repeated_by, used_at}
-use Rattle.cf_stream.specs.Streams.{Kept, IsOfAnother, put_at, stood_or_opened, stream_of}
+use Rattle.cf_stream.specs.Streams.{StreamMap, IsOfAnother, put_at, stood_or_opened, stream_of}
 use Rattle.cf_stream.specs.declared.answer.Recovery.{Recovery}
 use Rattle.cf_presence.specs.Presence.{Channels, clients_of, entered, left, users_of, user_count}
 use Rattle.cf_queue.specs.OutQueue.{Item, Text, Close}
@@ -220,7 +220,7 @@ brings_newest c None old new = new ≡ old
 brings_newest c (Some x) old new = brings c x.epoch (newest_of x) old new
 
 -- the publication of the channel that is due
-abbrev pub brings_due : Option (List ℕ) → Kept → Node → Node → Type 0
+abbrev pub brings_due : Option (List ℕ) → StreamMap → Node → Node → Type 0
 brings_due None streams old new = new ≡ old
 brings_due (Some c) streams old new = brings_newest c (stream_of streams c) old new
 

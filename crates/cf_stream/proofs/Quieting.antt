@@ -19,7 +19,7 @@ use Rattle.cf_stream.specs.declared.due.Due.{Due}
 use Rattle.cf_stream.specs.declared.due.Due.TheVariants.{Forget as ToForget, Empty as ToEmpty}
 use Rattle.cf_stream.specs.Keys.{newest}
 use Rattle.cf_stream.specs.Stream.{Shown, stays, is_over, given, pushed, repeated_by, resized, trimmed, used_at, unused_seconds}
-use Rattle.cf_stream.specs.Streams.{Kept, SetsAt, by_channel, due_at, due_channels, due_of, due_to, in_namespace, resized_in, seconds_at, seconds_of, stood_or}
+use Rattle.cf_stream.specs.Streams.{StreamMap, SetsAt, by_channel, due_at, due_channels, due_of, due_to, in_namespace, resized_in, seconds_at, seconds_of, stood_or}
 use Rattle.cf_stream.specs.Quiet.{AreQuiet, IsQuiet}
 use Rattle.cf_stream.proofs.Channels.{by_bytes, get-by_channel}
 use Rattle.cf_stream.proofs.LogTicks.{due_exact}
@@ -133,7 +133,7 @@ rest_due until table e es t quiet early = ap (λ d. cons_option (option_map (λ 
 pub entries_quiet : (until : ℕ) (table : NamespaceTable) (m : BTreeMap (String Global) Shown) → IsOrdered string_cmp m
     → ((t : ℕ) → t < until → due_channels t table (by_bytes m.entries) ≡ []) → AreQuiet until table (get_by_text m)
 entries_quiet until table m ordered none = λ t early q.
-    let kept : Kept = record { namespaces = table; streams = by_channel m } in
+    let kept : StreamMap = record { namespaces = table; streams = by_channel m } in
     ap (due_at t (seconds_at table q)) (sym (get-by_channel m q))
     ∙ sym (due_exact kept t q)
     ∙ ap (λ es. due_to (due_channels t table es) q) (entries-by_channel m ordered)
@@ -150,7 +150,7 @@ none_due (d ∷ ds) h = absurd (
 pub quiet_entries : (until : ℕ) (table : NamespaceTable) (m : BTreeMap (String Global) Shown) → IsOrdered string_cmp m → AreQuiet until table (get_by_text m)
     → (t : ℕ) → t < until → due_channels t table (by_bytes m.entries) ≡ []
 quiet_entries until table m ordered quiet t early =
-    let kept : Kept = record { namespaces = table; streams = by_channel m } in
+    let kept : StreamMap = record { namespaces = table; streams = by_channel m } in
     none_due (due_channels t table (by_bytes m.entries)) (λ q.
     ap (λ es. due_to (due_channels t table es) q) (sym (entries-by_channel m ordered))
     ∙ due_exact kept t q

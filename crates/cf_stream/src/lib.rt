@@ -16,5 +16,5 @@ pub use answer::{History, Published, Recovery};
 pub use due::{Due, DueWalk};
 pub use opening::Epochs;
 pub use refusal::StreamRefusal;
-pub use stream::{Fate, LARGEST_SIZE, LAST_OFFSET, Stream, UNUSED_SECONDS};
+pub use stream::{LARGEST_SIZE, LAST_OFFSET, Stream, TickOutcome, UNUSED_SECONDS};
 pub use streams::Streams;

@@ -32,7 +32,7 @@ const MOST_ANSWERED: usize = 300;
 
 /// Whether a stream still stands after a tick.
 #[derive(Clone, Copy, PartialEq, Eq, Debug)]
-pub enum Fate {
+pub enum TickOutcome {
     Alive,
     Forgotten,
 }
@@ -374,8 +374,8 @@ impl Stream {
 
     /// Empties the history where `seconds` have passed since the last publication, and says whether the stream is to be forgotten,
     /// since it wasn't used for 2,592,000 seconds. A moment earlier than the last one does nothing. It takes no memory.
-    pub fn tick(&mut self, now: u64, seconds: u64) -> Fate
-        ensures fate { (result ≡ Fate.Forgotten) ↔ (self.old.used + UNUSED_SECONDS ≤ now) }
+    pub fn tick(&mut self, now: u64, seconds: u64) -> TickOutcome
+        ensures outcome { (result ≡ TickOutcome.Forgotten) ↔ (self.old.used + UNUSED_SECONDS ≤ now) }
         ensures ticked { self.new ≡ ticked now seconds self.old }
         ensures list { GoesOn self.old self.new
             (if is_over self.old.published seconds now then kept_newest 0 else same) }
@@ -384,9 +384,9 @@ impl Stream {
             self.inner.ring.clear();
         }
         if has_passed(self.inner.used, UNUSED_SECONDS, now) {
-            Fate::Forgotten
+            TickOutcome::Forgotten
         } else {
-            Fate::Alive
+            TickOutcome::Alive
         }
     }
 
@@ -395,7 +395,7 @@ impl Stream {
         ensures stays { result ≡ stays now self.old }
         ensures ticked { self.new ≡ ticked now seconds self.old }
     {
-        self.tick(now, seconds) == Fate::Alive
+        self.tick(now, seconds) == TickOutcome::Alive
     }
 
     /// What a tick would do.

@@ -36,10 +36,10 @@ pub struct Streams {
 
 impl Model for Streams {
     ghost use Rattle.std.specs.BTreeMap.{get_by_text};
-    ghost use Rattle.cf_stream.specs.Streams.{Kept, coded_kept, by_channel};
+    ghost use Rattle.cf_stream.specs.Streams.{StreamMap, coded_kept, by_channel};
     ghost use Rattle.cf_stream.specs.Quiet.{AreQuiet};
 
-    ghost Value = { Kept };
+    ghost Value = { StreamMap };
 
     ghost coded = { coded_kept };
 

@@ -15,7 +15,7 @@ use Rattle.cf_protocol.specs.declared.settings.Settings.{Settings}
 use Rattle.cf_stream.specs.Stream.{Shown}
 use Rattle.cf_stream.specs.StreamState.{StreamState, last_offset, with_at_most}
 use Rattle.cf_stream.specs.StreamAnswer.{Listing, listed_above, read_of}
-use Rattle.cf_stream.specs.Streams.{Kept, in_namespace, size_of as stream_size, stream_of}
+use Rattle.cf_stream.specs.Streams.{StreamMap, in_namespace, size_of as stream_size, stream_of}
 use Rattle.cf_stream.specs.PublicationList.{Life, kept_newest, state_of, IsListed, IsRead}
 use Rattle.cf_stream.specs.ChannelLists.{AreShown, ChangesAt, ChangesSize, ListsAt, ReadsAt, life_or}
 use Rattle.cf_stream.specs.FreshEpochs.{Draws}
@@ -58,11 +58,11 @@ pub shows-same : (table : NamespaceTable) (b new : Code) (m : Broker) → ShowsB
     → new.streams ≡ b.streams → new.epochs.waiting.items ≡ b.epochs.waiting.items → ((x : List ℕ) → contains_text new.epochs.came x ≡ contains_text b.epochs.came x)
     → new.accepted ≡ b.accepted → ShowsBroker table new m
 shows-same table b new m h streams waiting came accepted = record {
-  namespaces = sized-still table b.streams.namespaces new.streams.namespaces m.sizes m.sizes (ap (λ (k : Kept). k.namespaces) streams) refl h.namespaces;
+  namespaces = sized-still table b.streams.namespaces new.streams.namespaces m.sizes m.sizes (ap (λ (k : StreamMap). k.namespaces) streams) refl h.namespaces;
   waiting = waiting ∙ h.waiting;
   came = λ x. came x ∙ h.came x;
   epochs = h.epochs;
-  streams = subst (λ (k : Kept). AreShown k (life_at m)) (sym streams) h.streams;
+  streams = subst (λ (k : StreamMap). AreShown k (life_at m)) (sym streams) h.streams;
   standing = h.standing;
   accepted = subst (λ v. AllZip (IsAccepted m.lists) v.items m.accepted) (sym accepted) h.accepted;
   regular = h.regular;

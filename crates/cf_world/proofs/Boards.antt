@@ -12,7 +12,7 @@ use Rattle.cf_protocol.specs.Settings.{NamespaceTable}
 use Rattle.cf_stream.specs.Keys.{is_no_key, offset_of, recent, repeat_of}
 use Rattle.cf_stream.specs.Stream.{Shown}
 use Rattle.cf_stream.specs.StreamState.{StreamState, last_offset, opens_in}
-use Rattle.cf_stream.specs.Streams.{Kept, stream_of, stood_or, size_at}
+use Rattle.cf_stream.specs.Streams.{StreamMap, stream_of, stood_or, size_at}
 use Rattle.cf_stream.specs.PublicationList.{Life, Shows, opened as opened_life}
 use Rattle.cf_stream.specs.ChannelLists.{ShowsAt, AreShown, ChangesAt, life_or}
 use Rattle.cf_stream.specs.FreshEpochs.{Draws}
@@ -25,7 +25,7 @@ use Rattle.cf_world.specs.declared.epochs.WaitingEpochs.{WaitingEpochs}
 use Rattle.cf_machine.proofs.Names.{text_tells, itself, with-all, with-same, with-other}
 
 -- the streams show lists that are the same at each channel
-pub shown-as : (k : Kept) (f g : List ℕ → Option Life) → AreShown k f → ((q : List ℕ) → f q ≡ g q) → AreShown k g
+pub shown-as : (k : StreamMap) (f g : List ℕ → Option Life) → AreShown k f → ((q : List ℕ) → f q ≡ g q) → AreShown k g
 shown-as k f g h same = record { at = λ q. subst (λ (l : Option Life). ShowsAt (size_at k.namespaces q) (stream_of k q) l) (same q) (h.at q) }
 
 -- settings that stay as they are
@@ -34,7 +34,7 @@ sized-still table old new was now n s h =
     subst (λ (t : NamespaceTable). AreSized table t now) (sym n) (subst (λ (f : List ℕ → Option ℕ). AreSized table old f) (sym s) h)
 
 -- a call changes one channel's list, and the machine does the same
-pub shown-changed : (old new : Kept) (c : List ℕ) (change : Option Life → Option Life) (f g : List ℕ → Option Life)
+pub shown-changed : (old new : StreamMap) (c : List ℕ) (change : Option Life → Option Life) (f g : List ℕ → Option Life)
     → ChangesAt old new c change → AreShown old f → change (f c) ≡ g c → ((q : List ℕ) → q ≢ c → f q ≡ g q) → AreShown new g
 shown-changed old new c change f g h k here there =
     shown-as new (λ q. cond (bytes_eq c q) (change (f q)) (f q)) g (h.shows f k) (λ q.

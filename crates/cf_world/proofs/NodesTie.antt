@@ -10,7 +10,7 @@ use Rattle.cf_protocol.specs.Names.{with, is_among, and_also}
 use Rattle.cf_protocol.specs.Note.{Lists}
 use Rattle.cf_protocol.specs.Position.{Position}
 use Rattle.cf_protocol.specs.Settings.{NamespaceTable}
-use Rattle.cf_followers.specs.Follows.{AreFollows}
+use Rattle.cf_subscribers.specs.Follows.{AreFollows}
 use Rattle.cf_hub.specs.Alike.{AlikeSub}
 use Rattle.cf_hub.specs.AlikeMoves.{CallsAreAlike, Texts}
 use Rattle.cf_hub.specs.Hub.{Delivers, InState, IsBounded, Meets, Node, One, Opens, OthersStay, SameNode, SameRest, attached_at, client_id, empty, is_in, largest, moves}

@@ -4,7 +4,7 @@ use Rattle.std.specs.BTreeMap.{get_by_text}
 use Rattle.cf_protocol.specs.Settings.{NamespaceTable}
 use Rattle.cf_client.specs.ClientView.{ClientView}
 use Rattle.cf_hub.specs.Hub.{Node}
-use Rattle.cf_stream.specs.Streams.{Kept}
+use Rattle.cf_stream.specs.Streams.{StreamMap}
 use Rattle.cf_machine.specs.Config.{Config}
 use Rattle.cf_machine.specs.Event.{Event}
 use Rattle.cf_machine.specs.IntervalMachine.{happens, run}
@@ -46,7 +46,7 @@ Writes n e old es = (cfg : Config) (past : List Event) → Tied cfg old (run cfg
 abbrev pub hub_of : Code → ℕ → Option Node
 hub_of w n = slice_get w.hubs.items n
 
-abbrev pub streams_of : Code → Kept
+abbrev pub streams_of : Code → StreamMap
 streams_of w = w.broker.streams
 
 abbrev pub client_of : Code → List ℕ → Option ClientView

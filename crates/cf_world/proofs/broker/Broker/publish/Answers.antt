@@ -3,7 +3,7 @@ use Rattle.std.specs.String.{string_bytes}
 use Rattle.std.specs.Result.{IsErrOf}
 use Rattle.cf_protocol.specs.Datum.{Datum}
 use Rattle.cf_stream.specs.Stream.{IsAtLast, answer_to}
-use Rattle.cf_stream.specs.Streams.{Kept, size_at, stood_or_opened, stream_of}
+use Rattle.cf_stream.specs.Streams.{StreamMap, size_at, stood_or_opened, stream_of}
 use Rattle.cf_stream.specs.ChannelLists.{ChangesAt, life_with}
 use Rattle.cf_stream.specs.declared.answer.Published.{Published}
 use Rattle.cf_stream.specs.declared.refusal.StreamRefusal.{StreamRefusal}
@@ -15,7 +15,7 @@ not_refused : {T E : Type 0} (x : T) (e : E) → IsErrOf (Ok x) e → ⊥
 not_refused x e h = cc
 
 -- the lists change by the texts that the copies were made of
-changes_by : (old new : Kept) (c under key sent body : List ℕ) (d : List ℕ → Datum) (e : List ℕ) → under ≡ key → sent ≡ body
+changes_by : (old new : StreamMap) (c under key sent body : List ℕ) (d : List ℕ → Datum) (e : List ℕ) → under ≡ key → sent ≡ body
     → ChangesAt old new c (life_with (size_at old.namespaces c) under (d sent) e) → ChangesAt old new c (life_with (size_at old.namespaces c) key (d body) e)
 changes_by old new c under key sent body d e k s h =
     subst (λ (ks : List ℕ). ChangesAt old new c (life_with (size_at old.namespaces c) ks (d body) e)) k
@@ -27,7 +27,7 @@ returns-then-published c = λ table m fresh is-datum h.
     let key : List ℕ = c.args.key.now in
     let d : Datum = record { body = c.args.body.now; info = c.args.info } in
     let p : Published = c.in-Ok.published in
-    let old : Kept = c.args.self.now.streams in
+    let old : StreamMap = c.args.self.now.streams in
     let under : string_bytes c.in_ok-under.under ≡ key = c.in_ok-under.ensures.ok in
     let sent : string_bytes c.in_ok-sent.sent ≡ c.args.body.now = c.in_ok-sent.ensures.ok in
     let changes = changes_by old c.publish.new.self channel _ key _ c.args.body.now (λ bs. record { body = bs; info = c.args.info }) p.position.epoch under sent c.in-Ok.ensures.lists in
@@ -41,7 +41,7 @@ returns-in-Ok c = λ table m fresh is-datum h.
     let key : List ℕ = c.args.key.now in
     let d : Datum = record { body = c.args.body.now; info = c.args.info } in
     let p : Published = c.in-Ok.published in
-    let old : Kept = c.args.self.now.streams in
+    let old : StreamMap = c.args.self.now.streams in
     let a : Accepted = c.in_ok-accepted-in-Ok.accepted in
     let made = c.in_ok-accepted-in-Ok.ensures in
     let under : string_bytes c.in_ok-under.under ≡ key = c.in_ok-under.ensures.ok in
