@@ -1,9 +1,11 @@
 -- A session's subscriptions as the code has them, and as the definitions have them.
 use Rattle.std.specs.Prelude.{◌≡◌, ◌-◌, ℕ, List, [], length, true, Option, Some, None, option_map, Box}
-use Rattle.std.specs.BTreeMap.{BTreeMap, get_by_text}
+use Rattle.indexmap.specs.IndexMap.{IndexMap, get_by_text}
 use Rattle.std.specs.Map.{update}
 use Rattle.std.specs.Str.{bytes_eq}
 use Rattle.std.specs.declared.alloc.Global.{Global}
+use Rattle.std.specs.declared.hash.BuildHasherDefault.{BuildHasherDefault}
+use Rattle.std.specs.declared.hash.FoldHasher.{FoldHasher}
 use Rattle.std.specs.declared.string.String.{String}
 use Rattle.cf_protocol.specs.Datum.{Placed}
 use Rattle.cf_protocol.specs.Note.{Reading}
@@ -21,7 +23,7 @@ use Rattle.cf_hub.specs.declared.subscription.Progress.{Progress}
 use Rattle.cf_hub.specs.declared.subscription.Progress.TheVariants as code
 
 abbrev pub Subscriptions : Type 0
-Subscriptions = BTreeMap (String Global) (Box Progress Global)
+Subscriptions = IndexMap (String Global) (Box Progress Global) (BuildHasherDefault FoldHasher)
 
 -- what stands in a box, where there is one
 abbrev pub in_box : Option (Box Progress Global) → Option Progress

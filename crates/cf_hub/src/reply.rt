@@ -12,8 +12,8 @@ use crate::wording::{end_text, reply_text};
 use cf_protocol::{Epoch, Position, Publication};
 use cf_recovery::{Released, Waiting};
 use cf_stream::Recovery;
+use indexmap::IndexMap;
 use std::alloc::{AllocError, Global};
-use std::collections::BTreeMap;
 use std::mem;
 
 /// The reply of a subscription, and what follows it.
@@ -107,7 +107,7 @@ impl Progress {
 /// Takes what the read of a channel's stream gave.
 #[tactic(auto, using(std::proofs::lemmas::Map::Text::text_keys))]
 fn read_at(
-    subscriptions: &mut BTreeMap<String, Box<Progress>>,
+    subscriptions: &mut IndexMap<String, Box<Progress>>,
     channel: &str,
     recovery: Recovery,
 ) -> bool
@@ -123,7 +123,7 @@ fn read_at(
 
 /// Gives a channel's reply and what follows it.
 #[tactic(auto, using(std::proofs::lemmas::Map::Text::text_keys))]
-fn answer_at(subscriptions: &mut BTreeMap<String, Box<Progress>>, channel: &str) -> Option<Answered>
+fn answer_at(subscriptions: &mut IndexMap<String, Box<Progress>>, channel: &str) -> Option<Answered>
     ensures { MatchOption result
         (SetsAt subscriptions.old subscriptions.new channel.now
         (progress_at subscriptions.old channel.now)

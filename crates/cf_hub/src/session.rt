@@ -7,8 +7,8 @@ use crate::wording::{end_text, push_text};
 use cf_protocol::{Epoch, Position, Publication};
 use cf_queue::{Out, OutQueue, QueueRefusal};
 use cf_recovery::Verdict;
+use indexmap::IndexMap;
 use std::alloc::Global;
-use std::collections::BTreeMap;
 
 /// How many bytes of text may wait for one client.
 const QUEUE_LIMIT: usize = 1_048_576;
@@ -53,7 +53,7 @@ impl Step {
 pub(crate) struct Session {
     pub(crate) client: String,
     pub(crate) user: String,
-    pub(crate) subscriptions: BTreeMap<String, Box<Progress>>,
+    pub(crate) subscriptions: IndexMap<String, Box<Progress>>,
     pub(crate) queue: OutQueue,
     pub(crate) pinged: u64,
     pub(crate) awaits_pong: bool,
@@ -79,7 +79,7 @@ impl Session {
         Session {
             client,
             user,
-            subscriptions: BTreeMap::new(alloc),
+            subscriptions: IndexMap::new(alloc),
             queue: OutQueue::new(alloc, QUEUE_LIMIT),
             pinged: now,
             awaits_pong: false,
@@ -124,6 +124,7 @@ impl Session {
             return false;
         }
         self.subscriptions.clear();
+        self.subscriptions.shrink_to_fit();
         self.queue.close(code);
         true
     }

@@ -6,8 +6,8 @@ ghost use Rattle.cf_hub.specs.Subscriptions.{SetsAt, coming, keeps, loses, progr
 use cf_protocol::{Epoch, Position, Publication};
 use cf_recovery::{Verdict, Waiting, check};
 use cf_stream::Recovery;
+use indexmap::IndexMap;
 use std::alloc::{AllocError, Global};
-use std::collections::BTreeMap;
 
 /// How far a subscription has come.
 #[derive(Drop)]
@@ -80,7 +80,7 @@ fn keep_in(waiting: &mut Waiting, epoch: &Epoch, publication: &Publication) -> b
 /// Keeps a publication at a channel.
 #[tactic(auto, using(std::proofs::lemmas::Map::Text::text_keys))]
 pub(crate) fn keep_at(
-    subscriptions: &mut BTreeMap<String, Box<Progress>>,
+    subscriptions: &mut IndexMap<String, Box<Progress>>,
     channel: &str,
     epoch: &Epoch,
     publication: &Publication,
@@ -101,7 +101,7 @@ pub(crate) fn keep_at(
 /// Puts something in place of what is there. Where there is nothing, nothing changes.
 #[tactic(auto, using(std::proofs::lemmas::Map::Text::text_keys))]
 pub(crate) fn replace(
-    subscriptions: &mut BTreeMap<String, Box<Progress>>,
+    subscriptions: &mut IndexMap<String, Box<Progress>>,
     channel: &str,
     progress: Progress,
 )
@@ -113,10 +113,11 @@ pub(crate) fn replace(
     }
 }
 
-/// Adds a subscription to a channel that has none.
+/// Adds a subscription to a channel that has none, behind all others. Room for nine comes with the first, and is given back,
+/// since most sessions have one.
 #[tactic(auto, using(std::proofs::lemmas::Map::Text::text_keys))]
 pub(crate) fn add(
-    subscriptions: &mut BTreeMap<String, Box<Progress>>,
+    subscriptions: &mut IndexMap<String, Box<Progress>>,
     alloc: Global,
     channel: &str,
     progress: Progress,
@@ -128,13 +129,16 @@ pub(crate) fn add(
 {
     let key = String::from_str(alloc, channel)?;
     subscriptions.insert(key, Box::new(alloc, progress)?)?;
+    if subscriptions.len() == 1 {
+        subscriptions.shrink_to_fit();
+    }
     Ok(())
 }
 
-/// Takes a channel's subscription out.
+/// Takes a channel's subscription out. The others keep their order.
 #[tactic(auto, using(std::proofs::lemmas::Map::Text::text_keys))]
-pub(crate) fn take_out(subscriptions: &mut BTreeMap<String, Box<Progress>>, channel: &str)
+pub(crate) fn take_out(subscriptions: &mut IndexMap<String, Box<Progress>>, channel: &str)
     ensures { SetsAt subscriptions.old subscriptions.new channel.now None }
 {
-    let _gone = subscriptions.remove(channel);
+    let _gone = subscriptions.shift_remove(channel);
 }
