@@ -1,6 +1,6 @@
 //! What an event did.
 
-use crate::errand::command_text;
+use crate::client_command::command_text;
 use crate::event::{channel_of, client_of};
 use crate::glance::{Glance, front_of};
 use crate::reason::{namespace_words, reason};
