@@ -1,16 +1,19 @@
 //! The command `simulate`: a schedule is read, and run event by event; the lines of each are written before the next.
 ghost use Rattle.std.specs.Prelude.{◌≡◌, ◌+◌, map, string_bytes, true, false, OnOk, OnErr, IfOk, IfErr, IfSome};
 ghost use Rattle.std.specs.Io.KnownBytes.{Appends, Keeps};
+ghost use Rattle.cf_machine.specs.LooseRun.{lines};
+ghost use Rattle.cf_machine.specs.StreamSafety.{Safe};
 ghost use Rattle.cf_machine.specs.TraceLine.{printed};
 ghost use Rattle.cf_schedule.specs.Seen.{seen, shown_config};
 ghost use Rattle.cf_world.specs.Entries.{shown_entry};
 ghost use Rattle.cf_world.specs.Tie.{GoesOn};
 ghost use Rattle.cf_simulate.specs.Simulation.{AddsPart, Leaves, WritesAll, Prints, ShowsEvent, Ends, EndsRun, IsHeaded};
+ghost use Rattle.cf_simulate.specs.WrittenTrace.{WritesFrontAtMost, WritesTrace};
 
 use crate::fault::SimulateFault;
 use crate::schedule::{Line, Schedule};
 use cf_explain::Explainer;
-use cf_machine::laws::one_event_more;
+use cf_machine::laws::{one_event_more, safe_always};
 use cf_schedule::{Config, Event, World};
 use cf_world::{Entry, Short};
 use std::alloc::{AllocError, Global};
@@ -38,6 +41,18 @@ pub fn simulate<R: Read, W: Write>(
         (λ f. IfSome (R.remaining reader.old)
         (λ input. Ends explains (shown_config config.now) input (W.contents writer.old)
         (W.contents writer.new) f)) }
+    // What was written is the lines of a trace of the events read, and stream safety holds of it.
+    ensures safe { OnOk result
+        (IfSome (R.remaining reader.old)
+        (λ input. WritesTrace explains (shown_config config.now) input (W.contents writer.old)
+        (W.contents writer.new)
+        (λ events trace. Safe (shown_config config.now) (lines events) trace))) }
+    // And so it is of the front that is written where memory, a read or a write is refused, if any is.
+    ensures safe_front { OnErr result
+        (IfSome (R.remaining reader.old)
+        (λ input. WritesFrontAtMost explains (shown_config config.now) input
+        (W.contents writer.old) (W.contents writer.new)
+        (λ events trace. Safe (shown_config config.now) (lines events) trace))) }
 {
     let mut input = Vec::new(alloc);
     reader.read_to_end(&mut input)?;
@@ -46,6 +61,33 @@ pub fn simulate<R: Read, W: Write>(
 
 // The same of an input that was read.
 fn simulate_bytes<W: Write>(
+    alloc: Global,
+    input: &[u8],
+    writer: &mut W,
+    config: &Config,
+    explains: bool,
+) -> Result<(), SimulateFault>
+    ensures done { OnOk result
+        (Prints explains (shown_config config.now) input.now (W.contents writer.old)
+        (W.contents writer.new)) }
+    ensures ends { IfErr result
+        (Ends explains (shown_config config.now) input.now (W.contents writer.old)
+        (W.contents writer.new)) }
+    ensures safe { OnOk result
+        (WritesTrace explains (shown_config config.now) input.now (W.contents writer.old)
+        (W.contents writer.new)
+        (λ events trace. Safe (shown_config config.now) (lines events) trace)) }
+    ensures safe_front { OnErr result
+        (WritesFrontAtMost explains (shown_config config.now) input.now (W.contents writer.old)
+        (W.contents writer.new)
+        (λ events trace. Safe (shown_config config.now) (lines events) trace)) }
+{
+    safe_always();
+    write_input(alloc, input, writer, config, explains)
+}
+
+// Runs the schedule of an input, and writes its trace up to where it stops.
+fn write_input<W: Write>(
     alloc: Global,
     input: &[u8],
     writer: &mut W,
