@@ -1,6 +1,6 @@
 //! What an event did.
 
-use crate::errand::command_text;
+use crate::client_command::command_text;
 use crate::event::{channel_of, client_of};
 use crate::glance::{Glance, front_of};
 use crate::reason::{namespace_words, reason};
@@ -236,7 +236,8 @@ impl<'a> Explainer<'a> {
         let Some(position) = now.position else {
             return Ok(false);
         };
-        if self.before.position == now.position {
+        let before = self.before;
+        if before.position == now.position {
             return self.tell_repeat(remarks, world, event, now);
         }
         let channel = String::from_str(self.alloc, channel)?;
@@ -263,7 +264,8 @@ impl<'a> Explainer<'a> {
         let Some(number) = number_at(self.published.as_slice(), position) else {
             return Ok(false);
         };
-        let Position { epoch, offset } = position;
+        let epoch = position.epoch;
+        let offset = position.offset;
         let words = format!(in self.alloc;
             "   it repeats publication {number}, which is at {epoch} {offset}"
         )?;

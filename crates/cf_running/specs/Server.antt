@@ -354,28 +354,28 @@ checks_by w (Some a) s = change a.connection (at_session (checks w a.channel a.t
 -- ---- a client's own end
 
 -- what a client is told to do
-pub data Errand : Type 0 where
-  Ask : (channel : List ℕ) → Errand
-  AskFrom : (channel : List ℕ) → Errand
-  Leave : (channel : List ℕ) → Errand
-  Tell : (channel : List ℕ) → (key : List ℕ) → (body : List ℕ) → Errand
-  List_of : (channel : List ℕ) → (limit : ℤ) → Errand
+pub data ClientCommand : Type 0 where
+  Ask : (channel : List ℕ) → ClientCommand
+  AskFrom : (channel : List ℕ) → ClientCommand
+  Leave : (channel : List ℕ) → ClientCommand
+  Tell : (channel : List ℕ) → (key : List ℕ) → (body : List ℕ) → ClientCommand
+  List_of : (channel : List ℕ) → (limit : ℤ) → ClientCommand
 
-abbrev pub request_by : Client → Errand → ClientRequest
+abbrev pub request_by : Client → ClientCommand → ClientRequest
 request_by x (Ask c) = Subscribe c None
 request_by x (AskFrom c) = Subscribe c (last_of (x.modes c))
 request_by x (Leave c) = Unsubscribe c
 request_by x (Tell c key body) = PublishRequest c key body
 request_by x (List_of c limit) = History c limit
 
-abbrev pub may_send : Client → Errand → Bool
+abbrev pub may_send : Client → ClientCommand → Bool
 may_send x (Ask c) = is_idle (x.modes c)
 may_send x (AskFrom c) = is_idle (x.modes c)
 may_send x (Leave c) = not (is_idle (x.modes c))
 may_send x (Tell c key body) = true
 may_send x (List_of c limit) = true
 
-abbrev pub sends_by : List ℕ → Errand → Option ℕ → Server → Server
+abbrev pub sends_by : List ℕ → ClientCommand → Option ℕ → Server → Server
 sends_by x e None s = s
 sends_by x e (Some k) s =
     let client = s.clients x in
@@ -443,7 +443,7 @@ pub data Section : Type 0 where
   -- at a connection that no client has
   Strays : (connection : ℕ) → (command : SentCommand) → Section
   -- at a client
-  Sends : (client : List ℕ) → (errand : Errand) → Section
+  Sends : (client : List ℕ) → (command : ClientCommand) → Section
   Receives : (client : List ℕ) → Section
   Breaks : (client : List ℕ) → Section
 

@@ -13,7 +13,7 @@ use Rattle.cf_hub.proofs.InNotes.{grown_then}
 use Rattle.cf_machine.specs.PublicationList.{Place}
 use Rattle.cf_machine.proofs.Names.{by_test}
 use Rattle.cf_running.specs.Server as server
-use Rattle.cf_running.specs.Server.{Errand, Lookup, Server, Site, Work, ToPublish, after, can_gain, gathered, gathered_in, is_in, lists_of, may_send, place_of, words_of, Section, Gains, Sizes, Publishes, Offers, Checks, Delivers, Attaches, Wanders, Strays, Sends, Receives, Breaks}
+use Rattle.cf_running.specs.Server.{ClientCommand, Lookup, Server, Site, Work, ToPublish, after, can_gain, gathered, gathered_in, is_in, lists_of, may_send, place_of, words_of, Section, Gains, Sizes, Publishes, Offers, Checks, Delivers, Attaches, Wanders, Strays, Sends, Receives, Breaks}
 use Rattle.cf_running.proofs.Beside.{number_tells}
 use Rattle.cf_running_ties.specs.Links.{is_at_link}
 use Rattle.cf_running_ties.specs.Reads.{SectionHas, WorkHas}
@@ -183,7 +183,7 @@ module _ (P : Datum → Type 0) (site : Site) (s : Server) where
   comes-kept x n (Some k) = here
   comes-kept x n None = by_test Kept (nat_lt n site.config.nodes) _ _ (λ h. still _ refl refl refl (one_above s.count)) (λ h. here)
 
-  sends-kept : (x : List ℕ) (e : Errand) (o : Option ℕ) → Kept (server.sends_by x e o s)
+  sends-kept : (x : List ℕ) (e : ClientCommand) (o : Option ℕ) → Kept (server.sends_by x e o s)
   sends-kept x e None = here
   sends-kept x e (Some k) = by_test Kept (nat_le (s.clients x).fresh last_id && may_send (s.clients x) e) _ _ (λ h. still _ refl refl refl (at_least s.count)) (λ h. here)
 

@@ -18,15 +18,15 @@ use Rattle.cf_machine.specs.PublicationList.{Broker, can_open}
 use Rattle.cf_machine.specs.World.{World}
 use Rattle.cf_world.specs.BrokerTie.{ShowsBroker}
 use Rattle.cf_world.specs.ClientTie.{Becomes, request_by, sent_state}
-use Rattle.cf_world.specs.Errands.{event_by}
+use Rattle.cf_world.specs.ClientCommands.{event_by}
 use Rattle.cf_world.specs.Exchange.{IsGranted, Lists, Puts, asks_too_much}
 use Rattle.cf_world.specs.HubCalls.{Asks, AtHub, Hubs, LeftTold, who_in}
 use Rattle.cf_world.specs.NodesTie.{seated}
 use Rattle.cf_world.specs.Sending.{IsSent, Keeps}
 use Rattle.cf_world.specs.Tie.{AreTied}
 use Rattle.cf_world.specs.declared.broker.Broker.{Broker as Code}
-use Rattle.cf_world.specs.declared.errand.Errand.{Errand}
-use Rattle.cf_world.specs.declared.peers.Peer.{Peer}
+use Rattle.cf_world.specs.declared.client_command.ClientCommand.{ClientCommand}
+use Rattle.cf_world.specs.declared.clients.Peer.{Peer}
 use Rattle.cf_world.specs.declared.sending.Granted.{Granted}
 use Rattle.cf_world.specs.declared.world.World.{World as Whole}
 use Rattle.cf_world.proofs.Going.{Stays}
@@ -35,7 +35,7 @@ use Rattle.cf_world.proofs.Passing.{list-set-up}
 use Rattle.cf_world.proofs.Reading.{Missing}
 
 module _ {cfg : Config} {table : NamespaceTable} {b : Code} {hubs : ℕ → Option Node} {peers : List ℕ → Option Peer} {m : World}
-    (t : AreTied cfg table b hubs peers m) (x : List ℕ) (e : Errand) (mid : ℕ → Option Node) (peers' : List ℕ → Option Peer)
+    (t : AreTied cfg table b hubs peers m) (x : List ℕ) (e : ClientCommand) (mid : ℕ → Option Node) (peers' : List ℕ → Option Peer)
     (g : Granted) (sent : IsSent cfg m x e hubs mid peers peers' g) (stays : Stays)
     (calls : (lists : PublicationLists) → CallsAreAlike lists) (moves : (lists : PublicationLists) → MovesAreAlike lists) where
   abbrev p : Peer

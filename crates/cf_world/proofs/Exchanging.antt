@@ -18,8 +18,8 @@ use Rattle.cf_world.specs.ClientTie.{Becomes, IsOwn, ShowsClient, ShowsPeer, sen
 use Rattle.cf_world.specs.NodesTie.{ShowsNodes, name_of}
 use Rattle.cf_world.specs.Tie.{AreTied, seats_of}
 use Rattle.cf_world.specs.declared.broker.Broker.{Broker as Code}
-use Rattle.cf_world.specs.declared.peers.Peer.{Peer}
-use Rattle.cf_world.specs.declared.peers.Seat.{Seat}
+use Rattle.cf_world.specs.declared.clients.Peer.{Peer}
+use Rattle.cf_world.specs.declared.clients.Seat.{Seat}
 use Rattle.cf_world.proofs.Breaking.{seats-with}
 use Rattle.cf_world.proofs.Exchanged.{after}
 use Rattle.cf_world.proofs.Going.{Stays}

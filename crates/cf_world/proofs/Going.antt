@@ -15,7 +15,7 @@ use Rattle.cf_machine.specs.World.{World, broker_with}
 use Rattle.cf_world.specs.BrokerTie.{ShowsBroker}
 use Rattle.cf_world.specs.Tie.{AreTied}
 use Rattle.cf_world.specs.declared.broker.Broker.{Broker as Code}
-use Rattle.cf_world.specs.declared.peers.Peer.{Peer}
+use Rattle.cf_world.specs.declared.clients.Peer.{Peer}
 use Rattle.cf_world.proofs.BoardLists.{grown-list_with, grown-refl, grown-trans}
 use Rattle.cf_machine.proofs.Names.{by_test}
 use Rattle.cf_world.proofs.NodesTie.{lists_grow}

@@ -47,8 +47,8 @@ use Rattle.cf_world.specs.Tie.{AreTied}
 use Rattle.cf_world.specs.declared.broker.Broker.{Broker as Code}
 use Rattle.cf_world.specs.declared.broker.Published.{Published}
 use Rattle.cf_world.specs.declared.broker.Published.TheVariants as outcome
-use Rattle.cf_world.specs.declared.peers.Peer.{Peer}
-use Rattle.cf_world.specs.declared.peers.Seat.{Seat}
+use Rattle.cf_world.specs.declared.clients.Peer.{Peer}
+use Rattle.cf_world.specs.declared.clients.Seat.{Seat}
 use Rattle.cf_world.proofs.Answering.{answer_goes, begin_goes}
 use Rattle.cf_world.proofs.BoardLists.{grown-refl}
 use Rattle.cf_world.proofs.Ends.{Keeps, leaves_keeps, push_keeps}

@@ -31,8 +31,8 @@ use Rattle.cf_world.specs.HubCalls.{AreSame, AtHub, Closed, Told}
 use Rattle.cf_world.specs.NodesTie.{IsSeated, seated}
 use Rattle.cf_world.specs.Tie.{AreTied}
 use Rattle.cf_world.specs.declared.broker.Broker.{Broker as Code}
-use Rattle.cf_world.specs.declared.peers.Peer.{Peer}
-use Rattle.cf_world.specs.declared.peers.Seat.{Seat}
+use Rattle.cf_world.specs.declared.clients.Peer.{Peer}
+use Rattle.cf_world.specs.declared.clients.Seat.{Seat}
 use Rattle.cf_world.proofs.Answering.{answer_goes, close_goes, goes_by, judged_by_checks, judged_too_long, judged_unheard}
 use Rattle.cf_world.proofs.BoardLists.{grown-refl}
 use Rattle.cf_world.proofs.Ends.{stays_keeps}

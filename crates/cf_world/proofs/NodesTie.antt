@@ -30,7 +30,7 @@ use Rattle.cf_machine.specs.Session.{Session, Sub, Words}
 use Rattle.cf_machine.specs.World.{World, broker_with, link_with, on_node, with_at}
 use Rattle.cf_world.specs.ClientTie.{leave_node}
 use Rattle.cf_world.specs.NodesTie.{IsAway, IsNode, IsSeated, IsShutOff, MayAsk, ShowsLink, ShowsNodes, name_of, seated, session_in}
-use Rattle.cf_world.specs.declared.peers.Seat.{Seat}
+use Rattle.cf_world.specs.declared.clients.Seat.{Seat}
 use Rattle.cf_world.proofs.Counts.{Seats}
 use Rattle.cf_world.proofs.Ends.{Keeps, comes_keeps}
 use Rattle.cf_world.proofs.Looking.{attached, off_at}

@@ -22,8 +22,8 @@ use Rattle.cf_machine.specs.World.{World}
 use Rattle.cf_world.specs.ClientTie.{request_by}
 use Rattle.cf_world.specs.Exchange.{asks_too_much, lacks_by, passes, sent_by}
 use Rattle.cf_world.specs.NodesTie.{MayAsk}
-use Rattle.cf_world.specs.declared.errand.Errand.{Errand}
-use Rattle.cf_world.specs.declared.peers.Peer.{Peer}
+use Rattle.cf_world.specs.declared.client_command.ClientCommand.{ClientCommand}
+use Rattle.cf_world.specs.declared.clients.Peer.{Peer}
 
 pub length_is : (k : Command) → command_length k ≡ length (command_text k)
 unfolding command_length
@@ -109,24 +109,24 @@ lacks_is cfg m x e =
     by_judgement e m.broker (m.links x).session.closed (nat_lt longest_text (command_length (command_of k))) (first_failed (checks cfg.namespaces (request_of e))) (refusal_of e (m.links x) m) (unrefused (m.links x) m e)
     ∙ ap (λ (n : ℕ). (asks_too_much e m.broker && (not (is_some (first_failed (checks cfg.namespaces (request_of e)))) && not (nat_lt longest_text n))) && not (m.links x).session.closed) (length_is (command_of k))
 
--- ---- the same of an errand, by the request that it would be
+-- ---- the same of a command, by the request that it would be
 
-module _ (table : NamespaceTable) (errand : Errand) (p : Peer) (m : Broker) (c : List ℕ) where
+module _ (table : NamespaceTable) (command : ClientCommand) (p : Peer) (m : Broker) (c : List ℕ) where
   abbrev client : Client
   client = (state_of p.client).client
 
   -- it would open a stream
-  unopened-lacks : (e : ClientRequest) → request_by errand client ≡ e → asks_too_much e m ≡ true → passes table (command_of (record { id = client.fresh; request = e })) ≡ lacks_by table (sent_by errand p) m
+  unopened-lacks : (e : ClientRequest) → request_by command client ≡ e → asks_too_much e m ≡ true → passes table (command_of (record { id = client.fresh; request = e })) ≡ lacks_by table (sent_by command p) m
   unopened-lacks e is lacks =
       ap (λ (t : Bool). t && passes table (command_of (record { id = client.fresh; request = e }))) (sym lacks)
       ∙ ap (λ (r : ClientRequest). asks_too_much r m && passes table (command_of (record { id = client.fresh; request = r }))) (sym is)
 
-  pub put-lacks : (key body channel under text : List ℕ) → request_by errand client ≡ Publish c key body → channel ≡ c → under ≡ key → text ≡ body → can_open c m ≡ false
-      → passes table (record { id = client.fresh; request = request.Publish channel under (request.Body text) }) ≡ lacks_by table (sent_by errand p) m
+  pub put-lacks : (key body channel under text : List ℕ) → request_by command client ≡ Publish c key body → channel ≡ c → under ≡ key → text ≡ body → can_open c m ≡ false
+      → passes table (record { id = client.fresh; request = request.Publish channel under (request.Body text) }) ≡ lacks_by table (sent_by command p) m
   put-lacks key body channel under text is e g f none =
       (λ i. passes table (record { id = client.fresh; request = request.Publish (e i) (g i) (request.Body (f i)) })) ∙ unopened-lacks (Publish c key body) is (ap not none)
 
-  pub list-lacks : (limit most : ℤ) (channel : List ℕ) → request_by errand client ≡ History c limit → channel ≡ c → most ≡ limit → can_open c m ≡ false
-      → passes table (record { id = client.fresh; request = request.History channel most None false }) ≡ lacks_by table (sent_by errand p) m
+  pub list-lacks : (limit most : ℤ) (channel : List ℕ) → request_by command client ≡ History c limit → channel ≡ c → most ≡ limit → can_open c m ≡ false
+      → passes table (record { id = client.fresh; request = request.History channel most None false }) ≡ lacks_by table (sent_by command p) m
   list-lacks limit most channel is e f none =
       (λ i. passes table (record { id = client.fresh; request = request.History (e i) (f i) None false })) ∙ unopened-lacks (History c limit) is (ap not none)

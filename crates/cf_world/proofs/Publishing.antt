@@ -15,7 +15,7 @@ use Rattle.cf_world.specs.Tie.{AreTied}
 use Rattle.cf_world.specs.declared.broker.Broker.{Broker as Code}
 use Rattle.cf_world.specs.declared.broker.Published.{Published}
 use Rattle.cf_world.specs.declared.broker.Published.TheVariants as outcome
-use Rattle.cf_world.specs.declared.peers.Peer.{Peer}
+use Rattle.cf_world.specs.declared.clients.Peer.{Peer}
 use Rattle.cf_world.proofs.BoardLists.{grown-refl}
 use Rattle.cf_world.proofs.Going.{Stays, broker-goes, broker-may-go, broker-stays, grown-publish, publish-repeat}
 

@@ -10,7 +10,7 @@ use Rattle.cf_machine.specs.Refusals.{has_no_room, node_is_full}
 use Rattle.cf_machine.specs.World.{World, is_connected, rows, rows_of, sessions_of}
 use Rattle.cf_world.specs.HubCalls.{IsSound}
 use Rattle.cf_world.specs.NodesTie.{IsSeated, ShowsNodes, seated}
-use Rattle.cf_world.specs.declared.peers.Seat.{Seat}
+use Rattle.cf_world.specs.declared.clients.Seat.{Seat}
 use Rattle.cf_world.proofs.Counts.{Seats, all_rows, full, mine, room}
 use Rattle.cf_world.proofs.NodesTie.{away_shows, number_at, seat_shows, seats_at}
 

@@ -14,7 +14,7 @@ use Rattle.cf_world.specs.HubCalls.{Hubs, reply_text, who_in}
 use Rattle.cf_world.specs.NodesTie.{seated}
 use Rattle.cf_world.specs.declared.broker.Broker.{Broker as Code}
 use Rattle.cf_world.specs.declared.broker.Published.{Published}
-use Rattle.cf_world.specs.declared.peers.Seat.{Seat}
+use Rattle.cf_world.specs.declared.clients.Seat.{Seat}
 use Rattle.cf_world.proofs.Reading.{Missing}
 
 module _ (lists : Lists) (id : ℕ) (is-code : IsCode id) where

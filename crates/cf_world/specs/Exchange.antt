@@ -24,14 +24,14 @@ use Rattle.cf_world.specs.NodesTie.{seated}
 use Rattle.cf_world.specs.declared.broker.Broker.{Broker as Code}
 use Rattle.cf_world.specs.declared.broker.Published.{Published}
 use Rattle.cf_world.specs.declared.broker.Published.TheVariants as outcome
-use Rattle.cf_world.specs.declared.errand.Errand.{Errand}
-use Rattle.cf_world.specs.declared.peers.Peer.{Peer}
-use Rattle.cf_world.specs.declared.peers.Seat.{Seat}
+use Rattle.cf_world.specs.declared.client_command.ClientCommand.{ClientCommand}
+use Rattle.cf_world.specs.declared.clients.Peer.{Peer}
+use Rattle.cf_world.specs.declared.clients.Seat.{Seat}
 
 -- ---- before anything is sent
 
--- the command by which a client carries out an errand
-abbrev pub sent_by : Errand → Peer → SentCommand
+-- the command that is sent, under the next id
+abbrev pub sent_by : ClientCommand → Peer → SentCommand
 sent_by e p = record { id = (state_of p.client).client.fresh; request = request_by e (state_of p.client).client }
 
 -- its text is not too long, and no check of it fails

@@ -20,7 +20,7 @@ use Rattle.cf_hub.specs.WantOfMemory.{OrCloses}
 use Rattle.cf_hub.specs.Wordings.{plain, reading}
 use Rattle.cf_stream.specs.declared.answer.Recovery.{Recovery}
 use Rattle.cf_protocol.specs.Datum.{Who}
-use Rattle.cf_world.specs.declared.peers.Seat.{Seat}
+use Rattle.cf_world.specs.declared.clients.Seat.{Seat}
 
 abbrev pub Hubs : Type 0
 Hubs = ℕ → Option Node

@@ -16,7 +16,7 @@ ghost use Rattle.cf_world.specs.NodesTie.{seated};
 ghost use Rattle.cf_world.specs.Tie.{GoesOn};
 
 use crate::broker::Broker;
-use crate::errand::Errand;
+use crate::client_command::ClientCommand;
 use crate::granted::{list_in, put_in};
 use crate::hubs::{ask_in, lose_in};
 use crate::sending::Granted;
@@ -37,8 +37,8 @@ impl World {
         moves_are_alike();
         what_is_said_stays();
         rows_are_counted();
-        let errand = Errand::Ask { channel };
-        let Some(granted) = self.send(name, &errand)? else {
+        let command = ClientCommand::Ask { channel };
+        let Some(granted) = self.send(name, &command)? else {
             return Ok(());
         };
         subscribe_in(&mut self.hubs, self.alloc, granted)?;
@@ -53,8 +53,8 @@ impl World {
         moves_are_alike();
         what_is_said_stays();
         rows_are_counted();
-        let errand = Errand::AskFrom { channel };
-        let Some(granted) = self.send(name, &errand)? else {
+        let command = ClientCommand::AskFrom { channel };
+        let Some(granted) = self.send(name, &command)? else {
             return Ok(());
         };
         subscribe_in(&mut self.hubs, self.alloc, granted)?;
@@ -68,8 +68,8 @@ impl World {
         calls_are_alike();
         moves_are_alike();
         what_is_said_stays();
-        let errand = Errand::Leave { channel };
-        let Some(granted) = self.send(name, &errand)? else {
+        let command = ClientCommand::Leave { channel };
+        let Some(granted) = self.send(name, &command)? else {
             return Ok(());
         };
         unsubscribe_in(&mut self.hubs, self.alloc, granted)?;
@@ -86,8 +86,8 @@ impl World {
         moves_are_alike();
         what_is_said_stays();
         epochs_are_fresh();
-        let errand = Errand::Put { channel, key, body };
-        let Some(granted) = self.send(name, &errand)? else {
+        let command = ClientCommand::Put { channel, key, body };
+        let Some(granted) = self.send(name, &command)? else {
             return Ok(());
         };
         publish_in(&mut self.broker, &mut self.hubs, self.alloc, granted)?;
@@ -103,8 +103,8 @@ impl World {
         moves_are_alike();
         what_is_said_stays();
         epochs_are_fresh();
-        let errand = Errand::List { channel, limit };
-        let Some(granted) = self.send(name, &errand)? else {
+        let command = ClientCommand::List { channel, limit };
+        let Some(granted) = self.send(name, &command)? else {
             return Ok(());
         };
         history_in(&mut self.broker, &mut self.hubs, self.alloc, granted)?;

@@ -10,7 +10,7 @@ ghost use Rattle.cf_world.specs.HubCalls.{Answered, AreSame, Asks, AtNode, Attac
 ghost use Rattle.cf_world.specs.NodesTie.{seated};
 
 use crate::broker::{Accepted, NOW};
-use crate::peers::Seat;
+use crate::clients::Seat;
 use crate::short::Short;
 use cf_hub::{Asked, Hub, HubRefusal};
 use cf_protocol::{CloseCode, ErrorCode, Info, Outcome, Outgoing, Position, write_reply};

@@ -7,7 +7,7 @@ ghost use Rattle.cf_world.specs.HubCalls.{AreNew};
 ghost use Rattle.cf_world.specs.Tie.{GoesOn, Tied, client_of, hub_of, streams_of};
 
 use crate::broker::Broker;
-use crate::peers::Peer;
+use crate::clients::Peer;
 use crate::short::Short;
 use cf_client::Client;
 use cf_hub::Hub;
@@ -27,7 +27,7 @@ pub struct World {
     pub(crate) namespaces: Namespaces,
     pub(crate) broker: Broker,
     pub(crate) hubs: Vec<Hub>,
-    pub(crate) peers: BTreeMap<String, Peer>,
+    pub(crate) clients: BTreeMap<String, Peer>,
     pub(crate) alloc: Global,
 }
 
@@ -44,7 +44,7 @@ impl World {
             namespaces: namespaces_kept,
             broker,
             hubs,
-            peers: BTreeMap::new(alloc),
+            clients: BTreeMap::new(alloc),
             alloc,
         })
     }
@@ -67,7 +67,7 @@ impl World {
     pub fn client(&self, name: &str) -> Option<&Client>
         ensures { option_copied result ≡ client_of self.now name.now }
     {
-        match self.peers.get(name) {
+        match self.clients.get(name) {
             None => None,
             Some(peer) => Some(&peer.client),
         }

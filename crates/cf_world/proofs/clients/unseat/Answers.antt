@@ -3,17 +3,17 @@ use Rattle.std.proofs.lemmas.Map.Text.{btree_map_updates_text}
 use Rattle.std.specs.BTreeMap.{get_by_text}
 use Rattle.cf_protocol.specs.Names.{with}
 use Rattle.cf_world.specs.ClientTie.{Unseats}
-use Rattle.cf_world.specs.declared.peers.Peer.{Peer}
+use Rattle.cf_world.specs.declared.clients.Peer.{Peer}
 use Rattle.std.proofs.lemmas.Option.{same_Some}
 use Rattle.cf_world.proofs.Named.{sets-peer}
-use Rattle.cf_world.proofs.peers.unseat.Goals as goal
+use Rattle.cf_world.proofs.clients.unseat.Goals as goal
 
 pub returns-in-Some : goal.returns-in-Some
 returns-in-Some c = λ p there.
     let k : Peer = c.in-Some.peer.now in
     let v : Peer = c.break_off.new.self in
     let x : List ℕ = c.args.name.now in
-    let old = c.args.peers.now in
+    let old = c.args.clients.now in
     let new = c.get_mut.follows.lender v in
     let at : get_by_text old x ≡ Some k = search rules in
     let is : k ≡ p = same_Some k p (sym at ∙ there) in

@@ -5,9 +5,9 @@ ghost use Rattle.cf_client.specs.ClientCalls.{new_state, connected, reconnected}
 ghost use Rattle.cf_client.specs.ClientView.{state_of};
 ghost use Rattle.cf_client.specs.Shown.{shown_item};
 ghost use Rattle.cf_world.specs.ClientTie.{Heard, Joins, LeavesNode, Sends, Unseats, state_before};
-ghost use Rattle.cf_world.specs.declared.peers.Peer.{Peer as AnyPeer};
+ghost use Rattle.cf_world.specs.declared.clients.Peer.{Peer as AnyPeer};
 
-use crate::errand::Errand;
+use crate::client_command::ClientCommand;
 use crate::short::Short;
 use cf_client::{AppEvent, Client, ClientFault};
 use std::alloc::Global;
@@ -28,47 +28,48 @@ pub(crate) struct Peer {
 }
 
 /// Where the session of a client is, if it is connected.
-pub(crate) fn seat_of(peers: &BTreeMap<String, Peer>, name: &str) -> Option<Seat>
-    ensures { result ≡ option_and_then (λ p. p.seat) (get_by_text peers.now name.now) }
+pub(crate) fn seat_of(clients: &BTreeMap<String, Peer>, name: &str) -> Option<Seat>
+    ensures { result ≡ option_and_then (λ p. p.seat) (get_by_text clients.now name.now) }
 {
-    match peers.get(name) {
+    match clients.get(name) {
         None => None,
         Some(peer) => peer.seat,
     }
 }
 
 /// Whether a client was ever seen.
-fn is_known(peers: &BTreeMap<String, Peer>, name: &str) -> bool
-    ensures { result ≡ is_some (get_by_text peers.now name.now) }
+fn is_known(clients: &BTreeMap<String, Peer>, name: &str) -> bool
+    ensures { result ≡ is_some (get_by_text clients.now name.now) }
 {
-    peers.contains_key(name)
+    clients.contains_key(name)
 }
 
 /// A client connects, and sits here; one that was never seen comes new.
 pub(crate) fn join(
     alloc: Global,
-    peers: &mut BTreeMap<String, Peer>,
+    clients: &mut BTreeMap<String, Peer>,
     name: &str,
     seat: Seat,
 ) -> Result<(), Short>
     ensures { OnOk result
-        (Joins name.now seat (state_before (get_by_text peers.old name.now)) (get_by_text peers.old)
-        (get_by_text peers.new)) }
+        (Joins name.now seat (state_before (get_by_text clients.old name.now))
+        (get_by_text clients.old) (get_by_text clients.new)) }
 {
-    if is_known(peers, name) {
-        rejoin(peers, name, seat)?;
+    if is_known(clients, name) {
+        rejoin(clients, name, seat)?;
     } else {
-        add(alloc, peers, name, seat)?;
+        add(alloc, clients, name, seat)?;
     }
     Ok(())
 }
 
 /// A client that was seen before connects, and sits here.
-fn rejoin(peers: &mut BTreeMap<String, Peer>, name: &str, seat: Seat) -> Result<(), Short>
-    ensures { OnOk result ((p : AnyPeer) → get_by_text peers.old name.now ≡ Some p
-        → Joins name.now seat (state_of p.client) (get_by_text peers.old) (get_by_text peers.new)) }
+fn rejoin(clients: &mut BTreeMap<String, Peer>, name: &str, seat: Seat) -> Result<(), Short>
+    ensures { OnOk result ((p : AnyPeer) → get_by_text clients.old name.now ≡ Some p
+        → Joins name.now seat (state_of p.client) (get_by_text clients.old)
+        (get_by_text clients.new)) }
 {
-    let Some(peer) = peers.get_mut(name) else {
+    let Some(peer) = clients.get_mut(name) else {
         return Ok(());
     };
     peer.join(seat)?;
@@ -78,36 +79,37 @@ fn rejoin(peers: &mut BTreeMap<String, Peer>, name: &str, seat: Seat) -> Result<
 /// A new client connects, and sits here.
 fn add(
     alloc: Global,
-    peers: &mut BTreeMap<String, Peer>,
+    clients: &mut BTreeMap<String, Peer>,
     name: &str,
     seat: Seat,
 ) -> Result<(), Short>
     ensures { OnOk result
-        (Joins name.now seat new_state (get_by_text peers.old) (get_by_text peers.new)) }
+        (Joins name.now seat new_state (get_by_text clients.old) (get_by_text clients.new)) }
 {
     let client = Client::new(alloc);
     let mut peer = Peer { client, seat: None };
     peer.join(seat)?;
     let key = String::from_str(alloc, name)?;
-    peers.insert(key, peer)?;
+    clients.insert(key, peer)?;
     Ok(())
 }
 
 /// The connection of a client is gone.
-pub(crate) fn unseat(peers: &mut BTreeMap<String, Peer>, name: &str)
-    ensures { (p : AnyPeer) → get_by_text peers.old name.now ≡ Some p
-        → Unseats name.now p (get_by_text peers.old) (get_by_text peers.new) }
+pub(crate) fn unseat(clients: &mut BTreeMap<String, Peer>, name: &str)
+    ensures { (p : AnyPeer) → get_by_text clients.old name.now ≡ Some p
+        → Unseats name.now p (get_by_text clients.old) (get_by_text clients.new) }
 {
-    if let Some(peer) = peers.get_mut(name) {
+    if let Some(peer) = clients.get_mut(name) {
         peer.break_off();
     }
 }
 
 /// The connections to a node are gone.
-pub(crate) fn unseat_all(peers: &mut BTreeMap<String, Peer>, node: u8)
-    ensures { (y : List ℕ) → LeavesNode node (get_by_text peers.old y) (get_by_text peers.new y) }
+pub(crate) fn unseat_all(clients: &mut BTreeMap<String, Peer>, node: u8)
+    ensures { (y : List ℕ)
+        → LeavesNode node (get_by_text clients.old y) (get_by_text clients.new y) }
 {
-    peers.retain(|_name, peer| {
+    clients.retain(|_name, peer| {
         peer.leave_node(node);
         true
     });
@@ -115,17 +117,17 @@ pub(crate) fn unseat_all(peers: &mut BTreeMap<String, Peer>, node: u8)
 
 /// What a client sends. None where it can't: the channel isn't idle, or is, or its ids are used up.
 pub(crate) fn send(
-    peers: &mut BTreeMap<String, Peer>,
+    clients: &mut BTreeMap<String, Peer>,
     name: &str,
-    errand: &Errand<'_>,
+    command: &ClientCommand<'_>,
 ) -> Result<Option<String>, Short>
-    ensures { IfOk result (λ text. (p : AnyPeer) → get_by_text peers.old name.now ≡ Some p
-        → Sends errand.now name.now p (get_by_text peers.old) (get_by_text peers.new) text) }
+    ensures { IfOk result (λ text. (p : AnyPeer) → get_by_text clients.old name.now ≡ Some p
+        → Sends command.now name.now p (get_by_text clients.old) (get_by_text clients.new) text) }
 {
-    let Some(peer) = peers.get_mut(name) else {
+    let Some(peer) = clients.get_mut(name) else {
         return Ok(None);
     };
-    match peer.send(errand) {
+    match peer.send(command) {
         Ok(text) => Ok(Some(text)),
         Err(ClientFault::NotNow) => Ok(None),
         Err(ClientFault::AtLastId) => Ok(None),
@@ -136,15 +138,15 @@ pub(crate) fn send(
 /// A client takes a text.
 pub(crate) fn hear(
     alloc: Global,
-    peers: &mut BTreeMap<String, Peer>,
+    clients: &mut BTreeMap<String, Peer>,
     name: &str,
     text: &str,
 ) -> Result<Vec<AppEvent>, Short>
-    ensures { IfOk result (λ told. (p : AnyPeer) → get_by_text peers.old name.now ≡ Some p
-        → Heard name.now text.now p (get_by_text peers.old) (get_by_text peers.new)
+    ensures { IfOk result (λ told. (p : AnyPeer) → get_by_text clients.old name.now ≡ Some p
+        → Heard name.now text.now p (get_by_text clients.old) (get_by_text clients.new)
         (map shown_item told.items)) }
 {
-    let Some(peer) = peers.get_mut(name) else {
+    let Some(peer) = clients.get_mut(name) else {
         return Ok(Vec::new(alloc));
     };
     match peer.client.on_text(text) {
@@ -203,25 +205,25 @@ impl Peer {
         }
     }
 
-    fn send(&mut self, errand: &Errand<'_>) -> Result<String, ClientFault>
+    fn send(&mut self, command: &ClientCommand<'_>) -> Result<String, ClientFault>
         ensures text { IfOk result (λ t. string_bytes t
-            ≡ command_text (command_of (sent_by errand.now self.old))) }
+            ≡ command_text (command_of (sent_by command.now self.old))) }
         ensures ok { OnOk result (state_of self.new.client
-            ≡ sent_state (request_by errand.now (state_of self.old.client).client)
+            ≡ sent_state (request_by command.now (state_of self.old.client).client)
             (state_of self.old.client)) }
-        ensures refused { RefusedBy (send_fault errand.now (state_of self.old.client)) result }
+        ensures refused { RefusedBy (send_fault command.now (state_of self.old.client)) result }
         ensures err { OnErr result (state_of self.new.client ≡ state_of self.old.client) }
         ensures seat { self.new.seat ≡ self.old.seat }
         ensures apart { AreApart (state_of self.old.client).client }
-        ensures since { AsksFrom (request_by errand.now (state_of self.old.client).client) }
+        ensures since { AsksFrom (request_by command.now (state_of self.old.client).client) }
     {
         self.client.is_sound();
-        match errand {
-            Errand::Ask { channel } => self.client.ask(channel),
-            Errand::AskFrom { channel } => self.client.ask_from(channel),
-            Errand::Leave { channel } => self.client.leave(channel),
-            Errand::Put { channel, key, body } => self.client.put_key(channel, key, body),
-            Errand::List { channel, limit } => self.client.list(channel, *limit),
+        match command {
+            ClientCommand::Ask { channel } => self.client.ask(channel),
+            ClientCommand::AskFrom { channel } => self.client.ask_from(channel),
+            ClientCommand::Leave { channel } => self.client.leave(channel),
+            ClientCommand::Put { channel, key, body } => self.client.put_key(channel, key, body),
+            ClientCommand::List { channel, limit } => self.client.list(channel, *limit),
         }
     }
 }

@@ -7,17 +7,17 @@ use Rattle.cf_client.specs.ClientView.{state_of}
 use Rattle.cf_client.specs.declared.fault.ClientFault.{ClientFault}
 use Rattle.cf_client.specs.declared.fault.ClientFault.TheVariants.{NotNow, AtLastId}
 use Rattle.cf_world.specs.ClientTie.{NotSent, Sent, send_fault}
-use Rattle.cf_world.specs.declared.peers.Peer.{Peer}
+use Rattle.cf_world.specs.declared.clients.Peer.{Peer}
 use Rattle.std.proofs.lemmas.Option.{same_Some}
 use Rattle.cf_world.proofs.Named.{refused-some, same-seat, sent-none, sets-peer}
-use Rattle.cf_world.proofs.peers.send.Goals as goal
+use Rattle.cf_world.proofs.clients.send.Goals as goal
 
 pub returns-in-Ok : goal.returns-in-Ok
 returns-in-Ok c = λ p there.
     let k : Peer = c.in-Some.peer.now in
     let v : Peer = c.send.new.self in
     let x : List ℕ = c.args.name.now in
-    let old = c.args.peers.now in
+    let old = c.args.clients.now in
     let new = c.get_mut.follows.lender v in
     let at : get_by_text old x ≡ Some k = search rules in
     let is : k ≡ p = same_Some k p (sym at ∙ there) in
@@ -27,9 +27,9 @@ returns-in-Ok c = λ p there.
     (sets-peer (get_by_text old) (get_by_text new) x (Some v) (btree_map_updates_text x old new (Some v) ((c.get_mut.follows.holds v).3 some))) in
     let refused = c.send.ensures.refused in
     let was : c.send.result ≡ Ok c.in-Ok.text = search rules in
-    subst (λ (z : Peer). Sent c.args.errand.now x (string_bytes c.in-Ok.text) z (get_by_text old) (get_by_text new)) is
+    subst (λ (z : Peer). Sent c.args.command.now x (string_bytes c.in-Ok.text) z (get_by_text old) (get_by_text new)) is
     (record {
-      allowed = sent-none (send_fault c.args.errand.now (state_of k.client)) c.in-Ok.text (subst (λ (r : Result (String Global) ClientFault). RefusedBy (send_fault c.args.errand.now (state_of k.client)) r) was refused);
+      allowed = sent-none (send_fault c.args.command.now (state_of k.client)) c.in-Ok.text (subst (λ (r : Result (String Global) ClientFault). RefusedBy (send_fault c.args.command.now (state_of k.client)) r) was refused);
       said = c.in-Ok.ensures.text;
       becomes = record { client = v.client; now = now; state_is = c.in-Ok.ensures.ok };
       apart = c.send.ensures.apart;
@@ -41,7 +41,7 @@ returns-in-Err-NotNow c = λ p there.
     let k : Peer = c.in-Some.peer.now in
     let v : Peer = c.send.new.self in
     let x : List ℕ = c.args.name.now in
-    let old = c.args.peers.now in
+    let old = c.args.clients.now in
     let new = c.get_mut.follows.lender v in
     let at : get_by_text old x ≡ Some k = search rules in
     let is : k ≡ p = same_Some k p (sym at ∙ there) in
@@ -51,9 +51,9 @@ returns-in-Err-NotNow c = λ p there.
     (sets-peer (get_by_text old) (get_by_text new) x (Some v) (btree_map_updates_text x old new (Some v) ((c.get_mut.follows.holds v).3 some))) in
     let refused = c.send.ensures.refused in
     let was : c.send.result ≡ Err NotNow = search rules in
-    subst (λ (z : Peer). NotSent c.args.errand.now x z (get_by_text old) (get_by_text new)) is
+    subst (λ (z : Peer). NotSent c.args.command.now x z (get_by_text old) (get_by_text new)) is
     (record {
-      refused = refused-some (String Global) (send_fault c.args.errand.now (state_of k.client)) NotNow (λ e. absurd (cc)) (subst (λ (r : Result (String Global) ClientFault). RefusedBy (send_fault c.args.errand.now (state_of k.client)) r) was refused);
+      refused = refused-some (String Global) (send_fault c.args.command.now (state_of k.client)) NotNow (λ e. absurd (cc)) (subst (λ (r : Result (String Global) ClientFault). RefusedBy (send_fault c.args.command.now (state_of k.client)) r) was refused);
       becomes = record { client = v.client; now = now; state_is = c.in-Err-NotNow.ensures.err };
     })
 
@@ -62,7 +62,7 @@ returns-in-Err-AtLastId c = λ p there.
     let k : Peer = c.in-Some.peer.now in
     let v : Peer = c.send.new.self in
     let x : List ℕ = c.args.name.now in
-    let old = c.args.peers.now in
+    let old = c.args.clients.now in
     let new = c.get_mut.follows.lender v in
     let at : get_by_text old x ≡ Some k = search rules in
     let is : k ≡ p = same_Some k p (sym at ∙ there) in
@@ -72,8 +72,8 @@ returns-in-Err-AtLastId c = λ p there.
     (sets-peer (get_by_text old) (get_by_text new) x (Some v) (btree_map_updates_text x old new (Some v) ((c.get_mut.follows.holds v).3 some))) in
     let refused = c.send.ensures.refused in
     let was : c.send.result ≡ Err AtLastId = search rules in
-    subst (λ (z : Peer). NotSent c.args.errand.now x z (get_by_text old) (get_by_text new)) is
+    subst (λ (z : Peer). NotSent c.args.command.now x z (get_by_text old) (get_by_text new)) is
     (record {
-      refused = refused-some (String Global) (send_fault c.args.errand.now (state_of k.client)) AtLastId (λ e. absurd (cc)) (subst (λ (r : Result (String Global) ClientFault). RefusedBy (send_fault c.args.errand.now (state_of k.client)) r) was refused);
+      refused = refused-some (String Global) (send_fault c.args.command.now (state_of k.client)) AtLastId (λ e. absurd (cc)) (subst (λ (r : Result (String Global) ClientFault). RefusedBy (send_fault c.args.command.now (state_of k.client)) r) was refused);
       becomes = record { client = v.client; now = now; state_is = c.in-Err-AtLastId.ensures.err };
     })

@@ -4,16 +4,16 @@ use Rattle.std.specs.BTreeMap.{get_by_text}
 use Rattle.cf_client.specs.ClientView.{state_of}
 use Rattle.cf_client.specs.Shown.{shown_item}
 use Rattle.cf_world.specs.ClientTie.{Heard}
-use Rattle.cf_world.specs.declared.peers.Peer.{Peer}
+use Rattle.cf_world.specs.declared.clients.Peer.{Peer}
 use Rattle.std.proofs.lemmas.Option.{same_Some}
 use Rattle.cf_world.proofs.Named.{sets-peer}
-use Rattle.cf_world.proofs.peers.hear.Goals as goal
+use Rattle.cf_world.proofs.clients.hear.Goals as goal
 
 pub returns-in-Ok : goal.returns-in-Ok
 returns-in-Ok c = λ p there.
     let k : Peer = c.in-Some.peer.now in
     let v : Peer = record k { client = c.on_text.new.self } in
-    let old = c.args.peers.now in
+    let old = c.args.clients.now in
     let new = c.get_mut.follows.lender v in
     let at : get_by_text old c.args.name.now ≡ Some k = search rules in
     let is : k ≡ p = same_Some k p (sym at ∙ there) in

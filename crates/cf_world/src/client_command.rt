@@ -2,7 +2,7 @@
 
 /// What a client is to send.
 #[derive(Clone, Copy)]
-pub(crate) enum Errand<'a> {
+pub(crate) enum ClientCommand<'a> {
     /// To be subscribed, from no position.
     Ask {
         channel: &'a str,
