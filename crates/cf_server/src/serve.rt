@@ -16,7 +16,8 @@ use cf_protocol::{Namespaces, Tokens};
 use cf_shard::{Delivery, Naming};
 use mio::net::TcpListener;
 use std::alloc::{AllocError, Global};
-use std::io::ErrorKind;
+use std::io;
+use std::io::{BufWriter, ErrorKind, Write};
 use std::marker::Brand;
 use std::net::{Ipv4Addr, Net, SocketAddr};
 use std::sync::Wait;
@@ -24,6 +25,9 @@ use std::sync::atomic::{AtomicU64, Ordering};
 use std::thread;
 use std::thread::Threads;
 use std::time::Clock;
+
+// The bytes of a buffer that is freed before clients come: glibc keeps up to twice as many that are freed from then on.
+const LARGE_BUFFER: usize = 16_777_216;
 
 // The nodes, the broker's ends of their links, and where they listen.
 #[derive(Drop)]
@@ -274,6 +278,18 @@ where
     })
 }
 
+// Says where the nodes listen, by way of a large buffer that is freed behind it: so glibc keeps what is freed later for what is
+// asked for next, where it would else give it back to the system, and ask for it again, with each large publication.
+fn say_addresses<R: Print + AllocGlobal>(rt: &R, addresses: &[SocketAddr]) -> io::Result<()> {
+    let alloc = rt.alloc();
+    let mut writer = BufWriter::with_capacity(alloc, LARGE_BUFFER, io::writer(rt))?;
+    for (node, address) in addresses.iter().enumerate() {
+        let line = format!(in alloc; "node {node} {address}\n")?;
+        writer.write_all(line.as_bytes())?;
+    }
+    writer.flush()
+}
+
 // Says where the nodes listen once their workers have begun, and hears the input to its end.
 fn watch<R, L>(
     rt: &R,
@@ -286,8 +302,6 @@ where
     L: Listener,
 {
     wait_for_workers(rt, running, addresses.len())?;
-    for (node, address) in addresses.iter().enumerate() {
-        println!(rt; "node {node} {address}")?;
-    }
+    say_addresses(rt, addresses)?;
     hear(rt, running, listener)
 }
