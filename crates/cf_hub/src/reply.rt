@@ -3,7 +3,7 @@ ghost use Rattle.std.specs.Prelude.{◌≡◌, ◌+◌, ◌⊎◌, ℕ, List, Bo
 ghost use Rattle.cf_protocol.specs.Datum.{numbered};
 ghost use Rattle.cf_hub.specs.Reply.{Answers, AnswersIn, stands, was_read};
 ghost use Rattle.cf_hub.specs.SessionState.{is_asked, is_ready};
-ghost use Rattle.cf_hub.specs.Subscriptions.{SetsAt, progress_at, sub_of};
+ghost use Rattle.cf_hub.specs.Subscriptions.{SetsAt, names, progress_at, sub_of};
 
 use crate::delivered::Fate;
 use crate::session::{Session, Step, either};
@@ -114,6 +114,7 @@ fn read_at(
     ensures asked { result ≡ is_asked (sub_of (progress_at subscriptions.old channel.now)) }
     ensures after { SetsAt subscriptions.old subscriptions.new channel.now
         (option_map (was_read recovery) (progress_at subscriptions.old channel.now)) }
+    ensures order { names subscriptions.new ≡ names subscriptions.old }
 {
     match subscriptions.get_mut(channel) {
         None => false,
@@ -124,12 +125,13 @@ fn read_at(
 /// Gives a channel's reply and what follows it.
 #[tactic(auto, using(std::proofs::lemmas::Map::Text::text_keys))]
 fn answer_at(subscriptions: &mut IndexMap<String, Box<Progress>>, channel: &str) -> Option<Answered>
-    ensures { MatchOption result
+    ensures answered { MatchOption result
         (SetsAt subscriptions.old subscriptions.new channel.now
         (progress_at subscriptions.old channel.now)
         × (is_ready (sub_of (progress_at subscriptions.old channel.now)) ≡ false))
         (λ a. AnswersIn a (progress_at subscriptions.old channel.now)
         × SetsAt subscriptions.old subscriptions.new channel.now (Some (stands a))) }
+    ensures order { names subscriptions.new ≡ names subscriptions.old }
 {
     match subscriptions.get_mut(channel) {
         None => None,

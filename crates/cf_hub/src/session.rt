@@ -2,9 +2,9 @@
 ghost use Rattle.std.specs.Prelude.{◌≡◌, ◌||◌, false};
 
 use crate::delivered::Fate;
-use crate::subscription::{Meets, Progress, keep_at, replace, take_out};
+use crate::subscription::{Meets, Met, Progress, replace, take_at, take_out};
 use crate::wording::{end_text, push_text};
-use cf_protocol::{Epoch, Position, Publication};
+use cf_protocol::{CloseCode, Epoch, Publication};
 use cf_queue::{Out, OutQueue, QueueRefusal};
 use cf_recovery::Verdict;
 use indexmap::IndexMap;
@@ -12,12 +12,6 @@ use std::alloc::Global;
 
 /// How many bytes of text may wait for one client.
 const QUEUE_LIMIT: usize = 1_048_576;
-
-/// The close of a client that is too slow.
-const SLOW: u16 = 3008;
-
-/// The close where memory is refused.
-const NO_MEMORY: u16 = 3004;
 
 /// What a call did with a session, and whether memory was refused for it.
 #[derive(Clone, Copy, PartialEq, Eq, Debug, Drop)]
@@ -68,8 +62,8 @@ impl Session {
     ghost use Rattle.cf_hub.specs.Session.{badge_of, state_of};
     ghost use Rattle.cf_hub.specs.SessionState.{Off, On, closes_now, is_off, opens, put_sub, takes_front};
     ghost use Rattle.cf_hub.specs.Sessions.{Acts, EndsAs, IsBrought, Moves, SaysText, Tells, closed_or, fate_brought, new_badge, pushes, says_one};
-    ghost use Rattle.cf_hub.specs.Subscriptions.{meeting, progress_at, sub_of};
-    ghost use Rattle.cf_hub.specs.Wordings.{IsWritten, at_offset, push_text};
+    ghost use Rattle.cf_hub.specs.Subscriptions.{progress_at, sub_of};
+    ghost use Rattle.cf_hub.specs.Wordings.{IsWritten, push_text};
 
     /// A client's session, with no subscription and nothing that waits.
     pub(crate) fn new(alloc: Global, client: String, user: String, now: u64) -> Session
@@ -144,18 +138,18 @@ impl Session {
         ensures badge { badge_of self.new ≡ badge_of self.old }
     {
         let Some(text) = text else {
-            let _open = self.close(NO_MEMORY);
+            let _open = self.close(CloseCode::InternalError.code());
             return true;
         };
         match self.queue.push(text) {
             Ok(()) => false,
             Err((QueueRefusal::Closed, _)) => false,
             Err((QueueRefusal::Slow, _)) => {
-                let _open = self.close(SLOW);
+                let _open = self.close(CloseCode::Slow.code());
                 false
             }
             Err((QueueRefusal::Memory, _)) => {
-                let _open = self.close(NO_MEMORY);
+                let _open = self.close(CloseCode::InternalError.code());
                 true
             }
         }
@@ -181,11 +175,11 @@ impl Session {
             Ok(()) => false,
             Err(QueueRefusal::Closed) => false,
             Err(QueueRefusal::Slow) => {
-                let _open = self.close(SLOW);
+                let _open = self.close(CloseCode::Slow.code());
                 false
             }
             Err(QueueRefusal::Memory) => {
-                let _open = self.close(NO_MEMORY);
+                let _open = self.close(CloseCode::InternalError.code());
                 true
             }
         }
@@ -237,18 +231,6 @@ impl Session {
         self.subscriptions.is_empty()
     }
 
-    /// What a delivery meets here.
-    fn meets(&self, channel: &str, epoch: &Epoch, offset: u64) -> Meets
-        ensures { result
-            ≡ meeting (record { epoch = epoch.now; offset = offset })
-            (progress_at self.now.subscriptions channel.now) }
-    {
-        match self.subscriptions.get(channel) {
-            None => Meets::Nothing,
-            Some(progress) => progress.meets(epoch, offset),
-        }
-    }
-
     /// What a call did: it closed the session, or else this.
     pub(crate) fn step(&self, was_closed: bool, fate: Fate, refused: bool) -> Step
         ensures fate { result.fate ≡ closed_or was_closed self.now fate }
@@ -283,18 +265,6 @@ impl Session {
         take_out(&mut self.subscriptions, channel);
     }
 
-    /// Keeps a publication for a channel whose reply waits. Says whether memory was refused for it.
-    fn keep(&mut self, channel: &str, epoch: &Epoch, publication: &Publication) -> bool
-        requires { meeting (at_offset epoch.now publication.now)
-            (progress_at self.old.subscriptions channel.now)
-            ≡ Meets.Buffer }
-        ensures state { IsBrought result channel.now epoch.now publication.now self.old self.new }
-        ensures queue { self.new.queue ≡ self.old.queue }
-        ensures badge { badge_of self.new ≡ badge_of self.old }
-    {
-        keep_at(&mut self.subscriptions, channel, epoch, publication)
-    }
-
     /// Brings a publication. Its text is handed in where it was written.
     pub(crate) fn bring(
         &mut self,
@@ -312,32 +282,19 @@ impl Session {
         ensures badge { badge_of self.new ≡ badge_of self.old }
     {
         let was_closed = self.queue.is_closed();
-        match self.meets(channel, epoch, publication.offset) {
-            Meets::Nothing => Step {
-                fate: Fate::Dropped,
-                refused: false,
+        let Met { meets, refused } = take_at(&mut self.subscriptions, channel, epoch, publication);
+        match meets {
+            Meets::Nothing => Step::none(),
+            Meets::Buffer => Step {
+                fate: Fate::Kept,
+                refused,
             },
-            Meets::Buffer => {
-                let refused = self.keep(channel, epoch, publication);
-                Step {
-                    fate: Fate::Kept,
-                    refused,
-                }
-            }
-            Meets::On(_, Verdict::Drop) => Step {
-                fate: Fate::Dropped,
-                refused: false,
-            },
-            Meets::On(mark, Verdict::Pass) => {
-                let at = Position {
-                    epoch: *epoch,
-                    offset: publication.offset,
-                };
-                self.put(channel, Progress::On { at, mark });
+            Meets::On(Verdict::Drop) => Step::none(),
+            Meets::On(Verdict::Pass) => {
                 let refused = self.say_publication(alloc, written, channel, publication);
                 self.step(was_closed, Fate::Passed, refused)
             }
-            Meets::On(_, Verdict::Insufficient) => {
+            Meets::On(Verdict::Insufficient) => {
                 self.leave(channel);
                 let refused = self.say(end_text(alloc, channel));
                 self.step(was_closed, Fate::Ended, refused)

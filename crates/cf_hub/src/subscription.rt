@@ -1,7 +1,11 @@
 //! How far a session is with a channel.
-ghost use Rattle.std.specs.Prelude.{◌≡◌, ◌⊎◌, ◌≢◌, true, OnOk, OnErr, None, Some, option_map};
+ghost use Rattle.std.specs.Prelude.{◌≡◌, ◌⊎◌, ◌++◌, ◌∷◌, [], true, OnOk, OnErr, None, Some, option_map};
+ghost use Rattle.std.specs.Str.{bytes_eq};
+ghost use Rattle.indexmap.specs.IndexSet.{remove_key};
 ghost use Rattle.cf_recovery.specs.ArrivalBuffer.{arrival, given_up, with_arrival};
-ghost use Rattle.cf_hub.specs.Subscriptions.{SetsAt, coming, keeps, loses, progress_at};
+ghost use Rattle.cf_recovery.specs.Verdict.{verdict};
+ghost use Rattle.cf_hub.specs.Subscriptions.{IsGivenUp, SetsAt, coming, loses, meeting, names, progress_at, stands_after, takes, verdict_code};
+ghost use Rattle.cf_hub.specs.Wordings.{at_offset};
 
 use cf_protocol::{Epoch, Position, Publication};
 use cf_recovery::{Verdict, Waiting, check};
@@ -39,32 +43,56 @@ pub(crate) enum Meets {
     Nothing,
     /// One that waits for its reply.
     Buffer,
-    /// One that is finished, with this mark.
-    On(Option<u64>, Verdict),
+    /// One that is finished.
+    On(Verdict),
+}
+
+/// What a delivery met, and whether memory was refused for what it was to keep.
+#[derive(Clone, Copy, PartialEq, Eq, Debug)]
+pub(crate) struct Met {
+    pub meets: Meets,
+    pub refused: bool,
 }
 
 impl Progress {
-    /// What a delivery of this epoch and offset meets.
-    pub(crate) fn meets(&self, epoch: &Epoch, offset: u64) -> Meets
-        ensures { result ≡ coming (record { epoch = epoch.now; offset = offset }) self.now }
+    /// Takes a publication that is delivered: keeps it until the reply, or goes on to it where it is the next one.
+    fn take(&mut self, epoch: &Epoch, publication: &Publication) -> Met
+        ensures meets { result.meets
+            ≡ coming (at_offset epoch.now publication.now) self.old }
+        ensures after { (self.new ≡ takes epoch.now publication.now self.old)
+            ⊎ (IsGivenUp result × (self.new ≡ loses self.old)) }
     {
         match self {
-            Progress::On { at, mark } => Meets::On(*mark, check(at, epoch, offset)),
-            _ => Meets::Buffer,
+            Progress::Asked { waiting, .. } => Met {
+                meets: Meets::Buffer,
+                refused: keep_in(waiting, epoch, publication),
+            },
+            Progress::Ready { waiting, .. } => Met {
+                meets: Meets::Buffer,
+                refused: keep_in(waiting, epoch, publication),
+            },
+            Progress::On { at, .. } => Met {
+                meets: Meets::On(go_on(at, epoch, publication)),
+                refused: false,
+            },
         }
     }
+}
 
-    /// Keeps a publication while it waits for its reply. Says whether memory was refused for it.
-    pub(crate) fn keep(&mut self, epoch: &Epoch, publication: &Publication) -> bool
-        ensures { (self.new ≡ keeps epoch.now publication.now self.old)
-            ⊎ ((result ≡ true) × (self.new ≡ loses self.old)) }
-    {
-        match self {
-            Progress::Asked { waiting, .. } => keep_in(waiting, epoch, publication),
-            Progress::Ready { waiting, .. } => keep_in(waiting, epoch, publication),
-            Progress::On { .. } => false,
-        }
+/// Goes on to a publication where it is the next one.
+fn go_on(at: &mut Position, epoch: &Epoch, publication: &Publication) -> Verdict
+    ensures verdict { result
+        ≡ verdict_code (verdict at.old (at_offset epoch.now publication.now)) }
+    ensures after { at.new ≡ stands_after at.old (at_offset epoch.now publication.now) }
+{
+    let verdict = check(at, epoch, publication.offset);
+    if verdict == Verdict::Pass {
+        *at = Position {
+            epoch: *epoch,
+            offset: publication.offset,
+        };
     }
+    verdict
 }
 
 /// Keeps a publication in a buffer. Says whether memory was refused for it now.
@@ -77,24 +105,31 @@ fn keep_in(waiting: &mut Waiting, epoch: &Epoch, publication: &Publication) -> b
     !was_short && waiting.short()
 }
 
-/// Keeps a publication at a channel.
+/// Takes a publication that is delivered to a channel.
 #[tactic(auto, using(std::proofs::lemmas::Map::Text::text_keys))]
-pub(crate) fn keep_at(
+pub(crate) fn take_at(
     subscriptions: &mut IndexMap<String, Box<Progress>>,
     channel: &str,
     epoch: &Epoch,
     publication: &Publication,
-) -> bool
-    ensures { SetsAt subscriptions.old subscriptions.new channel.now
-        (option_map (keeps epoch.now publication.now)
+) -> Met
+    ensures meets { result.meets
+        ≡ meeting (at_offset epoch.now publication.now)
+        (progress_at subscriptions.old channel.now) }
+    ensures after { SetsAt subscriptions.old subscriptions.new channel.now
+        (option_map (takes epoch.now publication.now)
         (progress_at subscriptions.old channel.now))
-        ⊎ ((result ≡ true)
+        ⊎ (IsGivenUp result
         × SetsAt subscriptions.old subscriptions.new channel.now
         (option_map loses (progress_at subscriptions.old channel.now))) }
+    ensures order { names subscriptions.new ≡ names subscriptions.old }
 {
     match subscriptions.get_mut(channel) {
-        None => false,
-        Some(progress) => progress.keep(epoch, publication),
+        None => Met {
+            meets: Meets::Nothing,
+            refused: false,
+        },
+        Some(progress) => progress.take(epoch, publication),
     }
 }
 
@@ -105,8 +140,9 @@ pub(crate) fn replace(
     channel: &str,
     progress: Progress,
 )
-    ensures { SetsAt subscriptions.old subscriptions.new channel.now
+    ensures after { SetsAt subscriptions.old subscriptions.new channel.now
         (option_map (λ _. progress) (progress_at subscriptions.old channel.now)) }
+    ensures order { names subscriptions.new ≡ names subscriptions.old }
 {
     if let Some(place) = subscriptions.get_mut(channel) {
         **place = progress;
@@ -125,6 +161,8 @@ pub(crate) fn add(
     requires { progress_at subscriptions.old channel.now ≡ None }
     ensures ok { OnOk result
         (SetsAt subscriptions.old subscriptions.new channel.now (Some progress)) }
+    ensures last { OnOk result (names subscriptions.new
+        ≡ names subscriptions.old ++ channel.now ∷ []) }
     ensures err { OnErr result (subscriptions.new.entries ≡ subscriptions.old.entries) }
 {
     let key = String::from_str(alloc, channel)?;
@@ -135,10 +173,15 @@ pub(crate) fn add(
     Ok(())
 }
 
-/// Takes a channel's subscription out. The others keep their order.
+/// Takes a channel's subscription out. The others keep their order, and with the last one the room is given back.
 #[tactic(auto, using(std::proofs::lemmas::Map::Text::text_keys))]
 pub(crate) fn take_out(subscriptions: &mut IndexMap<String, Box<Progress>>, channel: &str)
-    ensures { SetsAt subscriptions.old subscriptions.new channel.now None }
+    ensures gone { SetsAt subscriptions.old subscriptions.new channel.now None }
+    ensures others { names subscriptions.new
+        ≡ remove_key (bytes_eq channel.now) (names subscriptions.old) }
 {
     let _gone = subscriptions.shift_remove(channel);
+    if subscriptions.is_empty() {
+        subscriptions.shrink_to_fit();
+    }
 }

@@ -7,7 +7,7 @@ ghost use Rattle.cf_talk.specs.Played.{asked_kind};
 use crate::house::House;
 use crate::member::Member;
 use cf_dispatch::{broker_error, take_for};
-use cf_hub::Said;
+use cf_hub::Queued;
 use cf_presence::Stats;
 use cf_protocol::{CloseCode, ErrorCode, Info, Position};
 use cf_queue::Out;
@@ -263,7 +263,7 @@ impl<'a, H: House> Clerk<'a, H> {
             return;
         };
         let said = self.house.hub().say(number, text);
-        if said != Said::Kept {
+        if said != Queued::Kept {
             self.stop();
         }
     }

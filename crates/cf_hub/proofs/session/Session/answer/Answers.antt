@@ -1,7 +1,8 @@
 use Rattle.std.proofs.Common.{refl}
 use Rattle.cf_hub.specs.Session.{state_of}
 use Rattle.cf_hub.specs.Subscriptions.{progress_at}
-use Rattle.cf_hub.proofs.Replies.{answered, same_state}
+use Rattle.cf_hub.proofs.Puts.{same_state}
+use Rattle.cf_hub.proofs.Replies.{answered}
 use Rattle.cf_hub.proofs.session.Session.answer.Goals as goal
 
 pub returns-in-None-clause-answered : goal.returns-in-None-clause-answered

@@ -2,7 +2,7 @@
 
 /// What became of a text for a client.
 #[derive(Clone, Copy, PartialEq, Eq, Debug, Drop)]
-pub enum Said {
+pub enum Queued {
     /// It waits for the client.
     Kept,
     /// The session is closed, now or since before.
