@@ -17,9 +17,9 @@ use crate::sessions::{
     bring_one, close_one, count_more, drop_one, leave_one, settle_all, take_one,
 };
 use crate::wording::push_text;
-use cf_subscribers::Subscribers;
 use cf_protocol::{Epoch, Publication};
 use cf_queue::Out;
+use cf_subscribers::Subscribers;
 use std::alloc::Global;
 use std::marker::Model;
 

@@ -8,8 +8,8 @@ use crate::session::Session;
 use crate::sessions::{
     begin_one, client_in, has_in, insert_one, is_closed_in, is_on_in, is_taken, user_in,
 };
-use cf_subscribers::MOST_ROWS;
 use cf_protocol::Position;
+use cf_subscribers::MOST_ROWS;
 use std::alloc::{AllocError, Global};
 
 impl Hub {

@@ -17,10 +17,10 @@ use crate::listed::Listed;
 use crate::places::Sessions;
 use crate::said::Said;
 use crate::session::{Session, Step};
-use cf_subscribers::Subscribers;
 use cf_protocol::{Epoch, Position, Publication};
 use cf_queue::Out;
 use cf_stream::Recovery;
+use cf_subscribers::Subscribers;
 use std::alloc::{AllocError, Global};
 
 /// Brings a publication to one session.
