@@ -7,7 +7,7 @@ use Rattle.cf_session.specs.Asking.{AllAsk, HasStream}
 use Rattle.cf_session.specs.Calls.{Call, Attach, Begin, Finish, Leave, Read, Publish, History, Presence, Stats}
 use Rattle.cf_session.specs.Script.{Script, Served, Over, Close, Say, Pong, Ask}
 use Rattle.cf_session.specs.SessionMachine.{Progress, Todo, Out}
-use Rattle.cf_talk.specs.Played.{AskStreams}
+use Rattle.cf_session.specs.Played.{AskStreams}
 
 -- a call of the session is out
 abbrev pub is_out : Progress → Bool

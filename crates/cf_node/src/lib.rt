@@ -6,18 +6,18 @@
 //! at the last one.
 #![tactic(auto)]
 
-mod around;
-mod clerk;
+mod acceptor;
+mod attached_client;
+mod backend;
+mod command_handler;
 mod connection;
 mod counts;
 mod desk;
 mod dispatcher;
-mod door;
 mod gate;
-mod house;
 mod io_loop;
 mod leaving;
-mod member;
+mod live_backend;
 mod node;
 mod rounds;
 mod shared;

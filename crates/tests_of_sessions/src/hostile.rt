@@ -8,8 +8,7 @@ use crate::wire::{
 use cf_hub::{Hub, Queued};
 use cf_protocol::{ErrorCode, Namespaces, Tokens, read_namespaces, read_tokens};
 use cf_queue::Out;
-use cf_session::{Action, Answer, Kind, Session};
-use cf_wire::{Desk, TurnEnd, Wire, WireFault};
+use cf_session::{Action, Answer, Desk, Kind, Session, TurnEnd, Wire, WireFault};
 use std::alloc::{AllocError, Global};
 
 /// A wire over three texts by pieces of three bytes, whose stream fails from the call of this number on.

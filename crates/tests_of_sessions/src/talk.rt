@@ -3,8 +3,7 @@ ghost use Rattle.std.specs.Prelude.{◌≡◌};
 
 use cf_presence::Stats;
 use cf_protocol::{ErrorCode, Namespaces, Tokens, read_namespaces, read_tokens};
-use cf_session::{Action, Answer, Session};
-use cf_talk::{Budget, Node, carry_on, hear_text, serve_lines};
+use cf_session::{Action, Answer, Budget, Node, Session, carry_on, hear_text, serve_lines};
 use std::alloc::{AllocError, Global};
 use std::collections::BTreeMap;
 
