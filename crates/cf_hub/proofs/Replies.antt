@@ -1,6 +1,5 @@
 -- A subscription's read and its reply, in a session's state.
 use Rattle.std.proofs.Common.{◌≡◌, ◌||◌, ◌+◌, ℕ, Bool, true, false, cond, if◌then◌else◌, Option, Some, None, List, length, refl, sym, ap, ◌∙◌, option_map, is_some}
-use Rattle.std.specs.Cmp.Lexicographic.{bytes_decides}
 use Rattle.std.specs.Str.{bytes_eq}
 use Rattle.cf_queue.specs.OutQueue.{OutQueue, Item}
 use Rattle.cf_recovery.specs.ArrivalBuffer.{places}

@@ -1,5 +1,5 @@
 -- A session's subscriptions as the code has them, and as the definitions have them.
-use Rattle.std.specs.Prelude.{◌≡◌, ◌-◌, ℕ, List, [], length, true, Option, Some, None, option_map, map, string_bytes, Box}
+use Rattle.std.specs.Prelude.{◌≡◌, ◌⊎◌, ◌-◌, ℕ, List, [], length, true, Option, Some, None, option_map, map, string_bytes, Box}
 use Rattle.indexmap.specs.IndexMap.{IndexMap, get_by_text, keys}
 use Rattle.std.specs.Map.{update}
 use Rattle.std.specs.Str.{bytes_eq}
@@ -93,3 +93,9 @@ meeting q (Some s) = coming q s
 -- memory was refused for what was to be kept
 abbrev pub IsGivenUp : Met → Type 0
 IsGivenUp m = (m.meets ≡ meets.Buffer) × (m.refused ≡ true)
+
+-- the channel took the publication, or memory was refused for it and the channel's buffer is given up
+abbrev pub TakesAt : Met → List ℕ → List ℕ → Placed → Subscriptions → Subscriptions → Type 0
+TakesAt m c e p old new =
+    SetsAt old new c (option_map (takes e p) (progress_at old c))
+    ⊎ (IsGivenUp m × SetsAt old new c (option_map loses (progress_at old c)))

@@ -4,7 +4,7 @@ ghost use Rattle.std.specs.Str.{bytes_eq};
 ghost use Rattle.indexmap.specs.IndexSet.{remove_key};
 ghost use Rattle.cf_recovery.specs.ArrivalBuffer.{arrival, given_up, with_arrival};
 ghost use Rattle.cf_recovery.specs.Verdict.{verdict};
-ghost use Rattle.cf_hub.specs.Subscriptions.{IsGivenUp, SetsAt, coming, loses, meeting, names, progress_at, stands_after, takes, verdict_code};
+ghost use Rattle.cf_hub.specs.Subscriptions.{IsGivenUp, SetsAt, TakesAt, coming, loses, meeting, names, progress_at, stands_after, takes, verdict_code};
 ghost use Rattle.cf_hub.specs.Wordings.{at_offset};
 
 use cf_protocol::{Epoch, Position, Publication};
@@ -63,14 +63,8 @@ impl Progress {
             ⊎ (IsGivenUp result × (self.new ≡ loses self.old)) }
     {
         match self {
-            Progress::Asked { waiting, .. } => Met {
-                meets: Meets::Buffer,
-                refused: keep_in(waiting, epoch, publication),
-            },
-            Progress::Ready { waiting, .. } => Met {
-                meets: Meets::Buffer,
-                refused: keep_in(waiting, epoch, publication),
-            },
+            Progress::Asked { waiting, .. } => keep_in(waiting, epoch, publication),
+            Progress::Ready { waiting, .. } => keep_in(waiting, epoch, publication),
             Progress::On { at, .. } => Met {
                 meets: Meets::On(go_on(at, epoch, publication)),
                 refused: false,
@@ -95,14 +89,18 @@ fn go_on(at: &mut Position, epoch: &Epoch, publication: &Publication) -> Verdict
     verdict
 }
 
-/// Keeps a publication in a buffer. Says whether memory was refused for it now.
-fn keep_in(waiting: &mut Waiting, epoch: &Epoch, publication: &Publication) -> bool
-    ensures { (waiting.new ≡ with_arrival (arrival epoch.now publication.now) waiting.old)
-        ⊎ ((result ≡ true) × (waiting.new ≡ given_up true)) }
+/// Keeps a publication in a buffer. Memory may be refused for it now.
+fn keep_in(waiting: &mut Waiting, epoch: &Epoch, publication: &Publication) -> Met
+    ensures meets { result.meets ≡ Meets.Buffer }
+    ensures after { (waiting.new ≡ with_arrival (arrival epoch.now publication.now) waiting.old)
+        ⊎ (IsGivenUp result × (waiting.new ≡ given_up true)) }
 {
     let was_short = waiting.short();
     waiting.keep(epoch, publication);
-    !was_short && waiting.short()
+    Met {
+        meets: Meets::Buffer,
+        refused: !was_short && waiting.short(),
+    }
 }
 
 /// Takes a publication that is delivered to a channel.
@@ -116,12 +114,8 @@ pub(crate) fn take_at(
     ensures meets { result.meets
         ≡ meeting (at_offset epoch.now publication.now)
         (progress_at subscriptions.old channel.now) }
-    ensures after { SetsAt subscriptions.old subscriptions.new channel.now
-        (option_map (takes epoch.now publication.now)
-        (progress_at subscriptions.old channel.now))
-        ⊎ (IsGivenUp result
-        × SetsAt subscriptions.old subscriptions.new channel.now
-        (option_map loses (progress_at subscriptions.old channel.now))) }
+    ensures after { TakesAt result channel.now epoch.now publication.now
+        subscriptions.old subscriptions.new }
     ensures order { names subscriptions.new ≡ names subscriptions.old }
 {
     match subscriptions.get_mut(channel) {

@@ -1,6 +1,5 @@
-use Rattle.std.proofs.Common.{rules, ◌≡◌, Bool, sym, ap, subst, ◌∙◌}
+use Rattle.std.proofs.Common.{rules, ◌≡◌, Bool, sym, subst, ◌∙◌}
 use Rattle.cf_recovery.specs.declared.verdict.Verdict.TheVariants as answer
-use Rattle.cf_hub.specs.declared.subscription.Meets.{Meets}
 use Rattle.cf_hub.specs.declared.subscription.Meets.TheVariants as meets
 use Rattle.cf_hub.specs.SessionState.{comes}
 use Rattle.cf_hub.specs.WantOfMemory.{Serves}
