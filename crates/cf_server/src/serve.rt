@@ -16,15 +16,14 @@ use cf_protocol::{Namespaces, Tokens};
 use cf_shard::{Delivery, Naming};
 use mio::net::TcpListener;
 use std::alloc::{AllocError, Global};
-use std::io;
 use std::io::{BufWriter, ErrorKind, Write};
 use std::marker::Brand;
 use std::net::{Ipv4Addr, Net, SocketAddr};
 use std::sync::Wait;
 use std::sync::atomic::{AtomicU64, Ordering};
-use std::thread;
 use std::thread::Threads;
 use std::time::Clock;
+use std::{io, thread};
 
 // The bytes of a buffer that is freed before clients come: glibc keeps up to twice as many that are freed from then on.
 const LARGE_BUFFER: usize = 16_777_216;

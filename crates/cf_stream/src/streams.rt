@@ -107,7 +107,8 @@ impl Streams {
             ≡ with_given self.old channel.now p.position.epoch (string_bytes key) (datum_of body info) now) }
         ensures answer { IfOk result (λ p. p
             ≡ answer_to (stood_or_opened self.old channel.now p.position.epoch) (string_bytes key)) }
-        ensures repeat { (p : Position) → repeat_at (stream_of self.old channel.now) (string_bytes key) ≡ Some p
+        ensures repeat { (p : Position)
+            → repeat_at (stream_of self.old channel.now) (string_bytes key) ≡ Some p
             → result ≡ Ok (record { position = p; repeated = true }) }
         ensures drawn { IfOk result (λ p.
             Draws E.draws (stream_of self.old channel.now) p.position.epoch epochs.old epochs.new) }
@@ -372,7 +373,8 @@ fn publish_in<E: Epochs>(
         (datum_of body info) now))) }
     ensures answer { IfOk result (λ p. p
         ≡ answer_to (stood_or (get_by_text map.old channel.now) p.position.epoch size) (string_bytes key)) }
-    ensures repeat { (p : Position) → repeat_at (get_by_text map.old channel.now) (string_bytes key) ≡ Some p
+    ensures repeat { (p : Position)
+        → repeat_at (get_by_text map.old channel.now) (string_bytes key) ≡ Some p
         → result ≡ Ok (record { position = p; repeated = true }) }
     ensures newest { IfOk result (λ p. p.repeated ≡ false → newest_of
         (given (stood_or (get_by_text map.old channel.now) p.position.epoch size) (string_bytes key)
