@@ -102,9 +102,9 @@ ends_so law explains cfg input a b InputOutput h = either_so law explains cfg in
 pub safe_done : {T : Type 0} → SafeLaw → (explains : Bool) (cfg : Config) (input : List ℕ) (a b : Bytes) (r : Result T SimulateFault)
     → OnOk r (Prints explains cfg input a b) → OnOk r (WritesTrace explains cfg input a b (IsSafe cfg))
 safe_done law explains cfg input a b (Ok x) h = prints_so law explains cfg input a b h
-safe_done law explains cfg input a b (Err f) h = h
+safe_done law explains cfg input a b (Err f) h = tt
 
 pub safe_front : {T : Type 0} → SafeLaw → (explains : Bool) (cfg : Config) (input : List ℕ) (a b : Bytes) (r : Result T SimulateFault)
     → IfErr r (Ends explains cfg input a b) → OnErr r (WritesFrontAtMost explains cfg input a b (IsSafe cfg))
-safe_front law explains cfg input a b (Ok x) h = h
+safe_front law explains cfg input a b (Ok x) h = tt
 safe_front law explains cfg input a b (Err f) h = ends_so law explains cfg input a b f h
