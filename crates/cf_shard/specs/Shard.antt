@@ -58,10 +58,6 @@ IsFull log entries = 2 ^ 62 < length log + length entries
 abbrev pub LacksRoom : {E : Type 0} → (entries : List Entry) → Refused → (old new : Lent E) → Type 0
 LacksRoom entries e old new = (e ≡ LastCount) × (new ≡ old) × IsFull old.log entries
 
--- streams and log are as they were
-abbrev pub StreamsStay : {E : Type 0} → (old new : Lent E) → Type 0
-StreamsStay old new = (new.streams ≡ old.streams) × (new.log ≡ old.log)
-
 -- ---- what a call makes of streams and epochs
 
 -- the streams after a publish under this key, and after a read or a history, at a moment: the channel's stream opens in this epoch
@@ -77,12 +73,16 @@ pub record IsResized (name : List ℕ) (size : ℕ) (old new : StreamMap) : Type
   pub sizes : new.namespaces ≡ with_size name size old.namespaces
   pub streams : (q : List ℕ) → stream_of new q ≡ resized_in name size q (stream_of old q)
 
+-- which draws of a source of epochs are possible: from its state, of nothing or of an epoch, to another state
+abbrev pub Draw : Type 0 → Type 1
+Draw E = E → Option (List ℕ) → E → Type 0
+
 -- the epoch of the channel's stream: drawn where none stood
-abbrev pub DrawsFor : {E : Type 0} → (E → Option (List ℕ) → E → Type 0) → (channel epoch : List ℕ) → (old new : Lent E) → Type 0
+abbrev pub DrawsFor : {E : Type 0} → Draw E → (channel epoch : List ℕ) → (old new : Lent E) → Type 0
 DrawsFor draws c e old new = Draws draws (stream_of old.streams c) e old.epochs new.epochs
 
 -- the channel has no stream, and no epoch was drawn for one
-abbrev pub FindsNoEpoch : {E : Type 0} → (E → Option (List ℕ) → E → Type 0) → (channel : List ℕ) → (old new : Lent E) → Type 0
+abbrev pub FindsNoEpoch : {E : Type 0} → Draw E → (channel : List ℕ) → (old new : Lent E) → Type 0
 FindsNoEpoch draws c old new = (stream_of old.streams c ≡ None) × DrawsNone draws old.epochs new.epochs
 
 -- a refusal of the streams

@@ -1,19 +1,16 @@
 //! What lies under a shard's lock.
-ghost use Rattle.std.specs.Prelude.{◌≡◌, ◌≢◌, ◌↔◌, ◌≤◌, ◌++◌, [], length, if◌then◌else◌, MatchBool, IfOk, IfErr, OnOk, OnErr, IsErrOf, IsTrue, IsSome, None, Some, Ok, true, false, List, ℕ};
+ghost use Rattle.std.specs.Prelude.{◌≡◌, ◌≤◌, [], length, if◌then◌else◌, MatchBool, IfOk, IfErr, OnOk, IsSome, Ok};
 ghost use Rattle.std.specs.FinMap as fin;
 ghost use Rattle.std.specs.String.{string_bytes};
-ghost use mathlib.Core.List.{IsPrefix};
 ghost use Rattle.cf_protocol.specs.Settings.{settings_of, entry_at};
 ghost use Rattle.cf_protocol.specs.Shown.{shown_users};
-ghost use Rattle.cf_presence.specs.Presence.{clients_of, entered, left, still, users_of, user_count};
-ghost use Rattle.cf_stream.specs.ChannelLists.{PublishesAt, ReadsAt, ListsAt, StandsAt};
-ghost use Rattle.cf_stream.specs.Stream.{trimmed, IsAtLast};
-ghost use Rattle.cf_stream.specs.Streams.{stream_of, put_at, repeat_at, after_tick, seconds_at, IsOfAnother};
-ghost use Rattle.std.specs.Option.{option_map};
+ghost use Rattle.cf_presence.specs.Presence.{clients_of, entered, left, users_of, user_count};
+ghost use Rattle.cf_stream.specs.ChannelLists.{ReadsAt, ListsAt, StandsAt};
+ghost use Rattle.cf_shard.specs.Calls.{AnswersPublishOn, HasForgotten, HasPublished, HasSized, HasTicked, HasTrimmed, HasUsed, Leaves, LeavesAll, RefusalsOfHistory, RefusalsOfPublish, RefusalsOfRead, Stays};
 ghost use Rattle.cf_shard.specs.Delivery.{OfferedToAll, carried};
 ghost use Rattle.cf_shard.specs.LogAnswer.{Follows, IsPosition, IsPublished, IsReadAnswer, IsHistoryAnswer, IsTrimmed, IsForgotten, IsSized, IsTicked};
-ghost use Rattle.cf_shard.specs.Shard.{no_streams, after_publish, after_use, datum_of, DrawsFor, FindsNoEpoch, IsFull, IsResized, IsStateOf, LacksRoom, StreamsStay};
-ghost use Rattle.cf_shard.specs.ShardLog.{entries_of_publish, entries_of_use, entries_of_trim, entries_of_forget, entries_of_size, entries_of_tick};
+ghost use Rattle.cf_shard.specs.Shard.{no_streams, datum_of, LacksRoom};
+ghost use Rattle.cf_shard.specs.ShardLog.{entries_of_trim, entries_of_forget, entries_of_size, entries_of_tick};
 
 use crate::delivery::{Links, copies_of, offer_all};
 use crate::entries::{
@@ -100,39 +97,21 @@ impl<N: Naming, E: Epochs, const I: usize> Shard<N, E, I> {
     ) -> Result<Published, Refused>
         requires word { (word.now ≡ N.words I) × (pass.old.word ≡ N.words I) }
         requires set_up { IsSome (settings_of N.namespaces channel.now) }
-        ensures streams { IfOk result (λ p. self.new.streams ≡ after_publish self.old.streams
-            channel.now p.position.epoch (string_bytes key) (datum_of body info) now) }
-        ensures log { IfOk result (λ p. self.new.log ≡ self.old.log ++ entries_of_publish p.repeated
-            self.old.streams channel.now p.position.epoch (string_bytes key) (datum_of body info)) }
-        ensures answer { IfOk result (λ p.
-            PublishesAt self.old.streams channel.now (string_bytes key) p.position p.repeated
-            × (p.repeated ≡ false → StandsAt self.new.streams channel.now (Some p.position))) }
+        ensures makes { IfOk result (HasPublished E.draws
+            channel.now (string_bytes key) (datum_of body info) now self.old self.new) }
+        ensures answer { IfOk result
+            (AnswersPublishOn channel.now (string_bytes key) self.old self.new) }
         ensures by_log { IfOk result (λ p. IsPublished N.namespaces pass.old.log pass.new.log
             channel.now (string_bytes key) (datum_of body info) p) }
         ensures own { IfOk result (λ p. Follows pass.old pass.new (if p.repeated then 0 else 1)) }
-        ensures drawn { IfOk result (λ p.
-            DrawsFor E.draws channel.now p.position.epoch self.old self.new) }
         ensures offered { IfOk result (λ p. MatchBool p.repeated (links.new ≡ links.old)
             (OfferedToAll L.offers (L.nodes links.old)
             (carried channel.now p.position (datum_of body info)) links.old links.new)) }
-        ensures presence { self.new.presence ≡ self.old.presence }
-        ensures repeat { (p : Position) →
-            repeat_at (stream_of self.old.streams channel.now) (string_bytes key) ≡ Some p →
-            result ≡ Ok (record { position = p; repeated = true }) }
-        ensures last { IsErrOf result Refused.AtLastOffset ↔
-            IsAtLast (stream_of self.old.streams channel.now) (string_bytes key) }
-        ensures no_epoch { IsErrOf result Refused.NoEpoch →
-            FindsNoEpoch E.draws channel.now self.old self.new }
-        ensures count { IsErrOf result Refused.AtLastCount →
-            IsFull self.old.log (entries_of_publish false
-            self.old.streams channel.now [] (string_bytes key) (datum_of body info)) }
-        ensures refusals { IfErr result (λ e. e ≢ Refused.WrongEpoch) }
-        ensures undrawn { IfErr result (λ e. e ≢ Refused.NoEpoch →
-            self.new.epochs ≡ self.old.epochs) }
-        ensures err { OnErr result (StreamsStay self.old self.new × (links.new ≡ links.old)) }
-        ensures seen { OnErr result (Follows pass.old pass.new 0) }
-        ensures whole { pass.new.log ≡ self.new.log }
-        ensures state { IsStateOf N.namespaces self.old }
+        ensures refusals { RefusalsOfPublish E.draws
+            channel.now (string_bytes key) (datum_of body info) self.old self.new result }
+        ensures err { IfErr result
+            (LeavesAll self.old self.new links.old links.new pass.old pass.new) }
+        ensures stays { Stays N.namespaces self.old self.new pass.new }
     {
         word.follow(&mut self.owner, pass);
         if self.streams.repeat_of(channel, key.as_str()).is_some() {
@@ -186,15 +165,12 @@ impl<N: Naming, E: Epochs, const I: usize> Shard<N, E, I> {
         requires word { (word.now ≡ N.words I) × (pass.old.word ≡ N.words I) }
         requires set_up { IsSome (entry_at N.namespaces name.now) }
         requires sized { (1 ≤ size) × (size ≤ LARGEST_SIZE) }
-        ensures streams { OnOk result (IsResized name.now size self.old.streams self.new.streams) }
-        ensures log { OnOk result (self.new.log ≡ self.old.log ++ entries_of_size name.now size) }
+        ensures makes { OnOk result (HasSized name.now size self.old self.new) }
         ensures by_log { OnOk result (IsSized pass.old.log pass.new.log name.now size) }
-        ensures aside { (self.new.presence ≡ self.old.presence)
-            × (self.new.epochs ≡ self.old.epochs) }
         ensures err { IfErr result (λ e.
             LacksRoom (entries_of_size name.now size) e self.old self.new) }
         ensures seen { Follows pass.old pass.new 0 }
-        ensures whole { pass.new.log ≡ self.new.log }
+        ensures stays { Stays N.namespaces self.old self.new pass.new }
     {
         word.follow(&mut self.owner, pass);
         if self.owner.count() >= MOST_ENTRIES {
@@ -217,30 +193,18 @@ impl<N: Naming, E: Epochs, const I: usize> Shard<N, E, I> {
     ) -> Result<ReadAnswer, Refused>
         requires word { (word.now ≡ N.words I) × (pass.old.word ≡ N.words I) }
         requires set_up { IsSome (settings_of N.namespaces channel.now) }
-        ensures streams { IfOk result (λ r. self.new.streams ≡
-            after_use self.old.streams channel.now r.recovery.position.epoch now) }
-        ensures log { IfOk result (λ r. self.new.log ≡ self.old.log ++
-            entries_of_use self.old.streams channel.now r.recovery.position.epoch) }
-        ensures mark { IfOk result (λ r. r.mark ≡ length self.new.log) }
+        ensures makes { IfOk result
+            (λ r. HasUsed E.draws channel.now now self.old self.new r.recovery.position) }
         ensures answer { IfOk result (λ r. ReadsAt self.old.streams channel.now since
             r.recovery.position r.recovery.recovered r.recovery.publications.items) }
         ensures by_log { IfOk result (λ r. IsReadAnswer N.namespaces
             pass.old.log pass.new.log channel.now since
             r.recovery.position r.recovery.recovered r.recovery.publications.items) }
-        ensures drawn { IfOk result (λ r.
-            DrawsFor E.draws channel.now r.recovery.position.epoch self.old self.new) }
-        ensures presence { self.new.presence ≡ self.old.presence }
-        ensures no_epoch { IsErrOf result Refused.NoEpoch →
-            FindsNoEpoch E.draws channel.now self.old self.new }
-        ensures count { IsErrOf result Refused.AtLastCount →
-            IsFull self.old.log (entries_of_use self.old.streams channel.now []) }
-        ensures refusals { IfErr result (λ e. e ≢ Refused.AtLastOffset × e ≢ Refused.WrongEpoch) }
-        ensures undrawn { IfErr result (λ e. e ≢ Refused.NoEpoch →
-            self.new.epochs ≡ self.old.epochs) }
-        ensures err { OnErr result (StreamsStay self.old self.new) }
+        ensures mark { IfOk result (λ r. r.mark ≡ length self.new.log) }
+        ensures refusals { RefusalsOfRead E.draws channel.now self.old self.new result }
+        ensures err { IfErr result (Leaves self.old self.new) }
         ensures seen { Follows pass.old pass.new 0 }
-        ensures whole { pass.new.log ≡ self.new.log }
-        ensures state { IsStateOf N.namespaces self.old }
+        ensures stays { Stays N.namespaces self.old self.new pass.new }
     {
         word.follow(&mut self.owner, pass);
         let stood = top_of(self.streams.position(channel));
@@ -274,30 +238,16 @@ impl<N: Naming, E: Epochs, const I: usize> Shard<N, E, I> {
     ) -> Result<History, Refused>
         requires word { (word.now ≡ N.words I) × (pass.old.word ≡ N.words I) }
         requires set_up { IsSome (settings_of N.namespaces channel.now) }
-        ensures streams { IfOk result (λ h. self.new.streams ≡
-            after_use self.old.streams channel.now h.position.epoch now) }
-        ensures log { IfOk result (λ h. self.new.log ≡ self.old.log ++
-            entries_of_use self.old.streams channel.now h.position.epoch) }
+        ensures makes { IfOk result
+            (λ h. HasUsed E.draws channel.now now self.old self.new h.position) }
         ensures answer { IfOk result (λ h.
             ListsAt self.old.streams channel.now since limit h.position h.publications.items) }
         ensures by_log { IfOk result (λ h. IsHistoryAnswer N.namespaces
             pass.old.log pass.new.log channel.now since limit h.position h.publications.items) }
-        ensures drawn { IfOk result (λ h.
-            DrawsFor E.draws channel.now h.position.epoch self.old self.new) }
-        ensures presence { self.new.presence ≡ self.old.presence }
-        ensures wrong_epoch { IsErrOf result Refused.WrongEpoch ↔
-            IsOfAnother (stream_of self.old.streams channel.now) since }
-        ensures no_epoch { IsErrOf result Refused.NoEpoch →
-            FindsNoEpoch E.draws channel.now self.old self.new }
-        ensures count { IsErrOf result Refused.AtLastCount →
-            IsFull self.old.log (entries_of_use self.old.streams channel.now []) }
-        ensures refusals { IfErr result (λ e. e ≢ Refused.AtLastOffset) }
-        ensures undrawn { IfErr result (λ e. e ≢ Refused.NoEpoch →
-            self.new.epochs ≡ self.old.epochs) }
-        ensures err { OnErr result (StreamsStay self.old self.new) }
+        ensures refusals { RefusalsOfHistory E.draws channel.now since self.old self.new result }
+        ensures err { IfErr result (Leaves self.old self.new) }
         ensures seen { Follows pass.old pass.new 0 }
-        ensures whole { pass.new.log ≡ self.new.log }
-        ensures state { IsStateOf N.namespaces self.old }
+        ensures stays { Stays N.namespaces self.old self.new pass.new }
     {
         word.follow(&mut self.owner, pass);
         let stood = top_of(self.streams.position(channel));
@@ -346,19 +296,13 @@ impl<N: Naming, E: Epochs, const I: usize> Shard<N, E, I> {
         count: usize,
     ) -> Result<(), Refused>
         requires word { (word.now ≡ N.words I) × (pass.old.word ≡ N.words I) }
-        ensures streams { OnOk result (self.new.streams ≡ put_at self.old.streams channel.now
-            (option_map (trimmed count) (stream_of self.old.streams channel.now))) }
-        ensures log { OnOk result (self.new.log ≡ self.old.log ++
-            entries_of_trim self.old.streams channel.now count) }
+        ensures makes { OnOk result (HasTrimmed channel.now count self.old self.new) }
         ensures by_log { OnOk result (IsTrimmed N.namespaces
             pass.old.log pass.new.log channel.now count) }
-        ensures presence { self.new.presence ≡ self.old.presence }
-        ensures epochs { self.new.epochs ≡ self.old.epochs }
         ensures err { IfErr result (λ e. LacksRoom
             (entries_of_trim self.old.streams channel.now count) e self.old self.new) }
         ensures seen { Follows pass.old pass.new 0 }
-        ensures whole { pass.new.log ≡ self.new.log }
-        ensures state { IsStateOf N.namespaces self.old }
+        ensures stays { Stays N.namespaces self.old self.new pass.new }
     {
         word.follow(&mut self.owner, pass);
         let stood = top_of(self.streams.position(channel));
@@ -379,19 +323,13 @@ impl<N: Naming, E: Epochs, const I: usize> Shard<N, E, I> {
         channel: &str,
     ) -> Result<(), Refused>
         requires word { (word.now ≡ N.words I) × (pass.old.word ≡ N.words I) }
-        ensures streams { OnOk result (self.new.streams ≡
-            put_at self.old.streams channel.now None) }
-        ensures log { OnOk result (self.new.log ≡ self.old.log ++
-            entries_of_forget self.old.streams channel.now) }
+        ensures makes { OnOk result (HasForgotten channel.now self.old self.new) }
         ensures by_log { OnOk result (IsForgotten N.namespaces
             pass.old.log pass.new.log channel.now) }
-        ensures presence { self.new.presence ≡ self.old.presence }
-        ensures epochs { self.new.epochs ≡ self.old.epochs }
         ensures err { IfErr result (λ e. LacksRoom
             (entries_of_forget self.old.streams channel.now) e self.old self.new) }
         ensures seen { Follows pass.old pass.new 0 }
-        ensures whole { pass.new.log ≡ self.new.log }
-        ensures state { IsStateOf N.namespaces self.old }
+        ensures stays { Stays N.namespaces self.old self.new pass.new }
     {
         word.follow(&mut self.owner, pass);
         let stood = top_of(self.streams.position(channel));
@@ -408,16 +346,8 @@ impl<N: Naming, E: Epochs, const I: usize> Shard<N, E, I> {
     /// go of the clients that entered 60 seconds ago or more. It takes no memory. `AtLastCount` where the log has no room.
     pub fn tick(&mut self, word: &ShardWord, pass: &mut Pass, now: u64) -> Result<(), Refused>
         requires word { (word.now ≡ N.words I) × (pass.old.word ≡ N.words I) }
-        ensures streams { OnOk result ((q : List ℕ) → stream_of self.new.streams q ≡
-            after_tick now (seconds_at N.namespaces q) (stream_of self.old.streams q)) }
-        ensures log { OnOk result (self.new.log ≡
-            self.old.log ++ entries_of_tick self.old.streams now) }
+        ensures makes { OnOk result (HasTicked N.namespaces now self.old self.new) }
         ensures by_log { OnOk result (IsTicked pass.old.log pass.new.log) }
-        ensures presence { OnOk result ((q : List ℕ) →
-            clients_of self.new.presence q ≡ still now (clients_of self.old.presence q)) }
-        ensures nowhere_none { OnOk result ((q : List ℕ) →
-            fin.get self.new.presence q ≢ Some fin.empty) }
-        ensures epochs { self.new.epochs ≡ self.old.epochs }
         ensures err { IfErr result (λ e.
             LacksRoom (entries_of_tick self.old.streams now) e self.old self.new) }
         ensures seen { Follows pass.old pass.new 0 }

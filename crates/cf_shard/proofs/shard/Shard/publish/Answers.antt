@@ -26,8 +26,8 @@ invariant_of-self-2 g c =
     c.position.ensures.position c.top_of-stood.ensures c.in_ok-published.ensures.answer (search rules) (search rules) in
     kept _ _ _ _ _ _ _ c.self.invariant c.in_ok-published.ensures.log made.1 made.2
 
-pub returns-clause-log : goal.returns-clause-log
-returns-clause-log g c =
+pub returns-clause-makes : goal.returns-clause-makes
+returns-clause-makes g c =
     let k = c.self.inside.streams in
     let p = c.in_ok-published.published in
     let channel = c.args.channel.now in
@@ -36,7 +36,7 @@ returns-clause-log g c =
     let made =
     publish_noted k _ _ _ channel _ key d _ _ p c.follow.ensures.owner (λ fresh. c.note_publish.ensures.owner _ (c.in_ok-published.ensures.newest fresh))
     c.position.ensures.position c.top_of-stood.ensures c.in_ok-published.ensures.answer (search rules) (search rules) in
-    rw (← c.self.view_is) made.2
+    record { streams = search rules; log = rw (← c.self.view_is) made.2; drawn = search rules }
 
 pub returns-clause-answer : goal.returns-clause-answer
 returns-clause-answer g c =
@@ -47,7 +47,7 @@ returns-clause-answer g c =
     let d = datum_of c.args.body c.args.info in
     let stands : p.repeated ≡ false → StandsAt c.publish-2.new.self channel (Some p.position) =
     λ fresh. subst (λ s. StandsAt s channel (Some p.position)) (sym c.in_ok-published.ensures.ok) (stands_after k channel key d c.args.now p c.in_ok-published.ensures.answer fresh) in
-    rw (← c.self.view_is) (c.in_ok-published.ensures.list_answer, stands)
+    rw (← c.self.view_is) (record { is = c.in_ok-published.ensures.list_answer; stands = stands })
 
 pub returns-clause-by_log : goal.returns-clause-by_log
 returns-clause-by_log g c =
