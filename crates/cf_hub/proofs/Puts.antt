@@ -11,8 +11,8 @@ use Rattle.cf_protocol.specs.Position.{Position}
 use Rattle.cf_queue.specs.OutQueue.{OutQueue, Item, Text, Close}
 use Rattle.cf_recovery.specs.Verdict.{Verdict, Drop, Pass, Insufficient, verdict}
 use Rattle.cf_recovery.specs.declared.verdict.Verdict.TheVariants as answer
-use Rattle.cf_hub.specs.declared.delivered.Fate.{Fate}
-use Rattle.cf_hub.specs.declared.delivered.Fate.TheVariants as fate
+use Rattle.cf_hub.specs.declared.fate.Fate.{Fate}
+use Rattle.cf_hub.specs.declared.fate.Fate.TheVariants as fate
 use Rattle.cf_hub.specs.declared.subscription.Meets.{Meets}
 use Rattle.cf_hub.specs.declared.subscription.Meets.TheVariants as meets
 use Rattle.cf_hub.specs.declared.subscription.Met.{Met}

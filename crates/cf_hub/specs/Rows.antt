@@ -5,8 +5,8 @@ use Rattle.cf_subscribers.specs.Follows.{Follow, follows, without_follow, withou
 use Rattle.cf_hub.specs.Session.{Attached}
 use Rattle.cf_hub.specs.SessionState.{Subscription, Off, is_off}
 use Rattle.cf_hub.specs.Wordings.{Held}
-use Rattle.cf_hub.specs.declared.delivered.Fate.{Fate}
-use Rattle.cf_hub.specs.declared.delivered.Fate.TheVariants as fate
+use Rattle.cf_hub.specs.declared.fate.Fate.{Fate}
+use Rattle.cf_hub.specs.declared.fate.Fate.TheVariants as fate
 
 abbrev pub sub_in : Option Attached → List ℕ → Subscription Held
 sub_in None c = Off

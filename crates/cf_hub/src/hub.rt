@@ -10,7 +10,8 @@ ghost use Rattle.cf_hub.specs.SessionState.{closes_now, is_off, leaves, takes_fr
 ghost use Rattle.cf_hub.specs.Turns.{gets_turn};
 ghost use Rattle.cf_hub.specs.Wordings.{IsWritten};
 
-use crate::delivered::{Delivered, Fate};
+use crate::delivered::Delivered;
+use crate::fate::Fate;
 use crate::listed::Listed;
 use crate::places::Sessions;
 use crate::sessions::{

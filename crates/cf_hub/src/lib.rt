@@ -4,6 +4,7 @@
 mod asking;
 mod checked;
 mod delivered;
+mod fate;
 mod hub;
 mod joining;
 pub mod laws;
@@ -16,13 +17,15 @@ mod serving;
 mod session;
 mod sessions;
 mod sight;
+mod step;
 mod subscription;
 mod upkeep;
 mod wording;
 
 pub use asking::Asked;
 pub use checked::Checked;
-pub use delivered::{Delivered, Fate};
+pub use delivered::Delivered;
+pub use fate::Fate;
 pub use hub::{Hub, MOST_CHANNELS, MOST_SESSIONS};
 pub use queued::Queued;
 pub use refusal::HubRefusal;

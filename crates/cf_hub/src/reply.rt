@@ -5,8 +5,9 @@ ghost use Rattle.cf_hub.specs.Reply.{Answers, AnswersIn, stands, was_read};
 ghost use Rattle.cf_hub.specs.SessionState.{is_asked, is_ready};
 ghost use Rattle.cf_hub.specs.Subscriptions.{SetsAt, names, progress_at, sub_of};
 
-use crate::delivered::Fate;
-use crate::session::{Session, Step, either};
+use crate::fate::Fate;
+use crate::session::{Session, either};
+use crate::step::Step;
 use crate::subscription::{Progress, add};
 use crate::wording::{end_text, reply_text};
 use cf_protocol::{Epoch, Position, Publication};

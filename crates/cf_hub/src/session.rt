@@ -1,7 +1,8 @@
 //! One session: its subscriptions, and what waits for its client.
-ghost use Rattle.std.specs.Prelude.{◌≡◌, ◌||◌, false};
+ghost use Rattle.std.specs.Prelude.{◌≡◌, ◌||◌};
 
-use crate::delivered::Fate;
+use crate::fate::Fate;
+use crate::step::Step;
 use crate::subscription::{Meets, Met, Progress, replace, take_at, take_out};
 use crate::wording::{end_text, push_text};
 use cf_protocol::{CloseCode, Epoch, Publication};
@@ -12,35 +13,6 @@ use std::alloc::Global;
 
 /// How many bytes of text may wait for one client.
 const QUEUE_LIMIT: usize = 1_048_576;
-
-/// What a call did with a session, and whether memory was refused for it.
-#[derive(Clone, Copy, PartialEq, Eq, Debug, Drop)]
-pub(crate) struct Step {
-    pub fate: Fate,
-    pub refused: bool,
-}
-
-impl Step {
-    /// Nothing was done.
-    pub(crate) fn none() -> Step
-        ensures { result ≡ record { fate = Fate.Dropped; refused = false } }
-    {
-        Step {
-            fate: Fate::Dropped,
-            refused: false,
-        }
-    }
-
-    /// What was to be done is done.
-    pub(crate) fn passed() -> Step
-        ensures { result ≡ record { fate = Fate.Passed; refused = false } }
-    {
-        Step {
-            fate: Fate::Passed,
-            refused: false,
-        }
-    }
-}
 
 /// One client's session.
 #[derive(Drop)]

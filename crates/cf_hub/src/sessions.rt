@@ -12,11 +12,12 @@ ghost use Rattle.cf_hub.specs.Sessions.{ActsIn, BecomesIn, EndsIn, FinishesIn, M
 ghost use Rattle.cf_hub.specs.Wordings.{IsWritten, at_offset, plain};
 
 use crate::checked::Checked;
-use crate::delivered::Fate;
+use crate::fate::Fate;
 use crate::listed::Listed;
 use crate::places::Sessions;
 use crate::queued::Queued;
-use crate::session::{Session, Step};
+use crate::session::Session;
+use crate::step::Step;
 use cf_protocol::{Epoch, Position, Publication};
 use cf_queue::Out;
 use cf_stream::Recovery;

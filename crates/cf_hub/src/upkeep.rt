@@ -4,8 +4,9 @@ ghost use Rattle.cf_hub.specs.Checked.{stand_of};
 ghost use Rattle.cf_hub.specs.Subscriptions.{sub_of};
 
 use crate::checked::{Checked, position_check};
-use crate::delivered::Fate;
-use crate::session::{Session, Step};
+use crate::fate::Fate;
+use crate::session::Session;
+use crate::step::Step;
 use crate::subscription::Progress;
 use crate::wording::{end_text, ping_text};
 use cf_protocol::{CloseCode, Position};
