@@ -233,13 +233,12 @@ impl<'a> Explainer<'a> {
             Event::PublishBy { channel, .. } => channel.as_str(),
             _ => return Ok(false),
         };
+        if self.before.position == now.position {
+            return self.tell_repeat(remarks, world, event, now);
+        }
         let Some(position) = now.position else {
             return Ok(false);
         };
-        let before = self.before;
-        if before.position == now.position {
-            return self.tell_repeat(remarks, world, event, now);
-        }
         let channel = String::from_str(self.alloc, channel)?;
         self.published.push(Accepted { channel, position })?;
         let number = self.published.len();
@@ -255,20 +254,15 @@ impl<'a> Explainer<'a> {
         event: &Event,
         now: Glance,
     ) -> Result<bool, AllocError> {
-        let Some(position) = self.before.repeated else {
-            return Ok(false);
-        };
         if !self.is_carried_out(world, event, now) {
             return Ok(false);
         }
-        let Some(number) = number_at(self.published.as_slice(), position) else {
+        let Some(position) = self.before.repeated else {
             return Ok(false);
         };
-        let epoch = position.epoch;
-        let offset = position.offset;
-        let words = format!(in self.alloc;
-            "   it repeats publication {number}, which is at {epoch} {offset}"
-        )?;
+        let Some(words) = repeat_words(self.alloc, self.published.as_slice(), position)? else {
+            return Ok(false);
+        };
         remarks.add(words.as_str())?;
         Ok(true)
     }
@@ -379,12 +373,21 @@ fn delivered_in<'a>(published: &'a [Accepted], event: &Event) -> Option<&'a str>
     Some(accepted.channel.as_str())
 }
 
-// The number of the publication that stands there.
-fn number_at(published: &[Accepted], position: Position) -> Option<usize> {
+// Which of these publications stands there, told of a publish that repeats it.
+fn repeat_words(
+    alloc: Global,
+    published: &[Accepted],
+    position: Position,
+) -> Result<Option<String>, AllocError> {
     for (before, accepted) in published.iter().enumerate() {
         if accepted.position == position {
-            return Some(before + 1);
+            let number = before + 1;
+            let Position { epoch, offset } = position;
+            let words = format!(in alloc;
+                "   it repeats publication {number}, which is at {epoch} {offset}"
+            )?;
+            return Ok(Some(words));
         }
     }
-    None
+    Ok(None)
 }
