@@ -1,11 +1,13 @@
 -- A session's script played on a node, and a whole conversation. (Centrifugo's client protocol: commands are carried out in order.)
 use Rattle.std.specs.Prelude.{◌≡◌, ◌⊎◌, List, ℕ, [], ◌∷◌, Option, Some, None, Bool, true, false}
-use Rattle.cf_session.specs.Calls.{Answer, kind_of}
+use Rattle.cf_session.specs.Calls.{Answer, Call, kind_of}
 use Rattle.cf_session.specs.Script.{Script, Served, Over, Close, Say, Pong, Ask}
 use Rattle.cf_session.specs.CommandScripts.{Tables}
 use Rattle.cf_protocol.specs.Settings.{NamespaceTable}
 use Rattle.cf_session.specs.Asking.{AllAsk, HasStream}
 use Rattle.cf_session.specs.SessionMachine.{Act, Calls, Says, PassesPong, Closes, Progress, Todo, Out, reply_text, HearsAt, HearsText}
+use Rattle.cf_session.specs.Shown.{shown_answer}
+use Rattle.cf_session.specs.declared.action.Answer.{Answer as CodeAnswer}
 use Rattle.cf_session.specs.declared.kind.Kind.{Kind}
 
 -- the kind of the call that an act is, if it is one
@@ -26,6 +28,10 @@ ActHasStream t (Closes code) = Unit {0}
 abbrev pub AskStreams : NamespaceTable → Progress → Type 0
 AskStreams t (Todo s) = AllAsk (HasStream t) s
 AskStreams t (Out kind after) = (a : Answer) → AllAsk (HasStream t) (after a)
+
+-- a node carries out a call, and gives this answer
+abbrev pub Gives : {N : Type 0} → (N → Act → Option Answer → N → Type 0) → N → Call → CodeAnswer → N → Type 0
+Gives does n call answer m = does n (Calls call) (Some (shown_answer answer)) m
 
 module _ {N : Type 0} (closed : N → Bool) (does : N → Act → Option Answer → N → Type 0) where
   -- the node has closed the session: the rest of a script isn't played

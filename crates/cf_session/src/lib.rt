@@ -21,7 +21,7 @@ pub use action::{Action, Answer};
 pub use budget::{Budget, cost_of};
 pub use cf_wire::{Desk, TurnEnd, Wire, WireFault};
 pub use kind::Kind;
-pub use node::Node;
+pub use node::{Node, act};
 pub use refusal::refusal_of;
 pub use refused::{hub_error, presence_error, stream_error};
 pub use serve::{serve_lines, serve_text};

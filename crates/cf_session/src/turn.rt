@@ -9,7 +9,7 @@ ghost use Rattle.cf_session.specs.Turn.{CanGoOn, StaysSetUp, DoesAct, Spends, un
 use crate::action::Action;
 use crate::budget::{Budget, cost_of};
 use crate::laws::frames_have_streams;
-use crate::node::Node;
+use crate::node::{Node, act};
 use crate::session::Session;
 
 /// Hears a text of the client: its script is under way then, and nothing of it is carried out.
@@ -100,7 +100,7 @@ fn carry_out<N: Node>(session: &mut Session<'_>, node: &mut N, action: Action)
     ensures namespaces { N.namespaces node.new ≡ N.namespaces node.old }
     ensures work { work_of session.new ≤ work_of session.old }
 {
-    if let Some(answer) = node.act(action) {
+    if let Some(answer) = act(node, action) {
         session.answered(answer);
     }
 }

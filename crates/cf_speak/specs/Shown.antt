@@ -25,22 +25,6 @@ scene_of s =
       is_short = s.is_short;
     }
 
--- a call's step, where no memory was refused
-abbrev pub DoesCall : LocalNode → Call → Answer → LocalNode → Type 0
-DoesCall old call answer new = fell_short (scene_of new) ≡ false → CallStep (scene_of old) call (shown_answer answer) (scene_of new)
-
--- another act's, likewise
-abbrev pub DoesAct : LocalNode → Act → LocalNode → Type 0
-DoesAct old act new = fell_short (scene_of new) ≡ false → Step (scene_of old) act None (scene_of new)
-
--- want of memory is remembered
-abbrev pub Remembers : LocalNode → LocalNode → Type 0
-Remembers old new = fell_short (scene_of old) ≡ true → fell_short (scene_of new) ≡ true
-
--- the same namespaces are set up
-abbrev pub IsSetUpAs : LocalNode → LocalNode → Type 0
-IsSetUpAs old new = (scene_of new).streams.namespaces ≡ (scene_of old).streams.namespaces
-
 abbrev pub is_memory : StreamRefusal → Bool
 is_memory stream.Memory = true
 is_memory other = false

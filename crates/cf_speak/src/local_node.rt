@@ -2,20 +2,18 @@
 ghost use Rattle.std.specs.Prelude.{◌≡◌, IfOk, OnOk, option_map, slice_get, string_bytes};
 ghost use Rattle.cf_hub.specs.Hub.{attached_at};
 ghost use Rattle.cf_queue.specs.Meaning.{meaning};
-ghost use Rattle.cf_session.specs.Calls as call;
-ghost use Rattle.cf_stream.specs.Streams.{IsSetUp, stream_of};
-ghost use Rattle.cf_session.specs.SessionMachine.{Says, PassesPong, Closes};
+ghost use Rattle.cf_stream.specs.Streams.{stream_of};
 ghost use Rattle.cf_speak.specs.Scene.{fell_short, member, notes_in, opening};
 ghost use Rattle.cf_speak.specs.Conversation.{Takes};
-ghost use Rattle.cf_speak.specs.Shown.{DoesAct, DoesCall, IsSetUpAs, Remembers, is_memory, scene_of};
+ghost use Rattle.cf_speak.specs.Shown.{is_memory, scene_of};
 ghost use Rattle.cf_speak.specs.Steps.{brings_due, brings_newest, client_in, enters_now};
 
 use crate::epochs::GivenEpochs;
 use cf_hub::Hub;
-use cf_presence::{Presence, PresenceRefusal};
+use cf_presence::{Presence, PresenceRefusal, Stats};
 use cf_protocol::{CloseCode, ErrorCode, Info, Namespaces, Position};
 use cf_queue::Out;
-use cf_session::{Action, Answer, Node, hub_error, presence_error, stream_error};
+use cf_session::{Node, hub_error, presence_error, stream_error};
 use cf_stream::{History, StreamRefusal, Streams};
 use std::alloc::{AllocError, Global};
 use std::collections::BTreeMap;
@@ -83,215 +81,6 @@ impl LocalNode {
         match self.number {
             Some(number) => self.hub.take(number),
             None => None,
-        }
-    }
-
-    fn attach(&mut self, user: String) -> Result<String, ErrorCode>
-        ensures step { DoesCall self.old (call.Attach (string_bytes user))
-            (Answer.Attach result) self.new }
-        ensures short { Remembers self.old self.new }
-        ensures namespaces { IsSetUpAs self.old self.new }
-    {
-        if self.number.is_some() {
-            return Err(ErrorCode::Internal);
-        }
-        match self.hub.attach(user, NOW) {
-            Ok(number) => {
-                self.number = Some(number);
-                match client_of(&self.hub, self.alloc, number) {
-                    Ok(client) => Ok(client),
-                    Err(_) => {
-                        self.is_short = true;
-                        Err(ErrorCode::Internal)
-                    }
-                }
-            }
-            Err(refusal) => Err(hub_error(&refusal)),
-        }
-    }
-
-    fn begin(&mut self, channel: &str, id: u32, since: Option<Position>) -> Result<(), ErrorCode>
-        ensures step { DoesCall self.old (call.Begin channel.now id since) (Answer.Begin result)
-            self.new }
-        ensures short { Remembers self.old self.new }
-        ensures namespaces { IsSetUpAs self.old self.new }
-    {
-        let Some(number) = self.number else {
-            return Err(ErrorCode::Internal);
-        };
-        match self.hub.begin(number, channel, id, since) {
-            Ok(()) => Ok(()),
-            Err(refusal) => Err(hub_error(&refusal)),
-        }
-    }
-
-    fn read(&mut self, channel: &str, since: Option<Position>) -> Result<(), ErrorCode>
-        requires { IsSetUp (scene_of self.old).streams channel.now }
-        ensures step { DoesCall self.old (call.Read channel.now since) (Answer.Read result)
-            self.new }
-        ensures short { Remembers self.old self.new }
-        ensures namespaces { IsSetUpAs self.old self.new }
-    {
-        let Some(number) = self.number else {
-            return Err(ErrorCode::Internal);
-        };
-        match self.streams.read(&mut self.epochs, channel, since, NOW) {
-            Ok(recovery) => {
-                self.hub.read_done(number, channel, recovery);
-                Ok(())
-            }
-            Err(refusal) => {
-                if is_memory(&refusal) {
-                    self.is_short = true;
-                }
-                Err(stream_error(&refusal))
-            }
-        }
-    }
-
-    // The subscription is finished, and where it stands then, its client is present.
-    fn finish(&mut self, channel: &str)
-        ensures step { DoesCall self.old (call.Finish channel.now) Answer.Finish self.new }
-        ensures short { Remembers self.old self.new }
-        ensures namespaces { IsSetUpAs self.old self.new }
-    {
-        let Some(number) = self.number else {
-            return;
-        };
-        self.hub.finish(number, channel);
-        if !self.hub.is_on(number, channel) {
-            return;
-        }
-        if enter(&self.hub, &mut self.presence, number, channel).is_err() {
-            self.is_short = true;
-        }
-    }
-
-    fn leave(&mut self, channel: &str)
-        ensures step { DoesCall self.old (call.Leave channel.now) Answer.Leave self.new }
-        ensures short { Remembers self.old self.new }
-        ensures namespaces { IsSetUpAs self.old self.new }
-    {
-        let Some(number) = self.number else {
-            return;
-        };
-        self.hub.leave(number, channel);
-        self.presence.leave(channel, client_in(&self.hub, number));
-    }
-
-    // What a publish brings is due after its reply. A repeat brings nothing.
-    fn publish(
-        &mut self,
-        channel: String,
-        key: String,
-        body: String,
-        info: Info,
-    ) -> Result<(), ErrorCode>
-        requires { IsSetUp (scene_of self.old).streams (string_bytes channel) }
-        ensures step { DoesCall self.old
-            (call.Publish (string_bytes channel) (string_bytes key) (string_bytes body) info)
-            (Answer.Publish result) self.new }
-        ensures short { Remembers self.old self.new }
-        ensures namespaces { IsSetUpAs self.old self.new }
-    {
-        match self.streams.publish(
-            &mut self.epochs,
-            channel.as_str(),
-            body,
-            key,
-            Some(info),
-            NOW,
-        ) {
-            Ok(published) => {
-                if published.repeated {
-                    return Ok(());
-                }
-                self.due = Some(channel);
-                Ok(())
-            }
-            Err(refusal) => {
-                if is_memory(&refusal) {
-                    self.is_short = true;
-                }
-                Err(stream_error(&refusal))
-            }
-        }
-    }
-
-    fn history(
-        &mut self,
-        channel: &str,
-        limit: i32,
-        since: Option<Position>,
-    ) -> Result<History, ErrorCode>
-        requires { IsSetUp (scene_of self.old).streams channel.now }
-        ensures step { DoesCall self.old (call.History channel.now limit since)
-            (Answer.History result) self.new }
-        ensures short { Remembers self.old self.new }
-        ensures namespaces { IsSetUpAs self.old self.new }
-    {
-        match self
-            .streams
-            .history(&mut self.epochs, channel, since, limit, NOW)
-        {
-            Ok(history) => Ok(history),
-            Err(refusal) => {
-                if is_memory(&refusal) {
-                    self.is_short = true;
-                }
-                Err(stream_error(&refusal))
-            }
-        }
-    }
-
-    fn list(&mut self, channel: &str) -> Result<BTreeMap<String, String>, ErrorCode>
-        ensures step { DoesCall self.old (call.Presence channel.now) (Answer.Presence result)
-            self.new }
-        ensures short { Remembers self.old self.new }
-        ensures namespaces { IsSetUpAs self.old self.new }
-    {
-        match self.presence.list(channel) {
-            Ok(clients) => Ok(clients),
-            Err(refusal) => {
-                self.is_short = true;
-                Err(presence_error(&refusal))
-            }
-        }
-    }
-
-    // The text goes to the client, and then what it published.
-    fn say(&mut self, text: String)
-        ensures step { DoesAct self.old (Says (string_bytes text)) self.new }
-        ensures short { Remembers self.old self.new }
-        ensures namespaces { IsSetUpAs self.old self.new }
-    {
-        let due = self.due.take();
-        let Some(number) = self.number else {
-            bring_due(&mut self.hub, &self.streams, due);
-            return;
-        };
-        self.hub.say(number, text);
-        bring_due(&mut self.hub, &self.streams, due);
-    }
-
-    fn pong(&mut self)
-        ensures step { DoesAct self.old PassesPong self.new }
-        ensures short { Remembers self.old self.new }
-        ensures namespaces { IsSetUpAs self.old self.new }
-    {
-        if let Some(number) = self.number {
-            self.hub.pong(number);
-        }
-    }
-
-    fn close(&mut self, code: CloseCode)
-        ensures step { DoesAct self.old (Closes code) self.new }
-        ensures short { Remembers self.old self.new }
-        ensures namespaces { IsSetUpAs self.old self.new }
-    {
-        match self.number {
-            Some(number) => self.hub.close(number, code.code()),
-            None => self.turned_away = Some(code),
         }
     }
 }
@@ -382,50 +171,162 @@ impl Node for LocalNode {
         }
     }
 
-    fn act(&mut self, action: Action) -> Option<Answer> {
-        match action {
-            Action::Attach { user } => Some(Answer::Attach(self.attach(user))),
-            Action::Begin { channel, id, since } => {
-                Some(Answer::Begin(self.begin(channel.as_str(), id, since)))
+    fn attach(&mut self, user: String) -> Result<String, ErrorCode> {
+        if self.number.is_some() {
+            return Err(ErrorCode::Internal);
+        }
+        match self.hub.attach(user, NOW) {
+            Ok(number) => {
+                self.number = Some(number);
+                match client_of(&self.hub, self.alloc, number) {
+                    Ok(client) => Ok(client),
+                    Err(_) => {
+                        self.is_short = true;
+                        Err(ErrorCode::Internal)
+                    }
+                }
             }
-            Action::Read { channel, since } => {
-                Some(Answer::Read(self.read(channel.as_str(), since)))
+            Err(refusal) => Err(hub_error(&refusal)),
+        }
+    }
+
+    fn begin(&mut self, channel: &str, id: u32, since: Option<Position>) -> Result<(), ErrorCode> {
+        let Some(number) = self.number else {
+            return Err(ErrorCode::Internal);
+        };
+        match self.hub.begin(number, channel, id, since) {
+            Ok(()) => Ok(()),
+            Err(refusal) => Err(hub_error(&refusal)),
+        }
+    }
+
+    fn read(&mut self, channel: &str, since: Option<Position>) -> Result<(), ErrorCode> {
+        let Some(number) = self.number else {
+            return Err(ErrorCode::Internal);
+        };
+        match self.streams.read(&mut self.epochs, channel, since, NOW) {
+            Ok(recovery) => {
+                self.hub.read_done(number, channel, recovery);
+                Ok(())
             }
-            Action::Finish { channel } => {
-                self.finish(channel.as_str());
-                Some(Answer::Finish)
+            Err(refusal) => {
+                if is_memory(&refusal) {
+                    self.is_short = true;
+                }
+                Err(stream_error(&refusal))
             }
-            Action::Leave { channel } => {
-                self.leave(channel.as_str());
-                Some(Answer::Leave)
+        }
+    }
+
+    // The subscription is finished, and where it stands then, its client is present.
+    fn finish(&mut self, channel: String) {
+        let Some(number) = self.number else {
+            return;
+        };
+        self.hub.finish(number, channel.as_str());
+        if !self.hub.is_on(number, channel.as_str()) {
+            return;
+        }
+        if enter(&self.hub, &mut self.presence, number, channel.as_str()).is_err() {
+            self.is_short = true;
+        }
+    }
+
+    fn leave(&mut self, channel: &str) {
+        let Some(number) = self.number else {
+            return;
+        };
+        self.hub.leave(number, channel);
+        self.presence.leave(channel, client_in(&self.hub, number));
+    }
+
+    // What a publish brings is due after its reply. A repeat brings nothing.
+    fn publish(
+        &mut self,
+        channel: String,
+        key: String,
+        body: String,
+        info: Info,
+    ) -> Result<(), ErrorCode> {
+        match self.streams.publish(
+            &mut self.epochs,
+            channel.as_str(),
+            body,
+            key,
+            Some(info),
+            NOW,
+        ) {
+            Ok(published) => {
+                if published.repeated {
+                    return Ok(());
+                }
+                self.due = Some(channel);
+                Ok(())
             }
-            Action::Publish {
-                channel,
-                key,
-                body,
-                info,
-            } => Some(Answer::Publish(self.publish(channel, key, body, info))),
-            Action::History {
-                channel,
-                limit,
-                since,
-            } => Some(Answer::History(self.history(channel.as_str(), limit, since))),
-            Action::Presence { channel } => Some(Answer::Presence(self.list(channel.as_str()))),
-            Action::Stats { channel } => {
-                Some(Answer::Stats(self.presence.stats(channel.as_str())))
+            Err(refusal) => {
+                if is_memory(&refusal) {
+                    self.is_short = true;
+                }
+                Err(stream_error(&refusal))
             }
-            Action::Say(text) => {
-                self.say(text);
-                None
+        }
+    }
+
+    fn history(
+        &mut self,
+        channel: &str,
+        limit: i32,
+        since: Option<Position>,
+    ) -> Result<History, ErrorCode> {
+        match self
+            .streams
+            .history(&mut self.epochs, channel, since, limit, NOW)
+        {
+            Ok(history) => Ok(history),
+            Err(refusal) => {
+                if is_memory(&refusal) {
+                    self.is_short = true;
+                }
+                Err(stream_error(&refusal))
             }
-            Action::Pong => {
-                self.pong();
-                None
+        }
+    }
+
+    fn presence(&mut self, channel: &str) -> Result<BTreeMap<String, String>, ErrorCode> {
+        match self.presence.list(channel) {
+            Ok(clients) => Ok(clients),
+            Err(refusal) => {
+                self.is_short = true;
+                Err(presence_error(&refusal))
             }
-            Action::Close(code) => {
-                self.close(code);
-                None
-            }
+        }
+    }
+
+    fn stats(&mut self, channel: &str) -> Stats {
+        self.presence.stats(channel)
+    }
+
+    // The text goes to the client, and then what it published.
+    fn say(&mut self, text: String) {
+        let due = self.due.take();
+        let Some(number) = self.number else {
+            bring_due(&mut self.hub, &self.streams, due);
+            return;
+        };
+        self.hub.say(number, text);
+        bring_due(&mut self.hub, &self.streams, due);
+    }
+
+    fn pong(&mut self) {
+        if let Some(number) = self.number {
+            self.hub.pong(number);
+        }
+    }
+
+    fn close(&mut self, code: CloseCode) {
+        match self.number {
+            Some(number) => self.hub.close(number, code.code()),
+            None => self.turned_away = Some(code),
         }
     }
 }

@@ -15,7 +15,7 @@ returns-in-Some-clause-next g c = λ p d long.
     let old = c.args.session.now in
     let last = c.answered.new.self in
     next_call_done g.N.Node.closed g.N.Node.does p (progress_of old) (progress_of last) (shown_action c.args.action) (answer_kind c.in-Some.answer)
-    (shown_answer c.in-Some.answer) c.args.node.now c.act.new.self d c.in-Some.ensures.does (sym c.in-Some.ensures.kind)
+    (shown_answer c.in-Some.answer) c.args.node.now c.act.new.node d c.in-Some.ensures.does (sym c.in-Some.ensures.kind)
     (answered_long (shown_answer c.in-Some.answer) (progress_of old) (progress_of last) (refusals last) c.answered.ensures.goes
     (long_now (is_short old) (is_short last) (refusals last) c.answered.ensures.keeps.short long))
 
