@@ -30,6 +30,9 @@ use std::marker::{Model, PhantomData};
 /// A shard of channels: their streams, who is there, where the epochs of new streams come from, and the owner of the log that
 /// made the streams. Each method is what a call of the broker does while it holds the shard's lock. A refused call leaves
 /// streams, presence, links and log as they were; the caller's pass has then seen the log too.
+///
+/// The calls' clauses have the same names: what a call `makes` of the shard, its `answer` off the streams and `by_log`, its
+/// `refusals`, what a refused one leaves (`err`), and what `stays` whatever is answered.
 #[derive(Drop)]
 pub struct Shard<N: Naming, E: Epochs, const I: usize> {
     streams: Streams,
