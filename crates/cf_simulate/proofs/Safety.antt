@@ -1,7 +1,7 @@
 -- What was written, read as the lines of a trace that is safe.
-use Rattle.std.proofs.Common.{◌≡◌, ℕ, suc, Bool, true, false, Option, Result, Ok, Err, List, [], ◌∷◌, ◌++◌, take, flat_map, refl, ap, ◌⊎◌, inl, inr}
-use Rattle.std.specs.Prelude.{OnErr, OnOk, IfErr}
-use Rattle.std.specs.Io.KnownBytes.{Keeps, Appends}
+use Rattle.std.proofs.Common.{◌≡◌, ℕ, suc, Bool, true, false, Option, Some, None, Result, Ok, Err, List, [], ◌∷◌, ◌++◌, take, flat_map, refl, ap, subst, ◌∙◌, ◌⊎◌, inl, inr}
+use Rattle.std.specs.Prelude.{OnErr, OnOk, IfErr, IfSome}
+use Rattle.std.specs.Io.KnownBytes.{Keeps}
 use Rattle.cf_machine.specs.Config.{Config}
 use Rattle.cf_machine.specs.Event.{Event}
 use Rattle.cf_machine.specs.IntervalMachine.{happens}
@@ -11,7 +11,7 @@ use Rattle.cf_machine.specs.Told.{trace, writes}
 use Rattle.cf_machine.specs.Trace.{Entry}
 use Rattle.cf_machine.specs.World.{World, start}
 use Rattle.cf_simulate.specs.ScheduleText.{IsSchedule}
-use Rattle.cf_simulate.specs.Simulation.{AddsPart, AreExplained, AreShown, Ends, EndsRun, Prints, Stops}
+use Rattle.cf_simulate.specs.Simulation.{AreExplained, AreShown, Ends, EndsRun, Prints, Stops}
 use Rattle.cf_simulate.specs.WrittenTrace.{AreLinesOf, AreRemarked, ShowsTrace, WritesFront, WritesFrontAtMost, WritesTrace}
 use Rattle.cf_simulate.specs.declared.fault.SimulateFault.{SimulateFault}
 use Rattle.cf_simulate.specs.declared.fault.SimulateFault.TheVariants.{Unreadable, UsedTwice, NotUtf8, Memory, InputOutput}
@@ -25,7 +25,7 @@ IsSafe cfg events entries = Safe cfg (lines events) entries
 
 -- ---- a trace, event by event
 
-parts_of : Config → ℕ → World → List Event → List (List Entry)
+abbrev parts_of : Config → ℕ → World → List Event → List (List Entry)
 parts_of cfg n m [] = []
 parts_of cfg n m (e ∷ es) = writes cfg n m e ∷ parts_of cfg (suc n) (happens cfg m e) es
 
@@ -108,3 +108,10 @@ pub safe_front : {T : Type 0} → SafeLaw → (explains : Bool) (cfg : Config) (
     → IfErr r (Ends explains cfg input a b) → OnErr r (WritesFrontAtMost explains cfg input a b (IsSafe cfg))
 safe_front law explains cfg input a b (Ok x) h = tt
 safe_front law explains cfg input a b (Err f) h = ends_so law explains cfg input a b f h
+
+-- what is so of the bytes that were read is so of the reader's
+pub on_input : {T : Type 0} (r : Result T SimulateFault) (P : List ℕ → Type 0) (left : Option (List ℕ)) (before now held : List ℕ)
+    → before ≡ [] → held ≡ now → IfSome left (λ bytes. now ≡ before ++ bytes) → OnOk r (P held) → OnOk r (IfSome left P)
+on_input (Err f) P left before now held none is read h = tt
+on_input (Ok x) P None before now held none is read h = tt
+on_input (Ok x) P (Some bytes) before now held none is read h = subst P (is ∙ read ∙ ap (λ t. t ++ bytes) none) h
