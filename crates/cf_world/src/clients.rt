@@ -217,7 +217,7 @@ impl Peer {
         ensures apart { AreApart (state_of self.old.client).client }
         ensures since { AsksFrom (request_by command.now (state_of self.old.client).client) }
     {
-        self.client.is_sound();
+        self.client.invariant();
         match command {
             ClientCommand::Ask { channel } => self.client.ask(channel),
             ClientCommand::AskFrom { channel } => self.client.ask_from(channel),
