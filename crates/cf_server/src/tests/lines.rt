@@ -1,5 +1,4 @@
 //! The lines of standard input while nodes serve.
-use crate::running::reads_to_end;
 use crate::sizes::{Line, Listener};
 use std::alloc::Global;
 
@@ -23,8 +22,7 @@ fn lines_of(alloc: Global, parts: &[&[u8]]) -> Option<String> {
         text: String::new(alloc),
     };
     for part in parts {
-        let mut reader = *part;
-        reads_to_end(&mut reader, &mut line, &mut heard).ok()?;
+        line.add_all(*part, &mut heard);
     }
     Some(heard.text)
 }
