@@ -1,6 +1,6 @@
 -- Names by number.
 use Rattle.std.proofs.Common.{◌≡◌, ℕ, zero, suc, ◌+◌, ◌<◌, ◌≤◌, List, [], ◌∷◌, ◌++◌, length, get_or, take, map, refl, ap, sym, ◌∙◌, arith, add-one, length-append, ◌⊎◌, ⊎_elim, inl, inr}
-use Rattle.std.proofs.lemmas.List.{take_more, get_or_append_left, get_or-map, length-map, map-append}
+use Rattle.std.proofs.lemmas.List.{take_more, get_or_append_left, get_or-map, get_or-set_same, length-map, map-append}
 use Rattle.std.proofs.Math.Seq.{get_or-append_seam, take-length, map-set_same}
 use Rattle.std.specs.Prelude.{slice_set}
 use mathlib.Core.Logic.{dite}
@@ -76,6 +76,10 @@ named_at t ps i e lt = named_get t ps i (pass_at ps i) (first_pass no_word) e lt
 
 pub named_set : (t : ℕ → TableId) (ps : List PassState) (i : ℕ) (p : PassState) → AreOfShards t ps → i < 16 → p.word ≡ t i → AreOfShards t (slice_set ps i p)
 named_set t ps i p e lt is = map-set_same word_of ps i p (first_pass no_word) (is ∙ sym (named_at t ps i e lt)) ∙ e
+
+-- the pass that was put at a number
+pub pass_put : (t : ℕ → TableId) (ps : List PassState) (i : ℕ) (p : PassState) → AreOfShards t ps → i < 16 → pass_at (slice_set ps i p) i ≡ p
+pass_put t ps i p e lt = let lt' : i < length ps = omega (arith, named_length t ps e) in get_or-set_same ps i p (first_pass no_word) lt'
 
 -- one pass more was lent
 lent_more : (ps : List PassState) (n : ℕ) → n < length ps → map lent (take (n + 1) ps) ≡ map lent (take n ps) ++ lent (pass_at ps n) ∷ []

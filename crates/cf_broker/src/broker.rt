@@ -1,9 +1,10 @@
 //! The sixteen shards, each under a lock of its own, beside its word.
-ghost use Rattle.std.specs.Prelude.{◌≡◌, ◌≢◌, ◌+◌, ◌<◌, ◌≤◌, ◌↔◌, length, IfOk, IfErr, OnOk, OnErr, IsSome, IsTrue, vec_len};
+ghost use Rattle.std.specs.Prelude.{◌≡◌, ◌≢◌, ◌+◌, ◌<◌, ◌≤◌, ◌↔◌, length, if◌then◌else◌, IfOk, IfErr, OnOk, OnErr, IsSome, IsTrue, vec_len};
 ghost use mathlib.Core.List.{IsPrefix};
-ghost use Rattle.cf_protocol.specs.Settings.{settings_of};
+ghost use Rattle.cf_protocol.specs.Settings.{settings_of, entry_at};
 ghost use Rattle.cf_protocol.specs.LogEntry.Entry.{Trim, Forget};
-ghost use Rattle.cf_shard.specs.LogAnswer.{Follows, IsPosition, IsPublished, IsReadAnswer, IsHistoryAnswer, IsTrimmed, IsForgotten, IsTicked, RefusesPublish, RefusesRead, RefusesHistory, RefusesEntry};
+ghost use Rattle.cf_shard.specs.LogAnswer.{Follows, IsPosition, IsPublished, IsReadAnswer, IsHistoryAnswer, IsTrimmed, IsForgotten, IsSized, IsTicked, RefusesPublish, RefusesRead, RefusesHistory, RefusesEntry, RefusesSize};
+ghost use Rattle.std.specs.String.{string_bytes};
 ghost use Rattle.cf_shard.specs.Shard.{datum_of};
 ghost use Rattle.cf_broker.specs.Nodes.{node_count};
 ghost use Rattle.cf_broker.specs.Shards.{number_of, names, first_passes};
@@ -18,7 +19,7 @@ use cf_order::{Pass, ShardWord};
 use cf_presence::Stats;
 use cf_protocol::{Info, Namespaces, Position};
 use cf_shard::{Delivery, Naming, ReadAnswer, Refused};
-use cf_stream::{Epochs, History};
+use cf_stream::{Epochs, History, LARGEST_SIZE, Published};
 use std::alloc::{AllocError, Global};
 use std::collections::BTreeMap;
 use std::marker::PhantomData;
@@ -115,7 +116,9 @@ impl<N: Naming, E: Epochs + Drop> Broker<N, E> {
     }
 
     /// Publishes to a channel at a moment in seconds, offers the publication to each node, and answers its position. The
-    /// channel's stream opens where there is none. A node whose link is full loses it. `AtLastOffset` at the stream's last
+    /// channel's stream opens where there is none. A node whose link is full loses it. A publish whose key is among the last
+    /// hundred of the stream is a repeat: it adds and offers nothing, is answered with the position of the publication that it
+    /// repeats, and is never refused. The empty key is none. Of a publish that is no repeat: `AtLastOffset` at the stream's last
     /// offset, `NoEpoch` where a stream would open and none was drawn, `Memory` where a growth was refused, `AtLastCount` where
     /// the shard's log has no room.
     pub fn publish<R: Wait>(
@@ -124,21 +127,22 @@ impl<N: Naming, E: Epochs + Drop> Broker<N, E> {
         pass: &mut Pass,
         channel: &str,
         body: String,
+        key: String,
         info: Option<Info>,
         now: u64,
-    ) -> Result<Position, Refused>
+    ) -> Result<Published, Refused>
         requires pass { pass.old.word ≡ N.words (number_of channel.now) }
         requires set_up { IsSome (settings_of N.namespaces channel.now) }
         ensures answer { IfOk result (λ p. IsPublished N.namespaces
-            pass.old.log pass.new.log channel.now (datum_of body info) p) }
-        ensures own { IfOk result (λ _. Follows pass.old pass.new 1) }
-        ensures refusals { IfErr result
-            (RefusesPublish N.namespaces pass.new.log channel.now (datum_of body info)) }
+            pass.old.log pass.new.log channel.now (string_bytes key) (datum_of body info) p) }
+        ensures own { IfOk result (λ p. Follows pass.old pass.new (if p.repeated then 0 else 1)) }
+        ensures refusals { IfErr result (RefusesPublish N.namespaces
+            pass.new.log channel.now (string_bytes key) (datum_of body info)) }
         ensures seen { OnErr result (Follows pass.old pass.new 0) }
     {
         let links = self.links.as_slice();
         let number = shard_of(channel);
-        at_one!(self, number, 4, 8, 12, quarter => quarter.publish(rt, number, pass, links, channel, body, info, now))
+        at_one!(self, number, 4, 8, 12, quarter => quarter.publish(rt, number, pass, links, channel, body, key, info, now))
     }
 
     /// The publications of a channel after a position, where all are held, at a moment in seconds, and the length of the
@@ -234,6 +238,27 @@ impl<N: Naming, E: Epochs + Drop> Broker<N, E> {
     {
         let number = shard_of(channel);
         at_one!(self, number, 4, 8, 12, quarter => quarter.forget(rt, number, pass, channel))
+    }
+
+    /// Sets how many publications the streams of a namespace may hold, in one shard. Of those that hold more the newest stay. It
+    /// takes no memory. `AtLastCount` where the log has no room.
+    pub fn set_size<R: Wait>(
+        &self,
+        rt: &R,
+        pass: &mut Pass,
+        shard: usize,
+        name: &str,
+        size: usize,
+    ) -> Result<(), Refused>
+        requires shard { shard < SHARDS }
+        requires pass { pass.old.word ≡ N.words shard }
+        requires set_up { IsSome (entry_at N.namespaces name.now) }
+        requires sized { (1 ≤ size) × (size ≤ LARGEST_SIZE) }
+        ensures done { OnOk result (IsSized pass.old.log pass.new.log name.now size) }
+        ensures refusals { IfErr result (RefusesSize pass.new.log name.now size) }
+        ensures seen { Follows pass.old pass.new 0 }
+    {
+        at_one!(self, shard, 4, 8, 12, quarter => quarter.set_size(rt, shard, pass, name, size))
     }
 
     /// Empties the histories of one shard whose time is over at a moment in seconds, ends the streams that were not used for

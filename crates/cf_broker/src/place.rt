@@ -8,7 +8,7 @@ use cf_order::{Owner, Pass, ShardWord};
 use cf_presence::Stats;
 use cf_protocol::{Info, Position};
 use cf_shard::{Naming, ReadAnswer, Refused, Shard};
-use cf_stream::{Epochs, History, Streams};
+use cf_stream::{Epochs, History, Published, Streams};
 use std::alloc::Global;
 use std::collections::BTreeMap;
 use std::sync::{Mutex, Wait};
@@ -55,12 +55,13 @@ impl<N: Naming, E: Epochs, const I: usize> Places<N> for Place<N, E, I> {
         links: &[NodeLink],
         channel: &str,
         body: String,
+        key: String,
         info: Option<Info>,
         now: u64,
-    ) -> Result<Position, Refused> {
+    ) -> Result<Published, Refused> {
         let mut shard = self.lock.lock(rt);
         let mut lent = NodeLinks { rt, links };
-        shard.publish(&self.word, pass, &mut lent, channel, body, info, now)
+        shard.publish(&self.word, pass, &mut lent, channel, body, key, info, now)
     }
 
     fn read<R: Wait>(
@@ -121,6 +122,17 @@ impl<N: Naming, E: Epochs, const I: usize> Places<N> for Place<N, E, I> {
         channel: &str,
     ) -> Result<(), Refused> {
         self.lock.lock(rt).forget(&self.word, pass, channel)
+    }
+
+    fn set_size<R: Wait>(
+        &self,
+        rt: &R,
+        _number: usize,
+        pass: &mut Pass,
+        name: &str,
+        size: usize,
+    ) -> Result<(), Refused> {
+        self.lock.lock(rt).set_size(&self.word, pass, name, size)
     }
 
     fn tick<R: Wait>(

@@ -1,8 +1,9 @@
 //! Shards under their locks, by number.
-ghost use Rattle.std.specs.Prelude.{◌≡◌, length, IfOk, IfErr, OnOk, OnErr, IsSome};
-ghost use Rattle.cf_protocol.specs.Settings.{settings_of};
+ghost use Rattle.std.specs.Prelude.{◌≡◌, ◌≤◌, length, if◌then◌else◌, IfOk, IfErr, OnOk, OnErr, IsSome};
+ghost use Rattle.cf_protocol.specs.Settings.{settings_of, entry_at};
 ghost use Rattle.cf_protocol.specs.LogEntry.Entry.{Trim, Forget};
-ghost use Rattle.cf_shard.specs.LogAnswer.{Follows, IsPosition, IsPublished, IsReadAnswer, IsHistoryAnswer, IsTrimmed, IsForgotten, IsTicked, RefusesPublish, RefusesRead, RefusesHistory, RefusesEntry};
+ghost use Rattle.cf_shard.specs.LogAnswer.{Follows, IsPosition, IsPublished, IsReadAnswer, IsHistoryAnswer, IsTrimmed, IsForgotten, IsSized, IsTicked, RefusesPublish, RefusesRead, RefusesHistory, RefusesEntry, RefusesSize};
+ghost use Rattle.std.specs.String.{string_bytes};
 ghost use Rattle.cf_shard.specs.Shard.{datum_of};
 
 use crate::links::NodeLink;
@@ -10,7 +11,7 @@ use cf_order::{Pass, ShardWord};
 use cf_presence::Stats;
 use cf_protocol::{Info, Position};
 use cf_shard::{Naming, ReadAnswer, Refused};
-use cf_stream::History;
+use cf_stream::{History, LARGEST_SIZE, Published};
 use std::collections::BTreeMap;
 use std::sync::Wait;
 
@@ -35,17 +36,18 @@ pub(crate) trait Places<N: Naming> {
         links: &[NodeLink],
         channel: &str,
         body: String,
+        key: String,
         info: Option<Info>,
         now: u64,
-    ) -> Result<Position, Refused>
+    ) -> Result<Published, Refused>
         requires number { has number }
         requires pass { pass.old.word ≡ N.words number }
         requires set_up { IsSome (settings_of N.namespaces channel.now) }
         ensures answer { IfOk result (λ p. IsPublished N.namespaces
-            pass.old.log pass.new.log channel.now (datum_of body info) p) }
-        ensures own { IfOk result (λ _. Follows pass.old pass.new 1) }
-        ensures refusals { IfErr result
-            (RefusesPublish N.namespaces pass.new.log channel.now (datum_of body info)) }
+            pass.old.log pass.new.log channel.now (string_bytes key) (datum_of body info) p) }
+        ensures own { IfOk result (λ p. Follows pass.old pass.new (if p.repeated then 0 else 1)) }
+        ensures refusals { IfErr result (RefusesPublish N.namespaces
+            pass.new.log channel.now (string_bytes key) (datum_of body info)) }
         ensures seen { OnErr result (Follows pass.old pass.new 0) };
 
     fn read<R: Wait>(
@@ -128,6 +130,22 @@ pub(crate) trait Places<N: Naming> {
             (IsForgotten N.namespaces pass.old.log pass.new.log channel.now) }
         ensures refusals { IfErr result
             (RefusesEntry N.namespaces pass.new.log channel.now (Forget channel.now)) }
+        ensures seen { Follows pass.old pass.new 0 };
+
+    fn set_size<R: Wait>(
+        &self,
+        rt: &R,
+        number: usize,
+        pass: &mut Pass,
+        name: &str,
+        size: usize,
+    ) -> Result<(), Refused>
+        requires number { has number }
+        requires pass { pass.old.word ≡ N.words number }
+        requires set_up { IsSome (entry_at N.namespaces name.now) }
+        requires sized { (1 ≤ size) × (size ≤ LARGEST_SIZE) }
+        ensures done { OnOk result (IsSized pass.old.log pass.new.log name.now size) }
+        ensures refusals { IfErr result (RefusesSize pass.new.log name.now size) }
         ensures seen { Follows pass.old pass.new 0 };
 
     fn tick<R: Wait>(&self, rt: &R, number: usize, pass: &mut Pass, now: u64) -> Result<(), Refused>

@@ -11,7 +11,7 @@ use cf_order::{Pass, ShardWord};
 use cf_presence::Stats;
 use cf_protocol::{Info, Position};
 use cf_shard::{Naming, ReadAnswer, Refused};
-use cf_stream::{Epochs, History};
+use cf_stream::{Epochs, History, Published};
 use std::alloc::Global;
 use std::collections::BTreeMap;
 use std::sync::Wait;
@@ -98,10 +98,11 @@ impl<N: Naming, E: Epochs, const A: usize, const B: usize, const C: usize, const
         links: &[NodeLink],
         channel: &str,
         body: String,
+        key: String,
         info: Option<Info>,
         now: u64,
-    ) -> Result<Position, Refused> {
-        at_one!(self, number, B, C, D, place => place.publish(rt, number, pass, links, channel, body, info, now))
+    ) -> Result<Published, Refused> {
+        at_one!(self, number, B, C, D, place => place.publish(rt, number, pass, links, channel, body, key, info, now))
     }
 
     fn read<R: Wait>(
@@ -158,6 +159,17 @@ impl<N: Naming, E: Epochs, const A: usize, const B: usize, const C: usize, const
         channel: &str,
     ) -> Result<(), Refused> {
         at_one!(self, number, B, C, D, place => place.forget(rt, number, pass, channel))
+    }
+
+    fn set_size<R: Wait>(
+        &self,
+        rt: &R,
+        number: usize,
+        pass: &mut Pass,
+        name: &str,
+        size: usize,
+    ) -> Result<(), Refused> {
+        at_one!(self, number, B, C, D, place => place.set_size(rt, number, pass, name, size))
     }
 
     fn tick<R: Wait>(

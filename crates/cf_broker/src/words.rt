@@ -145,11 +145,12 @@ impl<N: Naming> Passes<N> {
     }
 
     /// Puts a pass into the place of its shard.
-    #[tactic(auto, using(crate::proofs::Numbers::named_set, crate::proofs::Numbers::named_length))]
+    #[tactic(auto, using(crate::proofs::Numbers::named_set, crate::proofs::Numbers::named_length, crate::proofs::Numbers::pass_put))]
     pub fn put(&mut self, shard: usize, pass: Pass)
         requires shard { shard < SHARDS }
         requires pass { pass.word ≡ N.words shard }
-        ensures { self.new ≡ slice_set self.old shard pass }
+        ensures put { self.new ≡ slice_set self.old shard pass }
+        ensures at { pass_at self.new shard ≡ pass }
     {
         self.list[shard] = pass;
     }

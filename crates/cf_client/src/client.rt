@@ -1,5 +1,5 @@
 //! A client of one node, as an application uses it.
-ghost use Rattle.std.specs.Prelude.{◌≡◌, ◌++◌, List, ℕ, None, false, true, map, option_map, IfOk, IfErr, OnOk, OnErr, length};
+ghost use Rattle.std.specs.Prelude.{◌≡◌, ◌++◌, List, ℕ, [], None, false, true, map, option_map, IfOk, IfErr, OnOk, OnErr, length};
 ghost use Rattle.cf_protocol.specs.Frame.{IsReplies};
 ghost use Rattle.cf_protocol.specs.Outgoing as sent;
 ghost use Rattle.cf_protocol.specs.Regular.{IsFrom};
@@ -82,7 +82,7 @@ impl Client {
 
     /// What always holds of a client: the ids that are out are older than the next one, no two channels ask under one, and no
     /// ask has that of a call.
-    pub fn is_sound(&self)
+    pub fn invariant(&self)
         ensures { AreApart (state_of self.now).client }
     {
         let _known = &self.known;
@@ -200,21 +200,37 @@ impl Client {
         Ok(text)
     }
 
-    /// The text of a publish command, whose data is `body`. The body is to be the compact text of a JSON value: the client
-    /// doesn't look at it.
+    /// The text of a publish command without a key, whose data is `body`. The body is to be the compact text of a JSON value:
+    /// the client doesn't look at it.
     ///
     /// # Errors
     ///
     /// `NotNow` while not connected; `AtLastId` where no id is left; `Memory`.
     pub fn put(&mut self, channel: &str, body: &str) -> Result<String, ClientFault>
         ensures text { IfOk result
-            (IsNextCommand self.old (request.Publish channel.now (request.Body body.now))) }
+            (IsNextCommand self.old (request.Publish channel.now [] (request.Body body.now))) }
+        ensures ok { OnOk result (state_of self.new ≡ called channel.now (state_of self.old)) }
+        ensures refused { RefusedBy (call_fault (state_of self.old)) result }
+        ensures err { OnErr result (state_of self.new ≡ state_of self.old) }
+    {
+        self.put_key(channel, "", body)
+    }
+
+    /// The text of a publish command under a key, by which the node knows a repeat; the empty key is none. The client looks at
+    /// the key as little as at the body.
+    ///
+    /// # Errors
+    ///
+    /// `NotNow` while not connected; `AtLastId` where no id is left; `Memory`.
+    pub fn put_key(&mut self, channel: &str, key: &str, body: &str) -> Result<String, ClientFault>
+        ensures text { IfOk result
+            (IsNextCommand self.old (request.Publish channel.now key.now (request.Body body.now))) }
         ensures ok { OnOk result (state_of self.new ≡ called channel.now (state_of self.old)) }
         ensures refused { RefusedBy (call_fault (state_of self.old)) result }
         ensures err { OnErr result (state_of self.new ≡ state_of self.old) }
     {
         let id = self.next_id()?;
-        let text = publish_text(self.alloc, id, channel, body)?;
+        let text = publish_text(self.alloc, id, channel, key, body)?;
         self.call(id, channel)?;
         Ok(text)
     }

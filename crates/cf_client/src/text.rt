@@ -39,13 +39,16 @@ pub(crate) fn publish_text(
     alloc: Global,
     id: u32,
     channel: &str,
+    key: &str,
     body: &str,
 ) -> Result<String, AllocError>
-    ensures { IfOk result (IsCommand id (request.Publish channel.now (request.Body body.now))) }
+    ensures { IfOk result
+        (IsCommand id (request.Publish channel.now key.now (request.Body body.now))) }
 {
     let channel = String::from_str(alloc, channel)?;
+    let key = String::from_str(alloc, key)?;
     let body = Data::Body(String::from_str(alloc, body)?);
-    let request = Request::Publish { channel, body };
+    let request = Request::Publish { channel, key, body };
     write_command(alloc, &Command { id, request })
 }
 

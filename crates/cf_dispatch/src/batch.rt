@@ -10,7 +10,7 @@ use std::collections::VecDeque;
 pub const SESSIONS_AT_ONCE: usize = 64;
 
 /// Where the clients of a hub's sessions sit. What each call does it states itself.
-pub trait Seats {
+pub trait Outlets {
     ghost use Rattle.std.specs.Prelude.{ℕ, Bool, List};
     ghost use Rattle.cf_queue.specs.declared.queue.Out.{Out};
 
@@ -38,23 +38,24 @@ pub trait Seats {
 
 /// Takes what waits for up to 64 sessions, in the order in which the hub names them: the first first, behind what was taken
 /// before, and nothing for a client whose wire isn't free.
-pub fn take_batch<S: Seats>(hub: &mut Hub, seats: &mut S)
-    ensures { TakesBatch S.frees S.lends S.gets most_at_once hub.old hub.new seats.old seats.new }
+pub fn take_batch<O: Outlets>(hub: &mut Hub, outlets: &mut O)
+    ensures { TakesBatch O.frees O.lends O.gets most_at_once hub.old hub.new outlets.old
+        outlets.new }
 {
     for _named in 0..SESSIONS_AT_ONCE {
         let Some(session) = hub.next_with_output() else {
             return;
         };
-        take_at(hub, seats, session);
+        take_at(hub, outlets, session);
     }
 }
 
 // Takes what waits for one session, where its client's wire is free.
-fn take_at<S: Seats>(hub: &mut Hub, seats: &mut S, session: u32)
-    ensures { TakesAt S.frees S.lends S.gets session hub.old hub.new seats.old seats.new }
+fn take_at<O: Outlets>(hub: &mut Hub, outlets: &mut O, session: u32)
+    ensures { TakesAt O.frees O.lends O.gets session hub.old hub.new outlets.old outlets.new }
 {
-    let is_free = seats.is_free(session);
-    let mut taken = seats.lend(session);
+    let is_free = outlets.is_free(session);
+    let mut taken = outlets.lend(session);
     let why = take_for(hub, session, is_free, &mut taken);
-    seats.give(session, taken, why.leaves_more());
+    outlets.give(session, taken, why.leaves_more());
 }

@@ -1,6 +1,6 @@
 //! Whom and what an event names.
 
-use cf_schedule::Event;
+use cf_schedule::{Event, key_text};
 
 /// The client of an event.
 pub(crate) fn client_of(event: &Event) -> Option<&str> {
@@ -35,5 +35,14 @@ pub(crate) fn channel_of(event: &Event) -> Option<&str> {
         Event::Check { channel, .. } => Some(channel.as_str()),
         Event::ListHistory { channel, .. } => Some(channel.as_str()),
         _ => None,
+    }
+}
+
+/// The key of an event: the empty one, which is none, where it has no key.
+pub(crate) fn key_of(event: &Event) -> &str {
+    match event {
+        Event::Publish { key, .. } => key_text(key),
+        Event::PublishBy { key, .. } => key_text(key),
+        _ => "",
     }
 }

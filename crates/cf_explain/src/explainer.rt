@@ -1,27 +1,37 @@
 //! What an event did.
 
-use crate::errand::command_text;
+use crate::client_command::command_text;
 use crate::event::{channel_of, client_of};
 use crate::glance::{Glance, front_of};
-use crate::reason::reason;
+use crate::reason::{namespace_words, reason};
 use crate::remarks::Remarks;
-use crate::subject::Subject;
+use crate::subject::{Subject, session_of};
+use cf_protocol::{Namespaces, Position};
 use cf_schedule::{Event, World};
 use std::alloc::{AllocError, Global};
 
-/// A part of the world, and how it was last told to stand.
+/// A part of the world, how it was last told to stand, and how many publications it held before the event.
 #[derive(Drop)]
 pub(crate) struct Watched {
     pub subject: Subject,
     pub told: String,
+    pub held: usize,
+}
+
+/// A publication that was accepted: its channel, and where it stands there.
+#[derive(Drop)]
+pub(crate) struct Accepted {
+    pub channel: String,
+    pub position: Position,
 }
 
 /// Tells what each event of a schedule did. It is to see the world before and after each.
 #[derive(Drop)]
-pub struct Explainer {
+pub struct Explainer<'a> {
+    namespaces: &'a Namespaces,
     watched: Vec<Watched>,
-    /// The channel of each publication, in the order of their numbers.
-    published: Vec<String>,
+    /// The publications, in the order of their numbers.
+    published: Vec<Accepted>,
     /// What stood before the event, what its client would send, and the text that waited first for it.
     before: Glance,
     command: Option<String>,
@@ -29,13 +39,14 @@ pub struct Explainer {
     alloc: Global,
 }
 
-impl Explainer {
+impl<'a> Explainer<'a> {
     ghost use Rattle.std.specs.Prelude.{IfOk};
     ghost use Rattle.cf_explain.specs.Remarks.{BeginsWith, IsOneLine, heading};
 
-    /// Of a schedule of which nothing has happened.
-    pub fn new(alloc: Global) -> Explainer {
+    /// Of a schedule of which nothing has happened, in a world in which these namespaces are set up.
+    pub fn new(alloc: Global, namespaces: &'a Namespaces) -> Explainer<'a> {
         Explainer {
+            namespaces,
             watched: Vec::new(alloc),
             published: Vec::new(alloc),
             before: Glance::none(),
@@ -53,6 +64,9 @@ impl Explainer {
             None => None,
             Some(text) => Some(String::from_str(self.alloc, text)?),
         };
+        for watched in self.watched.iter_mut() {
+            watched.held = watched.subject.held(world);
+        }
         self.watch_event(event)
     }
 
@@ -81,7 +95,11 @@ impl Explainer {
             }
         }
         let told = subject.first_words(self.alloc)?;
-        self.watched.push(Watched { subject, told })?;
+        self.watched.push(Watched {
+            subject,
+            told,
+            held: 0,
+        })?;
         Ok(())
     }
 
@@ -109,9 +127,10 @@ impl Explainer {
         let is_epoch = self.tell_epoch(&mut remarks, event)?;
         let is_sent = self.tell_sent(&mut remarks, event, now)?;
         let is_taken = self.tell_taken(&mut remarks, event, now)?;
-        let is_published = self.tell_published(&mut remarks, event, now)?;
+        let is_published = self.tell_published(&mut remarks, world, event, now)?;
+        let is_sized = self.tell_size(&mut remarks, world, event)?;
         let is_changed = self.tell_changes(&mut remarks, world, event)?;
-        if !(is_epoch || is_sent || is_taken || is_published || is_changed) {
+        if !(is_epoch || is_sent || is_taken || is_published || is_sized || is_changed) {
             self.tell_unchanged(&mut remarks, world, event)?;
         }
         Ok(remarks)
@@ -201,10 +220,11 @@ impl Explainer {
         Ok(true)
     }
 
-    // Tells the number of a publication, and says whether one was accepted.
+    // Tells the number of a publication, or that of the one that it repeats, and says whether there is any.
     fn tell_published(
         &mut self,
         remarks: &mut Remarks,
+        world: &World,
         event: &Event,
         now: Glance,
     ) -> Result<bool, AllocError> {
@@ -214,11 +234,79 @@ impl Explainer {
             _ => return Ok(false),
         };
         if self.before.position == now.position {
-            return Ok(false);
+            return self.tell_repeat(remarks, world, event, now);
         }
-        self.published.push(String::from_str(self.alloc, channel)?)?;
+        let Some(position) = now.position else {
+            return Ok(false);
+        };
+        let channel = String::from_str(self.alloc, channel)?;
+        self.published.push(Accepted { channel, position })?;
         let number = self.published.len();
         remarks.add(format!(in self.alloc; "   it is publication {number}")?.as_str())?;
+        Ok(true)
+    }
+
+    // Tells which publication a publish repeats, and says whether it repeats one.
+    fn tell_repeat(
+        &self,
+        remarks: &mut Remarks,
+        world: &World,
+        event: &Event,
+        now: Glance,
+    ) -> Result<bool, AllocError> {
+        if !self.is_carried_out(world, event, now) {
+            return Ok(false);
+        }
+        let Some(position) = self.before.repeated else {
+            return Ok(false);
+        };
+        let Some(words) = repeat_words(self.alloc, self.published.as_slice(), position)? else {
+            return Ok(false);
+        };
+        remarks.add(words.as_str())?;
+        Ok(true)
+    }
+
+    // Whether a publish got as far as the stream: one of a client is to be sent, and allowed.
+    fn is_carried_out(&self, world: &World, event: &Event, now: Glance) -> bool {
+        let Event::PublishBy {
+            client,
+            channel,
+            ..
+        } = event
+        else {
+            return true;
+        };
+        let (Some(settings), Some((hub, session))) = (
+            self.namespaces.find(channel.as_str()),
+            session_of(world, client.as_str()),
+        ) else {
+            return false;
+        };
+        self.before.id != now.id && settings.publish && !hub.is_closed(session)
+    }
+
+    // Tells how much the streams of a namespace may hold from now on, and what they lose by it. Says whether the namespace is
+    // set up.
+    fn tell_size(
+        &self,
+        remarks: &mut Remarks,
+        world: &World,
+        event: &Event,
+    ) -> Result<bool, AllocError> {
+        let Event::SetSize { namespace, size } = event else {
+            return Ok(false);
+        };
+        if !world.streams().has_namespace(namespace.as_str()) {
+            return Ok(false);
+        }
+        let namespace = namespace_words(self.alloc, namespace.as_str())?;
+        let count = size.count();
+        let words = format!(in self.alloc; "   a stream of {namespace} holds {count} at most")?;
+        remarks.add(words.as_str())?;
+        for watched in self.watched.iter() {
+            watched.tell_loss(self.alloc, remarks, world)?;
+        }
         Ok(true)
     }
 
@@ -242,6 +330,21 @@ impl Explainer {
 }
 
 impl Watched {
+    // Tells how many publications it lost.
+    fn tell_loss(
+        &self,
+        alloc: Global,
+        remarks: &mut Remarks,
+        world: &World,
+    ) -> Result<(), AllocError> {
+        let lost = self.held.saturating_sub(self.subject.held(world));
+        if lost == 0 {
+            return Ok(());
+        }
+        let subject = &self.subject;
+        remarks.add(format!(in alloc; "   {subject}: {lost} lost")?.as_str())
+    }
+
     // Tells how it stands, where that is not as it was told before. Says whether it was.
     fn tell(
         &mut self,
@@ -261,11 +364,30 @@ impl Watched {
 }
 
 // The channel of the publication that an event delivers.
-fn delivered_in<'a>(published: &'a [String], event: &Event) -> Option<&'a str> {
+fn delivered_in<'a>(published: &'a [Accepted], event: &Event) -> Option<&'a str> {
     let Event::Deliver { publication, .. } = event else {
         return None;
     };
     let index = publication.checked_sub(1)?;
-    let channel = published.get(index as usize)?;
-    Some(channel.as_str())
+    let accepted = published.get(index as usize)?;
+    Some(accepted.channel.as_str())
+}
+
+// Which of these publications stands there, told of a publish that repeats it.
+fn repeat_words(
+    alloc: Global,
+    published: &[Accepted],
+    position: Position,
+) -> Result<Option<String>, AllocError> {
+    for (before, accepted) in published.iter().enumerate() {
+        if accepted.position == position {
+            let number = before + 1;
+            let Position { epoch, offset } = position;
+            let words = format!(in alloc;
+                "   it repeats publication {number}, which is at {epoch} {offset}"
+            )?;
+            return Ok(Some(words));
+        }
+    }
+    Ok(None)
 }

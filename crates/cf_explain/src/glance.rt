@@ -1,6 +1,6 @@
 //! What an event may change at its client and its channel, at a glance.
 
-use crate::event::{channel_of, client_of};
+use crate::event::{channel_of, client_of, key_of};
 use crate::subject::session_of;
 use cf_protocol::Position;
 use cf_schedule::{Event, World};
@@ -14,6 +14,8 @@ pub(crate) struct Glance {
     pub waiting: usize,
     /// Where the channel's stream stands.
     pub position: Option<Position>,
+    /// Where the publication stands that a publish with the event's key repeats.
+    pub repeated: Option<Position>,
 }
 
 impl Glance {
@@ -23,6 +25,7 @@ impl Glance {
             id: None,
             waiting: 0,
             position: None,
+            repeated: None,
         }
     }
 
@@ -32,6 +35,7 @@ impl Glance {
             id: next_id(world, event),
             waiting: waiting(world, event),
             position: position(world, event),
+            repeated: repeated(world, event),
         }
     }
 }
@@ -53,6 +57,10 @@ fn waiting(world: &World, event: &Event) -> usize {
 
 fn position(world: &World, event: &Event) -> Option<Position> {
     world.streams().position(channel_of(event)?)
+}
+
+fn repeated(world: &World, event: &Event) -> Option<Position> {
+    world.streams().repeat_of(channel_of(event)?, key_of(event))
 }
 
 /// The text that waits first for the client of an event.

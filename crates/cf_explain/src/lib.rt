@@ -1,7 +1,7 @@
 //! What each event of a schedule did, told in remarks beside the trace.
 #![tactic(auto)]
 
-mod errand;
+mod client_command;
 mod event;
 mod explainer;
 mod glance;

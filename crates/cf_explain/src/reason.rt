@@ -18,6 +18,7 @@ pub(crate) fn reason(
         Event::Publish { channel, .. } => no_stream(alloc, world, channel.as_str()),
         Event::Trim { channel, .. } => no_cut(alloc, world, channel.as_str()),
         Event::Forget { channel } => no_cut(alloc, world, channel.as_str()),
+        Event::SetSize { namespace, .. } => no_namespace(alloc, namespace.as_str()),
         Event::BrokerRestart => String::from_str(alloc, "no channel has a stream"),
         Event::Restart { node } => format!(in alloc; "node {node} has no session"),
         Event::Deliver { node, publication } => match delivered {
@@ -49,6 +50,20 @@ fn no_cut(alloc: Global, world: &World, channel: &str) -> Result<String, AllocEr
         None => format!(in alloc; "{channel} has no stream"),
         Some(_) => format!(in alloc; "{channel} holds no more than that"),
     }
+}
+
+// Of a history size.
+fn no_namespace(alloc: Global, name: &str) -> Result<String, AllocError> {
+    let namespace = namespace_words(alloc, name)?;
+    format!(in alloc; "{namespace} isn't set up")
+}
+
+/// A namespace by its name.
+pub(crate) fn namespace_words(alloc: Global, name: &str) -> Result<String, AllocError> {
+    if name.is_empty() {
+        return String::from_str(alloc, "the empty namespace");
+    }
+    format!(in alloc; "the namespace {name}")
 }
 
 // Of an event of a client.

@@ -2,7 +2,7 @@
 
 use crate::event::{channel_of, client_of};
 use cf_hub::Hub;
-use cf_protocol::Position;
+use cf_protocol::{Position, namespace_of};
 use cf_schedule::{Event, World};
 use cf_world::Seat;
 use std::alloc::{AllocError, Global};
@@ -34,7 +34,9 @@ impl Subject {
     pub(crate) fn is_concerned(&self, event: &Event, delivered: Option<&str>) -> bool {
         match self {
             Subject::Stream(channel) => {
-                matches!(event, Event::BrokerRestart) || channel_of(event) == Some(channel.as_str())
+                matches!(event, Event::BrokerRestart)
+                    || is_sized(channel.as_str(), event)
+                    || channel_of(event) == Some(channel.as_str())
             }
             Subject::Client(client) => {
                 matches!(event, Event::Restart { .. })
@@ -74,6 +76,14 @@ impl Subject {
         None
     }
 
+    /// How many publications it holds: none unless it is a stream.
+    pub(crate) fn held(&self, world: &World) -> usize {
+        match self {
+            Subject::Stream(channel) => world.streams().held(channel.as_str()),
+            _ => 0,
+        }
+    }
+
     /// How it stands where nothing has happened.
     pub(crate) fn first_words(&self, alloc: Global) -> Result<String, AllocError> {
         let words = match self {
@@ -103,6 +113,14 @@ const NO_STREAM: &str = "no stream";
 const NOT_CONNECTED: &str = "not connected";
 
 const NO_SUBSCRIPTION: &str = "node: nothing; client: idle";
+
+// Whether an event sets the size of a channel's namespace.
+fn is_sized(channel: &str, event: &Event) -> bool {
+    match event {
+        Event::SetSize { namespace, .. } => namespace.as_str() == namespace_of(channel),
+        _ => false,
+    }
+}
 
 fn stream_words(alloc: Global, world: &World, channel: &str) -> Result<String, AllocError> {
     let streams = world.streams();

@@ -6,7 +6,7 @@ use Rattle.cf_protocol.specs.Note as note
 use Rattle.cf_protocol.specs.Position.{Position}
 use Rattle.cf_queue.specs.OutQueue.{Close}
 use Rattle.cf_recovery.specs.Arrivals.{arrives}
-use Rattle.cf_recovery.specs.Kept.{Arrival, IsWithin, Kept, StandsFor, places, with_arrival}
+use Rattle.cf_recovery.specs.ArrivalBuffer.{Arrival, IsWithin, ArrivalBuffer, StandsFor, places, with_arrival}
 use Rattle.cf_recovery.specs.Release.{falls_short, run_length}
 use Rattle.cf_hub.specs.AlikeMoves.{AreAlike, CallsAreAlike, GoesOn, MovesAreAlike, Notes, Texts}
 use Rattle.cf_hub.specs.Finish.{FinishesAt}
@@ -22,10 +22,10 @@ use Rattle.cf_hub.proofs.Alikes.{begins_alike, checks_alike, closes_now_alike, c
 use Rattle.cf_hub.proofs.InNotes.{finish_alike, keeps_nothing, keeps_one, keeps_read, says_end, says_place, weighs}
 
 module _
-    (within : (a : Arrival) (k : Kept) → IsWithin k → IsWithin (with_arrival a k))
-    (stands : (a : Arrival) (k : Kept) (arrived : List Position) → StandsFor k arrived → StandsFor (with_arrival a k) (arrives a.at arrived))
-    (run : (k : Kept) (arrived : List Position) (r : Reading) → IsWithin k → StandsFor k arrived → k.short ≡ false → run_length (places k.arrived) r ≡ run_length arrived r)
-    (short : (k : Kept) (arrived : List Position) (r : Reading) → IsWithin k → StandsFor k arrived → k.short ≡ false → (k.overflow || falls_short (places k.arrived) r) ≡ falls_short arrived r)
+    (within : (a : Arrival) (k : ArrivalBuffer) → IsWithin k → IsWithin (with_arrival a k))
+    (stands : (a : Arrival) (k : ArrivalBuffer) (arrived : List Position) → StandsFor k arrived → StandsFor (with_arrival a k) (arrives a.at arrived))
+    (run : (k : ArrivalBuffer) (arrived : List Position) (r : Reading) → IsWithin k → StandsFor k arrived → k.short ≡ false → run_length (places k.arrived) r ≡ run_length arrived r)
+    (short : (k : ArrivalBuffer) (arrived : List Position) (r : Reading) → IsWithin k → StandsFor k arrived → k.short ≡ false → (k.overflow || falls_short (places k.arrived) r) ≡ falls_short arrived r)
     (lists : Lists) where
   pub moves_alike : MovesAreAlike lists
   moves_alike = record {

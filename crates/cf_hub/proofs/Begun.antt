@@ -5,8 +5,8 @@ use Rattle.std.specs.Cmp.Lexicographic.{bytes_decides}
 use Rattle.std.proofs.lemmas.Bool.Decides.{nat_tests, Decides-eqb}
 use Rattle.std.proofs.lemmas.List.Folds.{list_any-append}
 use Rattle.cf_protocol.specs.Position.{Position}
-use Rattle.cf_followers.specs.Follows.{Follow, follow, follows, is_of, with_follow, without_follow}
-use Rattle.cf_recovery.specs.Kept.{nothing_kept}
+use Rattle.cf_subscribers.specs.Follows.{Follow, follow, follows, is_of, with_follow, without_follow}
+use Rattle.cf_recovery.specs.ArrivalBuffer.{nothing_kept}
 use Rattle.cf_hub.specs.Hub.{attached_in, is_open, moves}
 use Rattle.cf_hub.specs.Places.{Places}
 use Rattle.cf_hub.specs.Rows.{Agrees, sub_in}

@@ -8,7 +8,7 @@ use Rattle.std.proofs.lemmas.Bool.{cases_lt}
 use Rattle.std.proofs.lemmas.List.Sums.{sum_by-cons}
 use Rattle.cf_protocol.specs.Names.{is_among}
 use Rattle.cf_protocol.specs.Position.{Position}
-use Rattle.cf_followers.specs.Follows.{AreOnce, Follow, channels_of, follows, is_of, without_follow, without_session}
+use Rattle.cf_subscribers.specs.Follows.{AreOnce, Follow, channels_of, follows, is_of, without_follow, without_session}
 use Rattle.cf_hub.specs.Counts.{AreNamesOnce, AreNumbersOnce, CountsAll, CountsSession, CountsSessions, count_on}
 use Rattle.cf_hub.specs.Hub.{attached_at, is_in, most_sessions}
 use Rattle.cf_hub.specs.SessionState.{Subscription, is_off}

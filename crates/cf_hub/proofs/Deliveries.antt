@@ -4,10 +4,10 @@ use Rattle.std.proofs.lemmas.Bool.Decides.{Decides-eqb, nat_tests}
 use Rattle.std.proofs.lemmas.List.{length-append}
 use Rattle.cf_protocol.specs.Datum.{Placed}
 use Rattle.cf_protocol.specs.Position.{Position}
-use Rattle.cf_followers.specs.Follows.{AreFollows, follows, sessions_of}
+use Rattle.cf_subscribers.specs.Follows.{AreFollows, follows, sessions_of}
 use Rattle.cf_queue.specs.OutQueue.{Item}
-use Rattle.cf_hub.specs.declared.delivered.Fate.{Fate}
-use Rattle.cf_hub.specs.declared.delivered.Fate.TheVariants as fate
+use Rattle.cf_hub.specs.declared.fate.Fate.{Fate}
+use Rattle.cf_hub.specs.declared.fate.Fate.TheVariants as fate
 use Rattle.cf_hub.specs.declared.delivered.Delivered.{Delivered}
 use Rattle.cf_hub.specs.Delivery.{fate_at, none, one_more, tally, total}
 use Rattle.cf_hub.specs.Hub.{AreNumbered, Node, Brings, Delivers, attached_at, counted, is_in, largest, one_if}

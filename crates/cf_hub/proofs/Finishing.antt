@@ -2,7 +2,7 @@
 use Rattle.std.proofs.Common.{◌≡◌, inl, inr, ◌&&◌, ◌+◌, length, ℕ, not, Bool, true, false, if◌then◌else◌, None, List, [], ◌∷◌, ◌++◌, refl, sym, ap, ◌∙◌, subst}
 use Rattle.cf_protocol.specs.Datum.{Placed}
 use Rattle.cf_queue.specs.OutQueue.{Item, Text}
-use Rattle.cf_hub.specs.declared.delivered.Fate.TheVariants as fate
+use Rattle.cf_hub.specs.declared.fate.Fate.TheVariants as fate
 use Rattle.cf_hub.specs.declared.reply.Answered.{Answered}
 use Rattle.cf_hub.specs.Delivery.{fate_or}
 use Rattle.cf_hub.specs.Finish.{FinishesAt}

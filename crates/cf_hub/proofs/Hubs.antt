@@ -4,7 +4,7 @@ use Rattle.std.proofs.lemmas.Bool.Decides.{nat_tests}
 use Rattle.std.specs.BTreeMap.{is_at}
 use Rattle.std.specs.Map.{lookup}
 use Rattle.std.specs.Ordering.{nat_cmp}
-use Rattle.cf_followers.specs.Follows.{Follow}
+use Rattle.cf_subscribers.specs.Follows.{Follow}
 use Rattle.cf_hub.specs.Hub.{IsBounded, Node, attached_at, attached_in, counted}
 use Rattle.cf_hub.specs.Places.{Places, numbered}
 use Rattle.cf_hub.specs.Rows.{Agrees}

@@ -12,7 +12,7 @@ use Rattle.cf_protocol.specs.Regular.{IsCode}
 use Rattle.cf_protocol.specs.Written.{text_or_none}
 use Rattle.cf_queue.specs.OutQueue.{Item, Text, Close}
 use Rattle.cf_recovery.specs.Arrivals.{arrives, has, overfull}
-use Rattle.cf_recovery.specs.Kept.{Arrival, IsRun, IsWithin, Kept, StandsFor, arrival, given_up, nothing_kept, places, with_arrival}
+use Rattle.cf_recovery.specs.ArrivalBuffer.{Arrival, IsRun, IsWithin, ArrivalBuffer, StandsFor, arrival, given_up, nothing_kept, places, with_arrival}
 use Rattle.cf_recovery.specs.Release.{falls_short, run_length}
 use Rattle.cf_recovery.specs.Verdict.{next}
 use Rattle.cf_hub.specs.Alike.{AlikeSub}
@@ -173,8 +173,8 @@ keeps_nothing lists c id code = record {
 pub keeps_read : (lists : Lists) (c : List ℕ) (r : Reading) (missed : List Placed) → AreMissed lists c r missed → (id : ℕ) (k : Held) (arrived : List Position) → IsKept lists c id None k arrived → IsKept lists c id (Some r) (record k { missed = missed }) arrived
 keeps_read lists c r missed m id k arrived h = record { is_code = h.is_code; within = h.within; stands = h.stands; whole = h.whole; listed = h.listed; missed = m }
 
-module _ (within : (a : Arrival) (k : Kept) → IsWithin k → IsWithin (with_arrival a k)) (stands : (a : Arrival) (k : Kept) (arrived : List Position) → StandsFor k arrived → StandsFor (with_arrival a k) (arrives a.at arrived)) where
-  listed_more : (P : Arrival → Type 0) (a : Arrival) (k : Kept) → P a → All P k.arrived → All P (with_arrival a k).arrived
+module _ (within : (a : Arrival) (k : ArrivalBuffer) → IsWithin k → IsWithin (with_arrival a k)) (stands : (a : Arrival) (k : ArrivalBuffer) (arrived : List Position) → StandsFor k arrived → StandsFor (with_arrival a k) (arrives a.at arrived)) where
+  listed_more : (P : Arrival → Type 0) (a : Arrival) (k : ArrivalBuffer) → P a → All P k.arrived → All P (with_arrival a k).arrived
   listed_more P a k p h = by_test (k.overflow || has (places k.arrived) a.at.epoch a.at.offset) (overfull (a.at ∷ places k.arrived))
     where
       by_test : (known many : Bool) → All P (if known then k else if many then given_up k.short else record k { arrived = a ∷ k.arrived }).arrived
@@ -182,7 +182,7 @@ module _ (within : (a : Arrival) (k : Kept) → IsWithin k → IsWithin (with_ar
       by_test false true = All-nil P
       by_test false false = All-cons P a k.arrived p h
 
-  same_short : (a : Arrival) (k : Kept) → (with_arrival a k).short ≡ k.short
+  same_short : (a : Arrival) (k : ArrivalBuffer) → (with_arrival a k).short ≡ k.short
   same_short a k = by_test (k.overflow || has (places k.arrived) a.at.epoch a.at.offset) (overfull (a.at ∷ places k.arrived))
     where
       by_test : (known many : Bool) → (if known then k else if many then given_up k.short else record k { arrived = a ∷ k.arrived }).short ≡ k.short
@@ -221,8 +221,8 @@ says_run lists c (x ∷ run) p (suc n) e at l =
     )
 
 module _
-    (counted : (k : Kept) (arrived : List Position) (r : Reading) → IsWithin k → StandsFor k arrived → k.short ≡ false → run_length (places k.arrived) r ≡ run_length arrived r)
-    (short : (k : Kept) (arrived : List Position) (r : Reading) → IsWithin k → StandsFor k arrived → k.short ≡ false → (k.overflow || falls_short (places k.arrived) r) ≡ falls_short arrived r)
+    (counted : (k : ArrivalBuffer) (arrived : List Position) (r : Reading) → IsWithin k → StandsFor k arrived → k.short ≡ false → run_length (places k.arrived) r ≡ run_length arrived r)
+    (short : (k : ArrivalBuffer) (arrived : List Position) (r : Reading) → IsWithin k → StandsFor k arrived → k.short ≡ false → (k.overflow || falls_short (places k.arrived) r) ≡ falls_short arrived r)
     (lists : Lists) (c : List ℕ) where
   abbrev at : List ℕ → ℕ → Position
   at e o = record { epoch = e; offset = o }

@@ -24,3 +24,4 @@ pub mod Counts
 pub mod Marks
 pub mod Naming
 pub mod Placing
+pub mod Order

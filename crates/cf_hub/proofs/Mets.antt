@@ -1,8 +1,8 @@
 -- One session meets a call that may want memory, and its rows go with what ended.
 use Rattle.std.proofs.Common.{◌≡◌, ◌≢◌, ℕ, Bool, Option, List, sym, ap, ◌∙◌, subst}
-use Rattle.cf_followers.specs.Follows.{Follow}
+use Rattle.cf_subscribers.specs.Follows.{Follow}
 use Rattle.cf_queue.specs.OutQueue.{Item}
-use Rattle.cf_hub.specs.declared.delivered.Fate.{Fate}
+use Rattle.cf_hub.specs.declared.fate.Fate.{Fate}
 use Rattle.cf_hub.specs.Hub.{Node, InState, Meets, PingStep, Pings, attached_at, attached_in, counted, one_if}
 use Rattle.cf_hub.specs.Places.{Places, numbered}
 use Rattle.cf_hub.specs.Rows.{Agrees, off_after, rows_after, sub_in}

@@ -1,11 +1,11 @@
 -- One session changes, and its rows with it.
 use Rattle.std.proofs.Common.{◌≡◌, ◌≢◌, ℕ, not, Bool, true, false, if◌then◌else◌, Option, Some, None, List, refl, sym, ap, ◌∙◌, subst, option_map, is_some}
 use Rattle.std.specs.Str.{bytes_eq}
-use Rattle.cf_followers.specs.Follows.{Follow}
+use Rattle.cf_subscribers.specs.Follows.{Follow}
 use Rattle.cf_queue.specs.OutQueue.{Item, Close}
 use Rattle.cf_protocol.specs.Note.{Reading}
-use Rattle.cf_hub.specs.declared.delivered.Fate.{Fate}
-use Rattle.cf_hub.specs.declared.delivered.Fate.TheVariants as fate
+use Rattle.cf_hub.specs.declared.fate.Fate.{Fate}
+use Rattle.cf_hub.specs.declared.fate.Fate.TheVariants as fate
 use Rattle.cf_hub.specs.Hub.{Node, One, attached_in, is_open, moves}
 use Rattle.cf_hub.specs.Places.{Places, numbered}
 use Rattle.cf_hub.specs.Rows.{Agrees, off_after, rows_after, sub_in}

@@ -1,9 +1,8 @@
 -- A subscription's read and its reply, in a session's state.
 use Rattle.std.proofs.Common.{◌≡◌, ◌||◌, ◌+◌, ℕ, Bool, true, false, cond, if◌then◌else◌, Option, Some, None, List, length, refl, sym, ap, ◌∙◌, option_map, is_some}
-use Rattle.std.specs.Cmp.Lexicographic.{bytes_decides}
 use Rattle.std.specs.Str.{bytes_eq}
 use Rattle.cf_queue.specs.OutQueue.{OutQueue, Item}
-use Rattle.cf_recovery.specs.Kept.{places}
+use Rattle.cf_recovery.specs.ArrivalBuffer.{places}
 use Rattle.cf_recovery.specs.Release.{falls_short}
 use Rattle.cf_stream.specs.declared.answer.Recovery.{Recovery}
 use Rattle.cf_hub.specs.declared.reply.Answered.{Answered}
@@ -15,15 +14,7 @@ use Rattle.cf_hub.specs.Subscriptions.{SetsAt, Subscriptions, progress_at, readi
 use Rattle.cf_hub.specs.Wordings.{Held, held, reading, releasing}
 use Rattle.cf_hub.proofs.States.{state_is}
 use Rattle.cf_hub.proofs.Notes.{with_queue}
-use Rattle.cf_hub.proofs.Puts.{subs_of, put_state}
-
--- nothing changes where a channel is set to what it has
-pub same_state : (m n : Subscriptions) (c : List ℕ) (q : OutQueue) → SetsAt m n c (progress_at m c) → with_queue (subs_of n) q ≡ with_queue (subs_of m) q
-same_state m n c q h = state_is (with_queue (subs_of n) q) (with_queue (subs_of m) q) (λ d. ap sub_of (h d) ∙ by_value d (bytes_eq c d) (bytes_decides c d)) refl refl
-  where
-    by_value : (d : List ℕ) (t : Bool) → (t ≡ true → c ≡ d) × (c ≡ d → t ≡ true) → sub_of (cond t (progress_at m c) (progress_at m d)) ≡ sub_of (progress_at m d)
-    by_value d true e = ap (subs_of m) (e.0 refl)
-    by_value d false e = refl
+use Rattle.cf_hub.proofs.Puts.{subs_of, put_state, same_state}
 
 pub read_state : (m n : Subscriptions) (c : List ℕ) (r : Recovery) (q : OutQueue) → SetsAt m n c (option_map (was_read r) (progress_at m c))
     → with_queue (subs_of n) q ≡ reads (reading r.publications.items) c (reading_of r) (with_queue (subs_of m) q)

@@ -3,7 +3,7 @@
 use Rattle.std.specs.Prelude.{◌≡◌, ◌↔◌, ◌<◌, ◌≤◌, ℕ, suc, true, false, if◌then◌else◌, is_some, List, [], ◌∷◌, length, sum_by}
 use Rattle.cf_protocol.specs.Names.{is_among}
 use Rattle.cf_protocol.specs.Position.{Position}
-use Rattle.cf_followers.specs.Follows.{AreFollows, channels_of, follows}
+use Rattle.cf_subscribers.specs.Follows.{AreFollows, channels_of, follows}
 use Rattle.cf_hub.specs.Hub.{IsBounded, Node, attached_at, is_in, most_sessions, sub_at}
 use Rattle.cf_hub.specs.Rows.{Agrees}
 use Rattle.cf_hub.specs.SessionState.{Subscription, is_off}

@@ -5,8 +5,8 @@ use Rattle.cf_recovery.specs.Verdict.{Verdict, Drop, Pass, Insufficient, verdict
 use Rattle.cf_hub.specs.Session.{Attached}
 use Rattle.cf_hub.specs.SessionState.{Subscription, Off, Asked, Ready, On, SessionState}
 use Rattle.cf_hub.specs.declared.delivered.Delivered.{Delivered}
-use Rattle.cf_hub.specs.declared.delivered.Fate.{Fate}
-use Rattle.cf_hub.specs.declared.delivered.Fate.TheVariants.{Passed, Kept, Dropped, Ended, Closed}
+use Rattle.cf_hub.specs.declared.fate.Fate.{Fate}
+use Rattle.cf_hub.specs.declared.fate.Fate.TheVariants.{Passed, Kept, Dropped, Ended, Closed}
 
 abbrev pub verdict_fate : Verdict → Fate
 verdict_fate Drop = Dropped

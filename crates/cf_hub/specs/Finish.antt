@@ -3,11 +3,11 @@ use Rattle.std.specs.Prelude.{◌≡◌, ℕ, Bool, List, Option, Some, None, fa
 use Rattle.cf_protocol.specs.Datum.{Placed}
 use Rattle.cf_protocol.specs.Note.{Reading}
 use Rattle.cf_queue.specs.OutQueue.{Item}
-use Rattle.cf_recovery.specs.Kept.{IsRun}
+use Rattle.cf_recovery.specs.ArrivalBuffer.{IsRun}
 use Rattle.cf_hub.specs.SessionState.{Subscription, Off, Asked, Ready, On, SessionState, finish_notes, finished, put_sub}
-use Rattle.cf_hub.specs.declared.delivered.Fate.{Fate}
-use Rattle.cf_hub.specs.declared.delivered.Fate.TheVariants.{Passed}
-use Rattle.cf_hub.specs.declared.session.Step.{Step}
+use Rattle.cf_hub.specs.declared.fate.Fate.{Fate}
+use Rattle.cf_hub.specs.declared.fate.Fate.TheVariants.{Passed}
+use Rattle.cf_hub.specs.declared.step.Step.{Step}
 use Rattle.cf_hub.specs.WantOfMemory.{SaysAll}
 use Rattle.cf_hub.specs.Wordings.{Held, releasing}
 

@@ -8,7 +8,7 @@ use Rattle.std.specs.Ordering.{nat_cmp}
 use Rattle.cf_protocol.specs.Datum.{Placed}
 use Rattle.cf_protocol.specs.Position.{Position}
 use Rattle.cf_queue.specs.OutQueue.{Item}
-use Rattle.cf_followers.specs.Follows.{Follow, channels_of, most_rows, sessions_of, with_follow}
+use Rattle.cf_subscribers.specs.Follows.{Follow, channels_of, most_rows, sessions_of, with_follow}
 use Rattle.cf_hub.specs.Delivery.{fate_at, none, tally}
 use Rattle.cf_hub.specs.declared.delivered.Delivered.{Delivered}
 use Rattle.cf_hub.specs.Places.{Places, session_in}
@@ -20,8 +20,8 @@ use Rattle.cf_hub.specs.Turns.{Turns, first_turn, get_turns, gets_turn, no_turns
 use Rattle.cf_hub.specs.Wordings.{Held, at_offset, delivering, plain}
 use Rattle.cf_hub.specs.declared.refusal.HubRefusal.{HubRefusal}
 use Rattle.cf_hub.specs.declared.refusal.HubRefusal.TheVariants as refusal
-use Rattle.cf_hub.specs.declared.said.Said.{Said}
-use Rattle.cf_hub.specs.declared.said.Said.TheVariants as said
+use Rattle.cf_hub.specs.declared.queued.Queued.{Queued}
+use Rattle.cf_hub.specs.declared.queued.Queued.TheVariants as queued
 
 -- what contracts see of a hub: its node, its boot number, and how many client ids it has used; its sessions by number; which
 -- session follows which channel; how many requests for memory were refused, up to the largest number of 64 bits; and which
@@ -171,9 +171,9 @@ pub record Meets (k : ℕ) (R : Bool → SessionState Held Item → SessionState
   pub agrees : Agrees (attached_at new) new.rows
 
 -- what is answered to a text that is to be said
-abbrev pub said_in : Option Attached → Said
-said_in None = said.Gone
-said_in (Some a) = if a.state.closed then said.Closed else said.Kept
+abbrev pub queued_in : Option Attached → Queued
+queued_in None = queued.Gone
+queued_in (Some a) = if a.state.closed then queued.Closed else queued.Kept
 
 -- The tick meets each session: those that are hit, for which memory was refused, are as many as the refused requests at most,
 -- and all others go to what it makes of them. Each gets its turn.

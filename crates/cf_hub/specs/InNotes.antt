@@ -11,7 +11,7 @@ use Rattle.cf_protocol.specs.Position.{Position}
 use Rattle.cf_protocol.specs.Regular.{ArePlaced, IsBody, IsCode, IsPlaced, IsPosition, IsRegular}
 use Rattle.cf_protocol.specs.Written.{outgoing_text}
 use Rattle.cf_queue.specs.OutQueue.{Item, Text, Close}
-use Rattle.cf_recovery.specs.Kept.{Arrival, IsWithin, StandsFor}
+use Rattle.cf_recovery.specs.ArrivalBuffer.{Arrival, IsWithin, StandsFor}
 use Rattle.cf_hub.specs.Alike.{Alike}
 use Rattle.cf_hub.specs.Session.{Attached}
 use Rattle.cf_hub.specs.SessionState.{SessionState}

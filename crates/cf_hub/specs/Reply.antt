@@ -1,7 +1,7 @@
 -- A subscription from its read to its reply, as the code has it.
 use Rattle.std.specs.Prelude.{◌≡◌, ◌+◌, ◌||◌, ◌∷◌, ◌++◌, [], if◌then◌else◌, ℕ, is_some, length, map, List, Option, Some, None}
 use Rattle.cf_queue.specs.OutQueue.{Item, Text}
-use Rattle.cf_recovery.specs.Kept.{Kept, IsRun, ended_at, places}
+use Rattle.cf_recovery.specs.ArrivalBuffer.{ArrivalBuffer, IsRun, ended_at, places}
 use Rattle.cf_recovery.specs.Release.{falls_short}
 use Rattle.cf_stream.specs.declared.answer.Recovery.{Recovery}
 use Rattle.cf_hub.specs.SessionState.{Ready, SessionState, finished, put_sub}
@@ -23,7 +23,7 @@ stands a = code.On (record { epoch = a.recovery.position.epoch; offset = a.recov
 
 -- the reply of a subscription that was ready, and what follows it
 pub record Answers (a : Answered) (old : Progress) : Type 0 where
-  pub kept : Kept
+  pub kept : ArrivalBuffer
   pub was : old ≡ code.Ready a.id a.was_recovering a.recovery kept
   pub is_run : IsRun kept a.recovery.position a.released.run.items
   pub short : a.released.insufficient ≡ (kept.overflow || falls_short (places kept.arrived) (ended_at a.recovery.position))
@@ -34,7 +34,7 @@ AnswersIn a (Some old) = Answers a old
 
 -- the same for a session: its channel's subscription was ready, and stands behind the reply and the run now, or is over
 pub record IsAnswered (a : Answered) (c : List ℕ) (old new : SessionState Held Item) : Type 0 where
-  pub kept : Kept
+  pub kept : ArrivalBuffer
   pub was : old.subs c ≡ Ready a.id a.was_recovering (reading_of a.recovery) (held kept a.recovery.publications.items)
   pub is_run : IsRun kept a.recovery.position a.released.run.items
   pub ends : a.released.insufficient ≡ (kept.overflow || falls_short (places kept.arrived) (reading_of a.recovery))

@@ -1,12 +1,12 @@
 -- A row stands exactly where a session's channel isn't off.
 use Rattle.std.specs.Prelude.{◌≡◌, ℕ, not, Bool, true, false, if◌then◌else◌, Option, Some, None, List}
 use Rattle.std.specs.Str.{bytes_eq}
-use Rattle.cf_followers.specs.Follows.{Follow, follows, without_follow, without_session}
+use Rattle.cf_subscribers.specs.Follows.{Follow, follows, without_follow, without_session}
 use Rattle.cf_hub.specs.Session.{Attached}
 use Rattle.cf_hub.specs.SessionState.{Subscription, Off, is_off}
 use Rattle.cf_hub.specs.Wordings.{Held}
-use Rattle.cf_hub.specs.declared.delivered.Fate.{Fate}
-use Rattle.cf_hub.specs.declared.delivered.Fate.TheVariants as fate
+use Rattle.cf_hub.specs.declared.fate.Fate.{Fate}
+use Rattle.cf_hub.specs.declared.fate.Fate.TheVariants as fate
 
 abbrev pub sub_in : Option Attached → List ℕ → Subscription Held
 sub_in None c = Off

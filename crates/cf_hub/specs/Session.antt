@@ -1,9 +1,7 @@
 -- A session as contracts see it: its state, and beside it whose it is and when it was pinged.
 use Rattle.std.specs.Prelude.{◌-◌, ◌&&◌, nat_le, ℕ, Bool, true, false, if◌then◌else◌, List, map, string_bytes, Box}
-use Rattle.std.specs.BTreeMap.{is_at}
-use Rattle.std.specs.Cmp.Lexicographic.{slice_cmp}
 use Rattle.std.specs.Map.{lookup}
-use Rattle.std.specs.Ordering.{nat_cmp}
+use Rattle.std.specs.Str.{bytes_eq}
 use Rattle.std.specs.declared.alloc.Global.{Global}
 use Rattle.std.specs.declared.string.String.{String}
 use Rattle.cf_queue.specs.OutQueue.{Item, OutQueue, waiting}
@@ -34,7 +32,7 @@ shown s = record { subs = s.subscriptions.entries; queue = s.queue; badge = badg
 abbrev pub state_shown : Shown → SessionState Held Item
 state_shown s =
     record {
-      subs = λ c. sub_of (in_box (lookup (is_at (λ k. slice_cmp nat_cmp c (string_bytes k))) s.subs));
+      subs = λ c. sub_of (in_box (lookup (λ k. bytes_eq c (string_bytes k)) s.subs));
       notes = waiting s.queue;
       closed = s.queue.closed;
     }

@@ -16,11 +16,11 @@ use Rattle.cf_hub.specs.SessionState.{Off, SessionState, comes, is_off, is_ready
 use Rattle.cf_hub.specs.Subscriptions.{reading_of}
 use Rattle.cf_hub.specs.WantOfMemory.{Both, OrCloses, SaysAll, Serves}
 use Rattle.cf_hub.specs.Wordings.{Held, at_offset, delivering, plain, push_text, reading}
-use Rattle.cf_hub.specs.declared.delivered.Fate.{Fate}
-use Rattle.cf_hub.specs.declared.delivered.Fate.TheVariants.{Closed, Ended, Passed}
+use Rattle.cf_hub.specs.declared.fate.Fate.{Fate}
+use Rattle.cf_hub.specs.declared.fate.Fate.TheVariants.{Closed, Ended, Passed}
 use Rattle.cf_hub.specs.declared.reply.Answered.{Answered}
 use Rattle.cf_hub.specs.declared.session.Session.{Session}
-use Rattle.cf_hub.specs.declared.session.Step.{Step}
+use Rattle.cf_hub.specs.declared.step.Step.{Step}
 
 abbrev pub Move : Type 0
 Move = SessionState Held Item → SessionState Held Item

@@ -1,27 +1,34 @@
 -- A session's subscriptions as the code has them, and as the definitions have them.
-use Rattle.std.specs.Prelude.{◌≡◌, ◌-◌, ℕ, List, [], length, true, Option, Some, None, option_map, Box}
-use Rattle.std.specs.BTreeMap.{BTreeMap, get_by_text}
+use Rattle.std.specs.Prelude.{◌≡◌, ◌⊎◌, ◌-◌, ℕ, List, [], length, true, Option, Some, None, option_map, map, string_bytes, Box}
+use Rattle.indexmap.specs.IndexMap.{IndexMap, get_by_text, keys}
 use Rattle.std.specs.Map.{update}
 use Rattle.std.specs.Str.{bytes_eq}
 use Rattle.std.specs.declared.alloc.Global.{Global}
+use Rattle.std.specs.declared.hash.BuildHasherDefault.{BuildHasherDefault}
+use Rattle.std.specs.declared.hash.FoldHasher.{FoldHasher}
 use Rattle.std.specs.declared.string.String.{String}
 use Rattle.cf_protocol.specs.Datum.{Placed}
 use Rattle.cf_protocol.specs.Note.{Reading}
 use Rattle.cf_protocol.specs.Position.{Position}
-use Rattle.cf_recovery.specs.Kept.{arrival, given_up, with_arrival}
+use Rattle.cf_recovery.specs.ArrivalBuffer.{arrival, given_up, with_arrival}
 use Rattle.cf_recovery.specs.Verdict.{Verdict, Drop, Pass, Insufficient, verdict}
 use Rattle.cf_recovery.specs.declared.verdict.Verdict.{Verdict as Answer}
 use Rattle.cf_recovery.specs.declared.verdict.Verdict.TheVariants as answer
 use Rattle.cf_hub.specs.declared.subscription.Meets.{Meets}
+use Rattle.cf_hub.specs.declared.subscription.Met.{Met}
 use Rattle.cf_hub.specs.declared.subscription.Meets.TheVariants as meets
 use Rattle.cf_stream.specs.declared.answer.Recovery.{Recovery}
 use Rattle.cf_hub.specs.SessionState.{Subscription, Off, Asked, Ready, On}
-use Rattle.cf_hub.specs.Wordings.{Held, held}
+use Rattle.cf_hub.specs.Wordings.{Held, at_offset, held}
 use Rattle.cf_hub.specs.declared.subscription.Progress.{Progress}
 use Rattle.cf_hub.specs.declared.subscription.Progress.TheVariants as code
 
 abbrev pub Subscriptions : Type 0
-Subscriptions = BTreeMap (String Global) (Box Progress Global)
+Subscriptions = IndexMap (String Global) (Box Progress Global) (BuildHasherDefault FoldHasher)
+
+-- the channels' names, in the order of asking
+abbrev pub names : Subscriptions → List (List ℕ)
+names m = map string_bytes (keys m)
 
 -- what stands in a box, where there is one
 abbrev pub in_box : Option (Box Progress Global) → Option Progress
@@ -46,12 +53,22 @@ sub_of (Some (code.On at mark)) = On at mark
 abbrev pub SetsAt : Subscriptions → Subscriptions → List ℕ → Option Progress → Type 0
 SetsAt old new c w = (q : List ℕ) → progress_at new q ≡ update bytes_eq (progress_at old) c w q
 
--- one more came, or what came is given up
-abbrev pub keeps : List ℕ → Placed → Progress → Progress
-keeps e p (code.Asked id since waiting) = code.Asked id since (with_arrival (arrival e p) waiting)
-keeps e p (code.Ready id was recovery waiting) = code.Ready id was recovery (with_arrival (arrival e p) waiting)
-keeps e p (code.On at mark) = code.On at mark
+-- where a finished subscription stands after what is at q: there, where that is the next one
+abbrev pub stands_by : Verdict → Position → Position → Position
+stands_by Drop at q = at
+stands_by Pass at q = q
+stands_by Insufficient at q = at
 
+abbrev pub stands_after : Position → Position → Position
+stands_after at q = stands_by (verdict at q) at q
+
+-- a publication came
+abbrev pub takes : List ℕ → Placed → Progress → Progress
+takes e p (code.Asked id since waiting) = code.Asked id since (with_arrival (arrival e p) waiting)
+takes e p (code.Ready id was recovery waiting) = code.Ready id was recovery (with_arrival (arrival e p) waiting)
+takes e p (code.On at mark) = code.On (stands_after at (at_offset e p)) mark
+
+-- what came is given up
 abbrev pub loses : Progress → Progress
 loses (code.Asked id since waiting) = code.Asked id since (given_up true)
 loses (code.Ready id was recovery waiting) = code.Ready id was recovery (given_up true)
@@ -67,8 +84,18 @@ verdict_code Insufficient = answer.Insufficient
 abbrev pub coming : Position → Progress → Meets
 coming q (code.Asked id since waiting) = meets.Buffer
 coming q (code.Ready id was recovery waiting) = meets.Buffer
-coming q (code.On at mark) = meets.On mark (verdict_code (verdict at q))
+coming q (code.On at mark) = meets.On (verdict_code (verdict at q))
 
 abbrev pub meeting : Position → Option Progress → Meets
 meeting q None = meets.Nothing
 meeting q (Some s) = coming q s
+
+-- memory was refused for what was to be kept
+abbrev pub IsGivenUp : Met → Type 0
+IsGivenUp m = (m.meets ≡ meets.Buffer) × (m.refused ≡ true)
+
+-- the channel took the publication, or memory was refused for it and the channel's buffer is given up
+abbrev pub TakesAt : Met → List ℕ → List ℕ → Placed → Subscriptions → Subscriptions → Type 0
+TakesAt m c e p old new =
+    SetsAt old new c (option_map (takes e p) (progress_at old c))
+    ⊎ (IsGivenUp m × SetsAt old new c (option_map loses (progress_at old c)))

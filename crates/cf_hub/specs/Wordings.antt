@@ -8,16 +8,16 @@ use Rattle.cf_protocol.specs.Outgoing.{Ping, Answer, Push, Subscribed, Publicati
 use Rattle.cf_protocol.specs.Position.{Position}
 use Rattle.cf_protocol.specs.Written.{outgoing_text}
 use Rattle.cf_queue.specs.OutQueue.{Item, Text, Close}
-use Rattle.cf_recovery.specs.Kept.{Kept, arrival, given_up, nothing_kept, places, with_arrival}
+use Rattle.cf_recovery.specs.ArrivalBuffer.{ArrivalBuffer, arrival, given_up, nothing_kept, places, with_arrival}
 use Rattle.cf_recovery.specs.Release.{falls_short}
 use Rattle.cf_hub.specs.SessionState.{Wording}
 
 -- what the code has of a subscription before its reply: the publications that came, and those that the read gave
 pub record Held : Type 0 where
-  pub kept : Kept
+  pub kept : ArrivalBuffer
   pub missed : List Placed
 
-abbrev pub held : Kept → List Placed → Held
+abbrev pub held : ArrivalBuffer → List Placed → Held
 held k ps = record { kept = k; missed = ps }
 
 -- ---- texts

@@ -1,21 +1,20 @@
 //! What a session's subscriptions wait for.
 ghost use Rattle.std.specs.Prelude.{◌≡◌, ◌↔◌, ℕ, List, false, true, not, IsTrue};
-ghost use Rattle.std.specs.BTreeMap.{IsOrdered};
 ghost use Rattle.std.specs.List.{list_all};
-ghost use Rattle.std.specs.Map.{values_of};
-ghost use Rattle.std.specs.String.{string_cmp};
+ghost use Rattle.std.specs.String.{string_eq};
 ghost use Rattle.cf_hub.specs.Asking.{asked_of};
 ghost use Rattle.cf_hub.specs.Hub.{attached_in};
 ghost use Rattle.cf_hub.specs.Rows.{sub_in};
 ghost use Rattle.cf_hub.specs.SessionState.{is_unfinished};
 ghost use Rattle.cf_hub.specs.Subscriptions.{sub_of};
+ghost use Rattle.indexmap.specs.IndexMap.{IsUnique};
 
 use crate::hub::Hub;
 use crate::places::Sessions;
 use crate::session::Session;
 use crate::subscription::Progress;
 use cf_protocol::Position;
-use std::collections::BTreeMap;
+use indexmap::IndexMap;
 
 /// A subscription for which the stream was not read yet.
 #[derive(Clone, Copy, PartialEq, Eq, Debug)]
@@ -26,7 +25,7 @@ pub struct Asked {
 
 impl Hub {
     ghost use Rattle.std.specs.Prelude.{◌≡◌, ◌↔◌, ℕ, List, false, IsTrue};
-    ghost use Rattle.cf_followers.specs.Follows.{AreFollows};
+    ghost use Rattle.cf_subscribers.specs.Follows.{AreFollows};
     ghost use Rattle.cf_hub.specs.Asking.{asked_of};
     ghost use Rattle.cf_hub.specs.Hub.{IsBounded, attached_at, sub_at};
     ghost use Rattle.cf_hub.specs.Rows.{Agrees};
@@ -56,7 +55,7 @@ impl Hub {
 
     /// What always holds of a node: a row stands exactly where a session's channel isn't off, each once, and the sessions have
     /// numbers below the most.
-    pub fn is_sound(&self)
+    pub fn invariant(&self)
         ensures agrees { Agrees (attached_at self.now) self.now.rows }
         ensures bounded { IsBounded (attached_at self.now) }
         ensures rows { AreFollows self.now.rows }
@@ -125,13 +124,12 @@ impl Progress {
 }
 
 // Whether the reply of each was queued.
-fn all_finished(subscriptions: &BTreeMap<String, Box<Progress>>) -> bool
+fn all_finished(subscriptions: &IndexMap<String, Box<Progress>>) -> bool
     ensures all { result
-        ≡ list_all (λ s. not (is_unfinished (sub_of (Some s.value))))
-        (values_of subscriptions.now.entries) }
-    ensures ordered { IsOrdered string_cmp subscriptions.now }
+        ≡ list_all (λ e. not (is_unfinished (sub_of (Some e.1.value)))) subscriptions.now.entries }
+    ensures unique { IsUnique string_eq subscriptions.now }
 {
     subscriptions
-        .values()
-        .all(|progress| progress.is_finished())
+        .iter()
+        .all(|(_name, progress)| progress.is_finished())
 }

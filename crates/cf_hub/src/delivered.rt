@@ -2,20 +2,7 @@
 ghost use Rattle.std.specs.Prelude.{◌≡◌, ◌<◌};
 ghost use Rattle.cf_hub.specs.Delivery.{none, one_more, total};
 
-/// What a call did with one session.
-#[derive(Clone, Copy, PartialEq, Eq, Debug, Drop)]
-pub enum Fate {
-    /// What was to be said waits for its client.
-    Passed,
-    /// It was kept until the reply.
-    Kept,
-    /// It was known already, or nobody asked for it.
-    Dropped,
-    /// The subscription ended.
-    Ended,
-    /// The session was closed.
-    Closed,
-}
+use crate::fate::Fate;
 
 /// How many subscribers a delivery met, by what it did with them.
 #[derive(Clone, Copy, PartialEq, Eq, Debug, Drop)]

@@ -1,6 +1,6 @@
 //! One node's sessions and rows.
 ghost use Rattle.std.specs.Prelude.{◌≡◌, ◌==◌, None, length, not, slice_get, option_map, option_and_then};
-ghost use Rattle.cf_followers.specs.Follows.{channels_of, sessions_of};
+ghost use Rattle.cf_subscribers.specs.Follows.{channels_of, sessions_of};
 ghost use Rattle.cf_queue.specs.Meaning.{meaning};
 ghost use Rattle.cf_queue.specs.OutQueue.{Close};
 ghost use Rattle.cf_hub.specs.Delivery.{total};
@@ -10,16 +10,17 @@ ghost use Rattle.cf_hub.specs.SessionState.{closes_now, is_off, leaves, takes_fr
 ghost use Rattle.cf_hub.specs.Turns.{gets_turn};
 ghost use Rattle.cf_hub.specs.Wordings.{IsWritten};
 
-use crate::delivered::{Delivered, Fate};
+use crate::delivered::Delivered;
+use crate::fate::Fate;
 use crate::listed::Listed;
 use crate::places::Sessions;
 use crate::sessions::{
     bring_one, close_one, count_more, drop_one, leave_one, settle_all, take_one,
 };
 use crate::wording::push_text;
-use cf_followers::Followers;
 use cf_protocol::{Epoch, Publication};
 use cf_queue::Out;
+use cf_subscribers::Subscribers;
 use std::alloc::Global;
 use std::marker::Model;
 
@@ -38,7 +39,7 @@ pub struct Hub {
     pub(crate) sessions: Sessions,
     /// Each number below this one has a session.
     pub(crate) free_from: u32,
-    pub(crate) rows: Followers,
+    pub(crate) rows: Subscribers,
     pub(crate) refused: u64,
     pub(crate) listed: Listed,
     pub(crate) alloc: Global,
@@ -79,7 +80,7 @@ impl Hub {
             used: 0,
             sessions: Sessions::new(alloc),
             free_from: 0,
-            rows: Followers::new(alloc),
+            rows: Subscribers::new(alloc),
             refused: 0,
             listed: Listed::new(alloc),
             alloc,

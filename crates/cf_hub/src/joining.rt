@@ -8,13 +8,13 @@ use crate::session::Session;
 use crate::sessions::{
     begin_one, client_in, has_in, insert_one, is_closed_in, is_on_in, is_taken, user_in,
 };
-use cf_followers::MOST_ROWS;
 use cf_protocol::Position;
+use cf_subscribers::MOST_ROWS;
 use std::alloc::{AllocError, Global};
 
 impl Hub {
     ghost use Rattle.std.specs.Prelude.{◌≡◌, ◌≢◌, ◌↔◌, ◌<◌, ◌≤◌, ◌⊎◌, ℕ, not, IfOk, IfErr, MatchOption, OnOk, OnErr, IsErrOf, Some, None, true, false, is_some, option_map, string_bytes, length};
-    ghost use Rattle.cf_followers.specs.Follows.{channels_of, follows, most_rows};
+    ghost use Rattle.cf_subscribers.specs.Follows.{channels_of, follows, most_rows};
     ghost use Rattle.cf_hub.specs.Checked.{stand_of};
     ghost use Rattle.cf_hub.specs.Hub.{Begins, IsFull, IsLeastFree, NoRoom, Opens, attached_at, is_open, largest, most_channels, most_sessions, sub_at, IsOpenWith, IsRefused, IsSame};
     ghost use Rattle.cf_hub.specs.SessionState.{is_off};

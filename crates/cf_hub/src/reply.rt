@@ -3,17 +3,18 @@ ghost use Rattle.std.specs.Prelude.{◌≡◌, ◌+◌, ◌⊎◌, ℕ, List, Bo
 ghost use Rattle.cf_protocol.specs.Datum.{numbered};
 ghost use Rattle.cf_hub.specs.Reply.{Answers, AnswersIn, stands, was_read};
 ghost use Rattle.cf_hub.specs.SessionState.{is_asked, is_ready};
-ghost use Rattle.cf_hub.specs.Subscriptions.{SetsAt, progress_at, sub_of};
+ghost use Rattle.cf_hub.specs.Subscriptions.{SetsAt, names, progress_at, sub_of};
 
-use crate::delivered::Fate;
-use crate::session::{Session, Step, either};
+use crate::fate::Fate;
+use crate::session::{Session, either};
+use crate::step::Step;
 use crate::subscription::{Progress, add};
 use crate::wording::{end_text, reply_text};
 use cf_protocol::{Epoch, Position, Publication};
 use cf_recovery::{Released, Waiting};
 use cf_stream::Recovery;
+use indexmap::IndexMap;
 use std::alloc::{AllocError, Global};
-use std::collections::BTreeMap;
 use std::mem;
 
 /// The reply of a subscription, and what follows it.
@@ -107,13 +108,14 @@ impl Progress {
 /// Takes what the read of a channel's stream gave.
 #[tactic(auto, using(std::proofs::lemmas::Map::Text::text_keys))]
 fn read_at(
-    subscriptions: &mut BTreeMap<String, Box<Progress>>,
+    subscriptions: &mut IndexMap<String, Box<Progress>>,
     channel: &str,
     recovery: Recovery,
 ) -> bool
     ensures asked { result ≡ is_asked (sub_of (progress_at subscriptions.old channel.now)) }
     ensures after { SetsAt subscriptions.old subscriptions.new channel.now
         (option_map (was_read recovery) (progress_at subscriptions.old channel.now)) }
+    ensures order { names subscriptions.new ≡ names subscriptions.old }
 {
     match subscriptions.get_mut(channel) {
         None => false,
@@ -123,13 +125,14 @@ fn read_at(
 
 /// Gives a channel's reply and what follows it.
 #[tactic(auto, using(std::proofs::lemmas::Map::Text::text_keys))]
-fn answer_at(subscriptions: &mut BTreeMap<String, Box<Progress>>, channel: &str) -> Option<Answered>
-    ensures { MatchOption result
+fn answer_at(subscriptions: &mut IndexMap<String, Box<Progress>>, channel: &str) -> Option<Answered>
+    ensures answered { MatchOption result
         (SetsAt subscriptions.old subscriptions.new channel.now
         (progress_at subscriptions.old channel.now)
         × (is_ready (sub_of (progress_at subscriptions.old channel.now)) ≡ false))
         (λ a. AnswersIn a (progress_at subscriptions.old channel.now)
         × SetsAt subscriptions.old subscriptions.new channel.now (Some (stands a))) }
+    ensures order { names subscriptions.new ≡ names subscriptions.old }
 {
     match subscriptions.get_mut(channel) {
         None => None,

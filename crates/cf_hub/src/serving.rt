@@ -3,7 +3,7 @@ ghost use Rattle.std.specs.Prelude.{◌≡◌};
 
 use crate::checked::Checked;
 use crate::hub::Hub;
-use crate::said::Said;
+use crate::queued::Queued;
 use crate::sessions::{
     check_one, count_more, finish_one, next_in, pong_one, read_one, say_one, settle, tick_one,
 };
@@ -15,7 +15,7 @@ impl Hub {
     ghost use Rattle.cf_queue.specs.OutQueue.{Text};
     ghost use Rattle.cf_hub.specs.Checked.{check_answer, stand_of};
     ghost use Rattle.cf_hub.specs.Finish.{FinishesAt};
-    ghost use Rattle.cf_hub.specs.Hub.{HasNoneFrom, IsBounded, IsNextFrom, IsNextTurn, Meets, One, PingStep, largest, most_sessions, SameNode, SameRest, Ticks, attached_at, is_open, said_in, sub_at, waits_in};
+    ghost use Rattle.cf_hub.specs.Hub.{HasNoneFrom, IsBounded, IsNextFrom, IsNextTurn, Meets, One, PingStep, largest, most_sessions, SameNode, SameRest, Ticks, attached_at, is_open, queued_in, sub_at, waits_in};
     ghost use Rattle.cf_hub.specs.Rows.{Agrees};
     ghost use Rattle.cf_hub.specs.Session.{badge_ponged};
     ghost use Rattle.cf_hub.specs.SessionState.{checks, is_asked, is_ready, push, reads};
@@ -55,8 +55,8 @@ impl Hub {
     }
 
     /// Queues a text. Where the client is too slow or memory is refused, the session is closed in place of it.
-    pub fn say(&mut self, session: u32, text: String) -> Said
-        ensures said { result ≡ said_in (attached_at self.new session) }
+    pub fn say(&mut self, session: u32, text: String) -> Queued
+        ensures said { result ≡ queued_in (attached_at self.new session) }
         ensures session { Meets session
             (λ hit. OrCloses hit plain (push plain (Text (string_bytes text))))
             self.old self.new }

@@ -1,59 +1,25 @@
 //! One session: its subscriptions, and what waits for its client.
-ghost use Rattle.std.specs.Prelude.{◌≡◌, ◌||◌, false};
+ghost use Rattle.std.specs.Prelude.{◌≡◌, ◌||◌};
 
-use crate::delivered::Fate;
-use crate::subscription::{Meets, Progress, keep_at, replace, take_out};
+use crate::fate::Fate;
+use crate::step::Step;
+use crate::subscription::{Meets, Met, Progress, replace, take_at, take_out};
 use crate::wording::{end_text, push_text};
-use cf_protocol::{Epoch, Position, Publication};
+use cf_protocol::{CloseCode, Epoch, Publication};
 use cf_queue::{Out, OutQueue, QueueRefusal};
 use cf_recovery::Verdict;
+use indexmap::IndexMap;
 use std::alloc::Global;
-use std::collections::BTreeMap;
 
 /// How many bytes of text may wait for one client.
 const QUEUE_LIMIT: usize = 1_048_576;
-
-/// The close of a client that is too slow.
-const SLOW: u16 = 3008;
-
-/// The close where memory is refused.
-const NO_MEMORY: u16 = 3004;
-
-/// What a call did with a session, and whether memory was refused for it.
-#[derive(Clone, Copy, PartialEq, Eq, Debug, Drop)]
-pub(crate) struct Step {
-    pub fate: Fate,
-    pub refused: bool,
-}
-
-impl Step {
-    /// Nothing was done.
-    pub(crate) fn none() -> Step
-        ensures { result ≡ record { fate = Fate.Dropped; refused = false } }
-    {
-        Step {
-            fate: Fate::Dropped,
-            refused: false,
-        }
-    }
-
-    /// What was to be done is done.
-    pub(crate) fn passed() -> Step
-        ensures { result ≡ record { fate = Fate.Passed; refused = false } }
-    {
-        Step {
-            fate: Fate::Passed,
-            refused: false,
-        }
-    }
-}
 
 /// One client's session.
 #[derive(Drop)]
 pub(crate) struct Session {
     pub(crate) client: String,
     pub(crate) user: String,
-    pub(crate) subscriptions: BTreeMap<String, Box<Progress>>,
+    pub(crate) subscriptions: IndexMap<String, Box<Progress>>,
     pub(crate) queue: OutQueue,
     pub(crate) pinged: u64,
     pub(crate) awaits_pong: bool,
@@ -68,8 +34,8 @@ impl Session {
     ghost use Rattle.cf_hub.specs.Session.{badge_of, state_of};
     ghost use Rattle.cf_hub.specs.SessionState.{Off, On, closes_now, is_off, opens, put_sub, takes_front};
     ghost use Rattle.cf_hub.specs.Sessions.{Acts, EndsAs, IsBrought, Moves, SaysText, Tells, closed_or, fate_brought, new_badge, pushes, says_one};
-    ghost use Rattle.cf_hub.specs.Subscriptions.{meeting, progress_at, sub_of};
-    ghost use Rattle.cf_hub.specs.Wordings.{IsWritten, at_offset, push_text};
+    ghost use Rattle.cf_hub.specs.Subscriptions.{progress_at, sub_of};
+    ghost use Rattle.cf_hub.specs.Wordings.{IsWritten, push_text};
 
     /// A client's session, with no subscription and nothing that waits.
     pub(crate) fn new(alloc: Global, client: String, user: String, now: u64) -> Session
@@ -79,7 +45,7 @@ impl Session {
         Session {
             client,
             user,
-            subscriptions: BTreeMap::new(alloc),
+            subscriptions: IndexMap::new(alloc),
             queue: OutQueue::new(alloc, QUEUE_LIMIT),
             pinged: now,
             awaits_pong: false,
@@ -124,6 +90,7 @@ impl Session {
             return false;
         }
         self.subscriptions.clear();
+        self.subscriptions.shrink_to_fit();
         self.queue.close(code);
         true
     }
@@ -143,18 +110,18 @@ impl Session {
         ensures badge { badge_of self.new ≡ badge_of self.old }
     {
         let Some(text) = text else {
-            let _open = self.close(NO_MEMORY);
+            let _open = self.close(CloseCode::InternalError.code());
             return true;
         };
         match self.queue.push(text) {
             Ok(()) => false,
             Err((QueueRefusal::Closed, _)) => false,
             Err((QueueRefusal::Slow, _)) => {
-                let _open = self.close(SLOW);
+                let _open = self.close(CloseCode::Slow.code());
                 false
             }
             Err((QueueRefusal::Memory, _)) => {
-                let _open = self.close(NO_MEMORY);
+                let _open = self.close(CloseCode::InternalError.code());
                 true
             }
         }
@@ -180,11 +147,11 @@ impl Session {
             Ok(()) => false,
             Err(QueueRefusal::Closed) => false,
             Err(QueueRefusal::Slow) => {
-                let _open = self.close(SLOW);
+                let _open = self.close(CloseCode::Slow.code());
                 false
             }
             Err(QueueRefusal::Memory) => {
-                let _open = self.close(NO_MEMORY);
+                let _open = self.close(CloseCode::InternalError.code());
                 true
             }
         }
@@ -236,18 +203,6 @@ impl Session {
         self.subscriptions.is_empty()
     }
 
-    /// What a delivery meets here.
-    fn meets(&self, channel: &str, epoch: &Epoch, offset: u64) -> Meets
-        ensures { result
-            ≡ meeting (record { epoch = epoch.now; offset = offset })
-            (progress_at self.now.subscriptions channel.now) }
-    {
-        match self.subscriptions.get(channel) {
-            None => Meets::Nothing,
-            Some(progress) => progress.meets(epoch, offset),
-        }
-    }
-
     /// What a call did: it closed the session, or else this.
     pub(crate) fn step(&self, was_closed: bool, fate: Fate, refused: bool) -> Step
         ensures fate { result.fate ≡ closed_or was_closed self.now fate }
@@ -282,18 +237,6 @@ impl Session {
         take_out(&mut self.subscriptions, channel);
     }
 
-    /// Keeps a publication for a channel whose reply waits. Says whether memory was refused for it.
-    fn keep(&mut self, channel: &str, epoch: &Epoch, publication: &Publication) -> bool
-        requires { meeting (at_offset epoch.now publication.now)
-            (progress_at self.old.subscriptions channel.now)
-            ≡ Meets.Buffer }
-        ensures state { IsBrought result channel.now epoch.now publication.now self.old self.new }
-        ensures queue { self.new.queue ≡ self.old.queue }
-        ensures badge { badge_of self.new ≡ badge_of self.old }
-    {
-        keep_at(&mut self.subscriptions, channel, epoch, publication)
-    }
-
     /// Brings a publication. Its text is handed in where it was written.
     pub(crate) fn bring(
         &mut self,
@@ -311,32 +254,19 @@ impl Session {
         ensures badge { badge_of self.new ≡ badge_of self.old }
     {
         let was_closed = self.queue.is_closed();
-        match self.meets(channel, epoch, publication.offset) {
-            Meets::Nothing => Step {
-                fate: Fate::Dropped,
-                refused: false,
+        let Met { meets, refused } = take_at(&mut self.subscriptions, channel, epoch, publication);
+        match meets {
+            Meets::Nothing => Step::none(),
+            Meets::Buffer => Step {
+                fate: Fate::Kept,
+                refused,
             },
-            Meets::Buffer => {
-                let refused = self.keep(channel, epoch, publication);
-                Step {
-                    fate: Fate::Kept,
-                    refused,
-                }
-            }
-            Meets::On(_, Verdict::Drop) => Step {
-                fate: Fate::Dropped,
-                refused: false,
-            },
-            Meets::On(mark, Verdict::Pass) => {
-                let at = Position {
-                    epoch: *epoch,
-                    offset: publication.offset,
-                };
-                self.put(channel, Progress::On { at, mark });
+            Meets::On(Verdict::Drop) => Step::none(),
+            Meets::On(Verdict::Pass) => {
                 let refused = self.say_publication(alloc, written, channel, publication);
                 self.step(was_closed, Fate::Passed, refused)
             }
-            Meets::On(_, Verdict::Insufficient) => {
+            Meets::On(Verdict::Insufficient) => {
                 self.leave(channel);
                 let refused = self.say(end_text(alloc, channel));
                 self.step(was_closed, Fate::Ended, refused)

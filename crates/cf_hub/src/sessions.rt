@@ -3,7 +3,7 @@ ghost use Rattle.std.specs.Prelude.{◌≡◌, [], true, not, is_some, OnOk, OnE
 ghost use Rattle.cf_queue.specs.Meaning.{meaning};
 ghost use Rattle.cf_queue.specs.OutQueue.{Close};
 ghost use Rattle.cf_hub.specs.Delivery.{fate_at};
-ghost use Rattle.cf_hub.specs.Hub.{Brings, IsNextTurn, Pings, attached_in, counted, is_open, is_waiting, one_if, said_in, waits_in};
+ghost use Rattle.cf_hub.specs.Hub.{Brings, IsNextTurn, Pings, attached_in, counted, is_open, is_waiting, one_if, queued_in, waits_in};
 ghost use Rattle.cf_hub.specs.Checked.{check_answer, stand_of};
 ghost use Rattle.cf_hub.specs.Rows.{AgreedBefore, Agrees, TellsFate, rows_after, sub_in};
 ghost use Rattle.cf_hub.specs.Session.{attached_of, badge_ponged};
@@ -12,15 +12,16 @@ ghost use Rattle.cf_hub.specs.Sessions.{ActsIn, BecomesIn, EndsIn, FinishesIn, M
 ghost use Rattle.cf_hub.specs.Wordings.{IsWritten, at_offset, plain};
 
 use crate::checked::Checked;
-use crate::delivered::Fate;
+use crate::fate::Fate;
 use crate::listed::Listed;
 use crate::places::Sessions;
-use crate::said::Said;
-use crate::session::{Session, Step};
-use cf_followers::Followers;
+use crate::queued::Queued;
+use crate::session::Session;
+use crate::step::Step;
 use cf_protocol::{Epoch, Position, Publication};
 use cf_queue::Out;
 use cf_stream::Recovery;
+use cf_subscribers::Subscribers;
 use std::alloc::{AllocError, Global};
 
 /// Brings a publication to one session.
@@ -152,20 +153,20 @@ pub(crate) fn finish_one(
 }
 
 /// Says a text to one session's client.
-pub(crate) fn say_one(sessions: &mut Sessions, number: u32, text: String) -> (Said, Step)
-    ensures said { result.0 ≡ said_in (attached_in sessions.new number) }
+pub(crate) fn say_one(sessions: &mut Sessions, number: u32, text: String) -> (Queued, Step)
+    ensures said { result.0 ≡ queued_in (attached_in sessions.new number) }
     ensures here { ActsIn number result.1 (says_one (string_bytes text)) sessions.old sessions.new }
     ensures others { OthersStayIn number sessions.old sessions.new }
     ensures offs { EndsIn number result.1.fate [] sessions.old sessions.new }
 {
     match sessions.get_mut(number) {
-        None => (Said::Gone, Step::none()),
+        None => (Queued::Gone, Step::none()),
         Some(session) => {
             let step = session.tell(text);
             if session.is_closed() {
-                (Said::Closed, step)
+                (Queued::Closed, step)
             } else {
-                (Said::Kept, step)
+                (Queued::Kept, step)
             }
         }
     }
@@ -309,7 +310,7 @@ pub(crate) fn next_in(listed: &mut Listed, sessions: &Sessions) -> Option<u32>
 }
 
 /// Removes the rows of what ended.
-pub(crate) fn settle(rows: &mut Followers, session: u32, channel: &str, fate: Fate)
+pub(crate) fn settle(rows: &mut Subscribers, session: u32, channel: &str, fate: Fate)
     ensures { rows.new ≡ rows_after fate channel.now session rows.old }
 {
     match fate {
@@ -340,7 +341,7 @@ fn fate_now(sessions: &Sessions, number: u32, channel: &str) -> Fate
 }
 
 /// Removes the rows of what ended in a call that met all followers of a channel.
-pub(crate) fn settle_all(rows: &mut Followers, sessions: &Sessions, channel: &str)
+pub(crate) fn settle_all(rows: &mut Subscribers, sessions: &Sessions, channel: &str)
     requires { AgreedBefore channel.now (attached_in sessions.now) rows.old }
     ensures { Agrees (attached_in sessions.now) rows.new }
 {

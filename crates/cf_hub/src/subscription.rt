@@ -1,13 +1,17 @@
 //! How far a session is with a channel.
-ghost use Rattle.std.specs.Prelude.{◌≡◌, ◌⊎◌, ◌≢◌, true, OnOk, OnErr, None, Some, option_map};
-ghost use Rattle.cf_recovery.specs.Kept.{arrival, given_up, with_arrival};
-ghost use Rattle.cf_hub.specs.Subscriptions.{SetsAt, coming, keeps, loses, progress_at};
+ghost use Rattle.std.specs.Prelude.{◌≡◌, ◌⊎◌, ◌++◌, ◌∷◌, [], true, OnOk, OnErr, None, Some, option_map};
+ghost use Rattle.std.specs.Str.{bytes_eq};
+ghost use Rattle.indexmap.specs.IndexSet.{remove_key};
+ghost use Rattle.cf_recovery.specs.ArrivalBuffer.{arrival, given_up, with_arrival};
+ghost use Rattle.cf_recovery.specs.Verdict.{verdict};
+ghost use Rattle.cf_hub.specs.Subscriptions.{IsGivenUp, SetsAt, TakesAt, coming, loses, meeting, names, progress_at, stands_after, takes, verdict_code};
+ghost use Rattle.cf_hub.specs.Wordings.{at_offset};
 
 use cf_protocol::{Epoch, Position, Publication};
 use cf_recovery::{Verdict, Waiting, check};
 use cf_stream::Recovery;
+use indexmap::IndexMap;
 use std::alloc::{AllocError, Global};
-use std::collections::BTreeMap;
 
 /// How far a subscription has come.
 #[derive(Drop)]
@@ -39,84 +43,111 @@ pub(crate) enum Meets {
     Nothing,
     /// One that waits for its reply.
     Buffer,
-    /// One that is finished, with this mark.
-    On(Option<u64>, Verdict),
+    /// One that is finished.
+    On(Verdict),
+}
+
+/// What a delivery met, and whether memory was refused for what it was to keep.
+#[derive(Clone, Copy, PartialEq, Eq, Debug)]
+pub(crate) struct Met {
+    pub meets: Meets,
+    pub refused: bool,
 }
 
 impl Progress {
-    /// What a delivery of this epoch and offset meets.
-    pub(crate) fn meets(&self, epoch: &Epoch, offset: u64) -> Meets
-        ensures { result ≡ coming (record { epoch = epoch.now; offset = offset }) self.now }
-    {
-        match self {
-            Progress::On { at, mark } => Meets::On(*mark, check(at, epoch, offset)),
-            _ => Meets::Buffer,
-        }
-    }
-
-    /// Keeps a publication while it waits for its reply. Says whether memory was refused for it.
-    pub(crate) fn keep(&mut self, epoch: &Epoch, publication: &Publication) -> bool
-        ensures { (self.new ≡ keeps epoch.now publication.now self.old)
-            ⊎ ((result ≡ true) × (self.new ≡ loses self.old)) }
+    /// Takes a publication that is delivered: keeps it until the reply, or goes on to it where it is the next one.
+    fn take(&mut self, epoch: &Epoch, publication: &Publication) -> Met
+        ensures meets { result.meets
+            ≡ coming (at_offset epoch.now publication.now) self.old }
+        ensures after { (self.new ≡ takes epoch.now publication.now self.old)
+            ⊎ (IsGivenUp result × (self.new ≡ loses self.old)) }
     {
         match self {
             Progress::Asked { waiting, .. } => keep_in(waiting, epoch, publication),
             Progress::Ready { waiting, .. } => keep_in(waiting, epoch, publication),
-            Progress::On { .. } => false,
+            Progress::On { at, .. } => Met {
+                meets: Meets::On(go_on(at, epoch, publication)),
+                refused: false,
+            },
         }
     }
 }
 
-/// Keeps a publication in a buffer. Says whether memory was refused for it now.
-fn keep_in(waiting: &mut Waiting, epoch: &Epoch, publication: &Publication) -> bool
-    ensures { (waiting.new ≡ with_arrival (arrival epoch.now publication.now) waiting.old)
-        ⊎ ((result ≡ true) × (waiting.new ≡ given_up true)) }
+/// Goes on to a publication where it is the next one.
+fn go_on(at: &mut Position, epoch: &Epoch, publication: &Publication) -> Verdict
+    ensures verdict { result
+        ≡ verdict_code (verdict at.old (at_offset epoch.now publication.now)) }
+    ensures after { at.new ≡ stands_after at.old (at_offset epoch.now publication.now) }
+{
+    let verdict = check(at, epoch, publication.offset);
+    if verdict == Verdict::Pass {
+        *at = Position {
+            epoch: *epoch,
+            offset: publication.offset,
+        };
+    }
+    verdict
+}
+
+/// Keeps a publication in a buffer. Memory may be refused for it now.
+fn keep_in(waiting: &mut Waiting, epoch: &Epoch, publication: &Publication) -> Met
+    ensures meets { result.meets ≡ Meets.Buffer }
+    ensures after { (waiting.new ≡ with_arrival (arrival epoch.now publication.now) waiting.old)
+        ⊎ (IsGivenUp result × (waiting.new ≡ given_up true)) }
 {
     let was_short = waiting.short();
     waiting.keep(epoch, publication);
-    !was_short && waiting.short()
+    Met {
+        meets: Meets::Buffer,
+        refused: !was_short && waiting.short(),
+    }
 }
 
-/// Keeps a publication at a channel.
+/// Takes a publication that is delivered to a channel.
 #[tactic(auto, using(std::proofs::lemmas::Map::Text::text_keys))]
-pub(crate) fn keep_at(
-    subscriptions: &mut BTreeMap<String, Box<Progress>>,
+pub(crate) fn take_at(
+    subscriptions: &mut IndexMap<String, Box<Progress>>,
     channel: &str,
     epoch: &Epoch,
     publication: &Publication,
-) -> bool
-    ensures { SetsAt subscriptions.old subscriptions.new channel.now
-        (option_map (keeps epoch.now publication.now)
-        (progress_at subscriptions.old channel.now))
-        ⊎ ((result ≡ true)
-        × SetsAt subscriptions.old subscriptions.new channel.now
-        (option_map loses (progress_at subscriptions.old channel.now))) }
+) -> Met
+    ensures meets { result.meets
+        ≡ meeting (at_offset epoch.now publication.now)
+        (progress_at subscriptions.old channel.now) }
+    ensures after { TakesAt result channel.now epoch.now publication.now
+        subscriptions.old subscriptions.new }
+    ensures order { names subscriptions.new ≡ names subscriptions.old }
 {
     match subscriptions.get_mut(channel) {
-        None => false,
-        Some(progress) => progress.keep(epoch, publication),
+        None => Met {
+            meets: Meets::Nothing,
+            refused: false,
+        },
+        Some(progress) => progress.take(epoch, publication),
     }
 }
 
 /// Puts something in place of what is there. Where there is nothing, nothing changes.
 #[tactic(auto, using(std::proofs::lemmas::Map::Text::text_keys))]
 pub(crate) fn replace(
-    subscriptions: &mut BTreeMap<String, Box<Progress>>,
+    subscriptions: &mut IndexMap<String, Box<Progress>>,
     channel: &str,
     progress: Progress,
 )
-    ensures { SetsAt subscriptions.old subscriptions.new channel.now
+    ensures after { SetsAt subscriptions.old subscriptions.new channel.now
         (option_map (λ _. progress) (progress_at subscriptions.old channel.now)) }
+    ensures order { names subscriptions.new ≡ names subscriptions.old }
 {
     if let Some(place) = subscriptions.get_mut(channel) {
         **place = progress;
     }
 }
 
-/// Adds a subscription to a channel that has none.
+/// Adds a subscription to a channel that has none, behind all others. Room for nine comes with the first, and is given back,
+/// since most sessions have one.
 #[tactic(auto, using(std::proofs::lemmas::Map::Text::text_keys))]
 pub(crate) fn add(
-    subscriptions: &mut BTreeMap<String, Box<Progress>>,
+    subscriptions: &mut IndexMap<String, Box<Progress>>,
     alloc: Global,
     channel: &str,
     progress: Progress,
@@ -124,17 +155,27 @@ pub(crate) fn add(
     requires { progress_at subscriptions.old channel.now ≡ None }
     ensures ok { OnOk result
         (SetsAt subscriptions.old subscriptions.new channel.now (Some progress)) }
+    ensures last { OnOk result (names subscriptions.new
+        ≡ names subscriptions.old ++ channel.now ∷ []) }
     ensures err { OnErr result (subscriptions.new.entries ≡ subscriptions.old.entries) }
 {
     let key = String::from_str(alloc, channel)?;
     subscriptions.insert(key, Box::new(alloc, progress)?)?;
+    if subscriptions.len() == 1 {
+        subscriptions.shrink_to_fit();
+    }
     Ok(())
 }
 
-/// Takes a channel's subscription out.
+/// Takes a channel's subscription out. The others keep their order, and with the last one the room is given back.
 #[tactic(auto, using(std::proofs::lemmas::Map::Text::text_keys))]
-pub(crate) fn take_out(subscriptions: &mut BTreeMap<String, Box<Progress>>, channel: &str)
-    ensures { SetsAt subscriptions.old subscriptions.new channel.now None }
+pub(crate) fn take_out(subscriptions: &mut IndexMap<String, Box<Progress>>, channel: &str)
+    ensures gone { SetsAt subscriptions.old subscriptions.new channel.now None }
+    ensures others { names subscriptions.new
+        ≡ remove_key (bytes_eq channel.now) (names subscriptions.old) }
 {
-    let _gone = subscriptions.remove(channel);
+    let _gone = subscriptions.shift_remove(channel);
+    if subscriptions.is_empty() {
+        subscriptions.shrink_to_fit();
+    }
 }

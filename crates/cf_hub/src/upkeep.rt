@@ -4,15 +4,13 @@ ghost use Rattle.cf_hub.specs.Checked.{stand_of};
 ghost use Rattle.cf_hub.specs.Subscriptions.{sub_of};
 
 use crate::checked::{Checked, position_check};
-use crate::delivered::Fate;
-use crate::session::{Session, Step};
+use crate::fate::Fate;
+use crate::session::Session;
+use crate::step::Step;
 use crate::subscription::Progress;
 use crate::wording::{end_text, ping_text};
-use cf_protocol::Position;
+use cf_protocol::{CloseCode, Position};
 use std::alloc::Global;
-
-/// The close of a client that answers no ping.
-const NO_PONG: u16 = 3012;
 
 /// How many seconds there are from ping to ping.
 const PING_SECONDS: u64 = 25;
@@ -129,7 +127,7 @@ impl Session {
     {
         let was_closed = self.is_closed();
         if self.is_unanswered(now) {
-            let _open = self.close(NO_PONG);
+            let _open = self.close(CloseCode::NoPong.code());
             return self.step(was_closed, Fate::Passed, false);
         }
         if !self.is_ping_due(now) {

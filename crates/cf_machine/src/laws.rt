@@ -77,6 +77,14 @@ pub fn streams_stand_over_lists()
         ((loose_run config start happenings).broker.streams channel) }
 {}
 
+/// After every loose run as many keys stand in each epoch of a channel as data, the empty key among them.
+#[tactic(auto, using(crate::proofs::Headline::keys_beside))]
+pub fn keys_stand_beside_lists()
+    ensures { (config : Config) (happenings : List Happening) (channel epoch : List ℕ)
+        → length ((loose_run config start happenings).broker.keys channel epoch)
+        ≡ length ((loose_run config start happenings).broker.lists channel epoch) }
+{}
+
 /// A schedule is a loose run of its lines: it leads to the same world and has the same trace.
 #[tactic(auto, using(crate::proofs::Schedules::run_of_lines, crate::proofs::Schedules::trace_of_lines))]
 pub fn schedules_are_loose_runs()

@@ -4,5 +4,6 @@
 #![tactic(auto)]
 
 pub mod examples;
+pub mod keyed;
 pub mod laws;
 pub mod rules;

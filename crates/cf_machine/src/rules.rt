@@ -68,7 +68,7 @@ pub fn rule_examples()
     ensures arrivals_1000_suffice { falls_short (first_places 1000) reply_at_0 ≡ false }
     ensures arrivals_1001 { run_length (first_places 1001) reply_at_0 ≡ 0 }
     ensures arrivals_1001_fall_short { falls_short (first_places 1001) reply_at_0 ≡ true }
-    ensures put_without_epoch { next_id (Connect ann 0 ∷ PublishBy ann news (codes "1") ∷ [])
+    ensures put_without_epoch { next_id (Connect ann 0 ∷ PublishBy ann news [] (codes "1") ∷ [])
         ≡ next_id (Connect ann 0 ∷ []) }
 {}
 

@@ -3,8 +3,8 @@ use Rattle.std.proofs.Common.{◌≡◌, refl, false, None}
 use Rattle.cf_session.specs.SessionMachine.{Progress, Todo, Out, awaits}
 use Rattle.cf_session.specs.Standing.{progress_of, tables_of}
 use Rattle.cf_session.specs.declared.session.Session.{Session}
-use Rattle.cf_talk.specs.Played.{AskStreams}
-use Rattle.cf_talk.specs.Turn.{CanGoOn}
+use Rattle.cf_session.specs.Played.{AskStreams}
+use Rattle.cf_session.specs.Turn.{CanGoOn}
 use Rattle.cf_node.specs.Ready.{is_out}
 
 pub none_is_out : (p : Progress) → awaits p ≡ None → is_out p ≡ false

@@ -3,7 +3,7 @@
 use Rattle.std.specs.Prelude.{◌≡◌, ◌==◌, ◌&&◌, not, ℕ, Bool, List, false}
 use Rattle.cf_session.specs.Standing.{is_idle, is_short, progress_of, tables_of}
 use Rattle.cf_session.specs.declared.session.Session.{Session}
-use Rattle.cf_talk.specs.Played.{Goes, LeadsOn}
+use Rattle.cf_session.specs.Played.{Goes, LeadsOn}
 
 module _ {C : Type 0} (closed : C → Bool) where
   -- Unless memory was refused to the session, the text is on its way: its script is played, action by action, by who carries it out,

@@ -7,7 +7,7 @@ use Rattle.cf_session.specs.Asking.{AllAsk, HasStream}
 use Rattle.cf_session.specs.Calls.{Call, Attach, Begin, Finish, Leave, Read, Publish, History, Presence, Stats}
 use Rattle.cf_session.specs.Script.{Script, Served, Over, Close, Say, Pong, Ask}
 use Rattle.cf_session.specs.SessionMachine.{Progress, Todo, Out}
-use Rattle.cf_talk.specs.Played.{AskStreams}
+use Rattle.cf_session.specs.Played.{AskStreams}
 
 -- a call of the session is out
 abbrev pub is_out : Progress → Bool
@@ -17,7 +17,7 @@ is_out (Out kind after) = true
 -- Of each of these facts there is one proof at most, as a fact that a desk keeps has to be.
 pub HasStream-prop : (t : NamespaceTable) (call : Call) → IsProp (HasStream t call)
 HasStream-prop t (Read c since) = Bool-set _ _
-HasStream-prop t (Publish c body info) = Bool-set _ _
+HasStream-prop t (Publish c key body info) = Bool-set _ _
 HasStream-prop t (History c limit since) = Bool-set _ _
 HasStream-prop t (Attach user) = Unit-prop
 HasStream-prop t (Begin c id since) = Unit-prop

@@ -1,11 +1,12 @@
 //! One connection: a socket whose head is collected, and then a wire and its session.
+use crate::backend::Backend;
 use crate::desk::SessionDesk;
-use crate::house::House;
 use crate::leaving::Leaving;
 use crate::socket::Socket;
 use cf_dispatch::is_head_over;
 use cf_queue::Out;
-use cf_wire::{Gather, TurnEnd, Wire};
+use cf_session::{TurnEnd, Wire};
+use cf_wire::Gather;
 use mio::net::TcpStream;
 use std::alloc::Global;
 use std::collections::VecDeque;
@@ -17,11 +18,11 @@ const LONGEST_HEAD: usize = 16_384;
 
 /// What stands at one place of the IO loop.
 #[derive(Drop)]
-pub(crate) enum Connection<'a, H: House> {
+pub(crate) enum Connection<'a, B: Backend> {
     Empty,
     /// The head has not come whole.
     Head(Head),
-    Open(Box<Open<'a, H>>),
+    Open(Box<Open<'a, B>>),
     /// It gets no WebSocket, and was told so.
     Leaving(Leaving),
 }
@@ -37,9 +38,11 @@ pub(crate) struct Head {
 
 /// A connection that speaks: its wire, and the desk at which its session sits.
 #[derive(Drop)]
-pub(crate) struct Open<'a, H: House> {
+pub(crate) struct Open<'a, B: Backend> {
     pub(crate) wire: Wire<Gather<Socket>>,
-    pub(crate) desk: SessionDesk<'a, H>,
+    pub(crate) desk: SessionDesk<'a, B>,
+    /// Its last turn in which texts were heard spent the bounds of one.
+    pub(crate) is_spent: bool,
 }
 
 impl Head {
@@ -98,13 +101,13 @@ impl Head {
     }
 }
 
-impl<'a, H: House> Connection<'a, H> {
+impl<'a, B: Backend> Connection<'a, B> {
     /// What a second brings: whether the connection still stands.
-    pub(crate) fn look_after(&mut self, now: u64) -> bool {
+    pub(crate) fn refresh(&mut self, now: u64) -> bool {
         match self {
             Connection::Empty => true,
             Connection::Head(head) => !is_head_over(head.accepted, now),
-            Connection::Open(open) => open.desk.clerk.look_after(now),
+            Connection::Open(open) => open.desk.handler.refresh(now),
             Connection::Leaving(leaving) => !leaving.is_over(now),
         }
     }
@@ -139,7 +142,7 @@ pub(crate) enum Turned {
     Over,
 }
 
-impl<'a, H: House> Open<'a, H> {
+impl<'a, B: Backend> Open<'a, B> {
     /// Takes a turn: sends what waits while the socket takes it, and where it is to hear, carries on
     /// what is on its way and reads what came, up to the bounds of one turn.
     pub(crate) fn turn(&mut self, buffer: &mut Vec<u8>, now: u64, hears: bool) -> Turned {
@@ -154,6 +157,9 @@ impl<'a, H: House> Open<'a, H> {
         let end = self.wire.turn(&mut self.desk);
         if !gives_back(&mut self.wire, buffer) {
             return Turned::Over;
+        }
+        if hears {
+            self.is_spent = self.desk.is_spent(end == TurnEnd::More);
         }
         match end {
             TurnEnd::Idle if self.has_more() => Turned::More,
@@ -170,7 +176,7 @@ impl<'a, H: House> Open<'a, H> {
         if self.wire.stream().is_drained() {
             return Turned::Over;
         }
-        self.desk.clerk.stop();
+        self.desk.handler.stop();
         Turned::Idle
     }
 

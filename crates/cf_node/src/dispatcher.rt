@@ -3,7 +3,7 @@ ghost use Rattle.cf_dispatch.specs.Dispatch.{Dispatches};
 
 use crate::gate::{DISPATCHER, Gate};
 use crate::shared::Shared;
-use cf_dispatch::{Post, pass_on};
+use cf_dispatch::{Mailbox, pass_on};
 use cf_hub::Delivered;
 use cf_link::Receiver;
 use cf_shard::Delivery;
@@ -18,14 +18,14 @@ const LONGEST_SLEEP: u64 = 500;
 
 /// The dispatcher's end of the node's link, and the hub under its lock.
 #[derive(Drop)]
-pub(crate) struct NodePost<'a, R, G> {
+pub(crate) struct NodeMailbox<'a, R, G> {
     pub(crate) rt: &'a R,
     pub(crate) gate: &'a G,
     pub(crate) receiver: Receiver<Delivery>,
     pub(crate) shared: &'a Shared,
 }
 
-impl<'a, R: Wait + Clock, G: Gate> Post for NodePost<'a, R, G> {
+impl<'a, R: Wait + Clock, G: Gate> Mailbox for NodeMailbox<'a, R, G> {
     ghost use Rattle.std.specs.Prelude.{◌≡◌, ◌++◌, ◌∷◌, [], MatchOption};
     ghost use Rattle.cf_link.specs.Link.{IsSameLink};
 
@@ -40,7 +40,7 @@ impl<'a, R: Wait + Clock, G: Gate> Post for NodePost<'a, R, G> {
     ghost wakes = { λ old new. new ≡ old };
 
     fn receive(&mut self) -> Option<Delivery> {
-        self.shared.beat(self.gate.now(self.rt));
+        self.shared.note_turn(self.gate.now(self.rt));
         self.receiver
             .receive_within(self.rt, Duration::from_millis(LONGEST_SLEEP))
     }
@@ -60,14 +60,14 @@ impl<'a, R: Wait + Clock, G: Gate> Post for NodePost<'a, R, G> {
 }
 
 /// Takes turns until `stop` isn't 0.
-pub(crate) fn dispatch<R: Wait + Clock, P: Post, G: Gate>(
+pub(crate) fn dispatch<R: Wait + Clock, M: Mailbox, G: Gate>(
     rt: &R,
     node: u8,
-    post: &mut P,
+    mailbox: &mut M,
     gate: &G,
     stop: &AtomicU64,
 )
-    ensures { Dispatches P.receives P.brings P.wakes post.old post.new }
+    ensures { Dispatches M.receives M.brings M.wakes mailbox.old mailbox.new }
 {
     let mut turn: u64 = 0;
     for _ in rt.forever() {
@@ -76,7 +76,7 @@ pub(crate) fn dispatch<R: Wait + Clock, P: Post, G: Gate>(
         }
         turn = turn.wrapping_add(1);
         if gate.may(node, DISPATCHER, turn) {
-            pass_on(post);
+            pass_on(mailbox);
         } else {
             thread::yield_now();
         }

@@ -1,15 +1,18 @@
 //! The worker that serves the sockets: it turns a connection that has something to read or
-//! something to send, and no other, in the order of an agenda.
+//! something to send, and no other, in the order of an agenda. A connection that has spent what one
+//! turn carries out goes on behind all others, and once what it brought them is sent.
+use crate::acceptor::{Accepted, Acceptor, LISTENER, WAKER};
+use crate::backend::Backend;
 use crate::connection::{Connection, Head, Open, Turned, takes_more};
 use crate::desk::SessionDesk;
-use crate::door::{Accepted, Door, LISTENER, WAKER};
 use crate::gate::{Gate, IO_LOOP};
-use crate::house::House;
 use crate::leaving::Leaving;
 use crate::socket::Socket;
-use cf_dispatch::{Agenda, SESSIONS_AT_ONCE, Seats, Seconds, take_batch};
+use cf_dispatch::{Agenda, Outlets, SESSIONS_AT_ONCE, Seconds, take_batch};
+use cf_protocol::CloseCode;
 use cf_queue::Out;
-use cf_wire::{Gather, Wire};
+use cf_session::Wire;
+use cf_wire::Gather;
 use mio::Events;
 use mio::event::Event;
 use std::alloc::AllocError;
@@ -25,8 +28,14 @@ const MOST_ACCEPTED: usize = 64;
 /// So many bytes are gathered before they are written within a turn.
 const GATHERED: usize = 65_536;
 
-/// The most times that sessions are asked for in a row.
-const MOST_BATCHES: usize = 64;
+/// The most times that sessions are asked for in a row: then others are heard.
+const MOST_BATCHES: usize = 4;
+
+/// So many connections are heard before those are served that got something by it.
+const HEARD_AT_ONCE: usize = 16;
+
+/// The most turns by which a connection that has spent a turn's bounds waits for what is to be sent.
+const MOST_WAITED: u32 = 16;
 
 /// So many sockets are told of at one wait.
 const MOST_EVENTS: usize = 512;
@@ -34,9 +43,6 @@ const MOST_EVENTS: usize = 512;
 /// How long the loop waits for readiness where nothing is left to do, in milliseconds, so that it
 /// sees each new second.
 const PATIENCE: u64 = 1000;
-
-/// The close of a program that ends.
-const SHUTDOWN: u16 = 3001;
 
 /// What the listener was left with.
 #[derive(Clone, Copy, PartialEq, Eq, Drop)]
@@ -57,16 +63,22 @@ struct Named {
 }
 
 #[derive(Drop)]
-struct IoLoop<'a, H: House> {
-    house: &'a H,
-    door: Door,
-    places: Vec<Connection<'a, H>>,
+struct IoLoop<'a, B: Backend> {
+    backend: &'a B,
+    acceptor: Acceptor,
+    places: Vec<Connection<'a, B>>,
     // The places that stand empty.
     free: Vec<usize>,
     // At which place each session of the hub is.
     owners: Vec<usize>,
     // The places that have a turn to come.
     agenda: Agenda,
+    // Those of them that have spent the bounds of their last one.
+    spenders: Agenda,
+    // For how many turns these have waited for what is to be sent.
+    waited: u32,
+    // The hub may have something for sessions that it wasn't asked for.
+    is_behind: bool,
     // The places whose sessions the hub has just named.
     batch: Vec<Named>,
     // A buffer for what one turn sends, so that idle connections keep none.
@@ -78,15 +90,15 @@ struct IoLoop<'a, H: House> {
 }
 
 /// Serves until `stop` isn't 0, and then closes all sessions with 3001.
-pub(crate) fn serve<R: Wait + Clock, H: House, G: Gate>(
+pub(crate) fn serve<R: Wait + Clock, B: Backend, G: Gate>(
     rt: &R,
     node: u8,
-    house: &H,
-    door: Door,
+    backend: &B,
+    acceptor: Acceptor,
     gate: &G,
     stop: &AtomicU64,
 ) -> io::Result<()> {
-    let mut io_loop = IoLoop::new(house, door);
+    let mut io_loop = IoLoop::new(backend, acceptor);
     io_loop.run(rt, node, gate, stop)?;
     io_loop.shut_down();
     Ok(())
@@ -94,18 +106,18 @@ pub(crate) fn serve<R: Wait + Clock, H: House, G: Gate>(
 
 // A connection whose head is whole: the handshake is answered, or the question whether the node
 // lives. Empty where there is no answer.
-fn opened<'a, H: House>(
-    house: &'a H,
-    connection: Connection<'a, H>,
+fn opened<'a, B: Backend>(
+    backend: &'a B,
+    connection: Connection<'a, B>,
     now: u64,
-) -> Connection<'a, H> {
+) -> Connection<'a, B> {
     let Connection::Head(head) = connection else {
         return Connection::Empty;
     };
-    let gather = Gather::new(house.alloc(), head.into_socket(), GATHERED);
-    match Wire::accept(house.alloc(), gather) {
-        Ok(wire) => seated(house, wire, now),
-        Err(refused) => match Leaving::new(refused, house.is_well(now), now) {
+    let gather = Gather::new(backend.alloc(), head.into_socket(), GATHERED);
+    match Wire::accept(backend.alloc(), gather) {
+        Ok(wire) => seated(backend, wire, now),
+        Err(refused) => match Leaving::new(refused, backend.is_well(now), now) {
             Some(leaving) => Connection::Leaving(leaving),
             None => Connection::Empty,
         },
@@ -113,24 +125,36 @@ fn opened<'a, H: House>(
 }
 
 // A connection that speaks, at a desk of its own. Empty where memory is refused.
-fn seated<'a, H: House>(house: &'a H, wire: Wire<Gather<Socket>>, now: u64) -> Connection<'a, H> {
-    let desk = SessionDesk::new(house, now);
-    match Box::new(house.alloc(), Open { wire, desk }) {
+fn seated<'a, B: Backend>(
+    backend: &'a B,
+    wire: Wire<Gather<Socket>>,
+    now: u64,
+) -> Connection<'a, B> {
+    let desk = SessionDesk::new(backend, now);
+    let open = Open {
+        wire,
+        desk,
+        is_spent: false,
+    };
+    match Box::new(backend.alloc(), open) {
         Ok(open) => Connection::Open(open),
         Err(_) => Connection::Empty,
     }
 }
 
-impl<'a, H: House> IoLoop<'a, H> {
-    fn new(house: &'a H, door: Door) -> IoLoop<'a, H> {
-        let alloc = house.alloc();
+impl<'a, B: Backend> IoLoop<'a, B> {
+    fn new(backend: &'a B, acceptor: Acceptor) -> IoLoop<'a, B> {
+        let alloc = backend.alloc();
         IoLoop {
-            house,
-            door,
+            backend,
+            acceptor,
             places: Vec::new(alloc),
             free: Vec::new(alloc),
             owners: Vec::new(alloc),
             agenda: Agenda::new(alloc),
+            spenders: Agenda::new(alloc),
+            waited: 0,
+            is_behind: false,
             batch: Vec::new(alloc),
             buffer: Vec::new(alloc),
             accepts: Accepts::All,
@@ -147,7 +171,7 @@ impl<'a, H: House> IoLoop<'a, H> {
         gate: &G,
         stop: &AtomicU64,
     ) -> io::Result<()> {
-        let mut events = Events::with_capacity(self.house.alloc(), MOST_EVENTS)?;
+        let mut events = Events::with_capacity(self.backend.alloc(), MOST_EVENTS)?;
         let mut turn: u64 = 0;
         for _ in rt.forever() {
             if stop.load(Ordering::SeqCst) != 0 {
@@ -169,16 +193,18 @@ impl<'a, H: House> IoLoop<'a, H> {
     // Waits for readiness, where nothing is left to do.
     fn wait(&mut self, events: &mut Events) -> io::Result<()> {
         let is_done = self.agenda.is_empty()
+            && self.spenders.is_empty()
+            && !self.is_behind
             && self.accepts != Accepts::More
             && !self.seconds.is_late();
         let patience = if is_done { PATIENCE } else { 0 };
-        self.door.wait(events, Duration::from_millis(patience))
+        self.acceptor.wait(events, Duration::from_millis(patience))
     }
 
     // One turn: what is ready is noted, who has a turn to come has it, and then comes a new second.
     fn turn(&mut self, events: &Events, now: u64) {
         self.now = now;
-        self.house.look();
+        self.backend.look();
         let mut count: usize = 0;
         for event in events {
             count = count.saturating_add(1);
@@ -189,7 +215,10 @@ impl<'a, H: House> IoLoop<'a, H> {
         }
         self.serve_named();
         self.serve_agenda();
-        self.house.catch_up();
+        self.serve_spender();
+        if !self.is_behind {
+            self.backend.catch_up();
+        }
         if self.seconds.turn_ends(now, count >= MOST_EVENTS) {
             self.on_second();
         }
@@ -197,13 +226,13 @@ impl<'a, H: House> IoLoop<'a, H> {
 
     // What comes with each new second: pings, rounds, and at node 0 the broker's time.
     fn on_second(&mut self) {
-        self.house.hub().tick(self.seconds.done());
+        self.backend.hub().tick(self.seconds.done());
         for place in 0..self.places.len() {
-            if !self.looks_after(place) {
+            if !self.refresh(place) {
                 self.end(place);
             }
         }
-        self.house.tick(self.seconds.done());
+        self.backend.tick(self.seconds.done());
         if self.accepts == Accepts::Failed {
             self.accept_some();
         }
@@ -211,9 +240,9 @@ impl<'a, H: House> IoLoop<'a, H> {
     }
 
     // What a second brings to the connection at a place. `false` where it is over.
-    fn looks_after(&mut self, place: usize) -> bool {
+    fn refresh(&mut self, place: usize) -> bool {
         match self.places.get_mut(place) {
-            Some(connection) => connection.look_after(self.seconds.done()),
+            Some(connection) => connection.refresh(self.seconds.done()),
             None => true,
         }
     }
@@ -238,8 +267,21 @@ impl<'a, H: House> IoLoop<'a, H> {
 
     // A turn of the connection at a place is to come.
     fn owe(&mut self, place: usize) {
-        if self.agenda.add(place).is_err() {
+        let is_added = if self.has_spent(place) {
+            self.spenders.add(place).is_ok()
+        } else {
+            self.agenda.add(place).is_ok()
+        };
+        if !is_added {
             self.end(place);
+        }
+    }
+
+    // Whether the connection at a place has spent the bounds of its last turn.
+    fn has_spent(&self, place: usize) -> bool {
+        match self.places.get(place) {
+            Some(Connection::Open(open)) => open.is_spent,
+            _ => false,
         }
     }
 
@@ -259,18 +301,18 @@ impl<'a, H: House> IoLoop<'a, H> {
 
     // Accepts a connection, if one waits.
     fn accept(&mut self) -> Accepts {
-        let stream = match self.door.accept() {
+        let stream = match self.acceptor.accept() {
             Accepted::Stream(stream) => stream,
             Accepted::Gone => return Accepts::More,
             Accepted::Nothing => return Accepts::All,
             Accepted::Failed => {
-                self.house.note_refused();
+                self.backend.note_refused();
                 return Accepts::Failed;
             }
         };
-        let head = Head::new(self.house.alloc(), stream, self.seconds.done());
+        let head = Head::new(self.backend.alloc(), stream, self.seconds.done());
         if self.put(head).is_err() {
-            self.house.note_refused();
+            self.backend.note_refused();
         }
         Accepts::More
     }
@@ -278,11 +320,11 @@ impl<'a, H: House> IoLoop<'a, H> {
     // Gives a new connection its place. Where that fails the connection is dropped.
     fn put(&mut self, mut head: Head) -> Result<(), AllocError> {
         let place = self.empty_place()?;
-        let is_registered = self.door.registers(&mut head.socket.stream, place);
+        let is_registered = self.acceptor.registers(&mut head.socket.stream, place);
         match self.places.get_mut(place) {
             Some(connection) if is_registered => *connection = Connection::Head(head),
             _ => {
-                self.house.note_refused();
+                self.backend.note_refused();
                 let _ = self.free.push(place);
             }
         }
@@ -305,11 +347,30 @@ impl<'a, H: House> IoLoop<'a, H> {
 
     // Each that has a turn to come has one, in their order, and who got something by it is served.
     fn serve_agenda(&mut self) {
-        for _ in 0..self.agenda.len() {
+        for heard in 0..self.agenda.len() {
             if let Some(place) = self.agenda.next() {
                 self.hear(place);
-                self.serve_named();
+                if heard % HEARD_AT_ONCE == 0 {
+                    self.serve_named();
+                }
             }
+        }
+    }
+
+    // One that has spent the bounds of its last turn goes on, where nothing is left to be sent, or it
+    // has waited for that for long.
+    fn serve_spender(&mut self) {
+        if self.spenders.is_empty() {
+            return;
+        }
+        if self.is_behind && self.waited < MOST_WAITED {
+            self.waited += 1;
+            return;
+        }
+        self.waited = 0;
+        if let Some(place) = self.spenders.next() {
+            self.hear(place);
+            self.serve_named();
         }
     }
 
@@ -332,7 +393,7 @@ impl<'a, H: House> IoLoop<'a, H> {
             return;
         };
         let head = mem::replace(connection, Connection::Empty);
-        *connection = opened(self.house, head, self.now);
+        *connection = opened(self.backend, head, self.now);
         if matches!(connection, Connection::Empty) {
             self.vacate(place);
         } else {
@@ -345,7 +406,7 @@ impl<'a, H: House> IoLoop<'a, H> {
         let turned = match self.places.get_mut(place) {
             Some(Connection::Open(open)) => {
                 let turned = open.turn(&mut self.buffer, self.seconds.done(), hears);
-                if let Some(number) = open.desk.clerk.member.standing.number() {
+                if let Some(number) = open.desk.handler.client.standing.number() {
                     if let Some(owner) = self.owners.get_mut(number as usize) {
                         *owner = place;
                     }
@@ -371,8 +432,8 @@ impl<'a, H: House> IoLoop<'a, H> {
             Connection::Empty => return,
             Connection::Head(_) => {}
             Connection::Open(open) => {
-                let Open { wire: _, mut desk } = Box::into_inner(open);
-                desk.clerk.give_up();
+                let Open { mut desk, .. } = Box::into_inner(open);
+                desk.handler.give_up();
             }
             Connection::Leaving(_) => {}
         }
@@ -382,11 +443,13 @@ impl<'a, H: House> IoLoop<'a, H> {
     // A place stands empty again.
     fn vacate(&mut self, place: usize) {
         self.agenda.remove(place);
+        self.spenders.remove(place);
         let _ = self.free.push(place);
     }
 
-    // Turns those for which the hub has something.
+    // Turns those for which the hub has something, some of them, and notes whether there may be more.
     fn serve_named(&mut self) {
+        self.is_behind = false;
         if self.batch.reserve(SESSIONS_AT_ONCE).is_err() {
             return;
         }
@@ -397,11 +460,12 @@ impl<'a, H: House> IoLoop<'a, H> {
             }
             self.serve_batch();
         }
+        self.is_behind = true;
     }
 
     // Turns those for which something was taken. The room for the next ones is kept.
     fn serve_batch(&mut self) {
-        let mut batch = mem::replace(&mut self.batch, Vec::new(self.house.alloc()));
+        let mut batch = mem::replace(&mut self.batch, Vec::new(self.backend.alloc()));
         for named in batch.iter() {
             if named.is_free {
                 self.serve(named.place, false);
@@ -416,14 +480,14 @@ impl<'a, H: House> IoLoop<'a, H> {
     // Looks whether the session at a place whose socket takes nothing was closed.
     fn look_over(&mut self, place: usize) {
         if let Some(Connection::Open(open)) = self.places.get_mut(place) {
-            open.desk.clerk.sees_end();
+            open.desk.handler.sees_end();
         }
     }
 
     // Takes what waits for some sessions under one lock of the hub, and notes their places. What a
     // socket has no room for stays in the hub.
     fn take_some(&mut self) {
-        let mut hub = self.house.hub();
+        let mut hub = self.backend.hub();
         take_batch(&mut hub, self);
     }
 
@@ -432,7 +496,7 @@ impl<'a, H: House> IoLoop<'a, H> {
         match self.places.get_mut(place) {
             Some(Connection::Open(open)) => {
                 open.desk.owed = true;
-                open.desk.clerk.member.standing.number()
+                open.desk.handler.client.standing.number()
             }
             _ => None,
         }
@@ -442,7 +506,7 @@ impl<'a, H: House> IoLoop<'a, H> {
     fn shut_down(&mut self) {
         for place in 0..self.places.len() {
             if let Some(number) = self.owes(place) {
-                self.house.hub().close(number, SHUTDOWN);
+                self.backend.hub().close(number, CloseCode::Shutdown.code());
             }
             self.serve(place, false);
             self.end(place);
@@ -455,7 +519,7 @@ fn place_of(owners: &[usize], session: u32) -> usize {
     owners.get(session as usize).copied().unwrap_or(0)
 }
 
-impl<'a, H: House> Seats for IoLoop<'a, H> {
+impl<'a, B: Backend> Outlets for IoLoop<'a, B> {
     // What a socket has room for is nothing that a contract can name.
     ghost frees = { λ _ _ _. Unit {0} };
 
@@ -466,7 +530,7 @@ impl<'a, H: House> Seats for IoLoop<'a, H> {
     fn is_free(&self, session: u32) -> bool {
         match self.places.get(place_of(&self.owners, session)) {
             Some(Connection::Open(open)) => {
-                open.desk.clerk.member.standing.number() == Some(session)
+                open.desk.handler.client.standing.number() == Some(session)
                     && takes_more(&open.wire, &open.desk.taken)
             }
             _ => false,
@@ -474,7 +538,7 @@ impl<'a, H: House> Seats for IoLoop<'a, H> {
     }
 
     fn lend(&mut self, session: u32) -> VecDeque<Out> {
-        let nothing = VecDeque::new(self.house.alloc());
+        let nothing = VecDeque::new(self.backend.alloc());
         let place = place_of(&self.owners, session);
         match self.places.get_mut(place) {
             Some(Connection::Open(open)) => mem::replace(&mut open.desk.taken, nothing),

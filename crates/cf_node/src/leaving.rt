@@ -4,7 +4,8 @@ use crate::connection::Turned;
 use crate::socket::Socket;
 use cf_dispatch::is_head_over;
 use cf_handshake::health_answer;
-use cf_wire::{Gather, Refused, WireFault};
+use cf_session::WireFault;
+use cf_wire::{Gather, Refused};
 use std::io::{ErrorKind, Read, Write};
 
 /// The most reads of one turn.

@@ -6,23 +6,25 @@
 //! at the last one.
 #![tactic(auto)]
 
-mod around;
-mod clerk;
+mod acceptor;
+mod attached_client;
+mod backend;
+mod command_handler;
 mod connection;
 mod counts;
 mod desk;
 mod dispatcher;
-mod door;
 mod gate;
-mod house;
 mod io_loop;
 mod leaving;
-mod member;
+mod live_backend;
 mod node;
 mod rounds;
 mod shared;
+mod sizes;
 mod socket;
 
 pub use counts::Counts;
 pub use gate::{DISPATCHER, Gate, IO_LOOP};
 pub use node::{Node, Setup};
+pub use sizes::set_size;

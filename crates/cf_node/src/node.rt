@@ -1,12 +1,12 @@
 //! A node, and what it is set up with.
 ghost use Rattle.std.specs.Prelude.{◌≡◌};
 
-use crate::around::Around;
+use crate::acceptor::Acceptor;
 use crate::counts::Counts;
-use crate::dispatcher::{NodePost, dispatch};
-use crate::door::Door;
+use crate::dispatcher::{NodeMailbox, dispatch};
 use crate::gate::Gate;
 use crate::io_loop::serve;
+use crate::live_backend::LiveBackend;
 use crate::shared::Shared;
 use cf_broker::{Broker, Passes};
 use cf_hub::Hub;
@@ -72,7 +72,7 @@ impl<'a, N: Naming> Setup<'a, N> {
 #[derive(Drop)]
 pub struct Node<'a, N: Naming> {
     setup: Setup<'a, N>,
-    door: Door,
+    acceptor: Acceptor,
     receiver: Receiver<Delivery>,
     shared: Shared,
 }
@@ -86,12 +86,12 @@ impl<'a, N: Naming> Node<'a, N> {
         receiver: Receiver<Delivery>,
         listener: TcpListener,
     ) -> io::Result<Node<'a, N>> {
-        let (door, waker) = Door::open(rt, listener)?;
+        let (acceptor, waker) = Acceptor::open(rt, listener)?;
         let hub = Hub::new(rt.alloc(), setup.node, setup.boot);
         let shared = Shared::new(hub, waker);
         Ok(Node {
             setup,
-            door,
+            acceptor,
             receiver,
             shared,
         })
@@ -117,13 +117,13 @@ impl<'a, N: Naming> Node<'a, N> {
     {
         let Node {
             setup,
-            door,
+            acceptor,
             receiver,
             shared,
         } = self;
         let node = setup.node;
         let shared = &shared;
-        let around = Around {
+        let backend = LiveBackend {
             rt,
             alloc: rt.alloc(),
             setup,
@@ -131,16 +131,16 @@ impl<'a, N: Naming> Node<'a, N> {
             broker,
             passes: RefCell::new(passes),
         };
-        let around = &around;
+        let backend = &backend;
         thread::scope(thread::scope_env(), rt, |scope| {
-            let mut post = NodePost {
+            let mut mailbox = NodeMailbox {
                 rt,
                 gate,
                 receiver,
                 shared,
             };
-            let served = match scope.spawn(move || dispatch(rt, node, &mut post, gate, stop)) {
-                Ok(_) => serve(rt, node, around, door, gate, stop),
+            let served = match scope.spawn(move || dispatch(rt, node, &mut mailbox, gate, stop)) {
+                Ok(_) => serve(rt, node, backend, acceptor, gate, stop),
                 Err(refused) => Err(io::Error::from(refused)),
             };
             stop.store(1, Ordering::SeqCst);

@@ -1,25 +1,25 @@
 //! What is looked after every 25 seconds for each client: where its subscriptions stand, and that
 //! it is present.
-use crate::clerk::Clerk;
-use crate::house::House;
-use crate::member::Present;
+use crate::attached_client::Present;
+use crate::backend::Backend;
+use crate::command_handler::CommandHandler;
 use cf_dispatch::{goes_on, is_close_over, mark_after};
 
 /// How many seconds lie between two rounds of a client.
 const ROUND: u64 = 25;
 
-impl<'a, H: House> Clerk<'a, H> {
+impl<'a, B: Backend> CommandHandler<'a, B> {
     /// What a second brings: where the session is over, whether its connection still stands; else a
     /// round, where the client's last was 25 seconds ago: the position of each of its subscriptions
     /// is checked, and it is present again in each channel that it still has.
-    pub(crate) fn look_after(&mut self, now: u64) -> bool {
+    pub(crate) fn refresh(&mut self, now: u64) -> bool {
         self.now = now;
         if self.sees_end() {
             return self.still_closes();
         }
-        if let Some(number) = self.member.standing.number() {
-            if now.saturating_sub(self.member.looked) >= ROUND {
-                self.member.looked = now;
+        if let Some(number) = self.client.standing.number() {
+            if now.saturating_sub(self.client.refreshed) >= ROUND {
+                self.client.refreshed = now;
                 self.go_round(number);
             }
         }
@@ -29,7 +29,7 @@ impl<'a, H: House> Clerk<'a, H> {
     // Whether the connection of a session that is over still stands: its socket may take what waits
     // for it for a while.
     fn still_closes(&mut self) -> bool {
-        let is_over = is_close_over(self.member.ended, self.now);
+        let is_over = is_close_over(self.client.ended, self.now);
         if is_over {
             self.note_slow();
         }
@@ -38,10 +38,10 @@ impl<'a, H: House> Clerk<'a, H> {
 
     // A round of the client.
     fn go_round(&mut self, number: u32) {
-        self.member.looks_at(&self.house.hub(), number);
-        for _ in 0..self.member.channels.len() {
+        self.client.looks_at(&self.backend.hub(), number);
+        for _ in 0..self.client.channels.len() {
             // Each is taken from the front and, where it stands, put back behind the others.
-            if let Some(present) = self.member.channels.pop_front() {
+            if let Some(present) = self.client.channels.pop_front() {
                 self.look_at(number, present);
             }
         }
@@ -51,10 +51,10 @@ impl<'a, H: House> Clerk<'a, H> {
     fn look_at(&mut self, number: u32, mut present: Present) {
         if self.stands(number, &mut present) {
             self.enter(present.channel.as_str());
-            let _ = self.member.channels.push_back(present);
+            let _ = self.client.channels.push_back(present);
         } else {
-            self.house
-                .leave(present.channel.as_str(), self.member.client.as_str());
+            self.backend
+                .leave(present.channel.as_str(), self.client.id.as_str());
         }
     }
 
@@ -63,30 +63,30 @@ impl<'a, H: House> Clerk<'a, H> {
     fn stands(&self, number: u32, present: &mut Present) -> bool {
         let channel = present.channel.as_str();
         if let Some(mark) = present.mark {
-            if self.house.is_quiet_since(channel, mark) {
+            if self.backend.is_quiet_since(channel, mark) {
                 return true;
             }
         }
-        let (top, mark) = self.house.position(channel);
-        let checked = self.house.hub().check(number, channel, top);
+        let (top, mark) = self.backend.position(channel);
+        let checked = self.backend.hub().check(number, channel, top);
         present.mark = mark_after(checked, mark);
         goes_on(checked)
     }
 
     /// The connection is over: the client's session goes, and it is present nowhere.
     pub(crate) fn give_up(&mut self) {
-        if let Some(number) = self.member.standing.number() {
-            self.house.hub().detach(number);
+        if let Some(number) = self.client.standing.number() {
+            self.backend.hub().detach(number);
         }
         self.leave_all();
     }
 
     /// The client is present nowhere from now on.
     pub(crate) fn leave_all(&mut self) {
-        for present in self.member.channels.iter() {
-            self.house
-                .leave(present.channel.as_str(), self.member.client.as_str());
+        for present in self.client.channels.iter() {
+            self.backend
+                .leave(present.channel.as_str(), self.client.id.as_str());
         }
-        self.member.channels.clear();
+        self.client.channels.clear();
     }
 }

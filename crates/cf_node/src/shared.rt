@@ -41,7 +41,7 @@ pub(crate) struct Shared {
     // Not 0 while the loop waits for the hub.
     wanted: AtomicU64,
     // The moment of the dispatcher's last turn, in seconds.
-    beat: AtomicU64,
+    turned_at: AtomicU64,
 }
 
 // Whether a worker that took its last turn at one moment lives at another. Both are in seconds.
@@ -60,18 +60,18 @@ impl Shared {
             behind: AtomicU64::new(0),
             rest: AtomicU64::new(0),
             wanted: AtomicU64::new(0),
-            beat: AtomicU64::new(0),
+            turned_at: AtomicU64::new(0),
         }
     }
 
     /// The dispatcher takes a turn at this moment.
-    pub(crate) fn beat(&self, now: u64) {
-        self.beat.store(now, Ordering::SeqCst);
+    pub(crate) fn note_turn(&self, now: u64) {
+        self.turned_at.store(now, Ordering::SeqCst);
     }
 
     /// Whether the dispatcher has turned within two seconds.
     pub(crate) fn is_well(&self, now: u64) -> bool {
-        lives(self.beat.load(Ordering::SeqCst), now)
+        lives(self.turned_at.load(Ordering::SeqCst), now)
     }
 
     /// Wakes the IO loop, unless it was woken since it last looked.

@@ -107,9 +107,11 @@ fn publish_as<'a, N: Naming, R: Wait>(
         → (result.0.share ≡ pass.share + 1)
         × Gains pass.log result.0.log (publication channel.now body.now) }
 {
-    let published = owner
-        .lock(rt)
-        .append(word, &mut pass, &Entry::Published(channel, body, None));
+    let published = owner.lock(rt).append(
+        word,
+        &mut pass,
+        &Entry::Published(channel, "", body, None),
+    );
     (pass, published)
 }
 

@@ -184,8 +184,9 @@ impl ShardWord {
         give_back(table, &mut owner.seat, &mut pass.seat);
         owner.count += 1;
         match entry {
-            Entry::Published(_, _, _) => pass.share += 1,
-            Entry::Opened(_, _) | Entry::Trimmed(_, _) | Entry::Forgotten(_) => {}
+            Entry::Published(_, _, _, _) => pass.share += 1,
+            Entry::Opened(_, _) | Entry::Trimmed(_, _) | Entry::Forgotten(_) | Entry::Sized(_, _) =>
+                {}
         }
     }
 

@@ -13,7 +13,7 @@ use Rattle.cf_protocol.specs.Regular.{IsData, IsFrom, IsSince, IsRegularRequest}
 use Rattle.cf_protocol.proofs.JsonLaws.{JsonLaws}
 use Rattle.cf_protocol.proofs.Bodies.{Bodies}
 use Rattle.cf_protocol.proofs.Spellings.{is_plain}
-use Rattle.cf_protocol.proofs.CommandsBack.{history_members}
+use Rattle.cf_protocol.proofs.CommandsBack.{publish_members, history_members}
 use Rattle.cf_protocol.proofs.Alikes.{Alike, AlikeOptions, AlikeMembers, members_alike, inner_alike, whole_alike, negative_alike, flag_alike, text_alike, key, id_first, id_last, nothing_alike, position_alike, body_alike}
 use Rattle.cf_protocol.proofs.Readings.{high_limit, low_limit}
 
@@ -43,11 +43,11 @@ subscribe_alike : JsonLaws → (d : ℕ) (channel : List ℕ) (p : Option Positi
 subscribe_alike j d channel p h =
     members_alike d (("channel" ⇒ written.text channel) ∷ from p) (("channel" ⇒ written.text channel) ∷ from p) (refl, key "channel" refl, text_alike j d channel, from_alike j d p h)
 
-publish_alike : JsonLaws → (tree : List ℕ → Tree) (channel : List ℕ) (d : Data) → IsData (Bodies tree) d
-    → Alike 61 (object_of (("channel" ⇒ written.text channel) ∷ ("data" ⇒ body_of tree d) ∷ [])) (object_of (("channel" ⇒ written.text channel) ∷ ("data" ⇒ body_of as_it_is d) ∷ []))
-publish_alike j tree channel d h =
-    members_alike 60 (("channel" ⇒ written.text channel) ∷ ("data" ⇒ body_of tree d) ∷ []) (("channel" ⇒ written.text channel) ∷ ("data" ⇒ body_of as_it_is d) ∷ [])
-    (refl, key "channel" refl, text_alike j 60 channel, (refl, key "data" refl, data_alike j tree d h, tt))
+publish_alike : JsonLaws → (tree : List ℕ → Tree) (channel under : List ℕ) (d : Data) → IsData (Bodies tree) d
+    → Alike 61 (object_of (publish_members tree channel under d)) (object_of (publish_members as_it_is channel under d))
+publish_alike j tree channel under d h =
+    members_alike 60 (publish_members tree channel under d) (publish_members as_it_is channel under d)
+    (refl, key "channel" refl, text_alike j 60 channel, (refl, key "data" refl, data_alike j tree d h, (refl, key "key" refl, text_alike j 60 under, tt)))
 
 history_alike : JsonLaws → (d : ℕ) (channel : List ℕ) (limit : ℤ) (p : Option Position) (reverse : Bool) → IsTrue (is_limit limit) → IsSince p
     → Alike (suc (suc d)) (object_of (history_members channel limit p reverse)) (object_of (history_members channel limit p reverse))
@@ -60,7 +60,7 @@ command_alike j tree id request.Pong h = nothing_alike 61
 command_alike j tree id (request.Connect token) h = id_last 61 id "connect" _ _ refl h.1 (one_text_alike j 60 "token" token refl)
 command_alike j tree id (request.Subscribe channel p) h = id_first 61 id "subscribe" _ _ refl h.0.1 (subscribe_alike j 60 channel p h.1)
 command_alike j tree id (request.Unsubscribe channel) h = id_first 61 id "unsubscribe" _ _ refl h.1 (one_text_alike j 60 "channel" channel refl)
-command_alike j tree id (request.Publish channel d) h = id_first 61 id "publish" _ _ refl h.0.1 (publish_alike j tree channel d h.1)
+command_alike j tree id (request.Publish channel under d) h = id_first 61 id "publish" _ _ refl h.0.1 (publish_alike j tree channel under d h.1)
 command_alike j tree id (request.Presence channel) h = id_first 61 id "presence" _ _ refl h.1 (one_text_alike j 60 "channel" channel refl)
 command_alike j tree id (request.PresenceStats channel) h = id_first 61 id "presence_stats" _ _ refl h.1 (one_text_alike j 60 "channel" channel refl)
 command_alike j tree id (request.History channel limit p reverse) h = id_last 61 id "history" _ _ refl h.0.1 (history_alike j 59 channel limit p reverse h.1 h.2)

@@ -70,11 +70,15 @@ data_is tree Absent h = refl
 data_is tree TooDeep h = absurd h
 data_is tree (Body b) h = ap (λ c. cond c (Body (compact_text (tree b))) TooDeep) (le-leb (depth (tree b)) max_data_depth h.shallow) ∙ ap Body h.compact
 
-read_publish : JsonLaws → (tree : List ℕ → Tree) (channel : List ℕ) (d : Data) → IsData (Bodies tree) d
-    → object_as reading.publish (object_of (("channel" ⇒ written.text channel) ∷ ("data" ⇒ body_of tree d) ∷ [])) ≡ Some (request.Publish channel d)
-read_publish j tree channel d h =
-    read_object reading.publish (("channel" ⇒ written.text channel) ∷ ("data" ⇒ body_of tree d) ∷ []) (Some (request.Publish channel d)) refl (λ r at.
-    reads _ (read_text j r "channel" channel (at (codes "channel"))) (ap (λ e. Some (request.Publish channel e)) (ap data_of (at (codes "data")) ∙ data_is tree d h)))
+abbrev pub publish_members : (List ℕ → Tree) → List ℕ → List ℕ → Data → List Member
+publish_members tree channel key d = ("channel" ⇒ written.text channel) ∷ ("data" ⇒ body_of tree d) ∷ ("key" ⇒ written.text key) ∷ []
+
+read_publish : JsonLaws → (tree : List ℕ → Tree) (channel key : List ℕ) (d : Data) → IsData (Bodies tree) d
+    → object_as reading.publish (object_of (publish_members tree channel key d)) ≡ Some (request.Publish channel key d)
+read_publish j tree channel key d h =
+    read_object reading.publish (publish_members tree channel key d) (Some (request.Publish channel key d)) refl (λ r at.
+    reads _ (read_text j r "channel" channel (at (codes "channel"))) (reads _ (read_text j r "key" key (at (codes "key")))
+    (ap (λ e. Some (request.Publish channel key e)) (ap data_of (at (codes "data")) ∙ data_is tree d h))))
 
 since_stands : (epoch : List ℕ) (offset : ℕ) → (epoch ≡ [] → 1 ≤ offset) → stands (("epoch" ⇒ written.text epoch) ∷ ("offset" ⇒ written.whole offset) ∷ []) ≡ true
 since_stands [] zero h = absurd (omega (arith, h refl))
@@ -108,9 +112,9 @@ read_command j tree id (request.Subscribe channel p) h =
 read_command j tree id (request.Unsubscribe channel) h =
     let q = request.Unsubscribe channel in
     a_command (command tree id q) id q "unsubscribe" _ refl refl refl h.1 (read_channel j request.Unsubscribe channel) (has_id q id h)
-read_command j tree id (request.Publish channel d) h =
-    let q = request.Publish channel d in
-    a_command (command tree id q) id q "publish" _ refl refl refl h.0.1 (read_publish j tree channel d h.1) (has_id q id h.0)
+read_command j tree id (request.Publish channel key d) h =
+    let q = request.Publish channel key d in
+    a_command (command tree id q) id q "publish" _ refl refl refl h.0.1 (read_publish j tree channel key d h.1) (has_id q id h.0)
 read_command j tree id (request.Presence channel) h =
     let q = request.Presence channel in
     a_command (command tree id q) id q "presence" _ refl refl refl h.1 (read_channel j request.Presence channel) (has_id q id h)

@@ -17,6 +17,10 @@ longest_text = 65536
 abbrev pub longest_channel : ℕ
 longest_channel = 255
 
+-- the longest key of a publish
+abbrev pub longest_key : ℕ
+longest_key = 64
+
 -- ---- checks: of those that fail the first names the error
 
 -- whether it fails, and with which error
@@ -36,6 +40,10 @@ abbrev pub is_bad_data : Data → Bool
 is_bad_data Absent = true
 is_bad_data TooDeep = true
 is_bad_data (Body body) = false
+
+-- a key that is too long; the empty one is none
+abbrev pub is_bad_key : List ℕ → Bool
+is_bad_key key = nat_lt longest_key (length key)
 
 -- a channel's settings deny this; a channel without settings is unknown, and not denied
 abbrev pub denies : (Settings → Bool) → Option Settings → Bool
@@ -62,7 +70,7 @@ module _ (t : NamespaceTable) where
   abbrev pub checks : Request → List Check
   checks (Subscribe c since) = well_named c ∷ set_up c ∷ []
   checks (Unsubscribe c) = well_named c ∷ []
-  checks (Publish c d) = well_named c ∷ (is_bad_data d, error.BadRequest) ∷ set_up c ∷ may_publish c ∷ []
+  checks (Publish c key d) = well_named c ∷ (is_bad_key key || is_bad_data d, error.BadRequest) ∷ set_up c ∷ may_publish c ∷ []
   checks (Presence c) = well_named c ∷ set_up c ∷ keeps_presence c ∷ []
   checks (PresenceStats c) = well_named c ∷ set_up c ∷ keeps_presence c ∷ []
   checks (History c limit since reverse) = well_named c ∷ set_up c ∷ may_list c ∷ (reverse, error.NotAvailable) ∷ []

@@ -29,7 +29,7 @@ abbrev pub unsubscribe : Fields → Option Request
 unsubscribe r = text r "channel" >>= λ channel. Some (Unsubscribe channel)
 
 abbrev pub publish : Fields → Option Request
-publish r = text r "channel" >>= λ channel. Some (Publish channel (data_of (member r "data")))
+publish r = text r "channel" >>= λ channel. text r "key" >>= λ key. Some (Publish channel key (data_of (member r "data")))
 
 abbrev pub presence : Fields → Option Request
 presence r = text r "channel" >>= λ channel. Some (Presence channel)

@@ -15,7 +15,8 @@ pub data Request : Type 0 where
   -- a client that asks to recover gives the position from which it goes on
   Subscribe : (channel : List ℕ) → (since : Option Position) → Request
   Unsubscribe : (channel : List ℕ) → Request
-  Publish : (channel : List ℕ) → (body : Data) → Request
+  -- under a key, or under the empty one, which is none
+  Publish : (channel : List ℕ) → (key : List ℕ) → (body : Data) → Request
   Presence : (channel : List ℕ) → Request
   PresenceStats : (channel : List ℕ) → Request
   History : (channel : List ℕ) → (limit : ℤ) → (since : Option Position) → (reverse : Bool) → Request

@@ -16,7 +16,7 @@ pub enum ErrorCode {
     AlreadySubscribed,
     /// Too many channels or subscriptions, or the last offset is reached.
     LimitExceeded,
-    /// The channel is empty or too long; there is no data, or it nests too deep.
+    /// The channel is empty or too long; there is no data, or it nests too deep; the key is too long.
     BadRequest,
     /// Presence isn't kept, or the request isn't served.
     NotAvailable,

@@ -30,6 +30,8 @@ pub enum Request {
     },
     Publish {
         channel: String,
+        /// By which a repeat is known. The empty key is none.
+        key: String,
         body: Data,
     },
     Presence {

@@ -21,7 +21,7 @@ pub use codes::{CloseCode, ErrorCode, INSUFFICIENT, close_reason};
 pub use command::{Command, Data, Request};
 pub use epoch::Epoch;
 pub use fault::ReadFault;
-pub use namespaces::{Namespaces, read_namespaces};
+pub use namespaces::{Namespaces, namespace_of, read_namespaces};
 pub use outgoing::{Outcome, Outgoing, Pushed};
 pub use position::Position;
 pub use publication::{Info, Publication};

@@ -1,7 +1,7 @@
 //! The namespaces that are set up.
-ghost use Rattle.std.specs.Prelude.{◌≡◌, ℕ, List, IfSome, IfOk, MatchOption};
+ghost use Rattle.std.specs.Prelude.{◌≡◌, ◌≤◌, ℕ, List, IfSome, IfOk, MatchOption, is_some};
 ghost use Rattle.std.specs.List.Sorted.{IsPermutation};
-ghost use Rattle.cf_protocol.specs.Settings.{NamespaceTable, settings_of, namespace_of, named, IsUsable};
+ghost use Rattle.cf_protocol.specs.Settings.{NamespaceTable, entry_at, settings_of, namespace_of, named, IsUsable, with_size};
 ghost use Rattle.cf_protocol.specs.SettingsText.{IsNamespaces, IsNamespace, IsSettings, IsReadAs, letters_of};
 ghost use Rattle.cf_protocol.specs.SettingsRead.{IsFoundBy, AddsLetter, HasMost, Adds};
 ghost use Rattle.cf_protocol.specs.declared.settings.Settings.{Settings as SettingsValue};
@@ -16,7 +16,7 @@ use std::marker::Model;
 /// The longest name of a namespace, in bytes.
 const MAX_NAME: usize = 32;
 /// The most publications that a stream may hold.
-const MAX_SIZE: u64 = 1_000;
+const MAX_SIZE: u64 = 10_000;
 /// The most seconds for which a stream may hold them, thirty days.
 const MAX_SECONDS: u64 = 2_592_000;
 
@@ -57,10 +57,29 @@ impl Namespaces {
     {
         value_of(&self.entries, namespace_of(channel)).copied()
     }
+
+    /// Whether a namespace of this name is set up.
+    pub fn contains(&self, name: &str) -> bool
+        ensures { result ≡ is_some (entry_at self.now name.now) }
+    {
+        value_of(&self.entries, name).is_some()
+    }
+
+    /// Sets the size of a namespace that is set up. It takes no memory.
+    pub fn set_size(&mut self, name: &str, size: usize)
+        requires { (1 ≤ size) × (size ≤ 10000) }
+        ensures { self.new ≡ with_size name.now size self.old }
+    {
+        for entry in self.entries.iter_mut() {
+            if entry.0.as_str() == name {
+                entry.1.size = size;
+            }
+        }
+    }
 }
 
 /// The text before the first `:` of a channel, or the empty text.
-fn namespace_of(channel: &str) -> &str
+pub fn namespace_of(channel: &str) -> &str
     ensures { result.now ≡ namespace_of channel.now }
 {
     match channel.split_once(':') {
@@ -150,7 +169,7 @@ fn add(entries: &mut Vec<(String, Settings)>, alloc: Global, text: &str) -> Resu
 }
 
 /// The namespaces that a text sets up: entries parted by `;`, each `NAME=SIZE,SECONDS,FLAGS`. A name is at most 32 ASCII
-/// letters, digits, `-` or `_`, and none stands twice; SIZE is 1 to 1,000 and SECONDS 1 to 2,592,000, without leading zeros;
+/// letters, digits, `-` or `_`, and none stands twice; SIZE is 1 to 10,000 and SECONDS 1 to 2,592,000, without leading zeros;
 /// FLAGS has each of `p` (clients may publish), `h` (they may ask for the history) and `s` (presence is kept) at most once.
 /// `Bad` is any other text, the empty one among them.
 pub fn read_namespaces(alloc: Global, text: &str) -> Result<Namespaces, ReadFault>

@@ -3,7 +3,7 @@
 /// What holds for the channels of a namespace.
 #[derive(Clone, Copy, PartialEq, Eq, Debug)]
 pub struct Settings {
-    /// The most publications that a stream holds, 1 to 1,000.
+    /// The most publications that a stream holds, 1 to 10,000.
     pub size: usize,
     /// For how many seconds after the last publish a stream holds them, 1 to 2,592,000.
     pub seconds: u64,

@@ -8,7 +8,7 @@ use Rattle.std.proofs.lemmas.List.Sorted.{list_any-IsPermutation, IsPermutation-
 use Rattle.cf_protocol.specs.Datum.{Placed}
 use Rattle.cf_protocol.specs.Position.{Position}
 use Rattle.cf_recovery.specs.Arrivals.{has, highest, arrives, overfull, most_kept}
-use Rattle.cf_recovery.specs.Kept.{Arrival, arrival, places, Kept, TakesRoom, IsWithin, StandsFor, with_arrival, given_up}
+use Rattle.cf_recovery.specs.ArrivalBuffer.{Arrival, arrival, places, ArrivalBuffer, TakesRoom, IsWithin, StandsFor, with_arrival, given_up}
 use Rattle.cf_recovery.specs.Stored.{stored, is_at, kept_of, IsStored}
 use Rattle.cf_recovery.proofs.Runs.{below-highest}
 use Rattle.cf_recovery.proofs.Storing.{is_of, length-stored}
@@ -71,7 +71,7 @@ kept-push es ps top overflow short e p h = let n = newest-push es ps e p h.besid
 both_false : (a b : Bool) → (a || b) ≡ false → (a ≡ false) × (b ≡ false)
 both_false a b h = grind arith
 
-pub within-push : (a : Arrival) (k : Kept) → TakesRoom a k → IsWithin k → IsWithin (record k { arrived = a ∷ k.arrived })
+pub within-push : (a : Arrival) (k : ArrivalBuffer) → TakesRoom a k → IsWithin k → IsWithin (record k { arrived = a ∷ k.arrived })
 within-push a k r w =
     record {
       once = (r.first, w.once);
@@ -92,7 +92,7 @@ stored_more es ps top more overflow short e p r h is =
     }
 
 -- however it is with the place
-pub within-arrival : (a : Arrival) (k : Kept) → IsWithin k → IsWithin (with_arrival a k)
+pub within-arrival : (a : Arrival) (k : ArrivalBuffer) → IsWithin k → IsWithin (with_arrival a k)
 within-arrival a k w = by_test (k.overflow || has (places k.arrived) a.at.epoch a.at.offset) (overfull (a.at ∷ places k.arrived)) refl refl
   where
     by_test : (known many : Bool) → (k.overflow || has (places k.arrived) a.at.epoch a.at.offset) ≡ known → overfull (a.at ∷ places k.arrived) ≡ many
@@ -122,10 +122,10 @@ neither a b h k = grind arith
 right : (a b : Bool) → (a || b) ≡ true → a ≡ false → b ≡ true
 right a b h k = grind arith
 
-pub with_arrival-full : (a : Arrival) (k : Kept) → (k.overflow || has (places k.arrived) a.at.epoch a.at.offset) ≡ false → overfull (a.at ∷ places k.arrived) ≡ true → with_arrival a k ≡ given_up k.short
+pub with_arrival-full : (a : Arrival) (k : ArrivalBuffer) → (k.overflow || has (places k.arrived) a.at.epoch a.at.offset) ≡ false → overfull (a.at ∷ places k.arrived) ≡ true → with_arrival a k ≡ given_up k.short
 with_arrival-full a k h i = rw (h, i) refl
 
-pub with_arrival-kept : (a : Arrival) (k : Kept) → TakesRoom a k → with_arrival a k ≡ record k { arrived = a ∷ k.arrived }
+pub with_arrival-kept : (a : Arrival) (k : ArrivalBuffer) → TakesRoom a k → with_arrival a k ≡ record k { arrived = a ∷ k.arrived }
 with_arrival-kept a k r =
     let whole = r.whole in let first = r.first in let fits = r.fits in
     let h : (k.overflow || has (places k.arrived) a.at.epoch a.at.offset) ≡ false = grind arith in
@@ -149,7 +149,7 @@ overfull-more : (q : Position) (ps : List Position) → overfull ps ≡ true →
 overfull-more q ps h = chosen (λ v. overfull v ≡ true) (has ps q.epoch q.offset) ps (q ∷ ps) (λ x. h) (λ x. one_above most_kept (length ps) h)
 
 -- what is kept goes on standing for what arrived
-pub stands_more : (a : Arrival) (k : Kept) (arrived : List Position) → StandsFor k arrived → StandsFor (with_arrival a k) (arrives a.at arrived)
+pub stands_more : (a : Arrival) (k : ArrivalBuffer) (arrived : List Position) → StandsFor k arrived → StandsFor (with_arrival a k) (arrives a.at arrived)
 stands_more a k arrived s =
     chosen (λ v. StandsFor v (arrives a.at arrived)) (k.overflow || has (places k.arrived) a.at.epoch a.at.offset) k _ known
     (λ h. chosen (λ v. StandsFor v (arrives a.at arrived)) (overfull (a.at ∷ places k.arrived)) (given_up k.short) (record k { arrived = a ∷ k.arrived }) (full h) (more h))

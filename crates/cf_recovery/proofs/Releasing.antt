@@ -11,7 +11,7 @@ use Rattle.cf_protocol.specs.Datum.{Placed, numbered}
 use Rattle.cf_protocol.specs.Position.{Position}
 use Rattle.cf_recovery.specs.Arrivals.{has, highest, overfull, all_within}
 use Rattle.cf_recovery.specs.Release.{all_arrived, greatest, run_length, falls_short}
-use Rattle.cf_recovery.specs.Kept.{Arrival, arrival, places, Kept, IsWithin, IsRun, StandsFor, ended_at}
+use Rattle.cf_recovery.specs.ArrivalBuffer.{Arrival, arrival, places, ArrivalBuffer, IsWithin, IsRun, StandsFor, ended_at}
 use Rattle.cf_recovery.specs.Stored.{stored, is_at}
 use Rattle.cf_recovery.proofs.Keeping.{has-permutation, has-reverse, has-at, has-none}
 use Rattle.cf_recovery.proofs.Storing.{length-stored}
@@ -131,7 +131,7 @@ none_kept (x ∷ run) kept h few = let none = ap (λ ys. length ys) h in absurd 
 
 -- ---- of all that arrived
 
-pub stands_released : (k : Kept) (p : Position) (arrived : List Position) (count : ℕ) (insufficient : Bool) → IsWithin k → StandsFor k arrived → k.short ≡ false → count ≡ run_length (places k.arrived) (ended_at p) → insufficient ≡ (k.overflow || falls_short (places k.arrived) (ended_at p)) → (count ≡ run_length arrived (ended_at p)) × (insufficient ≡ falls_short arrived (ended_at p))
+pub stands_released : (k : ArrivalBuffer) (p : Position) (arrived : List Position) (count : ℕ) (insufficient : Bool) → IsWithin k → StandsFor k arrived → k.short ≡ false → count ≡ run_length (places k.arrived) (ended_at p) → insufficient ≡ (k.overflow || falls_short (places k.arrived) (ended_at p)) → (count ≡ run_length arrived (ended_at p)) × (insufficient ≡ falls_short arrived (ended_at p))
 stands_released k p arrived count insufficient w s whole h i = by_overflow k.overflow refl
   where
     by_overflow : (b : Bool) → k.overflow ≡ b → (count ≡ run_length arrived (ended_at p)) × (insufficient ≡ falls_short arrived (ended_at p))

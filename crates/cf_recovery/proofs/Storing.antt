@@ -8,7 +8,7 @@ use Rattle.std.proofs.lemmas.Bool.Decides.{nat_tests}
 use Rattle.std.proofs.lemmas.List.Edits.{Swapped, swapped_from_swap, length-swap}
 use Rattle.std.proofs.lemmas.List.Sorted.{IsPermutation-swap, IsPermutation-trans}
 use Rattle.cf_protocol.specs.Datum.{Placed}
-use Rattle.cf_recovery.specs.Kept.{Arrival, arrival}
+use Rattle.cf_recovery.specs.ArrivalBuffer.{Arrival, arrival}
 use Rattle.cf_recovery.specs.Stored.{stored, is_at}
 
 -- the test of a place

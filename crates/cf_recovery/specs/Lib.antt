@@ -1,5 +1,5 @@
 pub mod Arrivals
-pub mod Kept
+pub mod ArrivalBuffer
 pub mod Meaning
 pub mod Release
 pub mod Stored

@@ -3,7 +3,7 @@ use Rattle.std.specs.Prelude.{◌≡◌, ℕ, zero, suc, ◌==◌, ◌&&◌, Boo
 use Rattle.std.specs.Str.{bytes_eq}
 use Rattle.cf_protocol.specs.Datum.{Placed}
 use Rattle.cf_recovery.specs.Arrivals.{highest}
-use Rattle.cf_recovery.specs.Kept.{Arrival, arrival, places, Kept, IsWithin}
+use Rattle.cf_recovery.specs.ArrivalBuffer.{Arrival, arrival, places, ArrivalBuffer, IsWithin}
 
 -- publications and, beside them, their epochs, in order of arrival
 abbrev pub stored : List (List ℕ) → List Placed → List Arrival
@@ -11,7 +11,7 @@ stored [] ps = []
 stored (e ∷ es) [] = []
 stored (e ∷ es) (p ∷ ps) = arrival e p ∷ stored es ps
 
-abbrev pub kept_of : List (List ℕ) → List Placed → Bool → Bool → Kept
+abbrev pub kept_of : List (List ℕ) → List Placed → Bool → Bool → ArrivalBuffer
 kept_of es ps overflow short = record { arrived = reverse (stored es ps); overflow = overflow; short = short }
 
 -- as many epochs as publications, the highest of their offsets, and what always holds of what is kept

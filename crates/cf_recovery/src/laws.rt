@@ -4,7 +4,7 @@ ghost use Rattle.std.specs.Str.{bytes_eq};
 ghost use Rattle.cf_protocol.specs.Note.{Reading};
 ghost use Rattle.cf_protocol.specs.Position.{Position};
 ghost use Rattle.cf_recovery.specs.Arrivals.{AreOnce, arrives, has, overfull};
-ghost use Rattle.cf_recovery.specs.Kept.{Arrival, IsWithin, Kept, StandsFor, places, with_arrival};
+ghost use Rattle.cf_recovery.specs.ArrivalBuffer.{Arrival, IsWithin, ArrivalBuffer, StandsFor, places, with_arrival};
 ghost use Rattle.cf_recovery.specs.Release.{LiesWithin, Reaches, falls_short, run_length};
 
 /// What arrives is a set: a position that comes is in it, none other becomes so, and each is there once.
@@ -36,13 +36,13 @@ pub fn run_ends_at_the_greatest()
 /// What is kept goes on standing for the positions that arrived, and while no memory was refused a release of it passes on as
 /// many, and falls short where they do.
 pub fn what_is_kept_stands()
-    ensures within { (a : Arrival) (k : Kept) → IsWithin k → IsWithin (with_arrival a k) }
-    ensures arrival { (a : Arrival) (k : Kept) (arrived : List Position) → StandsFor k arrived
+    ensures within { (a : Arrival) (k : ArrivalBuffer) → IsWithin k → IsWithin (with_arrival a k) }
+    ensures arrival { (a : Arrival) (k : ArrivalBuffer) (arrived : List Position) → StandsFor k arrived
         → StandsFor (with_arrival a k) (arrives a.at arrived) }
-    ensures run { (k : Kept) (arrived : List Position) (r : Reading) → IsWithin k
+    ensures run { (k : ArrivalBuffer) (arrived : List Position) (r : Reading) → IsWithin k
         → StandsFor k arrived → k.short ≡ false
         → run_length (places k.arrived) r ≡ run_length arrived r }
-    ensures short { (k : Kept) (arrived : List Position) (r : Reading) → IsWithin k
+    ensures short { (k : ArrivalBuffer) (arrived : List Position) (r : Reading) → IsWithin k
         → StandsFor k arrived → k.short ≡ false
         → (k.overflow || falls_short (places k.arrived) r) ≡ falls_short arrived r }
 {}

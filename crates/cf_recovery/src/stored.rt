@@ -3,7 +3,7 @@ ghost use Rattle.std.specs.Prelude.{◌≡◌, ◌+◌, ◌≤◌, ◌<◌, ℕ,
 ghost use Rattle.std.specs.List.Sorted.{IsPermutation};
 ghost use Rattle.std.specs.Str.{bytes_eq};
 ghost use Rattle.cf_recovery.specs.Arrivals.{all_within};
-ghost use Rattle.cf_recovery.specs.Kept.{places};
+ghost use Rattle.cf_recovery.specs.ArrivalBuffer.{places};
 ghost use Rattle.cf_recovery.specs.Stored.{stored, is_at};
 
 use cf_protocol::{Epoch, Position, Publication};

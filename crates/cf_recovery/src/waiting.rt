@@ -2,7 +2,7 @@
 ghost use Rattle.std.specs.Prelude.{◌≡◌, ◌≤◌, ◌||◌, [], ◌∷◌, List, true, false, length, OnOk, OnErr};
 ghost use Rattle.cf_protocol.specs.Position.{Position};
 ghost use Rattle.cf_recovery.specs.Arrivals.{arrives, has, overfull};
-ghost use Rattle.cf_recovery.specs.Kept.{arrival, places, nothing_kept, given_up, with_arrival, TakesRoom, IsWithin, StandsFor, IsRun, ended_at};
+ghost use Rattle.cf_recovery.specs.ArrivalBuffer.{arrival, places, nothing_kept, given_up, with_arrival, TakesRoom, IsWithin, StandsFor, IsRun, ended_at};
 ghost use Rattle.cf_recovery.specs.Release.{falls_short, run_length};
 
 use crate::stored::{are_within, find, gather};
@@ -28,10 +28,10 @@ pub struct Waiting {
 }
 
 impl Model for Waiting {
-    ghost use Rattle.cf_recovery.specs.Kept.{Kept};
+    ghost use Rattle.cf_recovery.specs.ArrivalBuffer.{ArrivalBuffer};
     ghost use Rattle.cf_recovery.specs.Stored.{kept_of, IsStored};
 
-    ghost Value = { Kept };
+    ghost Value = { ArrivalBuffer };
 
     ghost view = { λ w. kept_of w.epochs.items w.publications.items w.overflow w.short };
 

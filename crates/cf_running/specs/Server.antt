@@ -8,11 +8,12 @@ use Rattle.std.specs.Str.{bytes_eq}
 use Rattle.cf_protocol.specs.Names.{with, is_among}
 use Rattle.cf_protocol.specs.Datum.{Datum, Who}
 use Rattle.cf_protocol.specs.LogEntry.{Entry}
-use Rattle.cf_protocol.specs.LogEntry.Entry.{Open, Publish, Trim, Forget}
+use Rattle.cf_protocol.specs.LogEntry.Entry.{Open, Publish, Trim, Forget, Size}
 use Rattle.cf_protocol.specs.Note.{Lists, Reading, Note, Fails, Put, Left, Listed, PingDue, Close}
 use Rattle.cf_protocol.specs.Position.{Position}
 use Rattle.cf_protocol.specs.Settings.{settings_of}
 use Rattle.cf_stream.specs.ChannelLists.{stands_at}
+use Rattle.cf_stream.specs.Keys.{repeat_of}
 use Rattle.cf_stream.specs.LogState.{life_in}
 use Rattle.cf_stream.specs.PublicationList.{Life, state_of}
 use Rattle.cf_stream.specs.StreamState.{last_offset}
@@ -23,13 +24,12 @@ use Rattle.cf_client.specs.ClientCalls.{last_id}
 use Rattle.cf_machine.specs.ClientLink.{client_sends, finishes_over, finishes_amid}
 use Rattle.cf_machine.specs.ClientRequest.{ClientRequest, SentCommand, Subscribe, Unsubscribe, Publish as PublishRequest, History}
 use Rattle.cf_machine.specs.Config.{Config}
-use Rattle.cf_machine.specs.IntervalMachine.{size_of}
 use Rattle.cf_machine.specs.PublicationList.{Place}
 use Rattle.cf_machine.specs.Session.{Session, Words}
 use Rattle.cf_machine.specs.Told.{first_items}
 use Rattle.cf_machine.specs.Trace.{Item}
 use Rattle.cf_machine.specs.Weights.{wording}
-use Rattle.cf_running.specs.ShardLogs.{about, epochs_in}
+use Rattle.cf_running.specs.ShardLogs.{epochs_in}
 
 -- ---- what there is
 
@@ -43,7 +43,7 @@ pub data Work : Type 0 where
   -- the read was refused
   ToGiveUp : (channel : List ℕ) → (id : ℕ) → (code : ℕ) → Work
   -- a publish or a history was heard, and the broker is to be asked
-  ToPublish : (channel : List ℕ) → (id : ℕ) → (datum : Datum) → Work
+  ToPublish : (channel : List ℕ) → (id : ℕ) → (key : List ℕ) → (datum : Datum) → Work
   ToList : (channel : List ℕ) → (id : ℕ) → (limit : ℤ) → Work
   -- an answer to a command for this channel is on its way to the hub
   ToSay : (channel : List ℕ) → (note : Note) → Work
@@ -100,9 +100,10 @@ is_in e (Some i) = bytes_eq e i
 
 abbrev pub gathered : List ℕ → List ℕ → Option (List ℕ) × List Datum → Entry → Option (List ℕ) × List Datum
 gathered c e p (Open d i) = if bytes_eq d c then (Some i, p.1) else p
-gathered c e p (Publish d x) = if bytes_eq d c && is_in e p.0 then (p.0, p.1 ++ x ∷ []) else p
+gathered c e p (Publish d key x) = if bytes_eq d c && is_in e p.0 then (p.0, p.1 ++ x ∷ []) else p
 gathered c e p (Trim d n) = p
 gathered c e p (Forget d) = if bytes_eq d c then (None, p.1) else p
+gathered c e p (Size name n) = p
 
 abbrev pub gathered_in : List Entry → List ℕ → List ℕ → Option (List ℕ) × List Datum
 gathered_in log c e = fold (gathered c e) (None, []) log
@@ -115,7 +116,7 @@ lists_of site s c e = (gathered_in (log_of site s c) c e).1
 
 -- a channel's stream, with its list
 abbrev pub life_of : Site → Server → List ℕ → Option Life
-life_of site s c = life_in (size_of site.config) (log_of site s c) c
+life_of site s c = life_in site.config.namespaces (log_of site s c) c
 
 abbrev pub words_of : Site → Server → Words
 words_of site s = wording (lists_of site s)
@@ -125,23 +126,31 @@ abbrev pub is_below : Option Life → Bool
 is_below None = false
 is_below (Some l) = nat_lt (length l.list) last_offset
 
-abbrev pub may_gain : Config → List Entry → Entry → Bool
-may_gain cfg log (Open c e) = is_none (life_in (size_of cfg) log c) && (not (length e == 0) && not (is_among e (epochs_in log c)))
-may_gain cfg log (Publish c d) = is_some (settings_of cfg.namespaces c) && is_below (life_in (size_of cfg) log c)
-may_gain cfg log (Trim c n) = is_some (life_in (size_of cfg) log c)
-may_gain cfg log (Forget c) = is_some (life_in (size_of cfg) log c)
+-- whether a publish with this key repeats a publication of the stream
+abbrev pub repeats : (key : List ℕ) → Option Life → Bool
+repeats key None = false
+repeats key (Some l) = is_some (repeat_of key l.keys)
 
-abbrev pub can_gain : Site → Entry → Server → Bool
-can_gain site x s = may_gain site.config (log_of site s (about x)) x
+abbrev pub may_gain : Config → List Entry → Entry → Bool
+may_gain cfg log (Open c e) = is_none (life_in cfg.namespaces log c) && (not (length e == 0) && not (is_among e (epochs_in log c)))
+may_gain cfg log (Publish c key d) =
+    let life = life_in cfg.namespaces log c in is_some (settings_of cfg.namespaces c) && (is_below life && not (repeats key life))
+may_gain cfg log (Trim c n) = is_some (life_in cfg.namespaces log c)
+may_gain cfg log (Forget c) = is_some (life_in cfg.namespaces log c)
+may_gain cfg log (Size name n) = true
+
+-- the same at the log of this number
+abbrev pub can_gain : Site → ℕ → Entry → Server → Bool
+can_gain site n x s = may_gain site.config (s.logs n) x
 
 -- ---- what changes
 
 abbrev pub at_number : {A : Type 0} → (ℕ → A) → ℕ → A → ℕ → A
 at_number f k v j = if j == k then v else f j
 
--- the log of an entry's shard, with the entry
-abbrev pub gain : Site → Entry → Server → Server
-gain site x s = record s { logs = at_number s.logs (site.shard_of (about x)) (log_of site s (about x) ++ x ∷ []) }
+-- the log of this number, with an entry
+abbrev pub gain : ℕ → Entry → Server → Server
+gain n x s = record s { logs = at_number s.logs n (s.logs n ++ x ∷ []) }
 
 -- something happens at a connection
 abbrev pub change : ℕ → (Connection → Connection) → Server → Server
@@ -149,21 +158,29 @@ change k f s = record s { connections = at_number s.connections k (f (s.connecti
 
 -- ---- under a shard's lock
 
--- the log gains an entry, where it may: an opening, and a tick's or a trim's or a forget's
-abbrev pub gains : Site → Entry → Server → Server
-gains site x s = if can_gain site x s then gain site x s else s
+-- the log gains an entry, where it may: an opening, a tick's or a trim's or a forget's, and another size
+abbrev pub gains : Site → ℕ → Entry → Server → Server
+gains site n x s = if can_gain site n x s then gain n x s else s
 
 abbrev pub place_in : List ℕ → Option Life → List Place
 place_in c None = []
 place_in c (Some l) = record { channel = c; at = record { epoch = l.epoch; offset = length l.list + 1 } } ∷ []
 
--- an accepted publish; its answer is on its way
-abbrev pub accepts : Site → List ℕ → Datum → Server → Server
-accepts site c d s = record (gain site (Publish c d) s) { accepted = s.accepted ++ place_in c (life_of site s c) }
+-- a publish that is accepted
+abbrev pub accepts : Site → (channel key : List ℕ) → Datum → Server → Server
+accepts site c key d s =
+    record (gain (site.shard_of c) (Publish c key d) s) { accepted = s.accepted ++ place_in c (life_of site s c) }
 
+-- its answer is on its way
+abbrev pub answers : List ℕ → ℕ → Connection → Connection
+answers c id x = record x { work = ToSay c (Put id) }
+
+-- A publish that repeats one is answered, and that is all. Another is accepted and answered, where the log may gain it.
 abbrev pub publishes : Site → ℕ → Work → Server → Server
-publishes site k (ToPublish c id d) s =
-    if can_gain site (Publish c d) s then change k (λ x. record x { work = ToSay c (Put id) }) (accepts site c d s) else s
+publishes site k (ToPublish c id key d) s =
+    if repeats key (life_of site s c) then change k (answers c id) s
+    else if can_gain site (site.shard_of c) (Publish c key d) s then change k (answers c id) (accepts site c key d s)
+    else s
 publishes site k other s = s
 
 -- What was accepted under a number is put on a node's link, whenever, however often and in whatever order. A full link loses it, and
@@ -193,7 +210,7 @@ asks_shard site s other x = x
 -- what is asked is refused
 abbrev pub is_refused : ℕ → Work → Connection → Connection
 is_refused code (Began c id since) x = record x { work = ToGiveUp c id code }
-is_refused code (ToPublish c id d) x = record x { work = ToSay c (Fails c id code) }
+is_refused code (ToPublish c id key d) x = record x { work = ToSay c (Fails c id code) }
 is_refused code (ToList c id limit) x = record x { work = ToSay c (Fails c id code) }
 is_refused code other x = x
 
@@ -225,7 +242,7 @@ leaves_by id other rest x = x
 
 -- it is to publish, under this name, or to list
 abbrev pub calls_by : Option Who → ℕ → ClientRequest → List SentCommand → Connection → Connection
-calls_by info id (PublishRequest c body) rest x = record x { up = rest; work = ToPublish c id (record { body = body; info = info }) }
+calls_by info id (PublishRequest c key body) rest x = record x { up = rest; work = ToPublish c id key (record { body = body; info = info }) }
 calls_by info id (History c limit) rest x = record x { up = rest; work = ToList c id limit }
 calls_by info id other rest x = x
 
@@ -233,7 +250,7 @@ calls_by info id other rest x = x
 abbrev pub refuses_by : ℕ → ℕ → ClientRequest → List SentCommand → Connection → Connection
 refuses_by code id (Unsubscribe c) rest x = if is_off (x.session.subs c) then record x { up = rest; work = ToSay c (Fails c id code) } else x
 refuses_by code id (Subscribe c since) rest x = record x { up = rest; work = ToSay c (Fails c id code) }
-refuses_by code id (PublishRequest c body) rest x = record x { up = rest; work = ToSay c (Fails c id code) }
+refuses_by code id (PublishRequest c key body) rest x = record x { up = rest; work = ToSay c (Fails c id code) }
 refuses_by code id (History c limit) rest x = record x { up = rest; work = ToSay c (Fails c id code) }
 
 -- what was read reaches the hub; the subscription is finished in one of three ways, or given up; an answer is said
@@ -337,28 +354,28 @@ checks_by w (Some a) s = change a.connection (at_session (checks w a.channel a.t
 -- ---- a client's own end
 
 -- what a client is told to do
-pub data Errand : Type 0 where
-  Ask : (channel : List ℕ) → Errand
-  AskFrom : (channel : List ℕ) → Errand
-  Leave : (channel : List ℕ) → Errand
-  Tell : (channel : List ℕ) → (body : List ℕ) → Errand
-  List_of : (channel : List ℕ) → (limit : ℤ) → Errand
+pub data ClientCommand : Type 0 where
+  Ask : (channel : List ℕ) → ClientCommand
+  AskFrom : (channel : List ℕ) → ClientCommand
+  Leave : (channel : List ℕ) → ClientCommand
+  Tell : (channel : List ℕ) → (key : List ℕ) → (body : List ℕ) → ClientCommand
+  List_of : (channel : List ℕ) → (limit : ℤ) → ClientCommand
 
-abbrev pub request_by : Client → Errand → ClientRequest
+abbrev pub request_by : Client → ClientCommand → ClientRequest
 request_by x (Ask c) = Subscribe c None
 request_by x (AskFrom c) = Subscribe c (last_of (x.modes c))
 request_by x (Leave c) = Unsubscribe c
-request_by x (Tell c body) = PublishRequest c body
+request_by x (Tell c key body) = PublishRequest c key body
 request_by x (List_of c limit) = History c limit
 
-abbrev pub may_send : Client → Errand → Bool
+abbrev pub may_send : Client → ClientCommand → Bool
 may_send x (Ask c) = is_idle (x.modes c)
 may_send x (AskFrom c) = is_idle (x.modes c)
 may_send x (Leave c) = not (is_idle (x.modes c))
-may_send x (Tell c body) = true
+may_send x (Tell c key body) = true
 may_send x (List_of c limit) = true
 
-abbrev pub sends_by : List ℕ → Errand → Option ℕ → Server → Server
+abbrev pub sends_by : List ℕ → ClientCommand → Option ℕ → Server → Server
 sends_by x e None s = s
 sends_by x e (Some k) s =
     let client = s.clients x in
@@ -392,9 +409,10 @@ receives_by x (Some k) s = receives_first x k (s.connections k).way s
 -- ---- THE SECTIONS
 
 pub data Section : Type 0 where
-  -- at a shard: an opening, a trim or a forget; a publish; a publication, by its number, on one node's link; a read or a history; a
-  -- position; a refusal
+  -- at a shard: an opening, a trim or a forget; another size for a namespace; a publish; a publication, by its number, on one node's
+  -- link; a read or a history; a position; a refusal
   Gains : (entry : Entry) → Section
+  Sizes : (shard : ℕ) → (name : List ℕ) → (count : ℕ) → Section
   Publishes : (connection : ℕ) → Section
   Offers : (number : ℕ) → (node : ℕ) → Section
   AsksShard : (connection : ℕ) → Section
@@ -425,16 +443,18 @@ pub data Section : Type 0 where
   -- at a connection that no client has
   Strays : (connection : ℕ) → (command : SentCommand) → Section
   -- at a client
-  Sends : (client : List ℕ) → (errand : Errand) → Section
+  Sends : (client : List ℕ) → (command : ClientCommand) → Section
   Receives : (client : List ℕ) → Section
   Breaks : (client : List ℕ) → Section
 
 -- what a section makes of the server; nothing where it cannot be
 abbrev pub after : Site → Section → Server → Server
-after site (Gains (Publish c d)) s = s
-after site (Gains (Open c e)) s = gains site (Open c e) s
-after site (Gains (Trim c n)) s = gains site (Trim c n) s
-after site (Gains (Forget c)) s = gains site (Forget c) s
+after site (Gains (Publish c key d)) s = s
+after site (Gains (Size name n)) s = s
+after site (Gains (Open c e)) s = gains site (site.shard_of c) (Open c e) s
+after site (Gains (Trim c n)) s = gains site (site.shard_of c) (Trim c n) s
+after site (Gains (Forget c)) s = gains site (site.shard_of c) (Forget c) s
+after site (Sizes shard name n) s = gains site shard (Size name n) s
 after site (Publishes k) s = publishes site k (s.connections k).work s
 after site (Offers i n) s = offers i n s
 after site (AsksShard k) s = change k (asks_shard site s (s.connections k).work) s

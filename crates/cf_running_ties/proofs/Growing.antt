@@ -5,16 +5,15 @@ use Rattle.std.specs.Str.{bytes_eq}
 use Rattle.std.proofs.lemmas.List.Sums.{fold-append}
 use Rattle.cf_protocol.specs.Datum.{Datum, Placed}
 use Rattle.cf_protocol.specs.LogEntry.{Entry}
-use Rattle.cf_protocol.specs.LogEntry.Entry.{Open, Publish, Trim, Forget}
+use Rattle.cf_protocol.specs.LogEntry.Entry.{Open, Publish, Trim, Forget, Size}
 use Rattle.cf_protocol.specs.Note.{Lists, Note, Close}
 use Rattle.cf_client.specs.ClientCalls.{last_id}
 use Rattle.cf_hub.specs.InNotes.{Grown, IsListed}
 use Rattle.cf_hub.proofs.InNotes.{grown_then}
 use Rattle.cf_machine.specs.PublicationList.{Place}
 use Rattle.cf_machine.proofs.Names.{by_test}
-use Rattle.cf_running.specs.ShardLogs.{about}
 use Rattle.cf_running.specs.Server as server
-use Rattle.cf_running.specs.Server.{Errand, Lookup, Server, Site, Work, ToPublish, after, can_gain, gathered, gathered_in, is_in, lists_of, may_send, place_of, words_of, Section, Gains, Publishes, Offers, Checks, Delivers, Attaches, Wanders, Strays, Sends, Receives, Breaks}
+use Rattle.cf_running.specs.Server.{ClientCommand, Lookup, Server, Site, Work, ToPublish, after, can_gain, gathered, gathered_in, is_in, lists_of, may_send, place_of, words_of, Section, Gains, Sizes, Publishes, Offers, Checks, Delivers, Attaches, Wanders, Strays, Sends, Receives, Breaks}
 use Rattle.cf_running.proofs.Beside.{number_tells}
 use Rattle.cf_running_ties.specs.Links.{is_at_link}
 use Rattle.cf_running_ties.specs.Reads.{SectionHas, WorkHas}
@@ -24,9 +23,10 @@ use Rattle.cf_running_ties.specs.Reads.{SectionHas, WorkHas}
 -- what the entries of a log publish
 abbrev pub Has : (Datum → Type 0) → Entry → Type 0
 Has P (Open c e) = Unit {0}
-Has P (Publish c d) = P d
+Has P (Publish c key d) = P d
 Has P (Trim c n) = Unit {0}
 Has P (Forget c) = Unit {0}
+Has P (Size name n) = Unit {0}
 
 -- more data, of which all have this
 pub record More (P : Datum → Type 0) (old new : List Datum) : Type 0 where
@@ -43,12 +43,13 @@ gathered-grows P c e p (Open d i) h = none-more P p.1 _ (stays (bytes_eq d c))
     stays : (b : Bool) → (if b then (Some i, p.1) else p).1 ≡ p.1
     stays true = refl
     stays false = refl
-gathered-grows P c e p (Publish d x) h = by_bool (bytes_eq d c && is_in e p.0)
+gathered-grows P c e p (Publish d key x) h = by_bool (bytes_eq d c && is_in e p.0)
   where
     by_bool : (b : Bool) → More P p.1 (if b then (p.0, p.1 ++ x ∷ []) else p).1
     by_bool true = record { more = x ∷ []; all = (h, tt); is = refl }
     by_bool false = none-more P p.1 p.1 refl
 gathered-grows P c e p (Trim d n) h = none-more P p.1 p.1 refl
+gathered-grows P c e p (Size name n) h = none-more P p.1 p.1 refl
 gathered-grows P c e p (Forget d) h = none-more P p.1 _ (stays (bytes_eq d c))
   where
     stays : (b : Bool) → (if b then (None, p.1) else p).1 ≡ p.1
@@ -126,7 +127,7 @@ abbrev pub Any : Datum → Type 0
 Any d = Unit {0}
 
 any-work : (h : Work) → WorkHas Any h
-any-work (ToPublish c id d) = tt
+any-work (ToPublish c id key d) = tt
 any-work other = tt
 
 pub any-section : (s : Server) (x : Section) → SectionHas Any s x
@@ -150,23 +151,28 @@ module _ (P : Datum → Type 0) (site : Site) (s : Server) where
   here : Kept s
   here = still s refl refl refl (at_least s.count)
 
-  gained-log : (x : Entry) → Has P x → (n : ℕ) → LogGrows P (s.logs n) ((server.gain site x s).logs n)
-  gained-log x has n = elim (number_tells n (site.shard_of (about x))) [
+  gained-log : (n : ℕ) (x : Entry) → Has P x → (m : ℕ) → LogGrows P (s.logs m) ((server.gain n x s).logs m)
+  gained-log n x has m = elim (number_tells m n) [
     | inl h ↦ record {
       more = x ∷ [];
       all = (has, tt);
-      is = ap (λ (b : Bool). if b then s.logs (site.shard_of (about x)) ++ x ∷ [] else s.logs n) h.0 ∙ ap (λ m. s.logs m ++ x ∷ []) (sym h.1);
+      is = ap (λ (b : Bool). if b then s.logs n ++ x ∷ [] else s.logs m) h.0 ∙ ap (λ j. s.logs j ++ x ∷ []) (sym h.1);
     }
-    | inr h ↦ same_log (s.logs n) _ (ap (λ (b : Bool). if b then s.logs (site.shard_of (about x)) ++ x ∷ [] else s.logs n) h.0)
+    | inr h ↦ same_log (s.logs m) _ (ap (λ (b : Bool). if b then s.logs n ++ x ∷ [] else s.logs m) h.0)
   ]
 
-  gains-kept : (x : Entry) → Has P x → Kept (server.gains site x s)
-  gains-kept x has = by_test Kept (can_gain site x s) _ _
-      (λ h. record { grows = record { logs = gained-log x has; accepted = ([], sym (append-nil s.accepted)); count = at_least s.count }; links = refl }) (λ h. here)
+  gains-kept : (n : ℕ) (x : Entry) → Has P x → Kept (server.gains site n x s)
+  gains-kept n x has = by_test Kept (can_gain site n x s) _ _
+      (λ h. record { grows = record { logs = gained-log n x has; accepted = ([], sym (append-nil s.accepted)); count = at_least s.count }; links = refl }) (λ h. here)
 
   publishes-kept : (k : ℕ) (h : Work) → WorkHas P h → Kept (server.publishes site k h s)
-  publishes-kept k (ToPublish c id d) has = by_test Kept (can_gain site (Publish c d) s) _ _
-      (λ h. record { grows = record { logs = gained-log (Publish c d) has; accepted = (server.place_in c (server.life_of site s c), refl); count = at_least s.count }; links = refl }) (λ h. here)
+  publishes-kept k (ToPublish c id key d) has = by_test Kept (server.repeats key (server.life_of site s c)) _ _ (λ r. still _ refl refl refl (at_least s.count))
+      (λ r. by_test Kept (can_gain site (site.shard_of c) (Publish c key d) s) _ _
+      (λ h. record {
+        grows = record { logs = gained-log (site.shard_of c) (Publish c key d) has; accepted = (server.place_in c (server.life_of site s c), refl); count = at_least s.count };
+        links = refl;
+      })
+      (λ h. here))
   publishes-kept k other has = here
 
   checks-kept : (o : Option Lookup) → Kept (server.checks_by (words_of site s) o s)
@@ -177,7 +183,7 @@ module _ (P : Datum → Type 0) (site : Site) (s : Server) where
   comes-kept x n (Some k) = here
   comes-kept x n None = by_test Kept (nat_lt n site.config.nodes) _ _ (λ h. still _ refl refl refl (one_above s.count)) (λ h. here)
 
-  sends-kept : (x : List ℕ) (e : Errand) (o : Option ℕ) → Kept (server.sends_by x e o s)
+  sends-kept : (x : List ℕ) (e : ClientCommand) (o : Option ℕ) → Kept (server.sends_by x e o s)
   sends-kept x e None = here
   sends-kept x e (Some k) = by_test Kept (nat_le (s.clients x).fresh last_id && may_send (s.clients x) e) _ _ (λ h. still _ refl refl refl (at_least s.count)) (λ h. here)
 
@@ -197,10 +203,12 @@ module _ (P : Datum → Type 0) (site : Site) (s : Server) where
   kept : (x : Section) → SectionHas P s x → is_at_link x ≡ false → Kept (after site x s)
   kept (Offers i n) has e = absurd (cc)
   kept (Delivers n) has e = absurd (cc)
-  kept (Gains (Publish c d)) has e = here
-  kept (Gains (Open c i)) has e = gains-kept (Open c i) tt
-  kept (Gains (Trim c n)) has e = gains-kept (Trim c n) tt
-  kept (Gains (Forget c)) has e = gains-kept (Forget c) tt
+  kept (Gains (Publish c key d)) has e = here
+  kept (Gains (Size name n)) has e = here
+  kept (Gains (Open c i)) has e = gains-kept (site.shard_of c) (Open c i) tt
+  kept (Gains (Trim c n)) has e = gains-kept (site.shard_of c) (Trim c n) tt
+  kept (Gains (Forget c)) has e = gains-kept (site.shard_of c) (Forget c) tt
+  kept (Sizes shard name n) has e = gains-kept shard (Size name n) tt
   kept (Publishes k) has e = publishes-kept k (s.connections k).work has
   kept (Checks i) has e = checks-kept (slice_get s.lookups i)
   kept (Attaches x n) has e = comes-kept x n (s.seats x)

@@ -18,9 +18,10 @@ use Rattle.cf_session.specs.Script.{Script}
 use Rattle.cf_machine.specs.ClientLink.{finishes_over}
 use Rattle.cf_machine.specs.ClientRequest.{ClientRequest, SentCommand, Subscribe, Unsubscribe, Publish, History, request_of}
 use Rattle.cf_running.specs.Server as server
-use Rattle.cf_running.specs.Server.{AsksShard, Began, Begins, Calls, Connection, Errs, Finishes, FinishesOver, Free, GivesUp, HasRead, IsRefused, Leaves, Publishes, ReadDone, Refuses, Says, Server, Site, ToFinish, ToGiveUp, ToList, ToPublish, ToSay, Work, accepts, after, can_gain, change, life_of, lists_of, ran, words_of}
+use Rattle.cf_running.specs.Server.{AsksShard, Began, Begins, Calls, Connection, Errs, Finishes, FinishesOver, Free, GivesUp, HasRead, IsRefused, Leaves, Publishes, ReadDone, Refuses, Says, Server, Site, ToFinish, ToGiveUp, ToList, ToPublish, ToSay, Work, accepts, after, answers, can_gain, change, life_of, lists_of, ran, repeats, words_of}
+use Rattle.cf_machine.proofs.Names.{by_test}
 use Rattle.cf_running.proofs.Beside.{at-same}
-use Rattle.cf_running_ties.specs.InHand.{AsksBroker, HasInHand, Hears, InHand, MayBeRefused, by_answer, id_of}
+use Rattle.cf_running_ties.specs.InHand.{AsksBroker, HasInHand, Hears, InHand, MayBeRefused, by_answer, id_of, is_published}
 use Rattle.cf_running_ties.specs.Reads.{IsListing, SaysLater}
 
 module _ (site : Site) (s : Server) (k : ℕ) (who : Who) (next : Script) where
@@ -59,13 +60,13 @@ module _ (site : Site) (s : Server) (k : ℕ) (who : Who) (next : Script) where
       channel : ClientRequest → List ℕ
       channel (Subscribe d since) = d
       channel (Unsubscribe d) = d
-      channel (Publish d body) = d
+      channel (Publish d key body) = d
       channel (History d limit) = d
 
       by_request : (r : ClientRequest) → MayBeRefused x r → (rest : List SentCommand) → (server.refuses_by (code_of e) c.id r rest x).work ≡ ToSay (channel r) (Fails (channel r) c.id (code_of e))
       by_request (Subscribe d since) m rest = refl
       by_request (Unsubscribe d) m rest = ap (λ (b : Bool). (if b then record x { up = rest; work = ToSay d (Fails d c.id (code_of e)) } else x).work) m
-      by_request (Publish d body) m rest = refl
+      by_request (Publish d key body) m rest = refl
       by_request (History d limit) m rest = refl
 
   pub begins : (c : SentCommand) (d : List ℕ) (since : Option Position) → Hears x c → c.request ≡ Subscribe d since → x.session.closed ≡ false → is_off (x.session.subs d) ≡ true
@@ -97,8 +98,8 @@ module _ (site : Site) (s : Server) (k : ℕ) (who : Who) (next : Script) where
           → HasInHand site (change k g s) k who next (granted who c.id (request_of r) next)
       by_request (Subscribe d since) m g rest e = absurd m
       by_request (Unsubscribe d) m g rest e = absurd m
-      by_request (Publish d body) m g rest e =
-          goes g (ToPublish d c.id (record { body = body; info = Some who })) _ (ap (λ (y : Connection). y.work) e) (refl, refl)
+      by_request (Publish d key body) m g rest e =
+          goes g (ToPublish d c.id key (record { body = body; info = Some who })) _ (ap (λ (y : Connection). y.work) e) (refl, refl)
       by_request (History d limit) m g rest e = goes g (ToList d c.id limit) _ (ap (λ (y : Connection). y.work) e) refl
 
   -- ---- it is answered
@@ -113,7 +114,7 @@ module _ (site : Site) (s : Server) (k : ℕ) (who : Who) (next : Script) where
       by_work (Began c id since) i j =
           goes (server.is_refused (code_of e) x.work) (ToGiveUp c id (code_of e)) (f (Refused e)) (ap (λ w. (server.is_refused (code_of e) w x).work) i)
           (e, refl, ap (λ (g : Answer → Script). g (Refused e)) (sym (same (after_read id c next) f j)))
-      by_work (ToPublish c id d) i j =
+      by_work (ToPublish c id key d) i j =
           goes (server.is_refused (code_of e) x.work) (ToSay c (Fails c id (code_of e))) (f (Refused e)) (ap (λ w. (server.is_refused (code_of e) w x).work) i)
           (id, Failed (code_of e), λ later g. refl, ap (λ (g : Answer → Script). g (Refused e)) (sym (same (replies id next) f j)))
       by_work (ToList c id limit) i j =
@@ -144,15 +145,23 @@ module _ (site : Site) (s : Server) (k : ℕ) (who : Who) (next : Script) where
       done : (server.read_done (words_of site t) (t.connections k).work (t.connections k)).work ≡ ToFinish c
       done = ap (λ z. (server.read_done (words_of site t) z (t.connections k)).work) its-work
 
-  pub published : (c : List ℕ) (id : ℕ) (d : Datum) → x.work ≡ ToPublish c id d → can_gain site (PublishEntry c d) s ≡ true
+  pub published : (c key : List ℕ) (id : ℕ) (d : Datum) → x.work ≡ ToPublish c id key d → is_published site s c key d ≡ true
       → HasInHand site (after site (Publishes k) s) k who next (replies id next (Found Published))
-  published c id d w can =
-      let t : Server = change k (λ (y : Connection). record y { work = ToSay c (Put id) }) (accepts site c d s) in
-      let is : after site (Publishes k) s ≡ t = ap (λ z. server.publishes site k z s) w ∙ ap (λ (b : Bool). if b then t else s) can in
-      subst (λ (v : Server). HasInHand site v k who next (replies id next (Found Published))) (sym is)
-      (subst (λ z. InHand (lists_of site t) who next z (replies id next (Found Published)))
-      (sym (ap (λ (y : Connection). y.work) (at-same s.connections k (record x { work = ToSay c (Put id) }))))
-      (id, Published, λ later g. refl, refl))
+  published c key id d w can =
+      subst (λ (v : Server). HasInHand site v k who next (replies id next (Found Published))) (sym (ap (λ z. server.publishes site k z s) w))
+      (by_test (λ (v : Server). HasInHand site v k who next (replies id next (Found Published))) (repeats key (life_of site s c)) _ _
+      (λ r. says s)
+      (λ r. subst (λ (b : Bool). HasInHand site (if b then change k (answers c id) (accepts site c key d s) else s) k who next (replies id next (Found Published)))
+      (sym (second (repeats key (life_of site s c)) (can_gain site (site.shard_of c) (PublishEntry c key d) s) r can)) (says (accepts site c key d s))))
+    where
+      second : (a b : Bool) → a ≡ false → (a || b) ≡ true → b ≡ true
+      second a b h i = subst (λ t. (t || b) ≡ true) h i
+
+      -- the answer is on its way
+      says : (t : Server) → HasInHand site (change k (answers c id) t) k who next (replies id next (Found Published))
+      says t =
+          subst (λ z. InHand (lists_of site t) who next z (replies id next (Found Published)))
+          (sym (ap (λ (y : Connection). y.work) (at-same t.connections k (answers c id (t.connections k))))) (id, Published, λ later g. refl, refl)
 
   pub listed : (c : List ℕ) (id : ℕ) (limit : ℤ) (p : Position) (items : List Placed) → x.work ≡ ToList c id limit → IsListing site s c limit p items
       → HasInHand site (after site (AsksShard k) s) k who next (replies id next (Found (Past p items)))

@@ -144,7 +144,7 @@ module _ (back : (t : Tree) (r : List ℕ) → IsRegular t → Value t (compact_
   -- ---- each request by its key
 
   abbrev BringsBody : Request → Type 0
-  BringsBody (Publish c d) = IsReadBack d
+  BringsBody (Publish c key d) = IsReadBack d
   BringsBody q = Unit {0}
 
   abbrev Reads : (Tree → Option Request) → Type 0
@@ -160,7 +160,7 @@ module _ (back : (t : Tree) (r : List ℕ) → IsRegular t → Value t (compact_
   reads-unsubscribe = read-by BringsBody unsubscribe (λ r h. bind BringsBody _ (text r "channel") (λ c. tt))
 
   reads-publish : Reads (object_as publish)
-  reads-publish = read-by BringsBody publish (λ r h. bind BringsBody _ (text r "channel") (λ c. brought (member r "data") (found (codes "data") r h)))
+  reads-publish = read-by BringsBody publish (λ r h. bind BringsBody _ (text r "channel") (λ c. bind BringsBody _ (text r "key") (λ key. brought (member r "data") (found (codes "data") r h))))
 
   reads-presence : Reads (object_as presence)
   reads-presence = read-by BringsBody presence (λ r h. bind BringsBody _ (text r "channel") (λ c. tt))
@@ -222,7 +222,7 @@ module _ (back : (t : Tree) (r : List ℕ) → IsRegular t → Value t (compact_
   heard : (id : ℕ) (q : Request) → id ≤ max_u32 → BringsBody q → (needs_id q && (id == 0)) ≡ false → IsHeardAs id q
   heard id Pong h k e = tt
   heard id Send h k e = tt
-  heard id (Publish c d) h k e = (code id h e, k)
+  heard id (Publish c key d) h k e = (code id h e, k)
   heard id (Connect token) h k e = code id h e
   heard id (Subscribe c since) h k e = code id h e
   heard id (Unsubscribe c) h k e = code id h e

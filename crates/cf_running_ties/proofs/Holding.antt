@@ -7,7 +7,7 @@ use Rattle.cf_protocol.specs.Note.{Lists, Reading}
 use Rattle.cf_protocol.specs.Position.{Position}
 use Rattle.cf_protocol.specs.Regular.{IsCode}
 use Rattle.cf_recovery.specs.Arrivals.{arrives, has, overfull}
-use Rattle.cf_recovery.specs.Kept.{Arrival, IsWithin, Kept, StandsFor, arrival, given_up, nothing_kept, places, with_arrival}
+use Rattle.cf_recovery.specs.ArrivalBuffer.{Arrival, IsWithin, ArrivalBuffer, StandsFor, arrival, given_up, nothing_kept, places, with_arrival}
 use Rattle.cf_recovery.specs.Release.{falls_short, run_length}
 use Rattle.cf_hub.specs.InNotes.{AreMissed, IsListed, placed_of}
 use Rattle.cf_hub.specs.Wordings.{Held, at_offset, held}
@@ -38,12 +38,12 @@ holds_up lists c id x k arrived more h = record {
 }
 
 module _
-    (within : (a : Arrival) (k : Kept) → IsWithin k → IsWithin (with_arrival a k))
-    (stands : (a : Arrival) (k : Kept) (arrived : List Position) → StandsFor k arrived → StandsFor (with_arrival a k) (arrives a.at arrived))
-    (run : (k : Kept) (arrived : List Position) (r : Reading) → IsWithin k → StandsFor k arrived → k.short ≡ false → run_length (places k.arrived) r ≡ run_length arrived r)
-    (short : (k : Kept) (arrived : List Position) (r : Reading) → IsWithin k → StandsFor k arrived → k.short ≡ false → (k.overflow || falls_short (places k.arrived) r) ≡ falls_short arrived r)
+    (within : (a : Arrival) (k : ArrivalBuffer) → IsWithin k → IsWithin (with_arrival a k))
+    (stands : (a : Arrival) (k : ArrivalBuffer) (arrived : List Position) → StandsFor k arrived → StandsFor (with_arrival a k) (arrives a.at arrived))
+    (run : (k : ArrivalBuffer) (arrived : List Position) (r : Reading) → IsWithin k → StandsFor k arrived → k.short ≡ false → run_length (places k.arrived) r ≡ run_length arrived r)
+    (short : (k : ArrivalBuffer) (arrived : List Position) (r : Reading) → IsWithin k → StandsFor k arrived → k.short ≡ false → (k.overflow || falls_short (places k.arrived) r) ≡ falls_short arrived r)
     (lists : Lists) where
-  listed_more : (P : Arrival → Type 0) (a : Arrival) (k : Kept) → P a → All P k.arrived → All P (with_arrival a k).arrived
+  listed_more : (P : Arrival → Type 0) (a : Arrival) (k : ArrivalBuffer) → P a → All P k.arrived → All P (with_arrival a k).arrived
   listed_more P a k p h = by_test (k.overflow || has (places k.arrived) a.at.epoch a.at.offset) (overfull (a.at ∷ places k.arrived))
     where
       by_test : (known many : Bool) → All P (if known then k else if many then given_up k.short else record k { arrived = a ∷ k.arrived }).arrived

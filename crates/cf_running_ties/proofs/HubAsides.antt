@@ -8,7 +8,7 @@ use Rattle.cf_protocol.specs.Note as note
 use Rattle.cf_protocol.specs.Position.{Position}
 use Rattle.cf_queue.specs.OutQueue.{Item, Text, Close}
 use Rattle.cf_recovery.specs.Arrivals.{arrives}
-use Rattle.cf_recovery.specs.Kept.{Arrival, IsWithin, Kept, StandsFor, arrival, ended_at, given_up, nothing_kept, places, with_arrival}
+use Rattle.cf_recovery.specs.ArrivalBuffer.{Arrival, IsWithin, ArrivalBuffer, StandsFor, arrival, ended_at, given_up, nothing_kept, places, with_arrival}
 use Rattle.cf_recovery.specs.Release.{falls_short, run_length}
 use Rattle.cf_recovery.specs.Verdict.{Verdict, Drop, Pass, Insufficient, verdict}
 use Rattle.cf_hub.specs.Alike.{AlikeSub}
@@ -29,10 +29,10 @@ use Rattle.cf_running_ties.proofs.Closing.{by_open, closed_alike, no_items, was_
 use Rattle.cf_running_ties.proofs.Holding.{holds_nothing, holds_one, holds_read, holds_up}
 
 module _
-    (within : (a : Arrival) (k : Kept) → IsWithin k → IsWithin (with_arrival a k))
-    (stands : (a : Arrival) (k : Kept) (arrived : List Position) → StandsFor k arrived → StandsFor (with_arrival a k) (arrives a.at arrived))
-    (counted : (k : Kept) (arrived : List Position) (r : Reading) → IsWithin k → StandsFor k arrived → k.short ≡ false → run_length (places k.arrived) r ≡ run_length arrived r)
-    (short : (k : Kept) (arrived : List Position) (r : Reading) → IsWithin k → StandsFor k arrived → k.short ≡ false → (k.overflow || falls_short (places k.arrived) r) ≡ falls_short arrived r)
+    (within : (a : Arrival) (k : ArrivalBuffer) → IsWithin k → IsWithin (with_arrival a k))
+    (stands : (a : Arrival) (k : ArrivalBuffer) (arrived : List Position) → StandsFor k arrived → StandsFor (with_arrival a k) (arrives a.at arrived))
+    (counted : (k : ArrivalBuffer) (arrived : List Position) (r : Reading) → IsWithin k → StandsFor k arrived → k.short ≡ false → run_length (places k.arrived) r ≡ run_length arrived r)
+    (short : (k : ArrivalBuffer) (arrived : List Position) (r : Reading) → IsWithin k → StandsFor k arrived → k.short ≡ false → (k.overflow || falls_short (places k.arrived) r) ≡ falls_short arrived r)
     (A : List ℕ → Type 0) (lists : Lists) where
   abbrev Says : Texts → Notes → Type 0
   Says a b = SaysAmong A lists a b

@@ -1,5 +1,5 @@
 -- What waits on the links of the running server is what was sent on the program's and not received, and all of it is listed.
-use Rattle.std.proofs.Common.{◌≡◌, ◌≢◌, ◌⊎◌, inl, inr, ◌≤◌, ℕ, zero, suc, ◌+◌, ◌==◌, nat_lt, Bool, true, false, if◌then◌else◌, cond, is_some, Option, Some, None, List, [], ◌∷◌, ◌++◌, length, slice_get, append_assoc, refl, sym, ap, ◌∙◌, subst, arith}
+use Rattle.std.proofs.Common.{◌≡◌, ◌≢◌, ◌⊎◌, inl, inr, ◌≤◌, ℕ, zero, suc, ◌+◌, ◌==◌, nat_lt, Bool, true, false, if◌then◌else◌, cond, is_some, not, Option, Some, None, List, [], ◌∷◌, ◌++◌, length, slice_get, append-nil, append_assoc, refl, sym, ap, ◌∙◌, subst, arith}
 use Rattle.std.specs.List.{AllZip}
 use Rattle.std.specs.Option.{option_map}
 use Rattle.std.proofs.lemmas.Bool.{and_parts}
@@ -9,30 +9,33 @@ use Rattle.cf_protocol.specs.Datum.{Datum, Placed}
 use Rattle.cf_protocol.specs.Fields.{max_u64}
 use Rattle.cf_protocol.specs.LogEntry.{Entry}
 use Rattle.cf_protocol.specs.LogEntry.Entry.{Publish}
-use Rattle.cf_protocol.specs.Note.{Lists, placed_at, Put}
+use Rattle.cf_protocol.specs.Note.{Lists, placed_at}
 use Rattle.cf_protocol.specs.Position.{Position}
 use Rattle.cf_protocol.specs.Regular.{IsBody, IsPlaced}
 use Rattle.cf_protocol.specs.Settings.{settings_of}
-use Rattle.cf_stream.specs.ChannelLists.{stands_at}
-use Rattle.cf_stream.specs.LogState.{life_in}
-use Rattle.cf_stream.specs.PublicationList.{Life, published}
+use Rattle.cf_stream.specs.ChannelLists.{life_or, stands_at}
+use Rattle.cf_stream.specs.Keys.{is_no_key, offset_of, repeat_of}
+use Rattle.cf_stream.specs.LogState.{life_in, publishing, sizes_in}
+use Rattle.cf_stream.specs.PublicationList.{IsPublished as IsPublishedIn, Life, opened, published}
+use Rattle.cf_stream.specs.Stream.{answer_by}
+use Rattle.cf_stream.specs.Streams.{size_at}
+use Rattle.cf_stream.specs.declared.answer.Published.{Published}
 use Rattle.cf_stream.specs.StreamState.{StreamState, last_offset}
 use Rattle.cf_hub.specs.InNotes.{IsListed}
 use Rattle.cf_link.specs.Link.{AreLeft}
-use Rattle.cf_machine.specs.IntervalMachine.{size_of}
 use Rattle.cf_machine.specs.Lives.{life_by}
 use Rattle.cf_machine.specs.PublicationList.{Place}
 use Rattle.cf_machine.specs.World.{World}
-use Rattle.cf_machine.proofs.Names.{itself}
+use Rattle.cf_machine.proofs.Names.{by_test, itself}
 use Rattle.cf_shard.specs.Delivery.{Carried, OfferedToAll, carried}
+use Rattle.cf_shard.specs.LogAnswer.{IsPublished}
 use Rattle.cf_running.specs.Server as server
-use Rattle.cf_running.specs.Server.{Connection, Delivers, Offers, Publishes, Section, Server, Site, ToSay, Work, accepts, after, at_number, change, comes_by, life_of, lists_of, log_of, place_in, place_of, ran, start, words_of}
+use Rattle.cf_running.specs.Server.{Connection, Delivers, Offers, Publishes, Section, Server, Site, Work, accepts, after, answers, at_number, can_gain, change, comes_by, life_of, lists_of, log_of, place_in, place_of, ran, start, words_of}
 use Rattle.cf_running.proofs.Beside.{Beside, at-same, number_tells}
 use Rattle.cf_running.proofs.Gaining.{life-more}
 use Rattle.cf_running.proofs.Steps.{stands_beside}
-use Rattle.cf_running_ties.specs.Links.{IsAnswered, IsFirst, IsNumbered, IsSentOrLost, Lines, Waits, is_at_link, place}
+use Rattle.cf_running_ties.specs.Links.{AddsNothing, IsAnswered, IsFirst, IsNumbered, IsSentOrLost, Lines, Waits, is_at_link, place}
 use Rattle.cf_running_ties.proofs.Growing.{Any, any-section, grown-lists, grows, links-stay, listed-later, place-more}
-use Rattle.cf_running_ties.proofs.ShardCalls.{sizes_same}
 
 -- ---- each link is offered it once
 
@@ -200,10 +203,10 @@ life-listed site s w b c l e =
     own : (n : ℕ) → (n == n) ≡ true
     own n = grind (arith, nat_tests)
 
-    by_stream : (o : Option StreamState) → life_by (w.broker.lists c) o ≡ Some l → w.broker.lists c l.epoch ≡ l.list
+    by_stream : (o : Option StreamState) → life_by (w.broker.lists c) (w.broker.keys c) o ≡ Some l → w.broker.lists c l.epoch ≡ l.list
     by_stream None h = absurd (cc)
     by_stream (Some t) h =
-        let same : ◌≡◌ {A = Life} (record { epoch = t.epoch; list = w.broker.lists c t.epoch; held = t.held }) l = cc in
+        let same : ◌≡◌ {A = Life} (record { epoch = t.epoch; list = w.broker.lists c t.epoch; keys = w.broker.keys c t.epoch; held = t.held }) l = cc in
         ap (w.broker.lists c) (sym (ap (λ (k : Life). k.epoch) same)) ∙ ap (λ (k : Life). k.list) same
 
 ran-append : (site : Site) (s : Server) (xs ys : List Section) → ran site s (xs ++ ys) ≡ ran site (ran site s xs) ys
@@ -231,21 +234,38 @@ module _
   abbrev s : Server
   s = ran site start sections
 
-  module _ (k : ℕ) (c : List ℕ) (d : Datum) (p : Position) (a : IsAnswered site s k c d p) where
+  module _ (k : ℕ) (c key : List ℕ) (d : Datum) (p : Published) (a : IsAnswered site s k c key d p) (new : p.repeated ≡ false) where
+    abbrev x : Entry
+    x = Publish c key d
+
     abbrev t : Server
-    t = change k (λ (x : Connection). record x { work = ToSay c (Put a.id) }) (accepts site c d s)
+    t = change k (answers c a.id) (accepts site c key d s)
+
+    may : can_gain site (site.shard_of c) x s ≡ true
+    may = a.may new
+
+    -- its stream isn't at the last offset, and has no publication under the key
+    parts : (server.is_below (life_of site s c) ≡ true) × (not (server.repeats key (life_of site s c)) ≡ true)
+    parts = and_parts (server.is_below (life_of site s c)) (not (server.repeats key (life_of site s c))) (and_parts (is_some (settings_of site.config.namespaces c)) _ may).1
+
+    is_not : (b : Bool) → not b ≡ true → b ≡ false
+    is_not true h = absurd (cc)
+    is_not false h = refl
 
     run-is : ran site start (sections ++ Publishes k ∷ []) ≡ t
     run-is =
         ran-append site start sections (Publishes k ∷ [])
         ∙ ap (λ (h : Work). server.publishes site k h s) a.work
-        ∙ ap (λ (b : Bool). if b then t else s) a.may
+        ∙ (λ i. if is_not (server.repeats key (life_of site s c)) parts.1 i then change k (answers c a.id) s else if may i then t else s)
 
-    its-log : log_of site t c ≡ log_of site s c ++ Publish c d ∷ []
-    its-log = at-same s.logs (site.shard_of c) (log_of site s c ++ Publish c d ∷ [])
+    its-log : log_of site t c ≡ log_of site s c ++ x ∷ []
+    its-log = at-same s.logs (site.shard_of c) (log_of site s c ++ x ∷ [])
+
+    answer : IsPublished site.config.namespaces a.seen (log_of site s c ++ x ∷ []) c key d p
+    answer = subst (λ (b : Bool). IsPublished site.config.namespaces a.seen (if b then log_of site s c else log_of site s c ++ x ∷ []) c key d p) new a.answer
 
     -- its stream before and after
-    by_life : (o : Option Life) → life_of site s c ≡ o → server.is_below o ≡ true → IsNumbered site t (length s.accepted + 1) (carried c p d)
+    by_life : (o : Option Life) → life_of site s c ≡ o → server.is_below o ≡ true → IsNumbered site t (length s.accepted + 1) (carried c p.position d)
     by_life None e h = absurd (cc)
     by_life (Some l) e h =
         subst (λ q. IsNumbered site t (length s.accepted + 1) (carried c q d)) (sym at-is) (record {
@@ -258,32 +278,71 @@ module _
         q : Position
         q = record { epoch = l.epoch; offset = length l.list + 1 }
 
+        size : ℕ
+        size = size_at (sizes_in site.config.namespaces (log_of site s c)) c
+
         grown : Life
-        grown = published (size_of site.config c) d l
+        grown = published size key d l
 
-        life-is : life_in (size_of site.config) (log_of site s c ++ Publish c d ∷ []) c ≡ Some grown
+        life-is : life_in site.config.namespaces (log_of site s c ++ x ∷ []) c ≡ Some grown
         life-is =
-            life-more (size_of site.config) (log_of site s c) (Publish c d) c
-            ∙ ap (λ (b : Bool). cond b (option_map (published (size_of site.config c) d) (life_of site s c)) (life_of site s c)) (itself c)
-            ∙ ap (λ (o : Option Life). option_map (published (size_of site.config c) d) o) e
+            life-more site.config.namespaces (log_of site s c) x c
+            ∙ ap (λ (b : Bool). cond b (option_map (published size key d) (life_of site s c)) (life_of site s c)) (itself c)
+            ∙ ap (λ (o : Option Life). option_map (published size key d) o) e
 
-        at-is : p ≡ q
+        at-is : p.position ≡ q
         at-is =
-            let same : Some p ≡ option_map stands_at (life_in (size_of site.config) (log_of site s c ++ Publish c d ∷ []) c) =
-            subst (λ (f : List ℕ → ℕ). Some p ≡ option_map stands_at (life_in f (log_of site s c ++ Publish c d ∷ []) c)) (sizes_same site.config) a.answer.answered in
-            let one : ◌≡◌ {A = Option Position} (Some p) (Some (stands_at grown)) = same ∙ ap (λ (o : Option Life). option_map stands_at o) life-is in
-            let stood : p ≡ stands_at grown = cc in
+            let same : Some p.position ≡ option_map stands_at (life_in site.config.namespaces (log_of site s c ++ x ∷ []) c) = answer.answered.stands new in
+            let one : ◌≡◌ {A = Option Position} (Some p.position) (Some (stands_at grown)) = same ∙ ap (λ (o : Option Life). option_map stands_at o) life-is in
+            let stood : p.position ≡ stands_at grown = cc in
             stood ∙ (λ i. record { epoch = l.epoch; offset = length-append l.list (d ∷ []) i })
 
         list-is : lists_of site t c l.epoch ≡ l.list ++ d ∷ []
         list-is =
             let beside = stands_beside site (sections ++ Publishes k ∷ []) in
-            life-listed site t beside.0 (subst (λ (v : Server). Beside site v beside.0) run-is beside.1) c grown (ap (λ (log : List Entry). life_in (size_of site.config) log c) its-log ∙ life-is)
+            life-listed site t beside.0 (subst (λ (v : Server). Beside site v beside.0) run-is beside.1) c grown (ap (λ (log : List Entry). life_in site.config.namespaces log c) its-log ∙ life-is)
 
         fits : length l.list + 1 ≤ max_u64
         fits = let below : nat_lt (length l.list) last_offset ≡ true = h in grind (arith, nat_tests, below)
 
-    pub accepted : IsNumbered site (ran site start (sections ++ Publishes k ∷ [])) (length s.accepted + 1) (carried c p d)
+    pub accepted : IsNumbered site (ran site start (sections ++ Publishes k ∷ [])) (length s.accepted + 1) (carried c p.position d)
     accepted =
-        subst (λ (v : Server). IsNumbered site v (length s.accepted + 1) (carried c p d)) (sym run-is)
-        (by_life (life_of site s c) refl (and_parts (is_some (settings_of site.config.namespaces c)) (server.is_below (life_of site s c)) a.may).1)
+        subst (λ (v : Server). IsNumbered site v (length s.accepted + 1) (carried c p.position d)) (sym run-is)
+        (by_life (life_of site s c) refl parts.0)
+
+-- ---- a repeat adds nothing
+
+module _ (site : Site) (s : Server) (k : ℕ) (c key : List ℕ) (d : Datum) (p : Published) (a : IsAnswered site s k c key d p) (again : p.repeated ≡ true) where
+  -- what is answered as a repeat of a list repeats one
+  found : (l : Life) → IsPublishedIn l key p.position p.repeated → is_some (repeat_of key l.keys) ≡ true
+  found l h = by_found (repeat_of key l.keys) h.is
+    where
+      by_found : (o : Option ℕ) → ◌≡◌ {A = Published} (record { position = p.position; repeated = p.repeated }) (answer_by o l.epoch (length l.list)) → is_some o ≡ true
+      by_found (Some n) i = refl
+      by_found None i = absurd (let f : true ≡ false = sym again ∙ ap (λ (x : Published). x.repeated) i in cc)
+
+  -- a stream that opens has no keys
+  no-repeat : repeat_of key [] ≡ None
+  no-repeat = by_test (λ o. o ≡ None) (is_no_key key) None (offset_of key []) (λ h. refl) (λ h. refl)
+
+  repeats-one : (o : Option Life) → IsPublishedIn (life_or o p.position.epoch) key p.position p.repeated → server.repeats key o ≡ true
+  repeats-one (Some l) h = found l h
+  repeats-one None h =
+      absurd (let f : true ≡ false = sym (found (opened p.position.epoch) h) ∙ ap (λ (o : Option ℕ). is_some o) no-repeat in cc)
+
+  same-log : log_of site s c ≡ a.answer.before
+  same-log =
+      sym (ap (λ (b : Bool). if b then log_of site s c else log_of site s c ++ Publish c key d ∷ []) again) ∙ a.answer.gained
+      ∙ ap (λ (b : Bool). a.answer.before ++ publishing b (life_in site.config.namespaces a.answer.before c) c p.position.epoch key d) again
+      ∙ append-nil a.answer.before
+
+  pub repeated : AddsNothing s (after site (Publishes k) s)
+  repeated =
+      let one : server.repeats key (life_of site s c) ≡ true =
+      repeats-one (life_of site s c)
+      (subst (λ (log : List Entry). IsPublishedIn (life_or (life_in site.config.namespaces log c) p.position.epoch) key p.position p.repeated) (sym same-log) a.answer.answered.is) in
+      subst (λ (t : Server). AddsNothing s t)
+      (sym (ap (λ (h : Work). server.publishes site k h s) a.work
+      ∙ ap (λ (b : Bool). if b then change k (answers c a.id) s
+      else if can_gain site (site.shard_of c) (Publish c key d) s then change k (answers c a.id) (accepts site c key d s) else s) one))
+      (record { logs = refl; accepted = refl; links = refl })

@@ -11,15 +11,15 @@ use Rattle.cf_protocol.specs.Note.{Lists, Reading, placed_from}
 use Rattle.cf_protocol.specs.Outgoing.{Answer, Past}
 use Rattle.cf_protocol.specs.Position.{Position}
 use Rattle.cf_protocol.specs.Regular.{ArePlaced, IsBody, IsPosition}
+use Rattle.cf_protocol.specs.Settings.{NamespaceTable}
 use Rattle.cf_stream.specs.ChannelLists.{life_or}
 use Rattle.cf_stream.specs.LogState.{life_in, opening}
 use Rattle.cf_stream.specs.PublicationList.{IsListed, IsRead, Life, opened, state_of}
 use Rattle.cf_stream.specs.StreamAnswer.{Listing, allowed_by, listed_above, read_of}
-use Rattle.cf_stream.specs.Streams.{size_at}
 use Rattle.cf_hub.specs.InNotes.{AreMissed, Grown}
 use Rattle.cf_hub.proofs.InNotes.{read_stays}
 use Rattle.cf_machine.proofs.Names.{itself}
-use Rattle.cf_shard.specs.LogAnswer.{IsHistoryAnswer, IsReadAnswer, life_after}
+use Rattle.cf_shard.specs.LogAnswer.{IsHistoryAnswer, IsReadAnswer}
 use Rattle.cf_running.specs.Server.{Server, Section, Site, after, life_of, lists_of, log_of, ran, start}
 use Rattle.cf_running.proofs.Gaining.{life-more}
 use Rattle.cf_running.proofs.Steps.{stands_beside}
@@ -27,7 +27,6 @@ use Rattle.cf_running_ties.specs.Reads.{AllReadBack, IsDatum, IsListing, IsReadi
 use Rattle.cf_running_ties.specs.ShardCalls.{answered}
 use Rattle.cf_running_ties.proofs.Growing.{all-listed, grows}
 use Rattle.cf_running_ties.proofs.Links.{life-listed}
-use Rattle.cf_running_ties.proofs.ShardCalls.{sizes_same}
 use Rattle.cf_running_ties.proofs.ShardReads.{epoch-is, low-below, reading-is, top-is}
 
 pub starts : (site : Site) → AllReadBack site start
@@ -50,7 +49,7 @@ from-regular ds low count h k m =
 
 -- ---- the stream that a call found or opened
 
-life-opened : (sizes : List ℕ → ℕ) (log : List Entry) (c e : List ℕ) → life_in sizes (log ++ opening (life_in sizes log c) c e []) c ≡ Some (life_or (life_in sizes log c) e)
+life-opened : (sizes : NamespaceTable) (log : List Entry) (c e : List ℕ) → life_in sizes (log ++ opening (life_in sizes log c) c e []) c ≡ Some (life_or (life_in sizes log c) e)
 life-opened sizes log c e = by_life (life_in sizes log c) refl
   where
     by_life : (o : Option Life) → life_in sizes log c ≡ o → life_in sizes (log ++ opening o c e []) c ≡ Some (life_or o e)
@@ -72,12 +71,9 @@ module _
   its-list c l e = let b = stands_beside site sections in life-listed site s b.0 b.1 c l e
 
   -- the stream that the log has, which is the one of the answer
-  its-life : (c e : List ℕ) (before : List Entry) → log_of site s c ≡ before ++ opening (life_after site.config.namespaces before c) c e []
-      → life_of site s c ≡ Some (life_or (life_after site.config.namespaces before c) e)
-  its-life c e before g =
-      ap (λ (f : List ℕ → ℕ). life_in f (log_of site s c) c) (sym (sizes_same site.config))
-      ∙ ap (λ (log : List Entry). life_in (size_at site.config.namespaces) log c) g
-      ∙ life-opened (size_at site.config.namespaces) before c e
+  its-life : (c e : List ℕ) (before : List Entry) → log_of site s c ≡ before ++ opening (life_in site.config.namespaces before c) c e []
+      → life_of site s c ≡ Some (life_or (life_in site.config.namespaces before c) e)
+  its-life c e before g = ap (λ (log : List Entry). life_in site.config.namespaces log c) g ∙ life-opened site.config.namespaces before c e
 
   read-off : (c : List ℕ) (since : Option Position) (p : Position) (recovered : Bool) (items : List Placed) (l : Life) → AllReadBack site s → IsPosition p
       → life_of site s c ≡ Some l → IsRead l since p recovered items → AreMissed lists c (answered p recovered items) items
@@ -98,7 +94,7 @@ module _
   pub reads : (c : List ℕ) (since : Option Position) (p : Position) (recovered : Bool) (items : List Placed) (seen : List Entry) → AllReadBack site s → IsPosition p
       → IsReadAnswer site.config.namespaces seen (log_of site s c) c since p recovered items → IsReading site s c since p recovered items
   reads c since p recovered items seen all position h =
-      let l : Life = life_or (life_after site.config.namespaces h.before c) p.epoch in
+      let l : Life = life_or (life_in site.config.namespaces h.before c) p.epoch in
       let stands : life_of site s c ≡ Some l = its-life c p.epoch h.before h.gained in
       record {
         life = l;
@@ -120,7 +116,7 @@ module _
   pub histories : (c : List ℕ) (limit : ℤ) (p : Position) (items : List Placed) (seen : List Entry) → AllReadBack site s → IsPosition p
       → IsHistoryAnswer site.config.namespaces seen (log_of site s c) c None limit p items → IsListing site s c limit p items
   histories c limit p items seen all position h =
-      let l : Life = life_or (life_after site.config.namespaces h.before c) p.epoch in
+      let l : Life = life_or (life_in site.config.namespaces h.before c) p.epoch in
       let stands : life_of site s c ≡ Some l = its-life c p.epoch h.before h.gained in
       let f : Listing = listed_above 0 limit (state_of l) in
       let a : IsListed l None limit p items = h.answered in

@@ -5,10 +5,11 @@ use Rattle.std.specs.Str.{bytes_eq}
 use Rattle.std.proofs.lemmas.List.Elements.{filter_map-append}
 use Rattle.cf_protocol.specs.Names.{is_among}
 use Rattle.cf_protocol.specs.Settings.{NamespaceTable}
+use Rattle.cf_protocol.specs.Datum.{Datum}
 use Rattle.cf_protocol.specs.LogEntry.{Entry}
-use Rattle.cf_protocol.specs.LogEntry.Entry.{Open}
+use Rattle.cf_protocol.specs.LogEntry.Entry.{Open, Publish}
 use Rattle.cf_stream.specs.FreshEpochs.{Draws, DrawsEpoch, DrawsNone}
-use Rattle.cf_stream.specs.LogState.{due_entries, due_entry, if_stands, opening}
+use Rattle.cf_stream.specs.LogState.{due_entries, due_entry, if_stands, opening, publishing}
 use Rattle.cf_stream.specs.Stream.{Shown}
 use Rattle.cf_stream.specs.Streams.{due_channels, stream_of}
 use Rattle.cf_stream.specs.declared.due.Due.{Due}
@@ -19,9 +20,9 @@ use Rattle.cf_machine.proofs.Names.{text_tells}
 use Rattle.cf_shard.specs.Shard.{DrawsFor, Lent}
 use Rattle.cf_running.specs.ShardLogs.{epochs_in, opening_of}
 use Rattle.cf_running_ties.specs.ShardCalls.{IsDrawn, MayAll}
-use Rattle.cf_running_ties.specs.ShardLife.{AreMade, Call, DrawsBy, FoundNoEpoch, Forgotten, IsMade, Unchanged, Published, Ticked, Trimmed, Used, entries_of}
+use Rattle.cf_running_ties.specs.ShardLife.{AreMade, Call, DrawsBy, FoundNoEpoch, Forgotten, IsMade, Unchanged, Published, Sized, Ticked, Trimmed, Used, entries_of}
 use Rattle.cf_running_ties.proofs.Gained.{goes_on}
-use Rattle.cf_running_ties.proofs.ShardCalls.{forgets, publishes, trims, uses}
+use Rattle.cf_running_ties.proofs.ShardCalls.{forgets, publishes, sizes, trims, uses}
 use Rattle.cf_running_ties.proofs.ShardTicks.{ticks}
 use Rattle.std.specs.FinMap as fin
 
@@ -107,21 +108,27 @@ older_opening : (o : Option Shown) (c e : List ℕ) (es : List Entry) (s t : Sou
 older_opening None c e es s t d h = older_open t c e es (last_given s t e d.0) h
 older_opening (Some x) c e es s t d h = h
 
+older_publishing : (repeated : Bool) (o : Option Shown) (c key e : List ℕ) (d : Datum) (s t : Source) → Draws draws_next o e s t → Older t (publishing repeated o c e key d)
+older_publishing true o c key e d s t h = λ q. tt
+older_publishing false o c key e d s t h = older_opening o c e (Publish c key d ∷ []) s t h (λ q. tt)
+
 -- each call goes on with the source, and its entries have epochs that the source gave
 call_on : (call : Call) (old new : Lent Source) → DrawsBy call old new → GoesOn old.epochs new.epochs
-call_on (Published c e d) old new h = stream_on (stream_of old.streams c) e old.epochs new.epochs h
+call_on (Published c key d p) old new h = stream_on (stream_of old.streams c) p.position.epoch old.epochs new.epochs h
 call_on (Used c e) old new h = stream_on (stream_of old.streams c) e old.epochs new.epochs h
 call_on (Trimmed c n) old new h = same_on old.epochs new.epochs h
 call_on (Forgotten c) old new h = same_on old.epochs new.epochs h
+call_on (Sized name n) old new h = same_on old.epochs new.epochs h
 call_on (Ticked now) old new h = same_on old.epochs new.epochs h
 call_on FoundNoEpoch old new h = none_on old.epochs new.epochs h
 call_on Unchanged old new h = same_on old.epochs new.epochs h
 
 call_older : (call : Call) (old new : Lent Source) → DrawsBy call old new → Older new.epochs (entries_of call old.streams)
-call_older (Published c e d) old new h = older_opening (stream_of old.streams c) c e _ old.epochs new.epochs h (λ q. tt)
+call_older (Published c key d p) old new h = older_publishing p.repeated (stream_of old.streams c) c key p.position.epoch d old.epochs new.epochs h
 call_older (Used c e) old new h = older_opening (stream_of old.streams c) c e [] old.epochs new.epochs h (λ q. tt)
 call_older (Trimmed c n) old new h = older_if new.epochs (stream_of old.streams c) _ (λ q. tt)
 call_older (Forgotten c) old new h = older_if new.epochs (stream_of old.streams c) _ (λ q. tt)
+call_older (Sized name n) old new h = λ q. tt
 call_older (Ticked now) old new h = older_due new.epochs (due_channels now old.streams.namespaces (fin.entries old.streams.streams))
 call_older FoundNoEpoch old new h = λ q. tt
 call_older Unchanged old new h = λ q. tt
@@ -177,12 +184,13 @@ module _ (told : (s t : Source) → IsSource s → IsSource t → epoch_at s ≡
 
   may : (cfg : Config) (call : Call) (old new : Lent Source) → IsMade cfg.namespaces call old new → Older old.epochs old.log → MayAll cfg [] old.log
       → MayAll cfg old.log (entries_of call old.streams)
-  may cfg (Published c e d) old new m h g =
-      publishes cfg old.streams old.log m.state.0 m.state.1 c e d g (is_new old new c e m.source m.draws h) m.allowed.1 m.allowed.0
-  may cfg (Used c e) old new m h g = uses cfg old.streams old.log m.state.0 m.state.1 c e (is_new old new c e m.source m.draws h)
-  may cfg (Trimmed c n) old new m h g = trims cfg old.streams old.log m.state.0 m.state.1 c n
-  may cfg (Forgotten c) old new m h g = forgets cfg old.streams old.log m.state.0 m.state.1 c
-  may cfg (Ticked now) old new m h g = ticks cfg old.streams old.log m.state.0 m.state.1 now
+  may cfg (Published c key d p) old new m h g =
+      publishes cfg old.streams old.log m.state c key d p.position p.repeated g (is_new old new c p.position.epoch m.source m.draws h) m.allowed.1 m.allowed.2 m.allowed.0
+  may cfg (Used c e) old new m h g = uses cfg old.streams old.log m.state c e (is_new old new c e m.source m.draws h)
+  may cfg (Trimmed c n) old new m h g = trims cfg old.streams old.log m.state c n
+  may cfg (Forgotten c) old new m h g = forgets cfg old.streams old.log m.state c
+  may cfg (Sized name n) old new m h g = sizes cfg old.log name n
+  may cfg (Ticked now) old new m h g = ticks cfg old.streams old.log m.state now
   may cfg FoundNoEpoch old new m h g = tt
   may cfg Unchanged old new m h g = tt
 

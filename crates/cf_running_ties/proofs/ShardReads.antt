@@ -13,13 +13,12 @@ use Rattle.cf_stream.specs.PublicationList.{IsRead, Life, opened, state_of}
 use Rattle.cf_stream.specs.Stream.{Shown}
 use Rattle.cf_stream.specs.StreamState.{StreamState}
 use Rattle.cf_stream.specs.StreamAnswer.{most_in_reply, read_of, still_held}
-use Rattle.cf_stream.specs.Streams.{Kept, size_at, stream_of}
+use Rattle.cf_stream.specs.Streams.{StreamMap, size_at, stream_of}
 use Rattle.cf_machine.specs.Config.{Config}
-use Rattle.cf_machine.specs.IntervalMachine.{size_of}
 use Rattle.cf_machine.proofs.Names.{by_test}
 use Rattle.cf_shard.specs.ShardLog.{entries_of_use}
 use Rattle.cf_running_ties.specs.ShardCalls.{answered}
-use Rattle.cf_running_ties.proofs.ShardCalls.{none-life, opened-life, shows, sizes_same}
+use Rattle.cf_running_ties.proofs.ShardCalls.{none-life, opened-life, shows}
 
 length-numbered : (o : ℕ) (xs : List Datum) → length (numbered o xs) ≡ length xs
 length-numbered o [] = refl
@@ -78,25 +77,25 @@ abbrev of_some : Life → Option Life → Life
 of_some d None = d
 of_some d (Some l) = l
 
-module _ (cfg : Config) (k : Kept) (log : List Entry) (t : k.namespaces ≡ cfg.namespaces) (is : IsState k log) (c : List ℕ) where
+module _ (cfg : Config) (k : StreamMap) (log : List Entry) (is : IsState cfg.namespaces k log) (c : List ℕ) where
+  abbrev life : List Entry → Option Life
+  life l = life_in cfg.namespaces l c
+
   -- the log after a use has the stream that stood, or the one that opened
-  life-used : (e : List ℕ) → life_in (size_of cfg) (log ++ entries_of_use k c e) c ≡ Some (life_or (life_in (size_of cfg) log c) e)
-  life-used e = by_stream (stream_of k c) refl (life_in (size_of cfg) log c) refl
+  life-used : (e : List ℕ) → life (log ++ entries_of_use k c e) ≡ Some (life_or (life log) e)
+  life-used e = by_stream (stream_of k c) refl (life log) refl
     where
-      by_stream : (o : Option Shown) → stream_of k c ≡ o → (l : Option Life) → life_in (size_of cfg) log c ≡ l → life_in (size_of cfg) (log ++ opening o c e []) c ≡ Some (life_or l e)
+      by_stream : (o : Option Shown) → stream_of k c ≡ o → (l : Option Life) → life log ≡ l → life (log ++ opening o c e []) ≡ Some (life_or l e)
       by_stream None i l j =
-          opened-life cfg k log t is c e
-          ∙ sym (ap (λ (z : Option Life). Some (life_or z e)) (sym j ∙ none-life cfg k log t is c (stream_of k c) (life_in (size_of cfg) log c) (shows cfg k log t is c) i))
-      by_stream (Some s) i (Some l) j = ap (λ (z : List Entry). life_in (size_of cfg) z c) (append-nil log) ∙ j
+          opened-life cfg k log is c e
+          ∙ sym (ap (λ (z : Option Life). Some (life_or z e)) (sym j ∙ none-life cfg k log is c (stream_of k c) (life log) (shows cfg k log is c) i))
+      by_stream (Some s) i (Some l) j = ap life (append-nil log) ∙ j
       by_stream (Some s) i None j =
-          absurd (let h : ShowsAt (size_of cfg c) (stream_of k c) (life_in (size_of cfg) log c) = shows cfg k log t is c in
-          subst (λ l. ShowsAt (size_of cfg c) (Some s) l) j (subst (λ o. ShowsAt (size_of cfg c) o (life_in (size_of cfg) log c)) i h))
+          absurd (let h : ShowsAt (size_at k.namespaces c) (stream_of k c) (life log) = shows cfg k log is c in
+          subst (λ l. ShowsAt (size_at k.namespaces c) (Some s) l) j (subst (λ o. ShowsAt (size_at k.namespaces c) o (life log)) i h))
 
   pub reads : (since : Option Position) (p : Position) (recovered : Bool) (items : List Placed) (l : Life) → ReadsAt k c since p recovered items
-      → life_in (size_of cfg) (log ++ entries_of_use k c p.epoch) c ≡ Some l → answered p recovered items ≡ read_of since (state_of l)
+      → life (log ++ entries_of_use k c p.epoch) ≡ Some l → answered p recovered items ≡ read_of since (state_of l)
   reads since p recovered items l r e =
-      let sizes : size_at k.namespaces ≡ size_of cfg = ap size_at t ∙ sizes_same cfg in
-      let read : IsRead (life_or (life_in (size_at k.namespaces) log c) p.epoch) since p recovered items = r.off (life_in (size_at k.namespaces) log) is in
-      let same : life_or (life_in (size_at k.namespaces) log c) p.epoch ≡ l =
-      ap (λ (f : List ℕ → ℕ). life_or (life_in f log c) p.epoch) sizes ∙ ap (of_some (opened p.epoch)) (sym (life-used p.epoch) ∙ e) in
-      reading-is l since p recovered items (subst (λ z. IsRead z since p recovered items) same read)
+      let same : life_or (life log) p.epoch ≡ l = ap (of_some (opened p.epoch)) (sym (life-used p.epoch) ∙ e) in
+      reading-is l since p recovered items (subst (λ z. IsRead z since p recovered items) same (r.off (life_in cfg.namespaces log) is.lists))

@@ -20,10 +20,9 @@ use Rattle.cf_stream.specs.ChannelLists.{ShowsAt}
 use Rattle.cf_stream.specs.LogState.{IsState, due_entries, due_entry, life_in}
 use Rattle.cf_stream.specs.PublicationList.{Life, kept_newest}
 use Rattle.cf_stream.specs.Stream.{Shown}
-use Rattle.cf_stream.specs.Streams.{Kept, due_channels, due_of, seconds_at}
+use Rattle.cf_stream.specs.Streams.{StreamMap, due_channels, due_of, seconds_at, size_at}
 use Rattle.cf_stream.proofs.Channels.{same_key}
 use Rattle.cf_machine.specs.Config.{Config}
-use Rattle.cf_machine.specs.IntervalMachine.{size_of}
 use Rattle.cf_machine.proofs.Names.{itself}
 use Rattle.cf_shard.specs.ShardLog.{entries_of_tick}
 use Rattle.cf_running_ties.specs.ShardCalls.{MayAll}
@@ -103,13 +102,13 @@ found (e ∷ es) h = (
 
 module _ (cfg : Config) where
   abbrev Stands : List Entry → List ℕ → Shown → Type 0
-  Stands log q s = is_some (life_in (size_of cfg) log q) ≡ true
+  Stands log q s = is_some (life_in cfg.namespaces log q) ≡ true
 
   -- an entry of another channel
-  due_elsewhere : (log : List Entry) (c : List ℕ) (d : Due) (q : List ℕ) → bytes_eq c q ≡ false → life_in (size_of cfg) (log ++ due_entry c d ∷ []) q ≡ life_in (size_of cfg) log q
-  due_elsewhere log c ToForget q h = life-more (size_of cfg) log (Forget c) q ∙ ap (λ b. cond b None (life_in (size_of cfg) log q)) h
+  due_elsewhere : (log : List Entry) (c : List ℕ) (d : Due) (q : List ℕ) → bytes_eq c q ≡ false → life_in cfg.namespaces (log ++ due_entry c d ∷ []) q ≡ life_in cfg.namespaces log q
+  due_elsewhere log c ToForget q h = life-more cfg.namespaces log (Forget c) q ∙ ap (λ b. cond b None (life_in cfg.namespaces log q)) h
   due_elsewhere log c ToEmpty q h =
-      life-more (size_of cfg) log (Trim c 0) q ∙ ap (λ b. cond b (option_map (kept_newest 0) (life_in (size_of cfg) log q)) (life_in (size_of cfg) log q)) h
+      life-more cfg.namespaces log (Trim c 0) q ∙ ap (λ b. cond b (option_map (kept_newest 0) (life_in cfg.namespaces log q)) (life_in cfg.namespaces log q)) h
 
   still_stand : (log : List Entry) (c : List ℕ) (d : Due) (es : Entries) → find c es ≡ None → Each (Stands log) es → Each (Stands (log ++ due_entry c d ∷ [])) es
   still_stand log c d [] n h = tt
@@ -138,10 +137,10 @@ module _ (cfg : Config) where
       by_due (Some ToForget) a b = (k.0, b ToForget)
       by_due (Some ToEmpty) a b = (k.0, b ToEmpty)
 
-  pub ticks : (k : Kept) (log : List Entry) → k.namespaces ≡ cfg.namespaces → IsState k log → (now : ℕ) → MayAll cfg log (entries_of_tick k now)
-  ticks k log t is now =
+  pub ticks : (k : StreamMap) (log : List Entry) → IsState cfg.namespaces k log → (now : ℕ) → MayAll cfg log (entries_of_tick k now)
+  ticks k log is now =
       all-may now k.namespaces (fin.entries k.streams) log (sorted_apart (fin.entries k.streams) (fin.entries_sorted k.streams))
       (each-more (λ q s. find q (fin.entries k.streams) ≡ Some s) (Stands log) (fin.entries k.streams)
-      (λ q s h. some-life cfg k log t is q s (life_in (size_of cfg) log q)
-      (subst (λ o. ShowsAt (size_of cfg q) o (life_in (size_of cfg) log q)) (fin.get-entries k.streams q ∙ h) (shows cfg k log t is q)))
+      (λ q s h. some-life cfg k log is q s (life_in cfg.namespaces log q)
+      (subst (λ o. ShowsAt (size_at k.namespaces q) o (life_in cfg.namespaces log q)) (fin.get-entries k.streams q ∙ h) (shows cfg k log is q)))
       (found (fin.entries k.streams) (sorted_apart (fin.entries k.streams) (fin.entries_sorted k.streams))))

@@ -18,7 +18,7 @@ IsReadBack (Body b) = IsBody b
 abbrev pub IsHeardAs : ℕ → Request → Type 0
 IsHeardAs id Pong = ⊤
 IsHeardAs id Send = ⊤
-IsHeardAs id (Publish channel body) = IsCode id × IsReadBack body
+IsHeardAs id (Publish channel key body) = IsCode id × IsReadBack body
 IsHeardAs id (Connect token) = IsCode id
 IsHeardAs id (Subscribe channel since) = IsCode id
 IsHeardAs id (Unsubscribe channel) = IsCode id

@@ -4,7 +4,7 @@ use Rattle.std.specs.List.{All}
 use Rattle.cf_protocol.specs.Note.{Lists, Reading}
 use Rattle.cf_protocol.specs.Position.{Position}
 use Rattle.cf_protocol.specs.Regular.{IsCode}
-use Rattle.cf_recovery.specs.Kept.{IsWithin, StandsFor}
+use Rattle.cf_recovery.specs.ArrivalBuffer.{IsWithin, StandsFor}
 use Rattle.cf_hub.specs.InNotes.{IsListed, MissedBy, placed_of}
 use Rattle.cf_hub.specs.Wordings.{Held}
 

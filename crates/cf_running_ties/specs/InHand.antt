@@ -1,8 +1,9 @@
 -- What a session's script still asks for in a command, and what its worker has in hand in the running server.
 -- (This project's own profile.)
-use Rattle.std.specs.Prelude.{◌≡◌, ⊤, ℕ, true, Option, Some, None, List, ◌∷◌}
+use Rattle.std.specs.Prelude.{◌≡◌, ◌||◌, ⊤, ℕ, Bool, true, Option, Some, None, List, ◌∷◌}
 use Rattle.cf_protocol.specs.Codes.{code_of}
-use Rattle.cf_protocol.specs.Datum.{Who}
+use Rattle.cf_protocol.specs.Datum.{Datum, Who}
+use Rattle.cf_protocol.specs.LogEntry.Entry.{Publish as PublishEntry}
 use Rattle.cf_protocol.specs.Note.{Fails, Left, Listed, Lists, Note, Put}
 use Rattle.cf_protocol.specs.Outgoing.{Answer as Reply, Outcome}
 use Rattle.cf_protocol.specs.declared.codes.ErrorCode.{ErrorCode}
@@ -11,7 +12,7 @@ use Rattle.cf_session.specs.Calls.{Answer, Finish, History as ListCall, Leave, P
 use Rattle.cf_session.specs.CommandScripts.{after_finish, after_lost, after_read, replies}
 use Rattle.cf_session.specs.Script.{Ask, Say, Script}
 use Rattle.cf_machine.specs.ClientRequest.{ClientRequest, SentCommand, Subscribe, Unsubscribe, Publish, History}
-use Rattle.cf_running.specs.Server.{Began, Connection, Free, HasRead, Server, Site, ToFinish, ToGiveUp, ToList, ToPublish, ToSay, Work, lists_of}
+use Rattle.cf_running.specs.Server.{Began, Connection, Free, HasRead, Server, Site, ToFinish, ToGiveUp, ToList, ToPublish, ToSay, Work, can_gain, life_of, lists_of, repeats}
 use Rattle.cf_running_ties.specs.Reads.{SaysLater}
 
 -- The script goes on with what the worker has in hand; `after` is what it does behind the command. What was read is in hand amid a call,
@@ -22,7 +23,7 @@ InHand lists who after (Began c id since) script = script ≡ Ask (Read c since)
 InHand lists who after (HasRead c r) script = ⊥
 InHand lists who after (ToFinish c) script = script ≡ Ask (Finish c) (after_finish after)
 InHand lists who after (ToGiveUp c id code) script = (e : ErrorCode) × (code ≡ code_of e) × (script ≡ Ask (Leave c) (after_lost id e after))
-InHand lists who after (ToPublish c id d) script = (d.info ≡ Some who) × (script ≡ Ask (PublishCall c d.body who) (replies id after))
+InHand lists who after (ToPublish c id key d) script = (d.info ≡ Some who) × (script ≡ Ask (PublishCall c key d.body who) (replies id after))
 InHand lists who after (ToList c id limit) script = script ≡ Ask (ListCall c limit None) (replies id after)
 InHand lists who after (ToSay c n) script = (id : ℕ) × (outcome : Outcome) × SaysLater lists n (Reply id outcome) × (script ≡ Say id outcome after)
 
@@ -40,20 +41,24 @@ pub record Hears (x : Connection) (c : SentCommand) : Type 0 where
 abbrev pub MayBeRefused : Connection → ClientRequest → Type 0
 MayBeRefused x (Subscribe c since) = ⊤
 MayBeRefused x (Unsubscribe c) = is_off (x.session.subs c) ≡ true
-MayBeRefused x (Publish c body) = ⊤
+MayBeRefused x (Publish c key body) = ⊤
 MayBeRefused x (History c limit) = ⊤
 
 -- the broker is to be asked, once the command is heard
 abbrev pub AsksBroker : ClientRequest → Type 0
 AsksBroker (Subscribe c since) = ⊥
 AsksBroker (Unsubscribe c) = ⊥
-AsksBroker (Publish c body) = ⊤
+AsksBroker (Publish c key body) = ⊤
 AsksBroker (History c limit) = ⊤
+
+-- a publish is answered: it repeats one, or may be accepted
+abbrev pub is_published : Site → Server → (channel key : List ℕ) → Datum → Bool
+is_published site s c key d = repeats key (life_of site s c) || can_gain site (site.shard_of c) (PublishEntry c key d) s
 
 -- what the script does for each answer of the broker
 abbrev pub by_answer : (after : Script) → Work → Option (Answer → Script)
 by_answer after (Began c id since) = Some (after_read id c after)
-by_answer after (ToPublish c id d) = Some (replies id after)
+by_answer after (ToPublish c id key d) = Some (replies id after)
 by_answer after (ToList c id limit) = Some (replies id after)
 by_answer after other = None
 

@@ -1,11 +1,11 @@
 -- What is sent on the links of the nodes and received from them, beside what waits on the links of the running server.
 -- (This project's own profile.)
-use Rattle.std.specs.Prelude.{◌≡◌, ◌⊎◌, ℕ, Bool, true, false, Some, List, [], ◌∷◌, ◌++◌}
+use Rattle.std.specs.Prelude.{◌≡◌, ◌⊎◌, ℕ, Bool, true, false, if◌then◌else◌, Some, List, [], ◌∷◌, ◌++◌}
 use Rattle.std.specs.List.{AllZip}
 use Rattle.cf_protocol.specs.Datum.{Datum}
 use Rattle.cf_protocol.specs.LogEntry.{Entry}
 use Rattle.cf_protocol.specs.LogEntry.Entry.{Publish}
-use Rattle.cf_protocol.specs.Position.{Position}
+use Rattle.cf_stream.specs.declared.answer.Published.{Published}
 use Rattle.cf_hub.specs.InNotes.{IsListed}
 use Rattle.cf_machine.specs.PublicationList.{Place}
 use Rattle.cf_shard.specs.Delivery.{Carried}
@@ -23,13 +23,19 @@ pub record IsNumbered (site : Site) (s : Server) (number : ℕ) (x : Carried) : 
   pub listed : IsListed (lists_of site s) x.channel x.epoch x.publication
 
 -- a worker's publish may be carried out, of data that can be read back, and this is what its contract answers
-pub record IsAnswered (site : Site) (s : Server) (k : ℕ) (c : List ℕ) (d : Datum) (p : Position) : Type 0 where
+pub record IsAnswered (site : Site) (s : Server) (k : ℕ) (c key : List ℕ) (d : Datum) (p : Published) : Type 0 where
   pub id : ℕ
   pub seen : List Entry
-  pub work : (s.connections k).work ≡ ToPublish c id d
-  pub may : can_gain site (Publish c d) s ≡ true
-  pub answer : IsPublished site.config.namespaces seen (log_of site s c ++ Publish c d ∷ []) c d p
+  pub work : (s.connections k).work ≡ ToPublish c id key d
+  pub may : p.repeated ≡ false → can_gain site (site.shard_of c) (Publish c key d) s ≡ true
+  pub answer : IsPublished site.config.namespaces seen (if p.repeated then log_of site s c else log_of site s c ++ Publish c key d ∷ []) c key d p
   pub regular : IsDatum d
+
+-- no log gains anything, nothing is accepted, and nothing is put on a link
+pub record AddsNothing (old new : Server) : Type 0 where
+  pub logs : new.logs ≡ old.logs
+  pub accepted : new.accepted ≡ old.accepted
+  pub links : new.links ≡ old.links
 
 -- by node, what was sent on its link, or received from it, in order
 abbrev pub Lines : Type 0

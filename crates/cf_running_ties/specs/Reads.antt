@@ -14,7 +14,7 @@ use Rattle.cf_running_ties.specs.ShardCalls.{answered}
 
 -- what a worker, or a section, is to publish has this
 abbrev pub WorkHas : (Datum → Type 0) → Work → Type 0
-WorkHas P (ToPublish c id d) = P d
+WorkHas P (ToPublish c id key d) = P d
 WorkHas P other = ⊤
 
 abbrev pub SectionHas : (Datum → Type 0) → Server → Section → Type 0

@@ -1,13 +1,12 @@
 -- The entries of a call of a lent shard, as its contract has them, may be gained one after another.
 -- (This project's own profile.)
-use Rattle.std.specs.Prelude.{◌≡◌, ◌≢◌, ◌-◌, ℕ, Bool, true, false, IfSome, Option, None, List, [], ◌∷◌, ◌++◌, length}
+use Rattle.std.specs.Prelude.{◌≡◌, ◌≢◌, ◌-◌, ℕ, Bool, true, false, Option, None, List, [], ◌∷◌, ◌++◌, length}
 use Rattle.cf_protocol.specs.Datum.{Placed}
 use Rattle.cf_protocol.specs.LogEntry.{Entry}
 use Rattle.cf_protocol.specs.Names.{is_among}
 use Rattle.cf_protocol.specs.Note.{Reading}
 use Rattle.cf_protocol.specs.Position.{Position}
-use Rattle.cf_stream.specs.Stream.{Shown}
-use Rattle.cf_stream.specs.StreamState.{last_offset}
+use Rattle.cf_stream.specs.Stream.{IsAtLast, Shown}
 use Rattle.cf_machine.specs.Config.{Config}
 use Rattle.cf_running.specs.Server.{may_gain}
 use Rattle.cf_running.specs.ShardLogs.{epochs_in}
@@ -24,9 +23,9 @@ IsGained cfg log = MayAll cfg [] log
 abbrev pub IsDrawn : Option Shown → List Entry → (channel epoch : List ℕ) → Type 0
 IsDrawn stream log c e = stream ≡ None → (e ≢ []) × (is_among e (epochs_in log c) ≡ false)
 
--- the stream, if one stands, is not at the last offset
-abbrev pub IsNotLast : Option Shown → Type 0
-IsNotLast stream = IfSome stream (λ s. s.top ≢ last_offset)
+-- a publish with this key isn't refused at the last offset
+abbrev pub IsNotLast : Option Shown → (key : List ℕ) → Type 0
+IsNotLast stream key = IsAtLast stream key → ⊥
 
 -- what a read answers, in positions, as it reaches the hub
 abbrev pub answered : Position → Bool → List Placed → Reading

@@ -8,24 +8,24 @@ ghost use Rattle.cf_protocol.specs.Position.{Position};
 ghost use Rattle.cf_protocol.specs.Regular.{IsCode, IsInfo, IsPosition};
 ghost use Rattle.cf_protocol.specs.Request.{Command};
 ghost use Rattle.cf_protocol.specs.Settings.{NamespaceTable, settings_of};
-ghost use Rattle.cf_stream.specs.ChannelLists.{ReadsAt};
+ghost use Rattle.cf_stream.specs.ChannelLists.{PublishesAt, ReadsAt};
+ghost use Rattle.cf_stream.specs.declared.answer.Published.{Published};
 ghost use Rattle.cf_stream.specs.LogState.{IsState, life_in};
 ghost use Rattle.cf_stream.specs.PublicationList.{Life, state_of};
 ghost use Rattle.cf_stream.specs.StreamAnswer.{read_of};
-ghost use Rattle.cf_stream.specs.Streams.{Kept, stream_of};
+ghost use Rattle.cf_stream.specs.Streams.{StreamMap, stream_of};
 ghost use Rattle.cf_hub.specs.Hub.{client_id};
 ghost use Rattle.cf_epochs.specs.Source.{IsSource, Source, draws_next};
 ghost use Rattle.cf_link.specs.Link.{AreLeft};
 ghost use Rattle.cf_shard.specs.Delivery.{Carried, OfferedToAll, carried};
 ghost use Rattle.cf_shard.specs.LogAnswer.{IsHistoryAnswer, IsReadAnswer};
 ghost use Rattle.cf_shard.specs.Shard.{DrawsFor, Lent};
-ghost use Rattle.cf_shard.specs.ShardLog.{entries_of_forget, entries_of_publish, entries_of_tick, entries_of_trim, entries_of_use};
+ghost use Rattle.cf_shard.specs.ShardLog.{entries_of_forget, entries_of_publish, entries_of_size, entries_of_tick, entries_of_trim, entries_of_use};
 ghost use Rattle.cf_machine.specs.Config.{Config};
-ghost use Rattle.cf_machine.specs.IntervalMachine.{size_of};
 ghost use Rattle.cf_running.specs.Server.{Delivers, Offers, Publishes, Section, Server, Site, after, at_number, log_of, ran, start};
 ghost use Rattle.cf_running_ties.specs.Heard.{AreHeard, SayTheirNotes};
 ghost use Rattle.cf_running_ties.specs.HubAsides.{MovesAmong};
-ghost use Rattle.cf_running_ties.specs.Links.{IsAnswered, IsFirst, IsNumbered, IsSentOrLost, Lines, Waits, is_at_link};
+ghost use Rattle.cf_running_ties.specs.Links.{AddsNothing, IsAnswered, IsFirst, IsNumbered, IsSentOrLost, Lines, Waits, is_at_link};
 ghost use Rattle.cf_running_ties.specs.Reads.{AllReadBack, IsDatum, IsListing, IsReading, SectionHas};
 ghost use Rattle.cf_running_ties.specs.ShardCalls.{IsDrawn, IsGained, IsNotLast, MayAll, answered};
 ghost use Rattle.cf_running_ties.specs.ShardLife.{AreMade, Call};
@@ -49,32 +49,37 @@ pub fn hub_moves_are_sections()
 /// epoch that is drawn is new to its channel; so the log is gained entry by entry from the start. And what
 /// a read answers is what the worker then has in hand.
 pub fn shard_calls_are_sections()
-    ensures publishes { (config : Config) (streams : Kept) (log : List Entry)
-        (channel epoch : List ℕ) (datum : Datum)
-        → streams.namespaces ≡ config.namespaces → IsState streams log → IsGained config log
-        → IsDrawn (stream_of streams channel) log channel epoch
-        → IsNotLast (stream_of streams channel) → IsSome (settings_of config.namespaces channel)
-        → MayAll config log (entries_of_publish streams channel epoch datum) }
-    ensures uses { (config : Config) (streams : Kept) (log : List Entry) (channel epoch : List ℕ)
-        → streams.namespaces ≡ config.namespaces → IsState streams log
+    ensures publishes { (config : Config) (streams : StreamMap) (log : List Entry)
+        (channel key : List ℕ) (datum : Datum) (position : Position) (repeated : Bool)
+        → IsState config.namespaces streams log → IsGained config log
+        → IsDrawn (stream_of streams channel) log channel position.epoch
+        → IsNotLast (stream_of streams channel) key
+        → PublishesAt streams channel key position repeated
+        → IsSome (settings_of config.namespaces channel)
+        → MayAll config log
+        (entries_of_publish repeated streams channel position.epoch key datum) }
+    ensures uses { (config : Config) (streams : StreamMap) (log : List Entry) (channel epoch : List ℕ)
+        → IsState config.namespaces streams log
         → IsDrawn (stream_of streams channel) log channel epoch
         → MayAll config log (entries_of_use streams channel epoch) }
-    ensures trims { (config : Config) (streams : Kept) (log : List Entry)
+    ensures trims { (config : Config) (streams : StreamMap) (log : List Entry)
         (channel : List ℕ) (count : ℕ)
-        → streams.namespaces ≡ config.namespaces → IsState streams log
+        → IsState config.namespaces streams log
         → MayAll config log (entries_of_trim streams channel count) }
-    ensures forgets { (config : Config) (streams : Kept) (log : List Entry) (channel : List ℕ)
-        → streams.namespaces ≡ config.namespaces → IsState streams log
+    ensures forgets { (config : Config) (streams : StreamMap) (log : List Entry) (channel : List ℕ)
+        → IsState config.namespaces streams log
         → MayAll config log (entries_of_forget streams channel) }
-    ensures ticks { (config : Config) (streams : Kept) (log : List Entry) (now : ℕ)
-        → streams.namespaces ≡ config.namespaces → IsState streams log
+    ensures sizes { (config : Config) (log : List Entry) (name : List ℕ) (size : ℕ)
+        → MayAll config log (entries_of_size name size) }
+    ensures ticks { (config : Config) (streams : StreamMap) (log : List Entry) (now : ℕ)
+        → IsState config.namespaces streams log
         → MayAll config log (entries_of_tick streams now) }
-    ensures reads { (config : Config) (streams : Kept) (log : List Entry) (channel : List ℕ)
+    ensures reads { (config : Config) (streams : StreamMap) (log : List Entry) (channel : List ℕ)
         (since : Option Position) (position : Position) (recovered : Bool)
         (publications : List Placed) (life : Life)
-        → streams.namespaces ≡ config.namespaces → IsState streams log
+        → IsState config.namespaces streams log
         → ReadsAt streams channel since position recovered publications
-        → life_in (size_of config) (log ++ entries_of_use streams channel position.epoch) channel
+        → life_in config.namespaces (log ++ entries_of_use streams channel position.epoch) channel
         ≡ Some life
         → answered position recovered publications ≡ read_of since (state_of life) }
     ensures gained { (config : Config) (log more : List Entry)
@@ -97,15 +102,21 @@ pub fn drawn_epochs_are_new()
 }
 
 /// What comes over a node's link is listed. What a shard accepted has a number, and stays listed at its
-/// place; each node is offered just that, and is sent it or loses it, some time after it was accepted. What
-/// was sent on a link and not received is what waits there in the running server. So what is received is
-/// what waits there first, which the next delivery takes.
+/// place; each node is offered just that, and is sent it or loses it, some time after it was accepted. A
+/// publish that repeats one adds nothing, and puts nothing on a link. What was sent on a link and not
+/// received is what waits there in the running server. So what is received is what waits there first, which
+/// the next delivery takes.
 pub fn links_carry_what_is_listed()
     ensures accepted { (site : Site) (sections : List Section) (connection : ℕ)
-        (channel : List ℕ) (datum : Datum) (position : Position)
-        → IsAnswered site (ran site start sections) connection channel datum position
+        (channel key : List ℕ) (datum : Datum) (answer : Published)
+        → IsAnswered site (ran site start sections) connection channel key datum answer
+        → answer.repeated ≡ false
         → IsNumbered site (ran site start (sections ++ Publishes connection ∷ []))
-        (length (ran site start sections).accepted + 1) (carried channel position datum) }
+        (length (ran site start sections).accepted + 1) (carried channel answer.position datum) }
+    ensures repeated { (site : Site) (server : Server) (connection : ℕ)
+        (channel key : List ℕ) (datum : Datum) (answer : Published)
+        → IsAnswered site server connection channel key datum answer → answer.repeated ≡ true
+        → AddsNothing server (after site (Publishes connection) server) }
     ensures stays { (site : Site) (server : Server) (section : Section) (number : ℕ) (x : Carried)
         → IsNumbered site server number x → IsNumbered site (after site section server) number x }
     ensures offered { (count : ℕ) (x : Carried) (old new : Lines)

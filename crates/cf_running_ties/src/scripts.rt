@@ -2,7 +2,6 @@
 ghost use Rattle.std.specs.Prelude.{◌≡◌, ◌∷◌, [], false, true, Some, ℕ, ℤ, List, Option};
 ghost use Rattle.cf_protocol.specs.Codes.{code_of};
 ghost use Rattle.cf_protocol.specs.Datum.{Datum, Placed, Who};
-ghost use Rattle.cf_protocol.specs.LogEntry.Entry.{Publish};
 ghost use Rattle.cf_protocol.specs.Note.{Note};
 ghost use Rattle.cf_protocol.specs.Outgoing.{Past, Published};
 ghost use Rattle.cf_protocol.specs.Position.{Position};
@@ -13,8 +12,8 @@ ghost use Rattle.cf_session.specs.Calls.{Answer, Done, Found, Refused};
 ghost use Rattle.cf_session.specs.CommandScripts.{after_begin, after_finish, after_leave, after_lost, after_read, granted, refuses, replies};
 ghost use Rattle.cf_session.specs.Script.{Script};
 ghost use Rattle.cf_machine.specs.ClientRequest.{SentCommand, Subscribe, Unsubscribe, request_of};
-ghost use Rattle.cf_running.specs.Server.{AsksShard, Began, Begins, Calls, Errs, Finishes, FinishesOver, GivesUp, IsRefused, Leaves, Publishes, ReadDone, Refuses, Says, Server, Site, ToFinish, ToGiveUp, ToList, ToPublish, ToSay, after, can_gain, life_of, ran};
-ghost use Rattle.cf_running_ties.specs.InHand.{AsksBroker, HasInHand, Hears, MayBeRefused, by_answer, id_of};
+ghost use Rattle.cf_running.specs.Server.{AsksShard, Began, Begins, Calls, Errs, Finishes, FinishesOver, GivesUp, IsRefused, Leaves, Publishes, ReadDone, Refuses, Says, Server, Site, ToFinish, ToGiveUp, ToList, ToPublish, ToSay, after, life_of, ran};
+ghost use Rattle.cf_running_ties.specs.InHand.{AsksBroker, HasInHand, Hears, MayBeRefused, by_answer, id_of, is_published};
 ghost use Rattle.cf_running_ties.specs.Reads.{IsListing};
 
 /// Where a session's script begins a command, a section takes it in hand: what the script goes on with,
@@ -57,9 +56,9 @@ pub fn work_goes_as_the_script()
         → HasInHand site (ran site server (AsksShard k ∷ ReadDone k ∷ [])) k who next
         (after_read id channel next Done) }
     ensures published { (site : Site) (server : Server) (k : ℕ) (who : Who) (next : Script)
-        (channel : List ℕ) (id : ℕ) (datum : Datum)
-        → (server.connections k).work ≡ ToPublish channel id datum
-        → can_gain site (Publish channel datum) server ≡ true
+        (channel key : List ℕ) (id : ℕ) (datum : Datum)
+        → (server.connections k).work ≡ ToPublish channel id key datum
+        → is_published site server channel key datum ≡ true
         → HasInHand site (after site (Publishes k) server) k who next
         (replies id next (Found Published)) }
     ensures listed { (site : Site) (server : Server) (k : ℕ) (who : Who) (next : Script)

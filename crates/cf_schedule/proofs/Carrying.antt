@@ -1,7 +1,7 @@
 -- An event by the method of its kind.
 use Rattle.std.proofs.Common.{◌≡◌, ℕ, Bool, true, false, if◌then◌else◌, List, [], map, refl, sym, ap, subst, ◌∙◌}
 use Rattle.cf_machine.specs.Config.{Config}
-use Rattle.cf_machine.specs.Event.{Event, Epoch, Connect, Ask, AskFrom, Read, Finish, Publish, PublishBy, Deliver, Take, Break, Leave, Trim, Forget, BrokerRestart, Restart, Check, ListHistory}
+use Rattle.cf_machine.specs.Event.{Event, Epoch, Connect, Ask, AskFrom, Read, Finish, Publish, PublishBy, Deliver, Take, Break, Leave, Trim, Forget, BrokerRestart, SetSize, Restart, Check, ListHistory}
 use Rattle.cf_machine.specs.IntervalMachine.{allows}
 use Rattle.cf_machine.specs.Told.{tells, writes}
 use Rattle.cf_machine.specs.Trace.{Entry}
@@ -22,8 +22,8 @@ IsQuiet (Ask x c) = Unit {0}
 IsQuiet (AskFrom x c) = Unit {0}
 IsQuiet (Read x c) = Unit {0}
 IsQuiet (Finish x c) = Unit {0}
-IsQuiet (Publish c body) = Unit {0}
-IsQuiet (PublishBy x c body) = Unit {0}
+IsQuiet (Publish c key body) = Unit {0}
+IsQuiet (PublishBy x c key body) = Unit {0}
 IsQuiet (Deliver n i) = Unit {0}
 IsQuiet (Take x) = ⊥
 IsQuiet (Break x) = Unit {0}
@@ -31,6 +31,7 @@ IsQuiet (Leave x c) = Unit {0}
 IsQuiet (Trim c k) = Unit {0}
 IsQuiet (Forget c) = Unit {0}
 IsQuiet BrokerRestart = Unit {0}
+IsQuiet (SetSize name n) = Unit {0}
 IsQuiet (Restart n) = Unit {0}
 IsQuiet (Check x c) = Unit {0}
 IsQuiet (ListHistory x c limit) = Unit {0}
@@ -42,8 +43,8 @@ tells-none n m (Ask x c) q = refl
 tells-none n m (AskFrom x c) q = refl
 tells-none n m (Read x c) q = refl
 tells-none n m (Finish x c) q = refl
-tells-none n m (Publish c body) q = refl
-tells-none n m (PublishBy x c body) q = refl
+tells-none n m (Publish c key body) q = refl
+tells-none n m (PublishBy x c key body) q = refl
 tells-none n m (Deliver k i) q = refl
 tells-none n m (Take x) q = absurd q
 tells-none n m (Break x) q = refl
@@ -51,6 +52,7 @@ tells-none n m (Leave x c) q = refl
 tells-none n m (Trim c k) q = refl
 tells-none n m (Forget c) q = refl
 tells-none n m BrokerRestart q = refl
+tells-none n m (SetSize name k) q = refl
 tells-none n m (Restart k) q = refl
 tells-none n m (Check x c) q = refl
 tells-none n m (ListHistory x c limit) q = refl

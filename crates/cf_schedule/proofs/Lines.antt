@@ -3,12 +3,17 @@ use Rattle.std.proofs.Common.{◌≡◌, ◌≢◌, ℕ, ◌<◌, ◌≤◌, ℤ
 use Rattle.std.specs.Str.{bytes_eq}
 use Rattle.std.specs.Fmt.{decimal}
 use Rattle.std.proofs.lemmas.Bool.{false≢true}
-use Rattle.cf_schedule.specs.Word.{IsClientName, IsChannelName}
-use Rattle.cf_machine.specs.Event.{Event, Epoch, Connect, Ask, AskFrom, Read, Finish, Publish, PublishBy, Deliver, Take, Break, Leave, Trim, Forget, BrokerRestart, Restart, Check, ListHistory}
+use Rattle.cf_schedule.specs.Word.{IsClientName, IsChannelName, IsKey, IsNamespaceName}
+use Rattle.cf_machine.specs.Event.{Event, Epoch, Connect, Ask, AskFrom, Read, Finish, Publish, PublishBy, Deliver, Take, Break, Leave, Trim, Forget, BrokerRestart, SetSize, Restart, Check, ListHistory}
 use Rattle.cf_machine.specs.TraceLine.{spaced}
-use Rattle.cf_schedule.specs.ScheduleLine.{Says, IsEpochWord, IsLimit, IsData, last_number, most_left}
+use Rattle.cf_schedule.specs.ScheduleLine.{Says, IsEpochWord, IsLimit, IsData, largest_size, last_number, most_left}
 use Rattle.cf_schedule.specs.LineRead.{IsUnspaced, IsNone}
 use Rattle.cf_schedule.proofs.Spacing.{one_cut, never_cut, unspaced_word}
+
+-- what a publish's word has more where it has a key
+abbrev pub word_end : List ℕ → List ℕ
+word_end [] = []
+word_end (k ∷ ks) = codes "key"
 
 abbrev pub word_of : Event → List ℕ
 word_of (Epoch e) = codes "epoch"
@@ -17,14 +22,15 @@ word_of (Ask x c) = codes "ask"
 word_of (AskFrom x c) = codes "askfrom"
 word_of (Read x c) = codes "read"
 word_of (Finish x c) = codes "finish"
-word_of (Publish c body) = codes "publish"
-word_of (PublishBy x c body) = codes "put"
+word_of (Publish c key body) = codes "publish" ++ word_end key
+word_of (PublishBy x c key body) = codes "put" ++ word_end key
 word_of (Deliver n i) = codes "deliver"
 word_of (Take x) = codes "take"
 word_of (Break x) = codes "break"
 word_of (Leave x c) = codes "leave"
 word_of (Trim c k) = codes "trim"
 word_of (Forget c) = codes "forget"
+word_of (SetSize name n) = codes "size"
 word_of (Restart n) = codes "restart"
 word_of (Check x c) = codes "check"
 word_of (ListHistory x c limit) = codes "list"
@@ -38,14 +44,17 @@ Rest nodes r (Ask x c) = IsClientName x × IsChannelName c × (r ≡ spaced (x �
 Rest nodes r (AskFrom x c) = IsClientName x × IsChannelName c × (r ≡ spaced (x ∷ c ∷ []))
 Rest nodes r (Read x c) = IsClientName x × IsChannelName c × (r ≡ spaced (x ∷ c ∷ []))
 Rest nodes r (Finish x c) = IsClientName x × IsChannelName c × (r ≡ spaced (x ∷ c ∷ []))
-Rest nodes r (Publish c body) = IsChannelName c × (s : List ℕ) × IsData s body × (r ≡ spaced (c ∷ s ∷ []))
-Rest nodes r (PublishBy x c body) = IsClientName x × IsChannelName c × (s : List ℕ) × IsData s body × (r ≡ spaced (x ∷ c ∷ s ∷ []))
+Rest nodes r (Publish c [] body) = IsChannelName c × (s : List ℕ) × IsData s body × (r ≡ spaced (c ∷ s ∷ []))
+Rest nodes r (Publish c (k ∷ ks) body) = IsChannelName c × IsKey (k ∷ ks) × (s : List ℕ) × IsData s body × (r ≡ spaced (c ∷ (k ∷ ks) ∷ s ∷ []))
+Rest nodes r (PublishBy x c [] body) = IsClientName x × IsChannelName c × (s : List ℕ) × IsData s body × (r ≡ spaced (x ∷ c ∷ s ∷ []))
+Rest nodes r (PublishBy x c (k ∷ ks) body) = IsClientName x × IsChannelName c × IsKey (k ∷ ks) × (s : List ℕ) × IsData s body × (r ≡ spaced (x ∷ c ∷ (k ∷ ks) ∷ s ∷ []))
 Rest nodes r (Deliver n i) = (n < nodes) × (i ≤ last_number) × (r ≡ spaced (decimal n ∷ decimal i ∷ []))
 Rest nodes r (Take x) = IsClientName x × (r ≡ x)
 Rest nodes r (Break x) = IsClientName x × (r ≡ x)
 Rest nodes r (Leave x c) = IsClientName x × IsChannelName c × (r ≡ spaced (x ∷ c ∷ []))
 Rest nodes r (Trim c k) = IsChannelName c × (k ≤ most_left) × (r ≡ spaced (c ∷ decimal k ∷ []))
 Rest nodes r (Forget c) = IsChannelName c × (r ≡ c)
+Rest nodes r (SetSize name n) = IsNamespaceName name × (1 ≤ n) × (n ≤ largest_size) × (r ≡ name ++ 61 ∷ decimal n)
 Rest nodes r (Restart n) = (n < nodes) × (r ≡ decimal n)
 Rest nodes r (Check x c) = IsClientName x × IsChannelName c × (r ≡ spaced (x ∷ c ∷ []))
 Rest nodes r (ListHistory x c limit) = IsClientName x × IsChannelName c × (s : List ℕ) × IsLimit s limit × (r ≡ spaced (x ∷ c ∷ s ∷ []))
@@ -58,14 +67,17 @@ splits nodes w r (Ask x c) u h = let p = one_cut w (codes "ask") r (spaced (x �
 splits nodes w r (AskFrom x c) u h = let p = one_cut w (codes "askfrom") r (spaced (x ∷ c ∷ [])) u (unspaced_word (codes "askfrom") refl) h.2 in (p.0, (h.0, h.1, p.1))
 splits nodes w r (Read x c) u h = let p = one_cut w (codes "read") r (spaced (x ∷ c ∷ [])) u (unspaced_word (codes "read") refl) h.2 in (p.0, (h.0, h.1, p.1))
 splits nodes w r (Finish x c) u h = let p = one_cut w (codes "finish") r (spaced (x ∷ c ∷ [])) u (unspaced_word (codes "finish") refl) h.2 in (p.0, (h.0, h.1, p.1))
-splits nodes w r (Publish c body) u h = let p = one_cut w (codes "publish") r (spaced (c ∷ h.1 ∷ [])) u (unspaced_word (codes "publish") refl) h.3 in (p.0, (h.0, h.1, h.2, p.1))
-splits nodes w r (PublishBy x c body) u h = let p = one_cut w (codes "put") r (spaced (x ∷ c ∷ h.2 ∷ [])) u (unspaced_word (codes "put") refl) h.4 in (p.0, (h.0, h.1, h.2, h.3, p.1))
+splits nodes w r (Publish c [] body) u h = let p = one_cut w (codes "publish") r (spaced (c ∷ h.1 ∷ [])) u (unspaced_word (codes "publish") refl) h.3 in (p.0, (h.0, h.1, h.2, p.1))
+splits nodes w r (Publish c (k ∷ ks) body) u h = let p = one_cut w (codes "publishkey") r (spaced (c ∷ (k ∷ ks) ∷ h.2 ∷ [])) u (unspaced_word (codes "publishkey") refl) h.4 in (p.0, (h.0, h.1, h.2, h.3, p.1))
+splits nodes w r (PublishBy x c [] body) u h = let p = one_cut w (codes "put") r (spaced (x ∷ c ∷ h.2 ∷ [])) u (unspaced_word (codes "put") refl) h.4 in (p.0, (h.0, h.1, h.2, h.3, p.1))
+splits nodes w r (PublishBy x c (k ∷ ks) body) u h = let p = one_cut w (codes "putkey") r (spaced (x ∷ c ∷ (k ∷ ks) ∷ h.3 ∷ [])) u (unspaced_word (codes "putkey") refl) h.5 in (p.0, (h.0, h.1, h.2, h.3, h.4, p.1))
 splits nodes w r (Deliver n i) u h = let p = one_cut w (codes "deliver") r (spaced (decimal n ∷ decimal i ∷ [])) u (unspaced_word (codes "deliver") refl) h.2 in (p.0, (h.0, h.1, p.1))
 splits nodes w r (Take x) u h = let p = one_cut w (codes "take") r x u (unspaced_word (codes "take") refl) h.1 in (p.0, (h.0, p.1))
 splits nodes w r (Break x) u h = let p = one_cut w (codes "break") r x u (unspaced_word (codes "break") refl) h.1 in (p.0, (h.0, p.1))
 splits nodes w r (Leave x c) u h = let p = one_cut w (codes "leave") r (spaced (x ∷ c ∷ [])) u (unspaced_word (codes "leave") refl) h.2 in (p.0, (h.0, h.1, p.1))
 splits nodes w r (Trim c k) u h = let p = one_cut w (codes "trim") r (spaced (c ∷ decimal k ∷ [])) u (unspaced_word (codes "trim") refl) h.2 in (p.0, (h.0, h.1, p.1))
 splits nodes w r (Forget c) u h = let p = one_cut w (codes "forget") r c u (unspaced_word (codes "forget") refl) h.1 in (p.0, (h.0, p.1))
+splits nodes w r (SetSize name n) u h = let p = one_cut w (codes "size") r (name ++ 61 ∷ decimal n) u (unspaced_word (codes "size") refl) h.3 in (p.0, (h.0, h.1, h.2, p.1))
 splits nodes w r (Restart n) u h = let p = one_cut w (codes "restart") r (decimal n) u (unspaced_word (codes "restart") refl) h.1 in (p.0, (h.0, p.1))
 splits nodes w r (Check x c) u h = let p = one_cut w (codes "check") r (spaced (x ∷ c ∷ [])) u (unspaced_word (codes "check") refl) h.2 in (p.0, (h.0, h.1, p.1))
 splits nodes w r (ListHistory x c limit) u h = let p = one_cut w (codes "list") r (spaced (x ∷ c ∷ h.2 ∷ [])) u (unspaced_word (codes "list") refl) h.4 in (p.0, (h.0, h.1, h.2, h.3, p.1))
@@ -100,13 +112,21 @@ pub is_finish : (nodes : ℕ) (r : List ℕ) (f : Event) → codes "finish" ≡ 
 is_finish nodes r (Finish x c) v h = (x, c, refl, h)
 is_finish nodes r f v h = absurd (other (codes "finish") (word_of f) v refl refl)
 
-pub is_publish : (nodes : ℕ) (r : List ℕ) (f : Event) → codes "publish" ≡ word_of f → Rest nodes r f → (c : List ℕ) × (body : List ℕ) × (f ≡ Publish c body) × Rest nodes r (Publish c body)
-is_publish nodes r (Publish c body) v h = (c, body, refl, h)
+pub is_publish : (nodes : ℕ) (r : List ℕ) (f : Event) → codes "publish" ≡ word_of f → Rest nodes r f → (c : List ℕ) × (body : List ℕ) × (f ≡ Publish c [] body) × Rest nodes r (Publish c [] body)
+is_publish nodes r (Publish c [] body) v h = (c, body, refl, h)
 is_publish nodes r f v h = absurd (other (codes "publish") (word_of f) v refl refl)
 
-pub is_put : (nodes : ℕ) (r : List ℕ) (f : Event) → codes "put" ≡ word_of f → Rest nodes r f → (x : List ℕ) × (c : List ℕ) × (body : List ℕ) × (f ≡ PublishBy x c body) × Rest nodes r (PublishBy x c body)
-is_put nodes r (PublishBy x c body) v h = (x, c, body, refl, h)
+pub is_publishkey : (nodes : ℕ) (r : List ℕ) (f : Event) → codes "publishkey" ≡ word_of f → Rest nodes r f → (c : List ℕ) × (k : ℕ) × (ks : List ℕ) × (body : List ℕ) × (f ≡ Publish c (k ∷ ks) body) × Rest nodes r (Publish c (k ∷ ks) body)
+is_publishkey nodes r (Publish c (k ∷ ks) body) v h = (c, k, ks, body, refl, h)
+is_publishkey nodes r f v h = absurd (other (codes "publishkey") (word_of f) v refl refl)
+
+pub is_put : (nodes : ℕ) (r : List ℕ) (f : Event) → codes "put" ≡ word_of f → Rest nodes r f → (x : List ℕ) × (c : List ℕ) × (body : List ℕ) × (f ≡ PublishBy x c [] body) × Rest nodes r (PublishBy x c [] body)
+is_put nodes r (PublishBy x c [] body) v h = (x, c, body, refl, h)
 is_put nodes r f v h = absurd (other (codes "put") (word_of f) v refl refl)
+
+pub is_putkey : (nodes : ℕ) (r : List ℕ) (f : Event) → codes "putkey" ≡ word_of f → Rest nodes r f → (x : List ℕ) × (c : List ℕ) × (k : ℕ) × (ks : List ℕ) × (body : List ℕ) × (f ≡ PublishBy x c (k ∷ ks) body) × Rest nodes r (PublishBy x c (k ∷ ks) body)
+is_putkey nodes r (PublishBy x c (k ∷ ks) body) v h = (x, c, k, ks, body, refl, h)
+is_putkey nodes r f v h = absurd (other (codes "putkey") (word_of f) v refl refl)
 
 pub is_deliver : (nodes : ℕ) (r : List ℕ) (f : Event) → codes "deliver" ≡ word_of f → Rest nodes r f → (n : ℕ) × (i : ℕ) × (f ≡ Deliver n i) × Rest nodes r (Deliver n i)
 is_deliver nodes r (Deliver n i) v h = (n, i, refl, h)
@@ -131,6 +151,10 @@ is_trim nodes r f v h = absurd (other (codes "trim") (word_of f) v refl refl)
 pub is_forget : (nodes : ℕ) (r : List ℕ) (f : Event) → codes "forget" ≡ word_of f → Rest nodes r f → (c : List ℕ) × (f ≡ Forget c) × Rest nodes r (Forget c)
 is_forget nodes r (Forget c) v h = (c, refl, h)
 is_forget nodes r f v h = absurd (other (codes "forget") (word_of f) v refl refl)
+
+pub is_size : (nodes : ℕ) (r : List ℕ) (f : Event) → codes "size" ≡ word_of f → Rest nodes r f → (name : List ℕ) × (n : ℕ) × (f ≡ SetSize name n) × Rest nodes r (SetSize name n)
+is_size nodes r (SetSize name n) v h = (name, n, refl, h)
+is_size nodes r f v h = absurd (other (codes "size") (word_of f) v refl refl)
 
 pub is_restart : (nodes : ℕ) (r : List ℕ) (f : Event) → codes "restart" ≡ word_of f → Rest nodes r f → (n : ℕ) × (f ≡ Restart n) × Rest nodes r (Restart n)
 is_restart nodes r (Restart n) v h = (n, refl, h)
@@ -176,11 +200,17 @@ no_finish nodes r lacks = λ e h.
     let i = is_finish nodes r e s.0 s.1 in
     lacks i.0 i.1 i.3
 
-pub no_publish : (nodes : ℕ) (r : List ℕ) → ((c : List ℕ) (body : List ℕ) → Rest nodes r (Publish c body) → ⊥) → IsNone (Says nodes (codes "publish" ++ 32 ∷ r))
+pub no_publish : (nodes : ℕ) (r : List ℕ) → ((c : List ℕ) (body : List ℕ) → Rest nodes r (Publish c [] body) → ⊥) → IsNone (Says nodes (codes "publish" ++ 32 ∷ r))
 no_publish nodes r lacks = λ e h.
     let s = splits nodes (codes "publish") r e (unspaced_word (codes "publish") refl) h in
     let i = is_publish nodes r e s.0 s.1 in
     lacks i.0 i.1 i.3
+
+pub no_publishkey : (nodes : ℕ) (r : List ℕ) → ((c : List ℕ) (k : ℕ) (ks : List ℕ) (body : List ℕ) → Rest nodes r (Publish c (k ∷ ks) body) → ⊥) → IsNone (Says nodes (codes "publishkey" ++ 32 ∷ r))
+no_publishkey nodes r lacks = λ e h.
+    let s = splits nodes (codes "publishkey") r e (unspaced_word (codes "publishkey") refl) h in
+    let i = is_publishkey nodes r e s.0 s.1 in
+    lacks i.0 i.1 i.2 i.3 i.5
 
 pub no_deliver : (nodes : ℕ) (r : List ℕ) → ((n : ℕ) (i : ℕ) → Rest nodes r (Deliver n i) → ⊥) → IsNone (Says nodes (codes "deliver" ++ 32 ∷ r))
 no_deliver nodes r lacks = λ e h.
@@ -212,11 +242,17 @@ no_askfrom nodes r lacks = λ e h.
     let i = is_askfrom nodes r e s.0 s.1 in
     lacks i.0 i.1 i.3
 
-pub no_put : (nodes : ℕ) (r : List ℕ) → ((x : List ℕ) (c : List ℕ) (body : List ℕ) → Rest nodes r (PublishBy x c body) → ⊥) → IsNone (Says nodes (codes "put" ++ 32 ∷ r))
+pub no_put : (nodes : ℕ) (r : List ℕ) → ((x : List ℕ) (c : List ℕ) (body : List ℕ) → Rest nodes r (PublishBy x c [] body) → ⊥) → IsNone (Says nodes (codes "put" ++ 32 ∷ r))
 no_put nodes r lacks = λ e h.
     let s = splits nodes (codes "put") r e (unspaced_word (codes "put") refl) h in
     let i = is_put nodes r e s.0 s.1 in
     lacks i.0 i.1 i.2 i.4
+
+pub no_putkey : (nodes : ℕ) (r : List ℕ) → ((x : List ℕ) (c : List ℕ) (k : ℕ) (ks : List ℕ) (body : List ℕ) → Rest nodes r (PublishBy x c (k ∷ ks) body) → ⊥) → IsNone (Says nodes (codes "putkey" ++ 32 ∷ r))
+no_putkey nodes r lacks = λ e h.
+    let s = splits nodes (codes "putkey") r e (unspaced_word (codes "putkey") refl) h in
+    let i = is_putkey nodes r e s.0 s.1 in
+    lacks i.0 i.1 i.2 i.3 i.4 i.6
 
 pub no_break : (nodes : ℕ) (r : List ℕ) → ((x : List ℕ) → Rest nodes r (Break x) → ⊥) → IsNone (Says nodes (codes "break" ++ 32 ∷ r))
 no_break nodes r lacks = λ e h.
@@ -228,6 +264,12 @@ pub no_leave : (nodes : ℕ) (r : List ℕ) → ((x : List ℕ) (c : List ℕ) �
 no_leave nodes r lacks = λ e h.
     let s = splits nodes (codes "leave") r e (unspaced_word (codes "leave") refl) h in
     let i = is_leave nodes r e s.0 s.1 in
+    lacks i.0 i.1 i.3
+
+pub no_size : (nodes : ℕ) (r : List ℕ) → ((name : List ℕ) (n : ℕ) → Rest nodes r (SetSize name n) → ⊥) → IsNone (Says nodes (codes "size" ++ 32 ∷ r))
+no_size nodes r lacks = λ e h.
+    let s = splits nodes (codes "size") r e (unspaced_word (codes "size") refl) h in
+    let i = is_size nodes r e s.0 s.1 in
     lacks i.0 i.1 i.3
 
 pub no_restart : (nodes : ℕ) (r : List ℕ) → ((n : ℕ) → Rest nodes r (Restart n) → ⊥) → IsNone (Says nodes (codes "restart" ++ 32 ∷ r))
@@ -251,8 +293,8 @@ no_list nodes r lacks = λ e h.
 -- the word is none of a line's
 abbrev pub IsStrange : List ℕ → Type 0
 IsStrange w =
-    (w ≢ codes "epoch") × (w ≢ codes "connect") × (w ≢ codes "ask") × (w ≢ codes "askfrom") × (w ≢ codes "read") × (w ≢ codes "finish") × (w ≢ codes "publish") × (w ≢ codes "put") × (w ≢ codes "deliver")
-    × (w ≢ codes "take") × (w ≢ codes "break") × (w ≢ codes "leave") × (w ≢ codes "trim") × (w ≢ codes "forget") × (w ≢ codes "restart") × (w ≢ codes "check") × (w ≢ codes "list")
+    (w ≢ codes "epoch") × (w ≢ codes "connect") × (w ≢ codes "ask") × (w ≢ codes "askfrom") × (w ≢ codes "read") × (w ≢ codes "finish") × (w ≢ codes "publish") × (w ≢ codes "publishkey") × (w ≢ codes "put") × (w ≢ codes "putkey")
+    × (w ≢ codes "deliver") × (w ≢ codes "take") × (w ≢ codes "break") × (w ≢ codes "leave") × (w ≢ codes "trim") × (w ≢ codes "forget") × (w ≢ codes "size") × (w ≢ codes "restart") × (w ≢ codes "check") × (w ≢ codes "list")
 
 unknown : (nodes : ℕ) (w r : List ℕ) → IsStrange w → (e : Event) → w ≡ word_of e → Rest nodes r e → ⊥
 unknown nodes w r d (Epoch e) h rest = d.0 h
@@ -261,17 +303,20 @@ unknown nodes w r d (Ask x c) h rest = d.2 h
 unknown nodes w r d (AskFrom x c) h rest = d.3 h
 unknown nodes w r d (Read x c) h rest = d.4 h
 unknown nodes w r d (Finish x c) h rest = d.5 h
-unknown nodes w r d (Publish c body) h rest = d.6 h
-unknown nodes w r d (PublishBy x c body) h rest = d.7 h
-unknown nodes w r d (Deliver n i) h rest = d.8 h
-unknown nodes w r d (Take x) h rest = d.9 h
-unknown nodes w r d (Break x) h rest = d.10 h
-unknown nodes w r d (Leave x c) h rest = d.11 h
-unknown nodes w r d (Trim c k) h rest = d.12 h
-unknown nodes w r d (Forget c) h rest = d.13 h
-unknown nodes w r d (Restart n) h rest = d.14 h
-unknown nodes w r d (Check x c) h rest = d.15 h
-unknown nodes w r d (ListHistory x c limit) h rest = d.16 h
+unknown nodes w r d (Publish c [] body) h rest = d.6 h
+unknown nodes w r d (Publish c (k ∷ ks) body) h rest = d.7 h
+unknown nodes w r d (PublishBy x c [] body) h rest = d.8 h
+unknown nodes w r d (PublishBy x c (k ∷ ks) body) h rest = d.9 h
+unknown nodes w r d (Deliver n i) h rest = d.10 h
+unknown nodes w r d (Take x) h rest = d.11 h
+unknown nodes w r d (Break x) h rest = d.12 h
+unknown nodes w r d (Leave x c) h rest = d.13 h
+unknown nodes w r d (Trim c k) h rest = d.14 h
+unknown nodes w r d (Forget c) h rest = d.15 h
+unknown nodes w r d (SetSize name n) h rest = d.16 h
+unknown nodes w r d (Restart n) h rest = d.17 h
+unknown nodes w r d (Check x c) h rest = d.18 h
+unknown nodes w r d (ListHistory x c limit) h rest = d.19 h
 unknown nodes w r d BrokerRestart h rest = rest
 
 pub no_word : (nodes : ℕ) (w r : List ℕ) → IsUnspaced w → IsStrange w → IsNone (Says nodes (w ++ 32 ∷ r))
@@ -285,14 +330,17 @@ no_space nodes line u differs (Ask x c) h = never_cut line (codes "ask") (spaced
 no_space nodes line u differs (AskFrom x c) h = never_cut line (codes "askfrom") (spaced (x ∷ c ∷ [])) u h.2
 no_space nodes line u differs (Read x c) h = never_cut line (codes "read") (spaced (x ∷ c ∷ [])) u h.2
 no_space nodes line u differs (Finish x c) h = never_cut line (codes "finish") (spaced (x ∷ c ∷ [])) u h.2
-no_space nodes line u differs (Publish c body) h = never_cut line (codes "publish") (spaced (c ∷ h.1 ∷ [])) u h.3
-no_space nodes line u differs (PublishBy x c body) h = never_cut line (codes "put") (spaced (x ∷ c ∷ h.2 ∷ [])) u h.4
+no_space nodes line u differs (Publish c [] body) h = never_cut line (codes "publish") (spaced (c ∷ h.1 ∷ [])) u h.3
+no_space nodes line u differs (Publish c (k ∷ ks) body) h = never_cut line (codes "publishkey") (spaced (c ∷ (k ∷ ks) ∷ h.2 ∷ [])) u h.4
+no_space nodes line u differs (PublishBy x c [] body) h = never_cut line (codes "put") (spaced (x ∷ c ∷ h.2 ∷ [])) u h.4
+no_space nodes line u differs (PublishBy x c (k ∷ ks) body) h = never_cut line (codes "putkey") (spaced (x ∷ c ∷ (k ∷ ks) ∷ h.3 ∷ [])) u h.5
 no_space nodes line u differs (Deliver n i) h = never_cut line (codes "deliver") (spaced (decimal n ∷ decimal i ∷ [])) u h.2
 no_space nodes line u differs (Take x) h = never_cut line (codes "take") x u h.1
 no_space nodes line u differs (Break x) h = never_cut line (codes "break") x u h.1
 no_space nodes line u differs (Leave x c) h = never_cut line (codes "leave") (spaced (x ∷ c ∷ [])) u h.2
 no_space nodes line u differs (Trim c k) h = never_cut line (codes "trim") (spaced (c ∷ decimal k ∷ [])) u h.2
 no_space nodes line u differs (Forget c) h = never_cut line (codes "forget") c u h.1
+no_space nodes line u differs (SetSize name n) h = never_cut line (codes "size") (name ++ 61 ∷ decimal n) u h.3
 no_space nodes line u differs (Restart n) h = never_cut line (codes "restart") (decimal n) u h.1
 no_space nodes line u differs (Check x c) h = never_cut line (codes "check") (spaced (x ∷ c ∷ [])) u h.2
 no_space nodes line u differs (ListHistory x c limit) h = never_cut line (codes "list") (spaced (x ∷ c ∷ h.2 ∷ [])) u h.4

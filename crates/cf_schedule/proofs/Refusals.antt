@@ -2,11 +2,11 @@
 use Rattle.std.proofs.Common.{◌≡◌, ℕ, List, ◌∷◌, ◌++◌, Result, Err, refl, sym, ap, subst, ◌∙◌}
 use Rattle.std.specs.Prelude.{◌↔◌, IsErrOf}
 use Rattle.cf_schedule.specs.ScheduleLine.{Says}
-use Rattle.cf_schedule.specs.LineRead.{IsUnspaced, CutsAtSpace, Refused, IsNone, Answers}
+use Rattle.cf_schedule.specs.LineRead.{IsUnspaced, Lacks, CutsAt, CutsAtSpace, Refused, IsNone, Answers}
 use Rattle.cf_schedule.specs.declared.event.Event as declared
 use Rattle.cf_schedule.specs.declared.event.EventFault.{EventFault}
 use Rattle.cf_schedule.specs.declared.event.EventFault.TheVariants.{Unreadable, Memory}
-use Rattle.cf_schedule.proofs.Spacing.{one_cut}
+use Rattle.cf_schedule.proofs.Spacing.{cut_once}
 
 pub refused_so : (e : EventFault) (P Q : Type 0) → (P → Q) → Refused e P → Refused e Q
 refused_so Unreadable P Q f h = f h
@@ -17,8 +17,11 @@ pub refused_name : {X : Type 0} (e : EventFault) (P Q : Type 0) → (IsErrOf {T 
 refused_name Unreadable P Q h f = f (h.0 refl)
 refused_name Memory P Q h f = tt
 
+pub cut_same : (d : ℕ) (s a b x y : List ℕ) → CutsAt d s a b → Lacks d x → s ≡ x ++ d ∷ y → (x ≡ a) × (y ≡ b)
+cut_same d s a b x y h u e = cut_once d x a y b u h.word (sym e ∙ h.whole)
+
 pub same_cut : (s a b x y : List ℕ) → CutsAtSpace s a b → IsUnspaced x → s ≡ x ++ 32 ∷ y → (x ≡ a) × (y ≡ b)
-same_cut s a b x y h u e = one_cut x a y b u h.word (sym e ∙ h.whole)
+same_cut = cut_same 32
 
 -- what a part's reader answers for a line that is cut so
 pub answers_at : (nodes : ℕ) (line word w rest : List ℕ) (r : Result declared.Event EventFault) → CutsAtSpace line word rest → word ≡ w

@@ -11,14 +11,21 @@ use Rattle.cf_schedule.specs.declared.event.EventFault.TheVariants.{Unreadable, 
 
 -- ---- words
 
-abbrev pub IsUnspaced : List ℕ → Type 0
-IsUnspaced [] = Unit {0}
-IsUnspaced (b ∷ bs) = (b ≢ 32) × IsUnspaced bs
+-- the byte d doesn't stand in the word
+abbrev pub Lacks : ℕ → List ℕ → Type 0
+Lacks d [] = Unit {0}
+Lacks d (b ∷ bs) = (b ≢ d) × Lacks d bs
 
--- s is cut at its first space
-pub record CutsAtSpace (s before after : List ℕ) : Type 0 where
-  pub whole : s ≡ before ++ 32 ∷ after
-  pub word : IsUnspaced before
+abbrev pub IsUnspaced : List ℕ → Type 0
+IsUnspaced = Lacks 32
+
+-- s is cut at its first d
+pub record CutsAt (d : ℕ) (s before after : List ℕ) : Type 0 where
+  pub whole : s ≡ before ++ d ∷ after
+  pub word : Lacks d before
+
+abbrev pub CutsAtSpace : List ℕ → List ℕ → List ℕ → Type 0
+CutsAtSpace = CutsAt 32
 
 -- s writes no number
 abbrev pub IsNoNumber : List ℕ → Type 0

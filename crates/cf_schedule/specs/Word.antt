@@ -20,3 +20,17 @@ is_channel_name s = (nat_le 1 (length s) && nat_le (length s) 255) && list_all i
 
 abbrev pub IsChannelName : List ℕ → Type 0
 IsChannelName s = IsTrue (is_channel_name s)
+
+-- a publish's key: 1 to 64 visible characters
+abbrev pub is_key : List ℕ → Bool
+is_key s = (nat_le 1 (length s) && nat_le (length s) 64) && list_all is_ascii_graphic s
+
+abbrev pub IsKey : List ℕ → Type 0
+IsKey s = IsTrue (is_key s)
+
+-- a namespace's name: at most 32 letters, digits, minus signs or underscores
+abbrev pub is_namespace_name : List ℕ → Bool
+is_namespace_name s = nat_le (length s) 32 && list_all is_name_byte s
+
+abbrev pub IsNamespaceName : List ℕ → Type 0
+IsNamespaceName s = IsTrue (is_namespace_name s)

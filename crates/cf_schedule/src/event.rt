@@ -2,16 +2,16 @@
 
 ghost use Rattle.std.specs.Prelude.{◌≡◌, ◌≢◌, ℕ, ℤ, pos, neg_ℤ, ◌^◌, ◌<◌, List, [], ◌∷◌, ◌++◌, codes, IfOk, IfErr, MatchOption, ◌≤◌};
 ghost use Rattle.std.specs.Fmt.{decimal};
-ghost use Rattle.cf_schedule.specs.Word.{IsClientName, IsChannelName};
+ghost use Rattle.cf_schedule.specs.Word.{IsClientName, IsChannelName, IsKey};
 ghost use Rattle.cf_machine.specs.TraceLine.{spaced};
 ghost use Rattle.cf_schedule.specs.ScheduleLine.{Says, IsPassedOver, IsLimit, IsData, last_number, most_left};
 ghost use Rattle.cf_machine.specs.Event.{Event as SaidEvent};
 ghost use Rattle.cf_schedule.specs.Seen.{seen};
-ghost use Rattle.cf_schedule.specs.LineRead.{IsUnspaced, CutsAtSpace, IsLastWord, Refused, IsNone, Answers, ReadAs};
+ghost use Rattle.cf_schedule.specs.LineRead.{IsUnspaced, Lacks, CutsAt, CutsAtSpace, IsLastWord, Refused, IsNone, Answers, ReadAs};
 
 use crate::body::Body;
-use crate::name::{ChannelName, ClientName};
-use crate::number::whole_number;
+use crate::name::{ChannelName, ClientName, Key, NamespaceName};
+use crate::number::{HistorySize, whole_number};
 use cf_json::one_value;
 use cf_protocol::Epoch;
 use std::alloc::{AllocError, Global};
@@ -23,7 +23,8 @@ const MOST_LEFT: u64 = 10_000;
 /// The least number above all limits of a history.
 const END_OF_LIMITS: u64 = 2_147_483_648;
 
-/// What a line of a schedule says. A client, a channel, an epoch and a datum are such as a line can name.
+/// What a line of a schedule says. A client, a channel, an epoch, a key, a datum, a namespace and a history size are such as a
+/// line can name.
 #[derive(Debug, Drop)]
 pub enum Event {
     /// An epoch waits, behind the others, for the next stream that opens.
@@ -55,15 +56,17 @@ pub enum Event {
         client: ClientName,
         channel: ChannelName,
     },
-    /// A datum is published to a channel.
+    /// A datum is published to a channel, perhaps under a key.
     Publish {
         channel: ChannelName,
+        key: Option<Key>,
         body: Body,
     },
-    /// A client publishes a datum to a channel.
+    /// A client publishes a datum to a channel, perhaps under a key.
     PublishBy {
         client: ClientName,
         channel: ChannelName,
+        key: Option<Key>,
         body: Body,
     },
     /// A node is given a publication, by its number from 1 in the order of all that were accepted.
@@ -95,6 +98,11 @@ pub enum Event {
     },
     /// All streams are gone.
     BrokerRestart,
+    /// The streams of a namespace hold at most so many publications from now on.
+    SetSize {
+        namespace: NamespaceName,
+        size: HistorySize,
+    },
     /// A node restarts: its sessions are gone.
     Restart {
         node: u8,
@@ -183,13 +191,16 @@ fn event_of(alloc: Global, line: &str, nodes: u8) -> Result<Event, EventFault>
         "read" => read(alloc, rest),
         "finish" => finish(alloc, rest),
         "publish" => publish(alloc, rest),
+        "publishkey" => publish_key(alloc, rest),
         "put" => put(alloc, rest),
+        "putkey" => put_key(alloc, rest),
         "deliver" => deliver(rest, nodes),
         "take" => take(alloc, rest),
         "break" => break_off(alloc, rest),
         "leave" => leave(alloc, rest),
         "trim" => trim(alloc, rest),
         "forget" => forget(alloc, rest),
+        "size" => size(alloc, rest),
         "restart" => restart(rest, nodes),
         "check" => check(alloc, rest),
         "list" => list(alloc, rest),
@@ -202,6 +213,13 @@ fn cut(text: &str) -> Option<(&str, &str)>
     ensures { MatchOption result (IsUnspaced text.now) (λ p. CutsAtSpace text.now p.0.now p.1.now) }
 {
     text.split_once(' ')
+}
+
+// What stands before the first `=`, and behind it.
+fn cut_name(text: &str) -> Option<(&str, &str)>
+    ensures { MatchOption result (Lacks 61 text.now) (λ p. CutsAt 61 text.now p.0.now p.1.now) }
+{
+    text.split_once('=')
 }
 
 // A node's number, below the number of nodes.
@@ -362,7 +380,53 @@ fn publish(alloc: Global, text: &str) -> Result<Event, EventFault>
     ensures { (nodes : ℕ) → Answers (Says nodes (codes "publish" ++ 32 ∷ text.now)) result }
 {
     let (channel, body) = channel_and_data(alloc, text)?;
-    Ok(Event::Publish { channel, body })
+    Ok(Event::Publish {
+        channel,
+        key: None,
+        body,
+    })
+}
+
+fn key_and_data(alloc: Global, text: &str) -> Result<(Key, Body), EventFault>
+    ensures ok { IfOk result (λ p. IsKey p.0 × IsLastWord (λ s. IsData s p.1) p.0 text.now) }
+    ensures err { IfErr result
+        (λ e. Refused e
+        ((k s body : List ℕ) → IsKey k → IsData s body → text.now ≢ spaced (k ∷ s ∷ []))) }
+{
+    let Some((key, data)) = cut(text) else {
+        return Err(EventFault::Unreadable);
+    };
+    let key = Key::read(alloc, key)?;
+    let body = Body::read(alloc, data)?;
+    Ok((key, body))
+}
+
+fn channel_key_and_data(alloc: Global, text: &str) -> Result<(ChannelName, Key, Body), EventFault>
+    ensures ok { IfOk result
+        (λ p. IsChannelName p.0 × IsKey p.1 × (s : List ℕ) × IsData s p.2
+        × (text.now ≡ spaced (p.0 ∷ p.1 ∷ s ∷ []))) }
+    ensures err { IfErr result
+        (λ e. Refused e
+        ((c k s body : List ℕ) → IsChannelName c → IsKey k → IsData s body
+        → text.now ≢ spaced (c ∷ k ∷ s ∷ []))) }
+{
+    let Some((channel, rest)) = cut(text) else {
+        return Err(EventFault::Unreadable);
+    };
+    let channel = ChannelName::read(alloc, channel)?;
+    let (key, body) = key_and_data(alloc, rest)?;
+    Ok((channel, key, body))
+}
+
+fn publish_key(alloc: Global, text: &str) -> Result<Event, EventFault>
+    ensures { (nodes : ℕ) → Answers (Says nodes (codes "publishkey" ++ 32 ∷ text.now)) result }
+{
+    let (channel, key, body) = channel_key_and_data(alloc, text)?;
+    Ok(Event::Publish {
+        channel,
+        key: Some(key),
+        body,
+    })
 }
 
 fn put(alloc: Global, text: &str) -> Result<Event, EventFault>
@@ -376,6 +440,23 @@ fn put(alloc: Global, text: &str) -> Result<Event, EventFault>
     Ok(Event::PublishBy {
         client,
         channel,
+        key: None,
+        body,
+    })
+}
+
+fn put_key(alloc: Global, text: &str) -> Result<Event, EventFault>
+    ensures { (nodes : ℕ) → Answers (Says nodes (codes "putkey" ++ 32 ∷ text.now)) result }
+{
+    let Some((client, rest)) = cut(text) else {
+        return Err(EventFault::Unreadable);
+    };
+    let client = ClientName::read(alloc, client)?;
+    let (channel, key, body) = channel_key_and_data(alloc, rest)?;
+    Ok(Event::PublishBy {
+        client,
+        channel,
+        key: Some(key),
         body,
     })
 }
@@ -434,6 +515,19 @@ fn forget(alloc: Global, text: &str) -> Result<Event, EventFault>
 {
     let channel = ChannelName::read(alloc, text)?;
     Ok(Event::Forget { channel })
+}
+
+fn size(alloc: Global, text: &str) -> Result<Event, EventFault>
+    ensures { (nodes : ℕ) → Answers (Says nodes (codes "size" ++ 32 ∷ text.now)) result }
+{
+    let Some((name, number)) = cut_name(text) else {
+        return Err(EventFault::Unreadable);
+    };
+    let Some(size) = HistorySize::read(number) else {
+        return Err(EventFault::Unreadable);
+    };
+    let namespace = NamespaceName::read(alloc, name)?;
+    Ok(Event::SetSize { namespace, size })
 }
 
 fn restart(text: &str, nodes: u8) -> Result<Event, EventFault>

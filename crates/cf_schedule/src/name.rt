@@ -2,7 +2,9 @@
 ghost use Rattle.std.specs.Prelude.{◌≡◌, IfOk, IfErr, IsErrOf, ◌↔◌};
 ghost use Rattle.std.specs.Char.{is_ascii_graphic};
 ghost use Rattle.std.specs.List.{list_all};
+ghost use Rattle.cf_schedule.specs.Seen.{key_of};
 ghost use Rattle.cf_schedule.specs.Word.{is_name_byte, is_client_name, is_channel_name, IsClientName, IsChannelName};
+ghost use Rattle.cf_schedule.specs.Word.{is_key, is_namespace_name, IsKey, IsNamespaceName};
 
 use crate::event::EventFault;
 use std::alloc::Global;
@@ -43,6 +45,40 @@ impl Model for ChannelName {
     ghost invariant = { λ n. IsChannelName (string_bytes n.text) };
 }
 
+/// The key of a publish: 1 to 64 visible ASCII characters.
+#[derive(Debug, Drop)]
+pub struct Key {
+    text: String,
+}
+
+impl Model for Key {
+    ghost use Rattle.std.specs.Prelude.{ℕ, List, string_bytes};
+    ghost use Rattle.cf_schedule.specs.Word.{IsKey};
+
+    ghost Value = { List ℕ };
+
+    ghost view = { λ k. string_bytes k.text };
+
+    ghost invariant = { λ k. IsKey (string_bytes k.text) };
+}
+
+/// A namespace's name: at most 32 ASCII letters, digits, `-` or `_`.
+#[derive(Debug, Drop)]
+pub struct NamespaceName {
+    text: String,
+}
+
+impl Model for NamespaceName {
+    ghost use Rattle.std.specs.Prelude.{ℕ, List, string_bytes};
+    ghost use Rattle.cf_schedule.specs.Word.{IsNamespaceName};
+
+    ghost Value = { List ℕ };
+
+    ghost view = { λ n. string_bytes n.text };
+
+    ghost invariant = { λ n. IsNamespaceName (string_bytes n.text) };
+}
+
 fn has_name_bytes(text: &str) -> bool
     ensures { result ≡ list_all is_name_byte text.now }
 {
@@ -71,6 +107,21 @@ fn is_channel_name(text: &str) -> bool
         return false;
     }
     has_visible_bytes(text)
+}
+
+fn is_key(text: &str) -> bool
+    ensures { result ≡ is_key text.now }
+{
+    if text.is_empty() || text.len() > 64 {
+        return false;
+    }
+    has_visible_bytes(text)
+}
+
+fn is_namespace_name(text: &str) -> bool
+    ensures { result ≡ is_namespace_name text.now }
+{
+    text.len() <= 32 && has_name_bytes(text)
 }
 
 impl ClientName {
@@ -105,6 +156,60 @@ impl ChannelName {
             return Err(EventFault::Unreadable);
         }
         Ok(ChannelName {
+            text: String::from_str(alloc, text)?,
+        })
+    }
+
+    /// The name's characters.
+    pub fn as_str(&self) -> &str
+        ensures { result.now ≡ self.now }
+    {
+        self.text.as_str()
+    }
+}
+
+impl Key {
+    /// The key that a text is. Unreadable where the text is none.
+    pub fn read(alloc: Global, text: &str) -> Result<Key, EventFault>
+        ensures ok { IfOk result (λ key. key ≡ text.now) }
+        ensures unreadable { IsErrOf result EventFault.Unreadable ↔ ¬ IsKey text.now }
+    {
+        if !is_key(text) {
+            return Err(EventFault::Unreadable);
+        }
+        Ok(Key {
+            text: String::from_str(alloc, text)?,
+        })
+    }
+
+    /// The key's characters.
+    pub fn as_str(&self) -> &str
+        ensures { result.now ≡ self.now }
+    {
+        self.text.as_str()
+    }
+}
+
+/// The characters of a key, none where there is no key.
+pub fn key_text(key: &Option<Key>) -> &str
+    ensures { result.now ≡ key_of key.now }
+{
+    match key {
+        Some(key) => key.as_str(),
+        None => "",
+    }
+}
+
+impl NamespaceName {
+    /// The name that a text is. Unreadable where the text is none.
+    pub fn read(alloc: Global, text: &str) -> Result<NamespaceName, EventFault>
+        ensures ok { IfOk result (λ name. name ≡ text.now) }
+        ensures unreadable { IsErrOf result EventFault.Unreadable ↔ ¬ IsNamespaceName text.now }
+    {
+        if !is_namespace_name(text) {
+            return Err(EventFault::Unreadable);
+        }
+        Ok(NamespaceName {
             text: String::from_str(alloc, text)?,
         })
     }

@@ -42,7 +42,7 @@ pub fn run(alloc: Global, config: &Config, events: &[Event]) -> Result<Trace, St
         return Err(Stopped::Memory { done: 0, trace });
     };
     for (done, event) in events.iter().enumerate() {
-        let Ok(mut entries) = world.step(done + 1, event) else {
+        let Ok(mut entries) = world.step(event) else {
             return Err(Stopped::Memory { done, trace });
         };
         if trace.entries.append(&mut entries).is_err() {

@@ -1,11 +1,12 @@
 //! The world of a schedule, event by event.
-ghost use Rattle.std.specs.Prelude.{◌≡◌, IfOk, IsErr, IsTrue, OnOk, false, is_err, option_copied};
+ghost use Rattle.std.specs.Prelude.{◌≡◌, ◌+◌, IfOk, IsErr, IsTrue, OnOk, false, is_err, option_copied};
 ghost use Rattle.cf_machine.specs.World.{start};
 ghost use Rattle.cf_schedule.specs.Seen.{seen, shown_config};
 ghost use Rattle.cf_world.specs.Tie.{GoesOn, Tied, Writes, client_of, hub_of, seat_at, streams_of};
 
 use crate::config::Config;
 use crate::event::Event;
+use crate::name::key_text;
 use cf_client::Client;
 use cf_hub::Hub;
 use cf_stream::Streams;
@@ -13,10 +14,12 @@ use cf_world::{Entry, Seat, Short, World as Parts};
 use std::alloc::Global;
 use std::marker::Model;
 
-/// The broker, the nodes and all clients. Once a part of it found no memory it carries out nothing more.
+/// The broker, the nodes and all clients, and how many events were carried out. Once a part of it found no memory it carries
+/// out nothing more.
 #[derive(Drop)]
 pub struct World {
     parts: Parts,
+    count: usize,
     is_short: bool,
     alloc: Global,
 }
@@ -30,35 +33,44 @@ impl Model for World {
 
     ghost coded = { Prim.hlevel (codes, world.the_row.coded) };
 
-    ghost view = { λ w. record { parts = w.parts; is_short = w.is_short } };
+    ghost view = { λ w. record { parts = w.parts; count = w.count; is_short = w.is_short } };
 }
 
 impl World {
     /// A world in which nothing has happened.
     pub fn new(alloc: Global, config: &Config) -> Result<World, Short>
         ensures tied { IfOk result (λ w. Tied (shown_config config.now) w.parts start) }
+        ensures count { IfOk result (λ w. w.count ≡ 0) }
         ensures ready { IfOk result (λ w. w.is_short ≡ false) }
     {
         let parts = Parts::new(alloc, config.nodes, &config.namespaces)?;
         Ok(World {
             parts,
+            count: 0,
             is_short: false,
             alloc,
         })
     }
 
-    /// Carries out an event, the one of number `at`, and gives what applications got by it. After it answered `Short` it does
-    /// so ever after.
-    pub fn step(&mut self, at: usize, event: &Event) -> Result<Vec<Entry>, Short>
+    /// Carries out the next event, and gives what applications got by it, under the event's number from 1. After it answered
+    /// `Short` it does so ever after.
+    pub fn step(&mut self, event: &Event) -> Result<Vec<Entry>, Short>
         ensures ok { OnOk result (GoesOn (seen event.now) self.old.parts self.new.parts) }
-        ensures writes { IfOk result (λ es. Writes at (seen event.now) self.old.parts es.items) }
+        ensures writes { IfOk result (λ es.
+            Writes (self.old.count + 1) (seen event.now) self.old.parts es.items) }
+        ensures counts { OnOk result (self.new.count ≡ self.old.count + 1) }
         ensures short { self.new.is_short ≡ is_err result }
         ensures stays_short { IsTrue self.old.is_short → IsErr result }
     {
         if self.is_short {
             return Err(Short);
         }
+        let Some(at) = self.count.checked_add(1) else {
+            self.is_short = true;
+            return Err(Short);
+        };
         let got = carry_out(&mut self.parts, self.alloc, at, event);
+        self.count = at;
         self.is_short = got.is_err();
         got
     }
@@ -109,12 +121,20 @@ fn carry_out(
         Event::AskFrom { client, channel } => parts.ask_from(client.as_str(), channel.as_str())?,
         Event::Read { client, channel } => parts.read(client.as_str(), channel.as_str())?,
         Event::Finish { client, channel } => parts.finish(client.as_str(), channel.as_str())?,
-        Event::Publish { channel, body } => parts.publish(channel.as_str(), body.as_str())?,
+        Event::Publish { channel, key, body } => {
+            parts.publish(channel.as_str(), key_text(key), body.as_str())?
+        }
         Event::PublishBy {
             client,
             channel,
+            key,
             body,
-        } => parts.put(client.as_str(), channel.as_str(), body.as_str())?,
+        } => parts.put(
+            client.as_str(),
+            channel.as_str(),
+            key_text(key),
+            body.as_str(),
+        )?,
         Event::Deliver { node, publication } => parts.deliver(*node, *publication)?,
         Event::Take { client } => return parts.take(at, client.as_str()),
         Event::Break { client } => parts.break_off(client.as_str()),
@@ -122,6 +142,7 @@ fn carry_out(
         Event::Trim { channel, count } => parts.trim(channel.as_str(), *count),
         Event::Forget { channel } => parts.forget(channel.as_str()),
         Event::BrokerRestart => parts.restart_broker(),
+        Event::SetSize { namespace, size } => parts.set_size(namespace.as_str(), size.count()),
         Event::Restart { node } => parts.restart(*node)?,
         Event::Check { client, channel } => parts.check(client.as_str(), channel.as_str())?,
         Event::ListHistory {

@@ -47,6 +47,11 @@ Where a node can't serve, or its loop ends, all nodes end, and the status is 4. 
 error, and above it the node and what failed there: its port is taken by another program (another --port), it may not listen there,
 or its thread can't be started. Alone it says that standard input or output failed, as a pipe whose reader is gone.
 
+A line `size NAME=K` of standard input sets how many publications the streams of a namespace hold from then on, 1 to 10,000;
+`size =K` is for the channels without a `:`. Other lines are passed over. By a fifo that is held open (examples/run-serve makes one):
+  mkfifo input; cf_server serve --boot 7 --port 8000 < input & exec 9> input; echo \"size =200\" >&9
+Where a shard of the broker can't take it, it keeps its size, and `size NAME refused` stands on standard error.
+
 On standard error it says, at most once a second of each kind, how many connections were refused for want of descriptors or
 memory, how many publications were lost on full links, and how many sessions were closed for slowness; --quiet for none.";
 
@@ -95,6 +100,9 @@ const SCHEDULE_NOTES: &str = "A schedule has a line for each event, its words pa
   leave X C       X sends the unsubscribe command
   put X C DATA    X publishes JSON data to C
   list X C LIMIT  X asks for what C's stream holds, at most LIMIT publications
+  publishkey C KEY DATA  as publish, under a key: where it is among the last 100 keys of C, nothing is published
+  putkey X C KEY DATA    as put, under a key
+  size NAME=K            a stream of namespace NAME holds the newest K publications and no more, from now on
 A line that is empty or begins with # is passed over. An event that can't happen changes nothing; --explain says why.
 Where a line is none of these, nothing of the schedule is run, and `line N: unreadable` says which. What is commonly behind it: lines
 that end in CR LF, two spaces or a space at the end, a byte order mark before the first line, DATA that is no JSON.

@@ -6,6 +6,7 @@ mod fault;
 mod report;
 mod running;
 mod serve;
+mod sizes;
 mod speak;
 #[cfg(test)]
 mod tests;

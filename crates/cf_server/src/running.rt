@@ -4,6 +4,7 @@ ghost use Rattle.std.specs.Io.KnownBytes.{IsAtEnd};
 ghost use Rattle.cf_server.specs.Status.{IsOutside};
 
 use crate::fault::Fault;
+use crate::sizes::{Line, Listener};
 use cf_node::{Counts, Gate};
 use mio::unix::SourceFd;
 use mio::{Events, Interest, Poll, Token};
@@ -157,35 +158,47 @@ impl Ear {
     }
 }
 
-/// Waits until standard input ends. Whatever stands in it is passed over, also what isn't UTF-8.
+/// Waits until standard input ends. Its whole lines are heard, but for those that aren't UTF-8.
 ///
 /// # Errors
 ///
 /// `Ended` where the loop of a node has ended; `InputOutput` where the input can't be read, or has no end; `Memory`.
-pub(crate) fn hear<R: Input + Net + AllocGlobal>(rt: &R, running: &Running) -> Result<(), Fault> {
+pub(crate) fn hear<R: Input + Net + AllocGlobal, L: Listener>(
+    rt: &R,
+    running: &Running,
+    listener: &mut L,
+) -> Result<(), Fault> {
     let mut reader = rt.reader();
     let mut ear = Ear::open(rt)?;
+    let mut line = Line::new(rt.alloc())?;
     for _ in 0..MOST_TURNS {
         running.goes_on()?;
-        if ear.hears()? && is_at_end(&mut reader)? {
+        if ear.hears()? && reads_to_end(&mut reader, &mut line, listener)? {
             return Ok(());
         }
     }
     Err(Fault::InputOutput)
 }
 
-/// Reads on and passes over what it finds. Says whether the reader is at its end.
+/// Reads on, and has the lines heard that end by that. Says whether the reader is at its end.
 ///
 /// # Errors
 ///
 /// `InputOutput` where the read fails; `Memory`.
-pub(crate) fn is_at_end<R: Read>(reader: &mut R) -> Result<bool, Fault>
+pub(crate) fn reads_to_end<R: Read, L: Listener>(
+    reader: &mut R,
+    line: &mut Line,
+    listener: &mut L,
+) -> Result<bool, Fault>
     ensures end { IfOk result (λ ended. ended ≡ true → IsAtEnd (R.remaining reader.new)) }
     ensures failed { IfErr result IsOutside }
 {
     let mut room = [0u8; ROOM];
     match reader.read(&mut room) {
-        Ok(count) => Ok(count == 0),
+        Ok(count) => {
+            line.add_all(room.get(..count).unwrap_or(&[]), listener);
+            Ok(count == 0)
+        }
         Err(error) if error.kind() == ErrorKind::Interrupted => Ok(false),
         Err(error) => Err(Fault::from(error)),
     }

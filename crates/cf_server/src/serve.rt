@@ -6,6 +6,7 @@ use crate::command_line::ServeOptions;
 use crate::fault::{Fault, Setting};
 use crate::report::report;
 use crate::running::{Running, hear, wait_for_workers};
+use crate::sizes::{Listener, Sizes};
 use crate::{namespaces_of, tokens_of};
 use cf_broker::{Broker, Passes, Words};
 use cf_epochs::{Boot, BootEpochs};
@@ -15,14 +16,17 @@ use cf_protocol::{Namespaces, Tokens};
 use cf_shard::{Delivery, Naming};
 use mio::net::TcpListener;
 use std::alloc::{AllocError, Global};
-use std::io::ErrorKind;
+use std::io::{BufWriter, ErrorKind, Write};
 use std::marker::Brand;
 use std::net::{Ipv4Addr, Net, SocketAddr};
 use std::sync::Wait;
 use std::sync::atomic::{AtomicU64, Ordering};
-use std::thread;
 use std::thread::Threads;
 use std::time::Clock;
+use std::{io, thread};
+
+// The bytes of a buffer that is freed before clients come: glibc keeps up to twice as many that are freed from then on.
+const LARGE_BUFFER: usize = 16_777_216;
 
 // The nodes, the broker's ends of their links, and where they listen.
 #[derive(Drop)]
@@ -104,10 +108,18 @@ where
         nodes,
         addresses,
     } = open_nodes::<N, R>(rt, options, &running.counts, namespaces, tokens)?;
-    let (broker, passes) = open_broker::<N>(alloc, boot, words, namespaces, senders)?;
+    let (broker, mut passes) = open_broker::<N>(alloc, boot, words, namespaces, senders)?;
     let broker = &*broker;
-    let nodes = with_passes(alloc, broker, passes, nodes)?;
-    run_nodes(rt, broker, &running, nodes, addresses.as_slice())
+    let nodes = with_passes(alloc, broker, &mut passes, nodes)?;
+    let mut sizes = Sizes::new(rt, broker, passes, namespaces);
+    run_nodes(
+        rt,
+        broker,
+        &running,
+        nodes,
+        addresses.as_slice(),
+        &mut sizes,
+    )
 }
 
 // The broker and its passes. It lies in a box, since a function that lends a broker of its own is dear to prove.
@@ -180,7 +192,7 @@ fn open_node<'a, N: Naming, R: Net + AllocGlobal>(
 fn with_passes<'a, N: Naming>(
     alloc: Global,
     broker: &Broker<N, BootEpochs>,
-    mut passes: Passes<N>,
+    passes: &mut Passes<N>,
     nodes: Vec<Node<'a, N>>,
 ) -> Result<Vec<Ready<'a, N>>, AllocError> {
     let mut ready = Vec::new(alloc);
@@ -219,17 +231,19 @@ fn listen<R: Net>(
     }
 }
 
-// Runs each node in a thread of its own until standard input ends, or a node doesn't go on.
-fn run_nodes<N, R>(
+// Runs each node in a thread of its own until standard input, whose lines are heard, ends, or a node doesn't go on.
+fn run_nodes<N, R, L>(
     rt: &R,
     broker: &Broker<N, BootEpochs>,
     running: &Running,
     nodes: Vec<Ready<'_, N>>,
     addresses: &[SocketAddr],
+    listener: &mut L,
 ) -> Result<(), Fault>
 where
     N: Naming + Send + Sync,
     R: Input + Print + Eprint + AllocGlobal + Threads + Wait + Clock + Net + Sync,
+    L: Listener,
 {
     let stop = AtomicU64::new(0);
     let stop = &stop;
@@ -255,7 +269,7 @@ where
             None => {
                 // Where nobody can tell what goes wrong, the nodes serve all the same.
                 let _ = scope.spawn(move || report(rt, broker, running, stop));
-                watch(rt, running, addresses)
+                watch(rt, running, addresses, listener)
             }
         };
         stop.store(1, Ordering::SeqCst);
@@ -263,14 +277,30 @@ where
     })
 }
 
-// Says where the nodes listen once their workers have begun, and waits for the end of the input.
-fn watch<R>(rt: &R, running: &Running, addresses: &[SocketAddr]) -> Result<(), Fault>
+// Says where the nodes listen, by way of a large buffer that is freed behind it: so glibc keeps what is freed later for what is
+// asked for next, where it would else give it back to the system, and ask for it again, with each large publication.
+fn say_addresses<R: Print + AllocGlobal>(rt: &R, addresses: &[SocketAddr]) -> io::Result<()> {
+    let alloc = rt.alloc();
+    let mut writer = BufWriter::with_capacity(alloc, LARGE_BUFFER, io::writer(rt))?;
+    for (node, address) in addresses.iter().enumerate() {
+        let line = format!(in alloc; "node {node} {address}\n")?;
+        writer.write_all(line.as_bytes())?;
+    }
+    writer.flush()
+}
+
+// Says where the nodes listen once their workers have begun, and hears the input to its end.
+fn watch<R, L>(
+    rt: &R,
+    running: &Running,
+    addresses: &[SocketAddr],
+    listener: &mut L,
+) -> Result<(), Fault>
 where
     R: Input + Print + AllocGlobal + Clock + Net,
+    L: Listener,
 {
     wait_for_workers(rt, running, addresses.len())?;
-    for (node, address) in addresses.iter().enumerate() {
-        println!(rt; "node {node} {address}")?;
-    }
-    hear(rt, running)
+    say_addresses(rt, addresses)?;
+    hear(rt, running, listener)
 }

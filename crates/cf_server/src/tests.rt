@@ -2,6 +2,7 @@
 mod beats;
 mod connection;
 mod dispatching;
+mod lines;
 mod losses;
 mod nodes;
 mod peer;

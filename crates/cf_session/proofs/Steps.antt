@@ -1,5 +1,5 @@
 -- Steps along a script.
-use Rattle.std.proofs.Common.{◌≡◌, ◌==◌, ◌∙◌, ℕ, Bool, true, false, Option, Some, None, is_some, MatchOption, List, [], ◌∷◌, length, map, arith, refl, sym, ap, subst, inl, inr}
+use Rattle.std.proofs.Common.{◌≡◌, ◌==◌, ◌∙◌, ℕ, true, false, Option, Some, None, is_some, MatchOption, List, [], ◌∷◌, length, map, arith, refl, sym, ap, subst, inl, inr}
 use Rattle.std.specs.declared.alloc.Global.{Global}
 use Rattle.std.specs.declared.collections.VecDeque.{VecDeque}
 use Rattle.cf_protocol.specs.Shown.{shown_command}
@@ -14,7 +14,7 @@ use Rattle.cf_protocol.specs.declared.codes.CloseCode.TheVariants as close
 use Rattle.cf_session.specs.Script.{Script, Served, Over, Say}
 use Rattle.cf_protocol.specs.Checks.{first_failed, checks}
 use Rattle.cf_session.specs.CommandScripts.{Tables, Brings, frame_script, unless_failed, granted, connect_script, first_script, after_attach}
-use Rattle.cf_session.specs.SessionMachine.{Act, Says, Closes, Progress, Todo, AtHand, at_start, at_reply, Connects, at_attach, at_connected, is_connected, GivesUp, fails, falls_silent, stays_out, HearsText, Acts}
+use Rattle.cf_session.specs.SessionMachine.{Act, Closes, Progress, Todo, AtHand, at_start, at_reply, Connects, at_attach, at_connected, is_connected, GivesUp, fails, falls_silent, stays_out, HearsText, Acts}
 use Rattle.cf_session.specs.Standing.{Falls, progress_at, idle_at, is_over, tables_of, commands_left, rest_of, progress_of}
 use Rattle.cf_session.specs.Shown.{shown_action}
 use Rattle.cf_session.specs.declared.action.Action.{Action}

@@ -1,5 +1,5 @@
 -- Frames ask for streams only where a namespace is set up.
-use Rattle.std.proofs.Common.{◌≡◌, ℕ, Bool, true, false, not, is_some, Option, Some, None, List, [], ◌∷◌, refl}
+use Rattle.std.proofs.Common.{◌≡◌, ℕ, Bool, true, false, not, ◌||◌, is_some, Option, Some, None, List, [], ◌∷◌, refl}
 use Rattle.cf_protocol.specs.Position.{Position}
 use Rattle.cf_protocol.specs.Datum.{Who}
 use Rattle.cf_protocol.specs.Request as request
@@ -9,14 +9,14 @@ use Rattle.cf_protocol.specs.declared.codes.ErrorCode.{ErrorCode}
 use Rattle.cf_protocol.specs.declared.codes.ErrorCode.TheVariants as error
 use Rattle.cf_session.specs.Calls.{Answer, Refused, Done, Found, Attached}
 use Rattle.cf_session.specs.Script.{Script}
-use Rattle.cf_protocol.specs.Checks.{Check, first_failed, is_bad_channel, is_bad_data, may_publish, may_list, checks}
+use Rattle.cf_protocol.specs.Checks.{Check, first_failed, is_bad_channel, is_bad_key, is_bad_data, may_publish, may_list, checks}
 use Rattle.cf_session.specs.CommandScripts.{Tables, granted, unless_failed, connect_script, first_script, frame_script, replies, after_read, after_begin, after_attach, client_of}
 use Rattle.cf_session.specs.Asking.{AllAsk, HasStream, FramesHaveStreams}
 
 -- what a request needs
 Needs : NamespaceTable → Request → Type 0
 Needs t (Subscribe c since) = is_some (settings_of t c) ≡ true
-Needs t (request.Publish c d) = is_some (settings_of t c) ≡ true
+Needs t (request.Publish c key d) = is_some (settings_of t c) ≡ true
 Needs t (request.History c limit since reverse) = is_some (settings_of t c) ≡ true
 Needs t (Unsubscribe c) = Unit {0}
 Needs t (request.Presence c) = Unit {0}
@@ -39,8 +39,8 @@ third_passed false d b e g f cs h = second_passed d b g f cs h
 passed : (t : NamespaceTable) (r : Request) → first_failed (checks t r) ≡ None → Needs t r
 unfolding Needs
 passed t (Subscribe c since) h = second_passed (is_bad_channel c) (is_some (settings_of t c)) error.BadRequest error.UnknownChannel [] h
-passed t (request.Publish c d) h =
-    third_passed (is_bad_channel c) (is_bad_data d) (is_some (settings_of t c)) error.BadRequest error.BadRequest error.UnknownChannel
+passed t (request.Publish c key d) h =
+    third_passed (is_bad_channel c) (is_bad_key key || is_bad_data d) (is_some (settings_of t c)) error.BadRequest error.BadRequest error.UnknownChannel
     (may_publish t c ∷ []) h
 passed t (request.History c limit since reverse) h =
     second_passed (is_bad_channel c) (is_some (settings_of t c)) error.BadRequest error.UnknownChannel
@@ -77,7 +77,7 @@ granted_asks : (t : NamespaceTable) (who : Who) (id : ℕ) (r : Request) (after 
 unfolding Needs
 granted_asks t who id (Subscribe c since) after up h = (tt, begin_asks t id c since after up h)
 granted_asks t who id (Unsubscribe c) after up h = (tt, λ a. h)
-granted_asks t who id (request.Publish c d) after up h = (up, replies_ask t id after h)
+granted_asks t who id (request.Publish c key d) after up h = (up, replies_ask t id after h)
 granted_asks t who id (request.Presence c) after up h = (tt, replies_ask t id after h)
 granted_asks t who id (PresenceStats c) after up h = (tt, replies_ask t id after h)
 granted_asks t who id (request.History c limit since reverse) after up h = (up, replies_ask t id after h)
@@ -106,7 +106,7 @@ first_asks : (t : Tables) (id : ℕ) (r : Request) (after : Who → Script) → 
 first_asks t id (Connect token) after h = connect_asks t.namespaces (user_of t.tokens token) id after h
 first_asks t id (Subscribe c since) after h = tt
 first_asks t id (Unsubscribe c) after h = tt
-first_asks t id (request.Publish c d) after h = tt
+first_asks t id (request.Publish c key d) after h = tt
 first_asks t id (request.Presence c) after h = tt
 first_asks t id (PresenceStats c) after h = tt
 first_asks t id (request.History c limit since reverse) after h = tt

@@ -77,7 +77,7 @@ body_of TooDeep = []
 abbrev pub granted : Who → ℕ → Request → Script → Script
 granted who id (Subscribe c since) after = Ask (Begin c id since) (after_begin id c c since after)
 granted who id (Unsubscribe c) after = Ask (Leave c) (after_leave id after)
-granted who id (request.Publish c d) after = Ask (Publish c (body_of d) who) (replies id after)
+granted who id (request.Publish c key d) after = Ask (Publish c key (body_of d) who) (replies id after)
 granted who id (request.Presence c) after = Ask (Presence c) (replies id after)
 granted who id (PresenceStats c) after = Ask (Stats c) (replies id after)
 granted who id (request.History c limit since reverse) after = Ask (History c limit since) (replies id after)
@@ -105,7 +105,7 @@ abbrev pub first_script : Tables → ℕ → Request → (Who → Script) → Sc
 first_script t id (Connect token) after = connect_script (user_of t.tokens token) id after
 first_script t id (Subscribe c since) after = Close close.BadRequest
 first_script t id (Unsubscribe c) after = Close close.BadRequest
-first_script t id (request.Publish c d) after = Close close.BadRequest
+first_script t id (request.Publish c key d) after = Close close.BadRequest
 first_script t id (request.Presence c) after = Close close.BadRequest
 first_script t id (PresenceStats c) after = Close close.BadRequest
 first_script t id (request.History c limit since reverse) after = Close close.BadRequest

@@ -6,3 +6,5 @@ pub mod Asking
 pub mod Refusals
 pub mod Shown
 pub mod Standing
+pub mod Played
+pub mod Turn

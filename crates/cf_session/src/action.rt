@@ -31,9 +31,10 @@ pub enum Action {
     Leave {
         channel: String,
     },
-    /// The compact text `body` is published, by this client.
+    /// The compact text `body` is published, by this client; under a key, or under the empty one, which is none.
     Publish {
         channel: String,
+        key: String,
         body: String,
         info: Info,
     },

@@ -2,12 +2,15 @@
 ghost use Rattle.std.specs.Prelude.{◌≡◌, None, [], pos};
 ghost use Rattle.cf_protocol.specs.Request as request;
 ghost use Rattle.cf_protocol.specs.Shown.{shown_request, shown_data};
-ghost use Rattle.cf_protocol.specs.Checks.{checks, first_failed, is_bad_channel, is_bad_data};
+ghost use Rattle.cf_protocol.specs.Checks.{checks, first_failed, is_bad_channel, is_bad_data, is_bad_key};
 
 use cf_protocol::{Data, ErrorCode, Namespaces, Request};
 
 /// The longest name of a channel, in bytes.
 const LONGEST_CHANNEL: usize = 255;
+
+/// The longest key of a publish, in bytes.
+const LONGEST_KEY: usize = 64;
 
 fn is_bad_channel(channel: &str) -> bool
     ensures { result ≡ is_bad_channel channel.now }
@@ -23,6 +26,12 @@ fn is_bad_data(body: &Data) -> bool
         Data::TooDeep => true,
         Data::Body(_) => false,
     }
+}
+
+fn is_bad_key(key: &str) -> bool
+    ensures { result ≡ is_bad_key key.now }
+{
+    key.len() > LONGEST_KEY
 }
 
 fn subscribe_refusal(namespaces: &Namespaces, channel: &str) -> Option<ErrorCode>
@@ -46,14 +55,20 @@ fn unsubscribe_refusal(channel: &str) -> Option<ErrorCode>
     None
 }
 
-fn publish_refusal(namespaces: &Namespaces, channel: &str, body: &Data) -> Option<ErrorCode>
+fn publish_refusal(
+    namespaces: &Namespaces,
+    channel: &str,
+    key: &str,
+    body: &Data,
+) -> Option<ErrorCode>
     ensures { result
-        ≡ first_failed (checks namespaces.now (request.Publish channel.now (shown_data body.now))) }
+        ≡ first_failed (checks namespaces.now
+        (request.Publish channel.now key.now (shown_data body.now))) }
 {
     if is_bad_channel(channel) {
         return Some(ErrorCode::BadRequest);
     }
-    if is_bad_data(body) {
+    if is_bad_key(key) || is_bad_data(body) {
         return Some(ErrorCode::BadRequest);
     }
     let Some(settings) = namespaces.find(channel) else {
@@ -106,7 +121,9 @@ pub fn refusal_of(namespaces: &Namespaces, request: &Request) -> Option<ErrorCod
     match request {
         Request::Subscribe { channel, .. } => subscribe_refusal(namespaces, channel.as_str()),
         Request::Unsubscribe { channel } => unsubscribe_refusal(channel.as_str()),
-        Request::Publish { channel, body } => publish_refusal(namespaces, channel.as_str(), body),
+        Request::Publish { channel, key, body } => {
+            publish_refusal(namespaces, channel.as_str(), key.as_str(), body)
+        }
         Request::Presence { channel } => presence_refusal(namespaces, channel.as_str()),
         Request::PresenceStats { channel } => presence_refusal(namespaces, channel.as_str()),
         Request::History {

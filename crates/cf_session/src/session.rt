@@ -404,7 +404,7 @@ impl<'a> Session<'a> {
                 self.stage = Stage::Leaving { id };
                 Ok(Some(Action::Leave { channel }))
             }
-            Request::Publish { channel, body } => self.publish(id, channel, body),
+            Request::Publish { channel, key, body } => self.publish(id, channel, key, body),
             Request::Presence { channel } => {
                 let action = Action::Presence { channel };
                 Ok(Some(self.call(id, Kind::Presence, action)))
@@ -439,6 +439,7 @@ impl<'a> Session<'a> {
         &mut self,
         id: u32,
         channel: String,
+        key: String,
         body: Data,
     ) -> Result<Option<Action>, AllocError>
         requires ready { self.old.stage ≡ Stage.Ready }
@@ -446,7 +447,7 @@ impl<'a> Session<'a> {
         ensures acts { (who : Who) → self.old.client ≡ Some who
             → IfOk result
             (λ r. Begins self.old
-            (granted who id (shown_request (Request.Publish channel body)) (rest_of self.old))
+            (granted who id (shown_request (Request.Publish channel key body)) (rest_of self.old))
             r self.new) }
         ensures err { OnErr result (self.new.stage ≡ Stage.Ready) }
         ensures client { OnErr result (self.new.client ≡ self.old.client) }
@@ -465,6 +466,7 @@ impl<'a> Session<'a> {
         };
         let action = Action::Publish {
             channel,
+            key,
             body,
             info,
         };

@@ -1,6 +1,11 @@
 -- What a call makes of a shard's log and of the caller's pass.
 use Rattle.std.proofs.Common.{◌≡◌, ℕ, ◌+◌, List, [], ◌∷◌, ◌++◌, Option, Some, None, refl, sym, ap, ◌∙◌, subst, append_assoc, append-nil}
-use Rattle.std.specs.Prelude.{ℤ, Bool, IsSomeAnd, IsErrOf, Err}
+use Rattle.std.specs.Prelude.{ℤ, Bool, true, false, is_some, IsSomeAnd, IsErrOf, Err}
+use Rattle.std.proofs.Common.{cond}
+use Rattle.std.proofs.lemmas.Slice.Eq.{bytes_eq-Decides}
+use Rattle.cf_stream.specs.declared.answer.Published.{Published}
+use Rattle.cf_stream.proofs.Channels.{stream_of-put_at}
+use Rattle.cf_stream.proofs.ChannelChanges.{StandsAt-from}
 use Rattle.std.specs.Option.{option_map}
 use mathlib.Core.List.{IsPrefix}
 use Rattle.atomic_table.specs.Seated.{TableId}
@@ -10,14 +15,15 @@ use Rattle.cf_protocol.specs.LogEntry.{Entry}
 use Rattle.cf_protocol.specs.LogEntry.Entry.{Publish}
 use Rattle.cf_protocol.specs.Settings.{NamespaceTable}
 use Rattle.cf_order.specs.Passes.{OwnerState, PassState, caught_up}
-use Rattle.cf_stream.specs.Stream.{position_of, Shown}
-use Rattle.cf_stream.specs.Streams.{Kept, stream_of, size_at}
-use Rattle.cf_stream.specs.PublicationList.{Life, IsRead, IsListed}
-use Rattle.cf_stream.specs.ChannelLists.{ShowsAt, stands_at, StandsAt, ReadsAt, ListsAt, life_or}
-use Rattle.cf_stream.specs.LogState.{IsState, Adds, life_in, opening, if_stands}
-use Rattle.cf_shard.specs.Shard.{IsShard}
+use Rattle.cf_stream.specs.Stream.{position_of, Shown, answer_by, answer_to, given, pushed, repeated_by, used_at}
+use Rattle.cf_stream.specs.Keys.{is_no_key}
+use Rattle.cf_stream.specs.Streams.{StreamMap, repeat_at, stream_of, size_at, stood_or, stood_or_opened}
+use Rattle.cf_stream.specs.PublicationList.{Life}
+use Rattle.cf_stream.specs.ChannelLists.{ShowsAt, StandsAt, PublishesAt, ReadsAt, ListsAt}
+use Rattle.cf_stream.specs.LogState.{IsState, Adds, life_in, opening, publishing, if_stands}
+use Rattle.cf_shard.specs.Shard.{IsShard, after_publish}
 use Rattle.cf_shard.specs.ShardLog.{HasWhole, KeepsShare}
-use Rattle.cf_shard.specs.LogAnswer.{life_after, Follows, IsCall, IsPosition, IsPublished, IsReadAnswer, IsHistoryAnswer}
+use Rattle.cf_shard.specs.LogAnswer.{Follows, IsCall, IsPosition, IsPublished, IsReadAnswer, IsHistoryAnswer}
 
 pub opening_map : {X Y : Type 0} (f : X → Y) (o : Option X) (c e : List ℕ) (es : List Entry) → opening (option_map f o) c e es ≡ opening o c e es
 opening_map f None c e es = refl
@@ -44,62 +50,81 @@ if_stands_alike size None (Some l) x h = absurd h
 if_stands_alike size (Some s) None x h = absurd h
 
 -- a stream stands exactly where the log says so
-pub opening_by_log : (t : NamespaceTable) (w : TableId) (k : Kept) (o : OwnerState) (c e : List ℕ) (es : List Entry) → IsShard t w k o → opening (stream_of k c) c e es ≡ opening (life_after t o.log c) c e es
+pub opening_by_log : (t : NamespaceTable) (w : TableId) (k : StreamMap) (o : OwnerState) (c e : List ℕ) (es : List Entry) → IsShard t w k o → opening (stream_of k c) c e es ≡ opening (life_in t o.log c) c e es
 opening_by_log t w k o c e es h =
-    opening_alike (size_at k.namespaces c) (stream_of k c) (life_in (size_at k.namespaces) o.log c) c e es (h.state.at c)
-    ∙ ap (λ (t : NamespaceTable). opening (life_after t o.log c) c e es) h.settings
+    opening_alike (size_at k.namespaces c) (stream_of k c) (life_in t o.log c) c e es (h.state.lists.at c)
 
-pub if_stands_by_log : (t : NamespaceTable) (w : TableId) (k : Kept) (o : OwnerState) (c : List ℕ) (x : Entry) → IsShard t w k o → if_stands (stream_of k c) x ≡ if_stands (life_after t o.log c) x
+pub if_stands_by_log : (t : NamespaceTable) (w : TableId) (k : StreamMap) (o : OwnerState) (c : List ℕ) (x : Entry) → IsShard t w k o → if_stands (stream_of k c) x ≡ if_stands (life_in t o.log c) x
 if_stands_by_log t w k o c x h =
-    if_stands_alike (size_at k.namespaces c) (stream_of k c) (life_in (size_at k.namespaces) o.log c) x (h.state.at c)
-    ∙ ap (λ (t : NamespaceTable). if_stands (life_after t o.log c) x) h.settings
+    if_stands_alike (size_at k.namespaces c) (stream_of k c) (life_in t o.log c) x (h.state.lists.at c)
 
 -- the entries by what was asked of the streams
-pub opening_stood : (k : Kept) (c : List ℕ) (position : Option Position) (stood : Option ℕ) (e : List ℕ) (es : List Entry) → position ≡ option_map position_of (stream_of k c) → stood ≡ option_map (λ (p : Position). p.offset) position
+pub opening_stood : (k : StreamMap) (c : List ℕ) (position : Option Position) (stood : Option ℕ) (e : List ℕ) (es : List Entry) → position ≡ option_map position_of (stream_of k c) → stood ≡ option_map (λ (p : Position). p.offset) position
     → opening stood c e es ≡ opening (stream_of k c) c e es
 opening_stood k c position stood e es at is =
     ap (λ (o : Option ℕ). opening o c e es) is ∙ opening_map (λ (p : Position). p.offset) position c e es
     ∙ ap (λ (o : Option Position). opening o c e es) at ∙ opening_map position_of (stream_of k c) c e es
 
 -- the streams stay the state of the log
-pub kept : (t : NamespaceTable) (w : TableId) (old new : Kept) (o o' : OwnerState) (es : List Entry) → IsShard t w old o → Adds old new es → new.namespaces ≡ old.namespaces
-    → o'.word ≡ o.word → o'.log ≡ o.log ++ es → IsShard t w new o'
-kept t w old new o o' es h adds same word log = record { named = word ∙ h.named; settings = same ∙ h.settings; state = subst (IsState new) (sym log) (adds.state o.log h.state) }
+pub kept : (t : NamespaceTable) (w : TableId) (old new : StreamMap) (o o' : OwnerState) (es : List Entry) → IsShard t w old o → Adds old new es → o'.word ≡ o.word
+    → o'.log ≡ o.log ++ es → IsShard t w new o'
+kept t w old new o o' es h adds word log = record { named = word ∙ h.named; state = subst (IsState t new) (sym log) (adds.state t o.log h.state) }
 
 -- where a channel's stream stands, read off the log
-pub position_by_log : (t : NamespaceTable) (w : TableId) (k : Kept) (o : OwnerState) (c : List ℕ) (p : Option Position) → IsShard t w k o → StandsAt k c p → IsPosition t o.log c p
-position_by_log t w k o c p h s = s.off (life_in (size_at k.namespaces) o.log) h.state ∙ ap (λ (t : NamespaceTable). option_map stands_at (life_after t o.log c)) h.settings
+pub position_by_log : (t : NamespaceTable) (w : TableId) (k : StreamMap) (o : OwnerState) (c : List ℕ) (p : Option Position) → IsShard t w k o → StandsAt k c p → IsPosition t o.log c p
+position_by_log t w k o c p h s = s.off (life_in t o.log) h.state.lists
+
+-- where a stream stands after a publish that is no repeat
+pub stands_after : (k : StreamMap) (c key : List ℕ) (d : Datum) (now : ℕ) (p : Published) → p ≡ answer_to (stood_or_opened k c p.position.epoch) key → p.repeated ≡ false
+    → StandsAt (after_publish k c p.position.epoch key d now) c (Some p.position)
+stands_after k c key d now p is fresh =
+    let s : Shown = stood_or_opened k c p.position.epoch in
+    let cases : (r : Option ℕ) → p ≡ answer_by r s.epoch s.top → p.position ≡ position_of (cond (is_some r) (used_at s now) (pushed s key d now)) =
+    λ r. elim r as (λ r. p ≡ answer_by r s.epoch s.top → p.position ≡ position_of (cond (is_some r) (used_at s now) (pushed s key d now))) [
+      | None ↦ λ e. ap (λ (x : Published). x.position) e
+      | Some o ↦ λ e. absurd (let yes : p.repeated ≡ true = ap (λ (x : Published). x.repeated) e in cc)
+    ] in
+    StandsAt-from (after_publish k c p.position.epoch key d now) c (Some p.position)
+    (ap Some (cases (repeated_by s key) is)
+    ∙ ap (option_map position_of) (sym (stream_of-put_at k c (Some (given s key d now)) c ∙ ap (λ b. cond b (Some (given s key d now)) (stream_of k c)) ((bytes_eq-Decides c c).1 refl))))
 
 -- each call at the point of the log that the owner has
-pub published_by_log : (t : NamespaceTable) (w : TableId) (k new : Kept) (o o' : OwnerState) (c : List ℕ) (d : Datum) (p : Position) (seen after : List Entry) → IsShard t w k o → IsShard t w new o' → StandsAt new c (Some p) → IsPrefix seen o.log
-    → o'.log ≡ o.log ++ opening (stream_of k c) c p.epoch (Publish c d ∷ []) → after ≡ o'.log → IsPublished t seen after c d p
-published_by_log t w k new o o' c d p seen after h h' stands begins log is = record {
+pub published_by_log : (t : NamespaceTable) (w : TableId) (k new : StreamMap) (o o' : OwnerState) (c key : List ℕ) (d : Datum) (p : Published) (seen after : List Entry) → IsShard t w k o → IsShard t w new o'
+    → PublishesAt k c key p.position p.repeated → (p.repeated ≡ false → StandsAt new c (Some p.position)) → IsPrefix seen o.log
+    → o'.log ≡ o.log ++ publishing p.repeated (stream_of k c) c p.position.epoch key d → after ≡ o'.log → IsPublished t seen after c key d p
+published_by_log t w k new o o' c key d p seen after h h' answers stands begins log is = record {
   before = o.log;
   begins = begins;
-  gained = is ∙ (log ∙ ap (λ (es : List Entry). o.log ++ es) (opening_by_log t w k o c p.epoch (Publish c d ∷ []) h));
-  answered = subst (λ (l : List Entry). IsPosition t l c (Some p)) (sym is) (position_by_log t w new o' c (Some p) h' stands);
+  gained =
+      is
+      ∙ (log
+      ∙ ap (λ (es : List Entry). o.log ++ cond p.repeated [] es) (opening_by_log t w k o c p.position.epoch (Publish c key d ∷ []) h));
+  answered = record {
+    is = answers.off (life_in t o.log) h.state.lists;
+    stands = λ fresh. subst (λ (l : List Entry). IsPosition t l c (Some p.position)) (sym is) (position_by_log t w new o' c (Some p.position) h' (stands fresh));
+  };
 }
 
-pub read_by_log : (t : NamespaceTable) (w : TableId) (k : Kept) (o : OwnerState) (c : List ℕ) (since : Option Position) (p : Position) (recovered : Bool) (items : List Placed) (seen after : List Entry) → IsShard t w k o → ReadsAt k c since p recovered items → IsPrefix seen o.log
+pub read_by_log : (t : NamespaceTable) (w : TableId) (k : StreamMap) (o : OwnerState) (c : List ℕ) (since : Option Position) (p : Position) (recovered : Bool) (items : List Placed) (seen after : List Entry) → IsShard t w k o → ReadsAt k c since p recovered items → IsPrefix seen o.log
     → after ≡ o.log ++ opening (stream_of k c) c p.epoch [] → IsReadAnswer t seen after c since p recovered items
 read_by_log t w k o c since p recovered items seen after h reads begins log = record {
   before = o.log;
   begins = begins;
   gained = log ∙ ap (λ (es : List Entry). o.log ++ es) (opening_by_log t w k o c p.epoch [] h);
-  answered = subst (λ (t : NamespaceTable). IsRead (life_or (life_after t o.log c) p.epoch) since p recovered items) h.settings (reads.off (life_in (size_at k.namespaces) o.log) h.state);
+  answered = reads.off (life_in t o.log) h.state.lists;
 }
 
-pub history_by_log : (t : NamespaceTable) (w : TableId) (k : Kept) (o : OwnerState) (c : List ℕ) (since : Option Position) (limit : ℤ) (p : Position) (items : List Placed) (seen after : List Entry) → IsShard t w k o → ListsAt k c since limit p items → IsPrefix seen o.log
+pub history_by_log : (t : NamespaceTable) (w : TableId) (k : StreamMap) (o : OwnerState) (c : List ℕ) (since : Option Position) (limit : ℤ) (p : Position) (items : List Placed) (seen after : List Entry) → IsShard t w k o → ListsAt k c since limit p items → IsPrefix seen o.log
     → after ≡ o.log ++ opening (stream_of k c) c p.epoch [] → IsHistoryAnswer t seen after c since limit p items
 history_by_log t w k o c since limit p items seen after h lists begins log = record {
   before = o.log;
   begins = begins;
   gained = log ∙ ap (λ (es : List Entry). o.log ++ es) (opening_by_log t w k o c p.epoch [] h);
-  answered = subst (λ (t : NamespaceTable). IsListed (life_or (life_after t o.log c) p.epoch) since limit p items) h.settings (lists.off (life_in (size_at k.namespaces) o.log) h.state);
+  answered = lists.off (life_in t o.log) h.state.lists;
 }
 
-pub one_by_log : (t : NamespaceTable) (w : TableId) (k : Kept) (o : OwnerState) (c : List ℕ) (x : Entry) (seen after : List Entry) → IsShard t w k o → IsPrefix seen o.log → after ≡ o.log ++ if_stands (stream_of k c) x
-    → IsCall seen after (λ log. if_stands (life_after t log c) x) (λ log. Unit {0})
+pub one_by_log : (t : NamespaceTable) (w : TableId) (k : StreamMap) (o : OwnerState) (c : List ℕ) (x : Entry) (seen after : List Entry) → IsShard t w k o → IsPrefix seen o.log → after ≡ o.log ++ if_stands (stream_of k c) x
+    → IsCall seen after (λ log. if_stands (life_in t log c) x) (λ log. Unit {0})
 one_by_log t w k o c x seen after h begins log = record {
   before = o.log;
   begins = begins;
@@ -108,7 +133,7 @@ one_by_log t w k o c x seen after h begins log = record {
 }
 
 -- a channel without a stream has no entry, and stays without one
-pub none_noted : (k : Kept) (c : List ℕ) (x : Entry) (log after : List Entry) → stream_of k c ≡ None → after ≡ log → after ≡ log ++ if_stands (stream_of k c) x
+pub none_noted : (k : StreamMap) (c : List ℕ) (x : Entry) (log after : List Entry) → stream_of k c ≡ None → after ≡ log → after ≡ log ++ if_stands (stream_of k c) x
 none_noted k c x log after none is = is ∙ (sym (append-nil log) ∙ ap (λ (o : Option Shown). log ++ if_stands o x) (sym none))
 
 -- the owner after a call's entries
@@ -126,20 +151,52 @@ follows old mid new log es after own seen is gained whole keeps = record {
   share = keeps.2 ∙ ap (λ (p : PassState). p.share + own) is;
 }
 
-top_is : (o : Option Shown) (n : ℕ) → option_map (λ (p : Position). p.offset) (option_map position_of o) ≡ Some n → IsSomeAnd o (λ s. s.top ≡ n)
-top_is None n e = absurd (cc (e))
-top_is (Some s) n e = cc (e)
+-- where a map is none
+none_mapped : {X Y : Type 0} (f : X → Y) (o : Option X) → option_map f o ≡ None → o ≡ None
+none_mapped f None e = refl
+none_mapped f (Some x) e = absurd (cc (e))
 
-top_was : (o : Option Shown) (n : ℕ) → IsSomeAnd o (λ s. s.top ≡ n) → option_map (λ (p : Position). p.offset) (option_map position_of o) ≡ Some n
-top_was None n h = absurd h
-top_was (Some s) n h = ap Some h
+top_is : (o : Option Shown) (n : ℕ) (key : List ℕ) → repeat_at o key ≡ None → option_map (λ (p : Position). p.offset) (option_map position_of o) ≡ Some n
+    → IsSomeAnd o (λ s. (repeated_by s key ≡ None) × (s.top ≡ n))
+top_is None n key new e = absurd (cc (e))
+top_is (Some s) n key new e = (none_mapped _ (repeated_by s key) new, cc (e))
 
--- the channel's stream has this top
-pub stood_at : (k : Kept) (c : List ℕ) (position : Option Position) (stood : Option ℕ) (n : ℕ) → position ≡ option_map position_of (stream_of k c) → stood ≡ option_map (λ (p : Position). p.offset) position
-    → (stood ≡ Some n → IsSomeAnd (stream_of k c) (λ s. s.top ≡ n)) × (IsSomeAnd (stream_of k c) (λ s. s.top ≡ n) → stood ≡ Some n)
-stood_at k c position stood n at is =
+top_was : (o : Option Shown) (n : ℕ) (key : List ℕ) → IsSomeAnd o (λ s. (repeated_by s key ≡ None) × (s.top ≡ n)) → option_map (λ (p : Position). p.offset) (option_map position_of o) ≡ Some n
+top_was None n key h = absurd h
+top_was (Some s) n key h = ap Some h.1
+
+-- the channel's stream has this top, and the key repeats nothing
+pub stood_at : (k : StreamMap) (c key : List ℕ) (position : Option Position) (stood : Option ℕ) (n : ℕ) → position ≡ option_map position_of (stream_of k c) → stood ≡ option_map (λ (p : Position). p.offset) position
+    → repeat_at (stream_of k c) key ≡ None
+    → (stood ≡ Some n → IsSomeAnd (stream_of k c) (λ s. (repeated_by s key ≡ None) × (s.top ≡ n))) × (IsSomeAnd (stream_of k c) (λ s. (repeated_by s key ≡ None) × (s.top ≡ n)) → stood ≡ Some n)
+stood_at k c key position stood n at is new =
     let same : stood ≡ option_map (λ (p : Position). p.offset) (option_map position_of (stream_of k c)) = is ∙ ap (option_map (λ (p : Position). p.offset)) at in
-    (λ e. top_is (stream_of k c) n (sym same ∙ e), λ h. same ∙ top_was (stream_of k c) n h)
+    (λ e. top_is (stream_of k c) n key new (sym same ∙ e), λ h. same ∙ top_was (stream_of k c) n key h)
+
+-- a stream that opens remembers nothing
+opened_new : (o : Option Shown) (e key : List ℕ) (size : ℕ) → repeat_at o key ≡ None → repeated_by (stood_or o e size) key ≡ None
+opened_new None e key size new = elim (is_no_key key) as (λ b. cond {A = Option ℕ} b None None ≡ None) [ true ↦ refl | false ↦ refl ]
+opened_new (Some s) e key size new = none_mapped _ (repeated_by s key) new
+
+-- a publish that repeats nothing is no repeat
+is_fresh : (k : StreamMap) (c key : List ℕ) (p : Published) → p ≡ answer_to (stood_or_opened k c p.position.epoch) key → repeat_at (stream_of k c) key ≡ None → p.repeated ≡ false
+is_fresh k c key p is new =
+    let s : Shown = stood_or_opened k c p.position.epoch in
+    ap (λ (x : Published). x.repeated) is ∙ ap (λ (r : Option ℕ). (answer_by r s.epoch s.top).repeated) (opened_new (stream_of k c) p.position.epoch key (size_at k.namespaces c) new)
+
+-- the owner after a publish that repeats nothing, whose entries were made by what was asked of the streams, and under a copy of its key
+pub publish_noted : (k : StreamMap) (o o1 o2 : OwnerState) (c lent key : List ℕ) (d : Datum) (position : Option Position) (stood : Option ℕ) (p : Published) → o1 ≡ o
+    → (p.repeated ≡ false → o2 ≡ record o1 { log = o1.log ++ opening stood c p.position.epoch (Publish c lent d ∷ []) }) → position ≡ option_map position_of (stream_of k c)
+    → stood ≡ option_map (λ (p : Position). p.offset) position → p ≡ answer_to (stood_or_opened k c p.position.epoch) key → repeat_at (stream_of k c) key ≡ None → lent ≡ key
+    → (p.repeated ≡ false) × (o2.word ≡ o.word) × (o2.log ≡ o.log ++ publishing p.repeated (stream_of k c) c p.position.epoch key d)
+publish_noted k o o1 o2 c lent key d position stood p at made from is answer new same =
+    let fresh : p.repeated ≡ false = is_fresh k c key p answer new in
+    let es : List Entry = opening (stream_of k c) c p.position.epoch (Publish c key d ∷ []) in
+    let entries : opening stood c p.position.epoch (Publish c lent d ∷ []) ≡ publishing p.repeated (stream_of k c) c p.position.epoch key d =
+    ap (λ x. opening stood c p.position.epoch (Publish c x d ∷ [])) same
+    ∙ (opening_stood k c position stood p.position.epoch (Publish c key d ∷ []) from is ∙ ap (λ b. cond b [] es) (sym fresh)) in
+    let owner = noted o o1 o2 _ _ at (made fresh) entries in
+    (fresh, owner.0, owner.1)
 
 -- the same refusal of two calls
 pub refused_alike : {X Y E : Type 0} (a b : E) → IsErrOf {T = X} (Err a) b → IsErrOf {T = Y} (Err a) b

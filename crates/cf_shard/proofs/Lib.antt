@@ -1,3 +1,4 @@
 pub mod Offers
 pub mod Logs
 pub mod Calls
+pub mod Resizing

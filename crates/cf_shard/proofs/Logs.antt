@@ -10,16 +10,18 @@ use Rattle.cf_order.specs.Passes.{OwnerState}
 use Rattle.cf_stream.specs.ChannelLists.{ShowsAt}
 use Rattle.cf_stream.specs.LogState.{IsState}
 use Rattle.cf_stream.specs.Stream.{Shown}
-use Rattle.cf_stream.specs.Streams.{Kept, size_at}
+use Rattle.cf_stream.specs.Streams.{StreamMap, size_at}
 use Rattle.cf_shard.specs.Shard.{IsShard, no_streams}
 
-empty_state : (t : NamespaceTable) → IsState (no_streams t) []
-empty_state t = record { at = λ q. subst (λ (o : Option Shown). ShowsAt (size_at t q) o None) (sym (fin.get-empty (slice_cmp nat_cmp) q)) tt }
+empty_state : (t : NamespaceTable) → IsState t (no_streams t) []
+empty_state t = record {
+  settings = refl;
+  lists = record { at = λ q. subst (λ (o : Option Shown). ShowsAt (size_at t q) o None) (sym (fin.get-empty (slice_cmp nat_cmp) q)) tt };
+}
 
-pub no_streams_shard : (t : NamespaceTable) (w : TableId) (k : Kept) (o : OwnerState) → k ≡ no_streams t → o.word ≡ w → o.log ≡ [] → IsShard t w k o
+pub no_streams_shard : (t : NamespaceTable) (w : TableId) (k : StreamMap) (o : OwnerState) → k ≡ no_streams t → o.word ≡ w → o.log ≡ [] → IsShard t w k o
 no_streams_shard t w k o is named empty =
-    subst (λ (k : Kept). IsShard t w k o) (sym is) (record {
+    subst (λ (k : StreamMap). IsShard t w k o) (sym is) (record {
       named = named;
-      settings = refl;
-      state = subst (λ (log : List Entry). IsState (no_streams t) log) (sym empty) (empty_state t);
+      state = subst (λ (log : List Entry). IsState t (no_streams t) log) (sym empty) (empty_state t);
     })

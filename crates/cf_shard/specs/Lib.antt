@@ -3,3 +3,4 @@ pub mod LogAnswer
 pub mod Delivery
 pub mod Shard
 pub mod Naming
+pub mod Calls

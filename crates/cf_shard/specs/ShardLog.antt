@@ -1,30 +1,34 @@
 -- Which calls add which entries to the log of a shard. (This project's own profile.)
-use Rattle.std.specs.Prelude.{◌≡◌, ℕ, ◌+◌, ◌<◌, ◌≤◌, ◌^◌, List, [], ◌∷◌, Option, Some, None}
+use Rattle.std.specs.Prelude.{◌≡◌, ℕ, ◌+◌, ◌<◌, ◌≤◌, ◌^◌, List, [], ◌∷◌, Bool, Option, Some, None}
 use Rattle.std.specs.FinMap as fin
 use Rattle.cf_protocol.specs.Datum.{Datum}
 use Rattle.cf_protocol.specs.LogEntry.{Entry}
-use Rattle.cf_protocol.specs.LogEntry.Entry.{Publish, Trim, Forget}
+use Rattle.cf_protocol.specs.LogEntry.Entry.{Trim, Forget, Size}
 use Rattle.cf_order.specs.Passes.{PassState}
-use Rattle.cf_stream.specs.Streams.{Kept, stream_of, due_channels}
-use Rattle.cf_stream.specs.LogState.{opening, if_stands, due_entries}
+use Rattle.cf_stream.specs.Streams.{StreamMap, stream_of, due_channels}
+use Rattle.cf_stream.specs.LogState.{opening, publishing, if_stands, due_entries}
 
 -- a read or a history: that the stream opened in this epoch, where there was none
-abbrev pub entries_of_use : Kept → (channel epoch : List ℕ) → List Entry
+abbrev pub entries_of_use : StreamMap → (channel epoch : List ℕ) → List Entry
 entries_of_use k c e = opening (stream_of k c) c e []
 
--- an accepted publish: the same, and then the publication
-abbrev pub entries_of_publish : Kept → (channel epoch : List ℕ) → Datum → List Entry
-entries_of_publish k c e d = opening (stream_of k c) c e (Publish c d ∷ [])
+-- an accepted publish: the same, and then the publication; nothing where it is a repeat
+abbrev pub entries_of_publish : (repeated : Bool) → StreamMap → (channel epoch key : List ℕ) → Datum → List Entry
+entries_of_publish repeated k c e key d = publishing repeated (stream_of k c) c e key d
 
 -- a trim, and a forget: one entry where the channel has a stream
-abbrev pub entries_of_trim : Kept → (channel : List ℕ) → (count : ℕ) → List Entry
+abbrev pub entries_of_trim : StreamMap → (channel : List ℕ) → (count : ℕ) → List Entry
 entries_of_trim k c n = if_stands (stream_of k c) (Trim c n)
 
-abbrev pub entries_of_forget : Kept → (channel : List ℕ) → List Entry
+abbrev pub entries_of_forget : StreamMap → (channel : List ℕ) → List Entry
 entries_of_forget k c = if_stands (stream_of k c) (Forget c)
 
+-- another size for a namespace: one entry
+abbrev pub entries_of_size : (name : List ℕ) → (size : ℕ) → List Entry
+entries_of_size name n = Size name n ∷ []
+
 -- a tick: a forget for each stream that ends, and a trim to none for each other one that is emptied while it holds something
-abbrev pub entries_of_tick : Kept → (now : ℕ) → List Entry
+abbrev pub entries_of_tick : StreamMap → (now : ℕ) → List Entry
 entries_of_tick k now = due_entries (due_channels now k.namespaces (fin.entries k.streams))
 
 -- how many entries open a channel's stream

@@ -119,18 +119,20 @@ pub(crate) fn note_opening(
     }
 }
 
-/// The entry of an accepted publication.
+/// The entry of an accepted publication under a key, which may be none.
 fn note_publication(
     word: &ShardWord,
     owner: &mut Owner,
     pass: &mut Pass,
     channel: &str,
+    key: &str,
     publication: &Publication,
 )
     requires word { (owner.old.word ≡ word.now) × (pass.old.word ≡ word.now) }
     requires room { length owner.old.log < 2 ^ 62 }
-    ensures owner { owner.new ≡
-        record owner.old { log = owner.old.log ++ Publish channel.now publication.now.datum ∷ [] } }
+    ensures owner { owner.new ≡ record owner.old {
+      log = owner.old.log ++ Publish channel.now key.now publication.now.datum ∷ [];
+    } }
     ensures whole { HasWhole pass.new owner.new.log }
     ensures share { KeepsShare pass.old pass.new 1 }
 {
@@ -141,7 +143,7 @@ fn note_publication(
     word.append(
         owner,
         pass,
-        &Entry::Published(channel, publication.body.as_str(), by),
+        &Entry::Published(channel, key, publication.body.as_str(), by),
     );
 }
 
@@ -153,6 +155,7 @@ pub(crate) fn note_publish(
     pass: &mut Pass,
     stood: Option<u64>,
     channel: &str,
+    key: &str,
     position: &Position,
 )
     requires word { (owner.old.word ≡ word.now) × (pass.old.word ≡ word.now) }
@@ -165,7 +168,7 @@ pub(crate) fn note_publish(
         ≡ record owner.old {
           log = owner.old.log
               ++ opening stood channel.now position.now.epoch
-              (Publish channel.now d.datum ∷ []);
+              (Publish channel.now key.now d.datum ∷ []);
         } }
     ensures whole { HasWhole pass.new owner.new.log }
     ensures share { KeepsShare pass.old pass.new 1 }
@@ -173,7 +176,7 @@ pub(crate) fn note_publish(
     note_opening(word, owner, pass, stood, channel, position);
     match streams.last(channel) {
         None => unreachable!(),
-        Some(publication) => note_publication(word, owner, pass, channel, publication),
+        Some(publication) => note_publication(word, owner, pass, channel, key, publication),
     }
 }
 

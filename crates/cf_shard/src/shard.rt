@@ -1,19 +1,16 @@
 //! What lies under a shard's lock.
-ghost use Rattle.std.specs.Prelude.{◌≡◌, ◌≢◌, ◌↔◌, ◌++◌, [], length, if◌then◌else◌, IfOk, IfErr, OnOk, OnErr, IsErrOf, IsTrue, IsSome, IsSomeAnd, None, Some, List, ℕ};
+ghost use Rattle.std.specs.Prelude.{◌≡◌, ◌≤◌, [], length, if◌then◌else◌, MatchBool, IfOk, IfErr, OnOk, IsSome, Ok};
 ghost use Rattle.std.specs.FinMap as fin;
 ghost use Rattle.std.specs.String.{string_bytes};
-ghost use mathlib.Core.List.{IsPrefix};
-ghost use Rattle.cf_protocol.specs.Settings.{settings_of};
+ghost use Rattle.cf_protocol.specs.Settings.{settings_of, entry_at};
 ghost use Rattle.cf_protocol.specs.Shown.{shown_users};
-ghost use Rattle.cf_presence.specs.Presence.{clients_of, entered, left, still, users_of, user_count};
+ghost use Rattle.cf_presence.specs.Presence.{clients_of, entered, left, users_of, user_count};
 ghost use Rattle.cf_stream.specs.ChannelLists.{ReadsAt, ListsAt, StandsAt};
-ghost use Rattle.cf_stream.specs.Stream.{trimmed};
-ghost use Rattle.cf_stream.specs.Streams.{stream_of, put_at, after_tick, seconds_at, IsOfAnother};
-ghost use Rattle.std.specs.Option.{option_map};
+ghost use Rattle.cf_shard.specs.Calls.{AnswersPublishOn, HasForgotten, HasPublished, HasSized, HasTicked, HasTrimmed, HasUsed, Leaves, LeavesAll, RefusalsOfHistory, RefusalsOfPublish, RefusalsOfRead, Stays};
 ghost use Rattle.cf_shard.specs.Delivery.{OfferedToAll, carried};
-ghost use Rattle.cf_shard.specs.LogAnswer.{Follows, IsPosition, IsPublished, IsReadAnswer, IsHistoryAnswer, IsTrimmed, IsForgotten, IsTicked};
-ghost use Rattle.cf_shard.specs.Shard.{no_streams, after_publish, after_use, datum_of, DrawsFor, FindsNoEpoch, IsFull, IsStateOf, LacksRoom, StreamsStay};
-ghost use Rattle.cf_shard.specs.ShardLog.{entries_of_publish, entries_of_use, entries_of_trim, entries_of_forget, entries_of_tick};
+ghost use Rattle.cf_shard.specs.LogAnswer.{Follows, IsPosition, IsPublished, IsReadAnswer, IsHistoryAnswer, IsTrimmed, IsForgotten, IsSized, IsTicked};
+ghost use Rattle.cf_shard.specs.Shard.{no_streams, datum_of, LacksRoom};
+ghost use Rattle.cf_shard.specs.ShardLog.{entries_of_trim, entries_of_forget, entries_of_size, entries_of_tick};
 
 use crate::delivery::{Links, copies_of, offer_all};
 use crate::entries::{
@@ -25,7 +22,7 @@ use crate::refusal::Refused;
 use cf_order::{Entry, MOST_ENTRIES, Owner, Pass, ShardWord};
 use cf_presence::{Presence, Stats};
 use cf_protocol::{Info, Position, Publication};
-use cf_stream::{Epochs, History, LAST_OFFSET, Recovery, Streams};
+use cf_stream::{Epochs, History, LARGEST_SIZE, Published, Recovery, Streams};
 use std::alloc::Global;
 use std::collections::BTreeMap;
 use std::marker::{Model, PhantomData};
@@ -33,6 +30,9 @@ use std::marker::{Model, PhantomData};
 /// A shard of channels: their streams, who is there, where the epochs of new streams come from, and the owner of the log that
 /// made the streams. Each method is what a call of the broker does while it holds the shard's lock. A refused call leaves
 /// streams, presence, links and log as they were; the caller's pass has then seen the log too.
+///
+/// The calls' clauses have the same names: what a call `makes` of the shard, its `answer` off the streams and `by_log`, its
+/// `refusals`, what a refused one leaves (`err`), and what `stays` whatever is answered.
 #[derive(Drop)]
 pub struct Shard<N: Naming, E: Epochs, const I: usize> {
     streams: Streams,
@@ -82,9 +82,11 @@ impl<N: Naming, E: Epochs, const I: usize> Shard<N, E, I> {
     }
 
     /// Publishes to a channel at a moment in seconds, offers the publication to each node, and answers its position. The
-    /// channel's stream opens where there is none. `AtLastOffset` at the stream's last offset, `NoEpoch` where a stream would
-    /// open and none was drawn, `Memory` where a growth was refused, `AtLastCount` where the log has no room. The copies for
-    /// all nodes are made first.
+    /// channel's stream opens where there is none. A publish whose key is among the last hundred of the stream is a repeat: it is
+    /// a use of the stream, is answered with the position of the publication that it repeats, and adds, draws and offers
+    /// nothing. The empty key is none. Of a publish that is no repeat: `AtLastOffset` at the stream's last offset, `NoEpoch`
+    /// where a stream would open and none was drawn, `Memory` where a growth was refused, `AtLastCount` where the log has no
+    /// room. The copies for all nodes, and that of the key, are made first.
     pub fn publish<L: Links>(
         &mut self,
         word: &ShardWord,
@@ -92,38 +94,35 @@ impl<N: Naming, E: Epochs, const I: usize> Shard<N, E, I> {
         links: &mut L,
         channel: &str,
         body: String,
+        key: String,
         info: Option<Info>,
         now: u64,
-    ) -> Result<Position, Refused>
+    ) -> Result<Published, Refused>
         requires word { (word.now ≡ N.words I) × (pass.old.word ≡ N.words I) }
         requires set_up { IsSome (settings_of N.namespaces channel.now) }
-        ensures streams { IfOk result (λ p. self.new.streams ≡
-            after_publish self.old.streams channel.now p.epoch (datum_of body info) now) }
-        ensures log { IfOk result (λ p. self.new.log ≡ self.old.log ++
-            entries_of_publish self.old.streams channel.now p.epoch (datum_of body info)) }
-        ensures answer { IfOk result (λ p. StandsAt self.new.streams channel.now (Some p)) }
-        ensures by_log { IfOk result (λ p. IsPublished N.namespaces
-            pass.old.log pass.new.log channel.now (datum_of body info) p) }
-        ensures own { IfOk result (λ _. Follows pass.old pass.new 1) }
-        ensures drawn { IfOk result (λ p. DrawsFor E.draws channel.now p.epoch self.old self.new) }
-        ensures offered { IfOk result (λ p. OfferedToAll L.offers (L.nodes links.old)
-            (carried channel.now p (datum_of body info)) links.old links.new) }
-        ensures presence { self.new.presence ≡ self.old.presence }
-        ensures last { IsErrOf result Refused.AtLastOffset ↔
-            IsSomeAnd (stream_of self.old.streams channel.now) (λ s. s.top ≡ LAST_OFFSET) }
-        ensures no_epoch { IsErrOf result Refused.NoEpoch →
-            FindsNoEpoch E.draws channel.now self.old self.new }
-        ensures count { IsErrOf result Refused.AtLastCount → IsFull self.old.log
-            (entries_of_publish self.old.streams channel.now [] (datum_of body info)) }
-        ensures refusals { IfErr result (λ e. e ≢ Refused.WrongEpoch) }
-        ensures undrawn { IfErr result (λ e. e ≢ Refused.NoEpoch →
-            self.new.epochs ≡ self.old.epochs) }
-        ensures err { OnErr result (StreamsStay self.old self.new × (links.new ≡ links.old)) }
-        ensures seen { OnErr result (Follows pass.old pass.new 0) }
-        ensures whole { pass.new.log ≡ self.new.log }
-        ensures state { IsStateOf N.namespaces self.old }
+        ensures makes { IfOk result (HasPublished E.draws
+            channel.now (string_bytes key) (datum_of body info) now self.old self.new) }
+        ensures answer { IfOk result
+            (AnswersPublishOn channel.now (string_bytes key) self.old self.new) }
+        ensures by_log { IfOk result (λ p. IsPublished N.namespaces pass.old.log pass.new.log
+            channel.now (string_bytes key) (datum_of body info) p) }
+        ensures own { IfOk result (λ p. Follows pass.old pass.new (if p.repeated then 0 else 1)) }
+        ensures offered { IfOk result (λ p. MatchBool p.repeated (links.new ≡ links.old)
+            (OfferedToAll L.offers (L.nodes links.old)
+            (carried channel.now p.position (datum_of body info)) links.old links.new)) }
+        ensures refusals { RefusalsOfPublish E.draws
+            channel.now (string_bytes key) (datum_of body info) self.old self.new result }
+        ensures err { IfErr result
+            (LeavesAll self.old self.new links.old links.new pass.old pass.new) }
+        ensures stays { Stays N.namespaces self.old self.new pass.new }
     {
         word.follow(&mut self.owner, pass);
+        if self.streams.repeat_of(channel, key.as_str()).is_some() {
+            let repeated = self
+                .streams
+                .publish(&mut *self.epochs, channel, body, key, info, now)?;
+            return Ok(repeated);
+        }
         let stood = top_of(self.streams.position(channel));
         if let Err(refusal) = room_to_publish(stood, self.owner.count()) {
             return Err(refusal);
@@ -134,10 +133,12 @@ impl<N: Naming, E: Epochs, const I: usize> Shard<N, E, I> {
             info,
         };
         let copies = copies_of(self.alloc, links.count(), channel, &publication)?;
-        let position = self.streams.publish(
+        let lent = key.clone()?;
+        let published = self.streams.publish(
             &mut *self.epochs,
             channel,
             publication.body,
+            key,
             publication.info,
             now,
         )?;
@@ -148,10 +149,39 @@ impl<N: Naming, E: Epochs, const I: usize> Shard<N, E, I> {
             pass,
             stood,
             channel,
-            &position,
+            lent.as_str(),
+            &published.position,
         );
-        offer_all(links, copies, &position);
-        Ok(position)
+        offer_all(links, copies, &published.position);
+        Ok(published)
+    }
+
+    /// Sets how many publications the streams of a namespace may hold. Of those that hold more the newest stay. It takes no
+    /// memory. `AtLastCount` where the log has no room.
+    pub fn set_size(
+        &mut self,
+        word: &ShardWord,
+        pass: &mut Pass,
+        name: &str,
+        size: usize,
+    ) -> Result<(), Refused>
+        requires word { (word.now ≡ N.words I) × (pass.old.word ≡ N.words I) }
+        requires set_up { IsSome (entry_at N.namespaces name.now) }
+        requires sized { (1 ≤ size) × (size ≤ LARGEST_SIZE) }
+        ensures makes { OnOk result (HasSized name.now size self.old self.new) }
+        ensures by_log { OnOk result (IsSized pass.old.log pass.new.log name.now size) }
+        ensures err { IfErr result (λ e.
+            LacksRoom (entries_of_size name.now size) e self.old self.new) }
+        ensures seen { Follows pass.old pass.new 0 }
+        ensures stays { Stays N.namespaces self.old self.new pass.new }
+    {
+        word.follow(&mut self.owner, pass);
+        if self.owner.count() >= MOST_ENTRIES {
+            return Err(Refused::AtLastCount);
+        }
+        self.streams.set_size(name, size);
+        word.append(&mut self.owner, pass, &Entry::Sized(name, size));
+        Ok(())
     }
 
     /// The publications of a channel after a position, where all are held, at a moment in seconds, and the length of the log
@@ -166,30 +196,18 @@ impl<N: Naming, E: Epochs, const I: usize> Shard<N, E, I> {
     ) -> Result<ReadAnswer, Refused>
         requires word { (word.now ≡ N.words I) × (pass.old.word ≡ N.words I) }
         requires set_up { IsSome (settings_of N.namespaces channel.now) }
-        ensures streams { IfOk result (λ r. self.new.streams ≡
-            after_use self.old.streams channel.now r.recovery.position.epoch now) }
-        ensures log { IfOk result (λ r. self.new.log ≡ self.old.log ++
-            entries_of_use self.old.streams channel.now r.recovery.position.epoch) }
-        ensures mark { IfOk result (λ r. r.mark ≡ length self.new.log) }
+        ensures makes { IfOk result
+            (λ r. HasUsed E.draws channel.now now self.old self.new r.recovery.position) }
         ensures answer { IfOk result (λ r. ReadsAt self.old.streams channel.now since
             r.recovery.position r.recovery.recovered r.recovery.publications.items) }
         ensures by_log { IfOk result (λ r. IsReadAnswer N.namespaces
             pass.old.log pass.new.log channel.now since
             r.recovery.position r.recovery.recovered r.recovery.publications.items) }
-        ensures drawn { IfOk result (λ r.
-            DrawsFor E.draws channel.now r.recovery.position.epoch self.old self.new) }
-        ensures presence { self.new.presence ≡ self.old.presence }
-        ensures no_epoch { IsErrOf result Refused.NoEpoch →
-            FindsNoEpoch E.draws channel.now self.old self.new }
-        ensures count { IsErrOf result Refused.AtLastCount →
-            IsFull self.old.log (entries_of_use self.old.streams channel.now []) }
-        ensures refusals { IfErr result (λ e. e ≢ Refused.AtLastOffset × e ≢ Refused.WrongEpoch) }
-        ensures undrawn { IfErr result (λ e. e ≢ Refused.NoEpoch →
-            self.new.epochs ≡ self.old.epochs) }
-        ensures err { OnErr result (StreamsStay self.old self.new) }
+        ensures mark { IfOk result (λ r. r.mark ≡ length self.new.log) }
+        ensures refusals { RefusalsOfRead E.draws channel.now self.old self.new result }
+        ensures err { IfErr result (Leaves self.old self.new) }
         ensures seen { Follows pass.old pass.new 0 }
-        ensures whole { pass.new.log ≡ self.new.log }
-        ensures state { IsStateOf N.namespaces self.old }
+        ensures stays { Stays N.namespaces self.old self.new pass.new }
     {
         word.follow(&mut self.owner, pass);
         let stood = top_of(self.streams.position(channel));
@@ -223,30 +241,16 @@ impl<N: Naming, E: Epochs, const I: usize> Shard<N, E, I> {
     ) -> Result<History, Refused>
         requires word { (word.now ≡ N.words I) × (pass.old.word ≡ N.words I) }
         requires set_up { IsSome (settings_of N.namespaces channel.now) }
-        ensures streams { IfOk result (λ h. self.new.streams ≡
-            after_use self.old.streams channel.now h.position.epoch now) }
-        ensures log { IfOk result (λ h. self.new.log ≡ self.old.log ++
-            entries_of_use self.old.streams channel.now h.position.epoch) }
+        ensures makes { IfOk result
+            (λ h. HasUsed E.draws channel.now now self.old self.new h.position) }
         ensures answer { IfOk result (λ h.
             ListsAt self.old.streams channel.now since limit h.position h.publications.items) }
         ensures by_log { IfOk result (λ h. IsHistoryAnswer N.namespaces
             pass.old.log pass.new.log channel.now since limit h.position h.publications.items) }
-        ensures drawn { IfOk result (λ h.
-            DrawsFor E.draws channel.now h.position.epoch self.old self.new) }
-        ensures presence { self.new.presence ≡ self.old.presence }
-        ensures wrong_epoch { IsErrOf result Refused.WrongEpoch ↔
-            IsOfAnother (stream_of self.old.streams channel.now) since }
-        ensures no_epoch { IsErrOf result Refused.NoEpoch →
-            FindsNoEpoch E.draws channel.now self.old self.new }
-        ensures count { IsErrOf result Refused.AtLastCount →
-            IsFull self.old.log (entries_of_use self.old.streams channel.now []) }
-        ensures refusals { IfErr result (λ e. e ≢ Refused.AtLastOffset) }
-        ensures undrawn { IfErr result (λ e. e ≢ Refused.NoEpoch →
-            self.new.epochs ≡ self.old.epochs) }
-        ensures err { OnErr result (StreamsStay self.old self.new) }
+        ensures refusals { RefusalsOfHistory E.draws channel.now since self.old self.new result }
+        ensures err { IfErr result (Leaves self.old self.new) }
         ensures seen { Follows pass.old pass.new 0 }
-        ensures whole { pass.new.log ≡ self.new.log }
-        ensures state { IsStateOf N.namespaces self.old }
+        ensures stays { Stays N.namespaces self.old self.new pass.new }
     {
         word.follow(&mut self.owner, pass);
         let stood = top_of(self.streams.position(channel));
@@ -295,19 +299,13 @@ impl<N: Naming, E: Epochs, const I: usize> Shard<N, E, I> {
         count: usize,
     ) -> Result<(), Refused>
         requires word { (word.now ≡ N.words I) × (pass.old.word ≡ N.words I) }
-        ensures streams { OnOk result (self.new.streams ≡ put_at self.old.streams channel.now
-            (option_map (trimmed count) (stream_of self.old.streams channel.now))) }
-        ensures log { OnOk result (self.new.log ≡ self.old.log ++
-            entries_of_trim self.old.streams channel.now count) }
+        ensures makes { OnOk result (HasTrimmed channel.now count self.old self.new) }
         ensures by_log { OnOk result (IsTrimmed N.namespaces
             pass.old.log pass.new.log channel.now count) }
-        ensures presence { self.new.presence ≡ self.old.presence }
-        ensures epochs { self.new.epochs ≡ self.old.epochs }
         ensures err { IfErr result (λ e. LacksRoom
             (entries_of_trim self.old.streams channel.now count) e self.old self.new) }
         ensures seen { Follows pass.old pass.new 0 }
-        ensures whole { pass.new.log ≡ self.new.log }
-        ensures state { IsStateOf N.namespaces self.old }
+        ensures stays { Stays N.namespaces self.old self.new pass.new }
     {
         word.follow(&mut self.owner, pass);
         let stood = top_of(self.streams.position(channel));
@@ -328,19 +326,13 @@ impl<N: Naming, E: Epochs, const I: usize> Shard<N, E, I> {
         channel: &str,
     ) -> Result<(), Refused>
         requires word { (word.now ≡ N.words I) × (pass.old.word ≡ N.words I) }
-        ensures streams { OnOk result (self.new.streams ≡
-            put_at self.old.streams channel.now None) }
-        ensures log { OnOk result (self.new.log ≡ self.old.log ++
-            entries_of_forget self.old.streams channel.now) }
+        ensures makes { OnOk result (HasForgotten channel.now self.old self.new) }
         ensures by_log { OnOk result (IsForgotten N.namespaces
             pass.old.log pass.new.log channel.now) }
-        ensures presence { self.new.presence ≡ self.old.presence }
-        ensures epochs { self.new.epochs ≡ self.old.epochs }
         ensures err { IfErr result (λ e. LacksRoom
             (entries_of_forget self.old.streams channel.now) e self.old self.new) }
         ensures seen { Follows pass.old pass.new 0 }
-        ensures whole { pass.new.log ≡ self.new.log }
-        ensures state { IsStateOf N.namespaces self.old }
+        ensures stays { Stays N.namespaces self.old self.new pass.new }
     {
         word.follow(&mut self.owner, pass);
         let stood = top_of(self.streams.position(channel));
@@ -357,16 +349,8 @@ impl<N: Naming, E: Epochs, const I: usize> Shard<N, E, I> {
     /// go of the clients that entered 60 seconds ago or more. It takes no memory. `AtLastCount` where the log has no room.
     pub fn tick(&mut self, word: &ShardWord, pass: &mut Pass, now: u64) -> Result<(), Refused>
         requires word { (word.now ≡ N.words I) × (pass.old.word ≡ N.words I) }
-        ensures streams { OnOk result ((q : List ℕ) → stream_of self.new.streams q ≡
-            after_tick now (seconds_at N.namespaces q) (stream_of self.old.streams q)) }
-        ensures log { OnOk result (self.new.log ≡
-            self.old.log ++ entries_of_tick self.old.streams now) }
+        ensures makes { OnOk result (HasTicked N.namespaces now self.old self.new) }
         ensures by_log { OnOk result (IsTicked pass.old.log pass.new.log) }
-        ensures presence { OnOk result ((q : List ℕ) →
-            clients_of self.new.presence q ≡ still now (clients_of self.old.presence q)) }
-        ensures nowhere_none { OnOk result ((q : List ℕ) →
-            fin.get self.new.presence q ≢ Some fin.empty) }
-        ensures epochs { self.new.epochs ≡ self.old.epochs }
         ensures err { IfErr result (λ e.
             LacksRoom (entries_of_tick self.old.streams now) e self.old self.new) }
         ensures seen { Follows pass.old pass.new 0 }

@@ -1,5 +1,5 @@
 -- A schedule that is carried out event by event: what stands written after each.
-use Rattle.std.proofs.Common.{◌≡◌, ℕ, suc, ◌+◌, ◌<◌, ◌≤◌, Bool, true, false, Option, Result, Ok, Err, List, [], ◌∷◌, ◌++◌, length, map, take, get_or, refl, sym, ap, subst, ◌∙◌, arith}
+use Rattle.std.proofs.Common.{◌≡◌, ℕ, suc, ◌+◌, ◌<◌, ◌≤◌, Bool, true, false, Result, Ok, Err, List, [], ◌∷◌, ◌++◌, length, map, take, get_or, refl, sym, ap, subst, ◌∙◌, arith}
 use Rattle.std.specs.Prelude.{OnOk, IfErr}
 use Rattle.std.specs.Io.KnownBytes.{Keeps, Appends}
 use Rattle.std.proofs.lemmas.Grind.{flat_map-append}
@@ -11,10 +11,10 @@ use Rattle.cf_machine.specs.Told.{trace, writes}
 use Rattle.cf_machine.specs.Trace.{Entry}
 use Rattle.cf_machine.specs.TraceLine.{line_of, printed}
 use Rattle.cf_machine.specs.World.{World, start}
+use Rattle.cf_schedule.specs.Running.{Running}
 use Rattle.cf_schedule.specs.Seen.{seen}
 use Rattle.cf_schedule.specs.declared.event.Event as declared
 use Rattle.cf_world.specs.Tie.{Tied, GoesOn}
-use Rattle.cf_world.specs.declared.world.World as code
 use Rattle.cf_simulate.specs.Simulation.{AddsPart, AreExplained, AreShown, EndsRun, HasRemarks, IsShown, PrintsPart, PrintsWhole, ShowsEvent, WritesAll, lines_of_run}
 use Rattle.cf_simulate.specs.declared.fault.SimulateFault.{SimulateFault}
 use Rattle.cf_simulate.specs.declared.fault.SimulateFault.TheVariants.{Memory, InputOutput}
@@ -80,31 +80,33 @@ none_shown true cfg = refl
 
 -- ---- what stands after the first i events
 
-pub record Stands (explains : Bool) (cfg : Config) (w : code.World) (es : List declared.Event) (i : ℕ) (a b : Bytes) : Type 0 where
-  pub tied : Tied cfg w (run cfg start (past es i))
+pub record Stands (explains : Bool) (cfg : Config) (w : Running) (es : List declared.Event) (i : ℕ) (a b : Bytes) : Type 0 where
+  pub tied : Tied cfg w.parts (run cfg start (past es i))
+  pub counted : w.count ≡ i
   pub bytes : List ℕ
   pub shown : AreShown explains cfg (past es i) bytes
   pub adds : Appends a b bytes
 
-pub stands_first : (explains : Bool) (cfg : Config) (w : code.World) (es : List declared.Event) (a : Bytes) → Tied cfg w start → Stands explains cfg w es 0 a a
-stands_first explains cfg w es a tied = record { tied = tied; bytes = []; shown = none_shown explains cfg; adds = none_added a }
+pub stands_first : (explains : Bool) (cfg : Config) (w : Running) (es : List declared.Event) (a : Bytes) → Tied cfg w.parts start → w.count ≡ 0 → Stands explains cfg w es 0 a a
+stands_first explains cfg w es a tied none = record { tied = tied; counted = none; bytes = []; shown = none_shown explains cfg; adds = none_added a }
 
 -- the next event is shown, behind those that stand
-shown_next : (explains : Bool) (cfg : Config) (w : code.World) (es : List declared.Event) (i : ℕ) (e : declared.Event) (a b : Bytes) (bs : List ℕ)
-    → i < length es → e ≡ get_or es i e → TraceLaw → (h : Stands explains cfg w es i a b) → ShowsEvent explains (i + 1) (seen e) w bs
+shown_next : (explains : Bool) (cfg : Config) (w : Running) (es : List declared.Event) (i : ℕ) (e : declared.Event) (a b : Bytes) (bs : List ℕ)
+    → i < length es → e ≡ get_or es i e → TraceLaw → (h : Stands explains cfg w es i a b) → ShowsEvent explains (seen e) w bs
     → AreShown explains cfg (past es (i + 1)) (h.bytes ++ bs)
 shown_next explains cfg w es i e a b bs lt is law h shows =
     let before : List Event = past es i in
     let m : World = run cfg start before in
     let one : IsShown explains (printed (writes cfg (1 + length before) m (seen e))) bs =
-    subst (λ n. IsShown explains (printed (writes cfg n m (seen e))) bs) (sym (past_length es i lt)) (shows cfg before h.tied) in
+    subst (λ n. IsShown explains (printed (writes cfg n m (seen e))) bs) (ap (λ n. n + 1) h.counted ∙ sym (past_length es i lt)) (shows cfg before h.tied) in
     subst (λ (l : List Event). AreShown explains cfg l (h.bytes ++ bs)) (sym (next_past es i e lt is)) (shown_more explains cfg before (seen e) h.bytes bs law h.shown one)
 
-pub stands_next : (explains : Bool) (cfg : Config) (w v : code.World) (es : List declared.Event) (i : ℕ) (e : declared.Event) (a b c : Bytes) (bs : List ℕ)
+pub stands_next : (explains : Bool) (cfg : Config) (w v : Running) (es : List declared.Event) (i : ℕ) (e : declared.Event) (a b c : Bytes) (bs : List ℕ)
     → i < length es → e ≡ get_or es i e → RunLaw → TraceLaw
-    → Stands explains cfg w es i a b → GoesOn (seen e) w v → ShowsEvent explains (i + 1) (seen e) w bs → Appends b c bs → Stands explains cfg v es (i + 1) a c
-stands_next explains cfg w v es i e a b c bs lt is runs traces h step shows adds = record {
-  tied = subst (λ (m : World). Tied cfg v m) (sym (ap (run cfg start) (next_past es i e lt is) ∙ runs cfg (past es i) (seen e))) (step cfg (past es i) h.tied);
+    → Stands explains cfg w es i a b → GoesOn (seen e) w.parts v.parts → v.count ≡ w.count + 1 → ShowsEvent explains (seen e) w bs → Appends b c bs → Stands explains cfg v es (i + 1) a c
+stands_next explains cfg w v es i e a b c bs lt is runs traces h step counts shows adds = record {
+  tied = subst (λ (m : World). Tied cfg v.parts m) (sym (ap (run cfg start) (next_past es i e lt is) ∙ runs cfg (past es i) (seen e))) (step cfg (past es i) h.tied);
+  counted = counts ∙ ap (λ n. n + 1) h.counted;
   bytes = h.bytes ++ bs;
   shown = shown_next explains cfg w es i e a b bs lt is traces h shows;
   adds = adds_more a b c h.bytes bs h.adds adds;
@@ -112,14 +114,14 @@ stands_next explains cfg w v es i e a b c bs lt is runs traces h step shows adds
 
 -- ---- how it ends
 
-pub stands_all : (explains : Bool) (cfg : Config) (w : code.World) (es : List declared.Event) (i : ℕ) (a b : Bytes)
+pub stands_all : (explains : Bool) (cfg : Config) (w : Running) (es : List declared.Event) (i : ℕ) (a b : Bytes)
     → length es ≤ i → Stands explains cfg w es i a b → WritesAll explains cfg (map seen es) a b
 stands_all explains cfg w es i a b many h =
     let count : length (map seen es) ≡ length es = length-map es seen in
     let all : past es i ≡ map seen es = take_all i (map seen es) (omega arith) in
     record { bytes = h.bytes; shown = subst (λ (l : List Event). AreShown explains cfg l h.bytes) all h.shown; adds = h.adds }
 
-pub stands_whole : (explains : Bool) (cfg : Config) (w : code.World) (es : List declared.Event) (i : ℕ) (a b : Bytes)
+pub stands_whole : (explains : Bool) (cfg : Config) (w : Running) (es : List declared.Event) (i : ℕ) (a b : Bytes)
     → i < length es → Stands explains cfg w es i a b → PrintsWhole explains cfg (map seen es) a b
 stands_whole explains cfg w es i a b lt h =
     let count : length (map seen es) ≡ length es = length-map es seen in
@@ -129,8 +131,8 @@ pub whole_none : (explains : Bool) (cfg : Config) (es : List Event) (a : Bytes) 
 whole_none explains cfg es a = record { done = 0; within = omega arith; bytes = []; shown = none_shown explains cfg; adds = none_added a }
 
 -- what shows the next event was written in part
-pub stands_part : (explains : Bool) (cfg : Config) (w : code.World) (es : List declared.Event) (i : ℕ) (e : declared.Event) (a b c : Bytes) (bs : List ℕ)
-    → i < length es → e ≡ get_or es i e → TraceLaw → Stands explains cfg w es i a b → ShowsEvent explains (i + 1) (seen e) w bs → AddsPart b c bs
+pub stands_part : (explains : Bool) (cfg : Config) (w : Running) (es : List declared.Event) (i : ℕ) (e : declared.Event) (a b c : Bytes) (bs : List ℕ)
+    → i < length es → e ≡ get_or es i e → TraceLaw → Stands explains cfg w es i a b → ShowsEvent explains (seen e) w bs → AddsPart b c bs
     → PrintsPart explains cfg (map seen es) a c
 stands_part explains cfg w es i e a b c bs lt is traces h shows part =
     let count : length (map seen es) ≡ length es = length-map es seen in

@@ -1,4 +1,5 @@
 pub mod ScheduleText
 pub mod ScheduleRead
 pub mod Simulation
+pub mod WrittenTrace
 pub mod Status

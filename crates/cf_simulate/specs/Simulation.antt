@@ -1,5 +1,5 @@
 -- What `simulate` writes, and when each fault comes. Where the writer's bytes are known, this says what is added to them.
-use Rattle.std.specs.Prelude.{◌≡◌, ◌⊎◌, ℕ, suc, ◌≤◌, Bool, true, false, Option, List, [], ◌∷◌, ◌++◌, length, take}
+use Rattle.std.specs.Prelude.{◌≡◌, ◌⊎◌, ℕ, suc, ◌+◌, ◌≤◌, Bool, true, false, Option, List, [], ◌∷◌, ◌++◌, length, take}
 use Rattle.std.specs.Str.{IsUtf8}
 use Rattle.std.specs.Io.KnownBytes.{Keeps, Appends}
 use Rattle.cf_machine.specs.Config.{Config}
@@ -8,8 +8,8 @@ use Rattle.cf_machine.specs.IntervalMachine.{happens, run}
 use Rattle.cf_machine.specs.Told.{trace, writes}
 use Rattle.cf_machine.specs.TraceLine.{printed}
 use Rattle.cf_machine.specs.World.{World, start}
+use Rattle.cf_schedule.specs.Running.{Running}
 use Rattle.cf_world.specs.Tie.{Tied}
-use Rattle.cf_world.specs.declared.world.World.{World as Parts}
 use Rattle.cf_explain.specs.Remarks.{AreRemarks, BeginsWith, IsOneLine, heading}
 use Rattle.cf_simulate.specs.ScheduleText.{IsSchedule, IsUnreadableAt, IsRepeatedAt}
 use Rattle.cf_simulate.specs.declared.schedule.Line.{Line}
@@ -51,10 +51,11 @@ abbrev pub IsShown : Bool → List ℕ → List ℕ → Type 0
 IsShown false lines bytes = bytes ≡ lines
 IsShown true lines bytes = HasRemarks lines bytes
 
--- so event number n is shown
-abbrev pub ShowsEvent : Bool → ℕ → Event → Parts → List ℕ → Type 0
-ShowsEvent explains n e old bytes =
-    (cfg : Config) (past : List Event) → Tied cfg old (run cfg start past) → IsShown explains (printed (writes cfg n (run cfg start past) e)) bytes
+-- so the next event is shown
+abbrev pub ShowsEvent : Bool → Event → Running → List ℕ → Type 0
+ShowsEvent explains e old bytes =
+    (cfg : Config) (past : List Event) → Tied cfg old.parts (run cfg start past)
+    → IsShown explains (printed (writes cfg (old.count + 1) (run cfg start past) e)) bytes
 
 -- what explains an event begins with the number and the text of its line
 abbrev pub IsHeaded : Bool → Line → List ℕ → Type 0

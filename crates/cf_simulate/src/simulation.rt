@@ -1,16 +1,19 @@
 //! The command `simulate`: a schedule is read, and run event by event; the lines of each are written before the next.
-ghost use Rattle.std.specs.Prelude.{◌≡◌, map, string_bytes, true, false, OnOk, OnErr, IfOk, IfErr, IfSome};
+ghost use Rattle.std.specs.Prelude.{◌≡◌, ◌+◌, map, string_bytes, true, false, OnOk, OnErr, IfOk, IfErr, IfSome};
 ghost use Rattle.std.specs.Io.KnownBytes.{Appends, Keeps};
+ghost use Rattle.cf_machine.specs.LooseRun.{lines};
+ghost use Rattle.cf_machine.specs.StreamSafety.{Safe};
 ghost use Rattle.cf_machine.specs.TraceLine.{printed};
 ghost use Rattle.cf_schedule.specs.Seen.{seen, shown_config};
 ghost use Rattle.cf_world.specs.Entries.{shown_entry};
 ghost use Rattle.cf_world.specs.Tie.{GoesOn};
 ghost use Rattle.cf_simulate.specs.Simulation.{AddsPart, Leaves, WritesAll, Prints, ShowsEvent, Ends, EndsRun, IsHeaded};
+ghost use Rattle.cf_simulate.specs.WrittenTrace.{WritesFrontAtMost, WritesTrace};
 
 use crate::fault::SimulateFault;
 use crate::schedule::{Line, Schedule};
 use cf_explain::Explainer;
-use cf_machine::laws::one_event_more;
+use cf_machine::laws::{one_event_more, safe_always};
 use cf_schedule::{Config, Event, World};
 use cf_world::{Entry, Short};
 use std::alloc::{AllocError, Global};
@@ -38,6 +41,18 @@ pub fn simulate<R: Read, W: Write>(
         (λ f. IfSome (R.remaining reader.old)
         (λ input. Ends explains (shown_config config.now) input (W.contents writer.old)
         (W.contents writer.new) f)) }
+    // What was written is the lines of a trace of the events read, and stream safety holds of it.
+    ensures safe { OnOk result
+        (IfSome (R.remaining reader.old)
+        (λ input. WritesTrace explains (shown_config config.now) input (W.contents writer.old)
+        (W.contents writer.new)
+        (λ events trace. Safe (shown_config config.now) (lines events) trace))) }
+    // And so it is of the front that is written where memory, a read or a write is refused, if any is.
+    ensures safe_front { OnErr result
+        (IfSome (R.remaining reader.old)
+        (λ input. WritesFrontAtMost explains (shown_config config.now) input
+        (W.contents writer.old) (W.contents writer.new)
+        (λ events trace. Safe (shown_config config.now) (lines events) trace))) }
 {
     let mut input = Vec::new(alloc);
     reader.read_to_end(&mut input)?;
@@ -46,6 +61,33 @@ pub fn simulate<R: Read, W: Write>(
 
 // The same of an input that was read.
 fn simulate_bytes<W: Write>(
+    alloc: Global,
+    input: &[u8],
+    writer: &mut W,
+    config: &Config,
+    explains: bool,
+) -> Result<(), SimulateFault>
+    ensures done { OnOk result
+        (Prints explains (shown_config config.now) input.now (W.contents writer.old)
+        (W.contents writer.new)) }
+    ensures ends { IfErr result
+        (Ends explains (shown_config config.now) input.now (W.contents writer.old)
+        (W.contents writer.new)) }
+    ensures safe { OnOk result
+        (WritesTrace explains (shown_config config.now) input.now (W.contents writer.old)
+        (W.contents writer.new)
+        (λ events trace. Safe (shown_config config.now) (lines events) trace)) }
+    ensures safe_front { OnErr result
+        (WritesFrontAtMost explains (shown_config config.now) input.now (W.contents writer.old)
+        (W.contents writer.new)
+        (λ events trace. Safe (shown_config config.now) (lines events) trace)) }
+{
+    safe_always();
+    write_input(alloc, input, writer, config, explains)
+}
+
+// Runs the schedule of an input, and writes its trace up to where it stops.
+fn write_input<W: Write>(
     alloc: Global,
     input: &[u8],
     writer: &mut W,
@@ -106,75 +148,68 @@ fn write_events<W: Write>(
     one_event_more();
     let events = schedule.events.as_slice();
     let mut world = World::new(alloc, config)?;
-    let mut explainer = Explainer::new(alloc);
+    let mut explainer = Explainer::new(alloc, &config.namespaces);
     for (done, event) in events.iter().enumerate() {
         let line = schedule.line(done);
-        let lines = event_text(
-            alloc,
-            &mut world,
-            explains,
-            &mut explainer,
-            done + 1,
-            event,
-            line,
-        )?;
+        let lines = event_text(alloc, &mut world, explains, &mut explainer, event, line)?;
         write_bytes(writer, lines.as_bytes())?;
     }
     Ok(())
 }
 
-// Carries out an event, the one of number `at`, which stands in this line, and gives what is written of it.
+// Carries out the next event, which stands in this line, and gives what is written of it.
 fn event_text(
     alloc: Global,
     world: &mut World,
     explains: bool,
-    explainer: &mut Explainer,
-    at: usize,
+    explainer: &mut Explainer<'_>,
     event: &Event,
     line: Line<'_>,
 ) -> Result<String, Short>
     ensures ok { OnOk result (GoesOn (seen event.now) world.old.parts world.new.parts) }
+    ensures counts { OnOk result (world.new.count ≡ world.old.count + 1) }
     ensures shows { IfOk result
-        (λ text. ShowsEvent explains at (seen event.now) world.old.parts (string_bytes text)) }
+        (λ text. ShowsEvent explains (seen event.now) world.old (string_bytes text)) }
     ensures headed { IfOk result (λ text. IsHeaded explains line.entry (string_bytes text)) }
 {
     if explains {
-        explained_text(alloc, world, explainer, at, event, line)
+        explained_text(alloc, world, explainer, event, line)
     } else {
-        event_lines(alloc, world, at, event)
+        event_lines(alloc, world, event)
     }
 }
 
-// Carries out an event, and gives the lines of what applications got by it, behind remarks on what it did.
+// Carries out the next event, and gives the lines of what applications got by it, behind remarks on what it did.
 #[tactic(auto, using(crate::proofs::Writing::begins_more))]
 fn explained_text(
     alloc: Global,
     world: &mut World,
-    explainer: &mut Explainer,
-    at: usize,
+    explainer: &mut Explainer<'_>,
     event: &Event,
     line: Line<'_>,
 ) -> Result<String, Short>
     ensures ok { OnOk result (GoesOn (seen event.now) world.old.parts world.new.parts) }
+    ensures counts { OnOk result (world.new.count ≡ world.old.count + 1) }
     ensures shows { IfOk result
-        (λ text. ShowsEvent true at (seen event.now) world.old.parts (string_bytes text)) }
+        (λ text. ShowsEvent true (seen event.now) world.old (string_bytes text)) }
     ensures headed { IfOk result (λ text. IsHeaded true line.entry (string_bytes text)) }
 {
     explainer.before(world, event)?;
-    let lines = event_lines(alloc, world, at, event)?;
+    let lines = event_lines(alloc, world, event)?;
     let remarks = explainer.after(world, event, line.number, line.text)?;
     let mut text = String::from_str(alloc, remarks.as_str())?;
     text.push_str(lines.as_str())?;
     Ok(text)
 }
 
-// Carries out an event, and gives the lines of what applications got by it.
-fn event_lines(alloc: Global, world: &mut World, at: usize, event: &Event) -> Result<String, Short>
+// Carries out the next event, and gives the lines of what applications got by it.
+fn event_lines(alloc: Global, world: &mut World, event: &Event) -> Result<String, Short>
     ensures ok { OnOk result (GoesOn (seen event.now) world.old.parts world.new.parts) }
+    ensures counts { OnOk result (world.new.count ≡ world.old.count + 1) }
     ensures shows { IfOk result
-        (λ text. ShowsEvent false at (seen event.now) world.old.parts (string_bytes text)) }
+        (λ text. ShowsEvent false (seen event.now) world.old (string_bytes text)) }
 {
-    let entries = world.step(at, event)?;
+    let entries = world.step(event)?;
     let lines = entry_lines(alloc, entries.as_slice())?;
     Ok(lines)
 }

@@ -13,7 +13,7 @@ use Rattle.std.specs.Option.{option_map}
 use Rattle.cf_session.specs.CommandScripts.{Tables}
 use Rattle.cf_session.specs.Script.{Served}
 use Rattle.cf_session.specs.SessionMachine.{Progress, Todo}
-use Rattle.cf_talk.specs.Played.{Serves}
+use Rattle.cf_session.specs.Played.{Serves}
 use Rattle.cf_speak.specs.Scene.{Scene, is_over, opening, waits}
 use Rattle.cf_speak.specs.Steps.{Step}
 

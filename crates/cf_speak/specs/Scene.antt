@@ -4,7 +4,7 @@ use Rattle.std.specs.FinMap as fin
 use Rattle.cf_protocol.specs.Codes.{close_code_of}
 use Rattle.cf_protocol.specs.Settings.{NamespaceTable}
 use Rattle.cf_protocol.specs.declared.codes.CloseCode.{CloseCode}
-use Rattle.cf_stream.specs.Streams.{Kept}
+use Rattle.cf_stream.specs.Streams.{StreamMap}
 use Rattle.cf_presence.specs.Presence.{Channels}
 use Rattle.cf_queue.specs.OutQueue.{Item, Close}
 use Rattle.cf_hub.specs.Hub.{Node, attached_at, empty, is_open}
@@ -12,7 +12,7 @@ use Rattle.cf_hub.specs.Session.{Attached}
 
 pub record Scene : Type 0 where
   pub hub : Node
-  pub streams : Kept
+  pub streams : StreamMap
   pub people : Channels
   -- the epochs that new streams are given, the next one first
   pub epochs : List (List ℕ)
@@ -20,7 +20,7 @@ pub record Scene : Type 0 where
   pub number : Option ℕ
   -- the code with which it was closed before that
   pub turned_away : Option CloseCode
-  -- the channel to which the client published, until its reply
+  -- the channel to which the client published anything new, until its reply
   pub due : Option (List ℕ)
   -- memory was refused by streams or presence, or for a client id
   pub is_short : Bool

@@ -10,9 +10,9 @@ use Rattle.cf_session.specs.Shown.{shown_answer}
 use Rattle.cf_session.specs.declared.action.Answer.{Answer}
 use Rattle.cf_speak.specs.Scene.{Scene, fell_short}
 use Rattle.cf_speak.specs.Steps.{CallStep, Step}
-use Rattle.cf_speak.specs.declared.solo.Solo.{Solo}
+use Rattle.cf_speak.specs.declared.local_node.LocalNode.{LocalNode}
 
-abbrev pub scene_of : Solo → Scene
+abbrev pub scene_of : LocalNode → Scene
 scene_of s =
     record {
       hub = s.hub;
@@ -24,22 +24,6 @@ scene_of s =
       due = option_map string_bytes s.due;
       is_short = s.is_short;
     }
-
--- a call's step, where no memory was refused
-abbrev pub DoesCall : Solo → Call → Answer → Solo → Type 0
-DoesCall old call answer new = fell_short (scene_of new) ≡ false → CallStep (scene_of old) call (shown_answer answer) (scene_of new)
-
--- another act's, likewise
-abbrev pub DoesAct : Solo → Act → Solo → Type 0
-DoesAct old act new = fell_short (scene_of new) ≡ false → Step (scene_of old) act None (scene_of new)
-
--- want of memory is remembered
-abbrev pub Remembers : Solo → Solo → Type 0
-Remembers old new = fell_short (scene_of old) ≡ true → fell_short (scene_of new) ≡ true
-
--- the same namespaces are set up
-abbrev pub IsSetUpAs : Solo → Solo → Type 0
-IsSetUpAs old new = (scene_of new).streams.namespaces ≡ (scene_of old).streams.namespaces
 
 abbrev pub is_memory : StreamRefusal → Bool
 is_memory stream.Memory = true

@@ -1,6 +1,6 @@
 -- What each act of a session does to its node, by the definitions of hub, streams and presence: the node's answers, and where
 -- it is then. All happens at moment 0. (Centrifugo's client protocol, history and recovery, presence.)
-use Rattle.std.specs.Prelude.{◌≡◌, ◌⊎◌, ℕ, ◌+◌, ℤ, true, false, if◌then◌else◌, Option, Some, None, option_map, is_some, IsSomeAnd, List, []}
+use Rattle.std.specs.Prelude.{◌≡◌, ◌⊎◌, ℕ, ◌+◌, ℤ, Bool, true, false, if◌then◌else◌, Option, Some, None, option_map, is_some, IsSomeAnd, List, []}
 use Rattle.std.specs.FinMap as fin
 use Rattle.cf_protocol.specs.Checks.{AtLastOffset, OtherEpoch, refusal_code}
 use Rattle.cf_protocol.specs.Codes.{close_code_of}
@@ -11,9 +11,8 @@ use Rattle.cf_protocol.specs.declared.codes.ErrorCode.{ErrorCode}
 use Rattle.cf_protocol.specs.declared.codes.ErrorCode.TheVariants as error
 use Rattle.cf_protocol.specs.Position.{Position}
 use Rattle.cf_stream.specs.FreshEpochs.{Draws, DrawsNone}
-use Rattle.cf_stream.specs.Stream.{Shown, IsRecovery, IsHistory, newest_of, pushed, used_at}
-use Rattle.cf_stream.specs.StreamState.{last_offset}
-use Rattle.cf_stream.specs.Streams.{Kept, IsOfAnother, put_at, stood_or_opened, stream_of}
+use Rattle.cf_stream.specs.Stream.{Shown, IsRecovery, IsHistory, IsStuck, given, newest_of, repeated_by, used_at}
+use Rattle.cf_stream.specs.Streams.{StreamMap, IsOfAnother, put_at, stood_or_opened, stream_of}
 use Rattle.cf_stream.specs.declared.answer.Recovery.{Recovery}
 use Rattle.cf_presence.specs.Presence.{Channels, clients_of, entered, left, users_of, user_count}
 use Rattle.cf_queue.specs.OutQueue.{Item, Text, Close}
@@ -152,19 +151,24 @@ leave_at (Some k) c s m = Leaves k c s m
 
 -- ---- streams
 
-pub record Publishes (c : List ℕ) (d : Datum) (s m : Scene) (a : Answer) : Type 0 where
+-- what is due after a publish to a channel: a repeat brings nothing
+abbrev pub due_after : Bool → List ℕ → Option (List ℕ) → Option (List ℕ)
+due_after repeated c due = if repeated then due else Some c
+
+-- the datum is published under the key, or repeats what was
+pub record Publishes (c key : List ℕ) (d : Datum) (s m : Scene) (a : Answer) : Type 0 where
   pub epoch : List ℕ
   pub drawn : Draws draws_front (stream_of s.streams c) epoch s.epochs m.epochs
-  pub streams : m.streams ≡ put_at s.streams c (Some (pushed (used s c epoch) d 0))
+  pub streams : m.streams ≡ put_at s.streams c (Some (given (used s c epoch) key d 0))
   pub answer : a ≡ Found outgoing.Published
-  pub rest : m ≡ record s { streams = m.streams; epochs = m.epochs; due = Some c }
+  pub rest : m ≡ record s { streams = m.streams; epochs = m.epochs; due = due_after (is_some (repeated_by (used s c epoch) key)) c s.due }
 
-pub record IsAtLast (c : List ℕ) (s m : Scene) (a : Answer) : Type 0 where
-  pub last : IsSomeAnd (stream_of s.streams c) (λ x. x.top ≡ last_offset)
+pub record IsAtLast (c key : List ℕ) (s m : Scene) (a : Answer) : Type 0 where
+  pub last : IsSomeAnd (stream_of s.streams c) (λ x. IsStuck x key)
   pub denies : Denies (refusal_code AtLastOffset) s m a
 
-abbrev pub publish_at : List ℕ → Datum → Scene → Scene → Answer → Type 0
-publish_at c d s m a = Publishes c d s m a ⊎ IsAtLast c s m a ⊎ HasNoEpoch c s m a
+abbrev pub publish_at : (channel key : List ℕ) → Datum → Scene → Scene → Answer → Type 0
+publish_at c key d s m a = Publishes c key d s m a ⊎ IsAtLast c key s m a ⊎ HasNoEpoch c s m a
 
 pub record Lists (c : List ℕ) (limit : ℤ) (since : Option Position) (s m : Scene) (a : Answer) : Type 0 where
   pub position : Position
@@ -190,7 +194,7 @@ CallStep s (call.Begin c id since) a m = begin_at s.number c id since s m a
 CallStep s (call.Read c since) a m = read_at s.number c since s m a
 CallStep s (call.Finish c) a m = finish_at s.number c s m × (a ≡ Done)
 CallStep s (call.Leave c) a m = leave_at s.number c s m × (a ≡ Done)
-CallStep s (call.Publish c body info) a m = publish_at c (record { body = body; info = Some info }) s m a
+CallStep s (call.Publish c key body info) a m = publish_at c key (record { body = body; info = Some info }) s m a
 CallStep s (call.History c limit since) a m = history_at c limit since s m a
 CallStep s (call.Presence c) a m = (m ≡ s) × (a ≡ Found (outgoing.Present (users_of (clients_of s.people c))))
 CallStep s (call.Stats c) a m =
@@ -216,7 +220,7 @@ brings_newest c None old new = new ≡ old
 brings_newest c (Some x) old new = brings c x.epoch (newest_of x) old new
 
 -- the publication of the channel that is due
-abbrev pub brings_due : Option (List ℕ) → Kept → Node → Node → Type 0
+abbrev pub brings_due : Option (List ℕ) → StreamMap → Node → Node → Type 0
 brings_due None streams old new = new ≡ old
 brings_due (Some c) streams old new = brings_newest c (stream_of streams c) old new
 

@@ -9,11 +9,10 @@ ghost use Rattle.cf_speak.specs.Shown.{scene_of};
 
 use crate::epochs::GivenEpochs;
 use crate::fault::SpeakFault;
-use crate::solo::Solo;
+use crate::local_node::LocalNode;
 use cf_protocol::{Namespaces, Tokens, close_reason};
 use cf_queue::Out;
-use cf_session::Session;
-use cf_talk::{Node, serve_text};
+use cf_session::{Node, Session, serve_text};
 use std::alloc::Global;
 use std::io::{BufRead, Write};
 use std::str;
@@ -52,7 +51,7 @@ pub fn converse<R: BufRead, W: Write>(
         tokens,
         epochs,
     } = setup;
-    let mut node = Solo::new(alloc, &namespaces, epochs)?;
+    let mut node = LocalNode::new(alloc, &namespaces, epochs)?;
     let mut session = Session::new(alloc, &namespaces, &tokens);
     serve_lines(alloc, reader, writer, &mut session, &mut node)
 }
@@ -63,7 +62,7 @@ fn serve_lines<R: BufRead, W: Write>(
     reader: &mut R,
     writer: &mut W,
     session: &mut Session<'_>,
-    node: &mut Solo,
+    node: &mut LocalNode,
 ) -> Result<(), SpeakFault>
     requires idle { is_idle session.old ≡ true }
     requires stands { is_over (scene_of node.old) ≡ false }
@@ -108,7 +107,7 @@ fn read_line<R: BufRead>(alloc: Global, reader: &mut R) -> Result<Option<Vec<u8>
 fn answer<W: Write>(
     alloc: Global,
     session: &mut Session<'_>,
-    node: &mut Solo,
+    node: &mut LocalNode,
     line: &[u8],
     writer: &mut W,
 ) -> Result<(), SpeakFault>
@@ -142,7 +141,11 @@ fn answer<W: Write>(
 }
 
 // Writes all that waits for the client.
-fn write_waiting<W: Write>(alloc: Global, node: &mut Solo, writer: &mut W) -> Result<(), SpeakFault>
+fn write_waiting<W: Write>(
+    alloc: Global,
+    node: &mut LocalNode,
+    writer: &mut W,
+) -> Result<(), SpeakFault>
     ensures written { OnOk result
         (Appends (W.contents writer.old) (W.contents writer.new)
         (lines_of (waits (scene_of node.old)))) }

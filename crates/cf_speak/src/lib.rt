@@ -4,9 +4,9 @@
 mod conversation;
 mod epochs;
 mod fault;
-mod solo;
+mod local_node;
 
 pub use conversation::{Setup, converse};
 pub use epochs::GivenEpochs;
 pub use fault::SpeakFault;
-pub use solo::Solo;
+pub use local_node::LocalNode;

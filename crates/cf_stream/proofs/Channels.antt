@@ -10,7 +10,7 @@ use Rattle.std.specs.FinMap as fin
 use Rattle.std.proofs.lemmas.Map.Text.{is_eq-slice_cmp}
 use Rattle.cf_protocol.specs.Settings.{NamespaceTable}
 use Rattle.cf_stream.specs.Stream.{Shown}
-use Rattle.cf_stream.specs.Streams.{Kept, Channels, by_channel, SetsAt, set_stream, put_at, stream_of}
+use Rattle.cf_stream.specs.Streams.{StreamMap, Channels, by_channel, SetsAt, set_stream, put_at, stream_of}
 
 -- the entries by their bytes
 abbrev pub by_bytes : List (String Global × Shown) → List (List ℕ × Shown)
@@ -54,15 +54,15 @@ sets_any m n bs None h = removes_channel m n bs h
 sets_any m n bs (Some s) h = sets_channel m n bs s h
 
 -- what a channel has after a change at one channel
-pub stream_of-put_at : (k : Kept) (c : List ℕ) (w : Option Shown) (q : List ℕ) → stream_of (put_at k c w) q ≡ cond (bytes_eq c q) w (stream_of k q)
+pub stream_of-put_at : (k : StreamMap) (c : List ℕ) (w : Option Shown) (q : List ℕ) → stream_of (put_at k c w) q ≡ cond (bytes_eq c q) w (stream_of k q)
 stream_of-put_at k c None q = fin.get-remove nat_list_cmp_total k.streams c q ∙ ap (λ b. cond b None (fin.get k.streams q)) (sym (same_key c q))
 stream_of-put_at k c (Some s) q = fin.get-insert nat_list_cmp_total k.streams c s q ∙ ap (λ b. cond b (Some s) (fin.get k.streams q)) (sym (same_key c q))
 
--- a change of the map, in the words of `Kept`
+-- a change of the map, in the words of `StreamMap`
 pub kept_by : (t : NamespaceTable) (m n : BTreeMap (String Global) Shown) (bs : List ℕ) (w : Option Shown) → SetsAt m n bs w
-    → ◌≡◌ {A = Kept} (record { namespaces = t; streams = by_channel n }) (record { namespaces = t; streams = set_stream (by_channel m) bs w })
-kept_by t m n bs w h = ap (λ (x : Channels). let k : Kept = record { namespaces = t; streams = x } in k) (sets_any m n bs w h)
+    → ◌≡◌ {A = StreamMap} (record { namespaces = t; streams = by_channel n }) (record { namespaces = t; streams = set_stream (by_channel m) bs w })
+kept_by t m n bs w h = ap (λ (x : Channels). let k : StreamMap = record { namespaces = t; streams = x } in k) (sets_any m n bs w h)
 
 pub kept_same : (t : NamespaceTable) (m n : BTreeMap (String Global) Shown) → ((q : List ℕ) → get_by_text n q ≡ get_by_text m q)
-    → ◌≡◌ {A = Kept} (record { namespaces = t; streams = by_channel n }) (record { namespaces = t; streams = by_channel m })
-kept_same t m n h = ap (λ (x : Channels). let k : Kept = record { namespaces = t; streams = x } in k) (keeps_channels m n h)
+    → ◌≡◌ {A = StreamMap} (record { namespaces = t; streams = by_channel n }) (record { namespaces = t; streams = by_channel m })
+kept_same t m n h = ap (λ (x : Channels). let k : StreamMap = record { namespaces = t; streams = x } in k) (keeps_channels m n h)

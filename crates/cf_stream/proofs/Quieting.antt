@@ -1,23 +1,25 @@
 -- Before which moment a tick does nothing to the streams, where one of them changes.
 use Rattle.std.proofs.Common.{◌≡◌, ℕ, ◌+◌, ◌≤◌, ◌<◌, List, [], Bool, true, false, not, cond, Option, Some, None, refl, sym, ap, ◌∙◌, subst, length, arith, BTreeMap, String, Global, string_bytes}
-use Rattle.std.specs.Prelude.{◌-◌, ◌∷◌, ◌==◌, if◌then◌else◌, ◌&&◌, Result, Ok, Err, IfOk, OnErr}
+use Rattle.std.specs.Prelude.{◌-◌, ◌∷◌, is_some, ◌==◌, if◌then◌else◌, ◌&&◌, Result, Ok, Err, IfOk, OnErr}
 use Rattle.std.specs.BTreeMap.{get_by_text, IsOrdered}
 use Rattle.std.specs.List.{cons_option}
 use Rattle.std.specs.Option.{option_map}
 use Rattle.std.specs.String.{string_cmp}
 use Rattle.std.specs.Str.{bytes_eq}
-use Rattle.std.specs.Ordering.{nat_cmp, eq_by_cmp}
 use Rattle.std.specs.Cmp.{eq_by_cmp_equiv}
-use Rattle.std.specs.Cmp.Lexicographic.{slice_cmp, nat_list_cmp_total}
+use Rattle.std.specs.Cmp.Lexicographic.{nat_list_cmp_total}
 use Rattle.std.proofs.Math.Seq.{drop-nil}
 use Rattle.std.proofs.lemmas.Bool.{eqb-true, lt-leb}
 use Rattle.std.proofs.lemmas.Slice.Eq.{bytes_eq-Decides}
 use Rattle.cf_protocol.specs.Datum.{Datum}
-use Rattle.cf_protocol.specs.Settings.{NamespaceTable}
+use Rattle.cf_protocol.specs.Settings.{NamespaceTable, entry_at, namespace_of, with_size}
+use Rattle.cf_protocol.specs.declared.settings.Settings.{Settings}
+use Rattle.cf_protocol.proofs.Sizes.{entry_at-with_size}
 use Rattle.cf_stream.specs.declared.due.Due.{Due}
 use Rattle.cf_stream.specs.declared.due.Due.TheVariants.{Forget as ToForget, Empty as ToEmpty}
-use Rattle.cf_stream.specs.Stream.{Shown, stays, is_over, newest, pushed, trimmed, used_at, unused_seconds}
-use Rattle.cf_stream.specs.Streams.{Kept, SetsAt, by_channel, due_at, due_channels, due_of, due_to, seconds_at, stood_or}
+use Rattle.cf_stream.specs.Keys.{newest}
+use Rattle.cf_stream.specs.Stream.{Shown, stays, is_over, given, pushed, repeated_by, resized, trimmed, used_at, unused_seconds}
+use Rattle.cf_stream.specs.Streams.{StreamMap, SetsAt, by_channel, due_at, due_channels, due_of, due_to, in_namespace, resized_in, seconds_at, seconds_of, stood_or}
 use Rattle.cf_stream.specs.Quiet.{AreQuiet, IsQuiet}
 use Rattle.cf_stream.proofs.Channels.{by_bytes, get-by_channel}
 use Rattle.cf_stream.proofs.LogTicks.{due_exact}
@@ -47,10 +49,20 @@ used_quiet (Some s) e size now seconds t early h =
     ∙ stays_quiet (stays t s) (is_over s.published seconds t) (not (length s.held == 0)) h
 
 -- and so does a publication, until its time is over
-pub pushed_quiet : (s : Shown) (d : Datum) (now seconds t : ℕ) → is_over now unused_seconds t ≡ false → is_over now seconds t ≡ false → due_of t seconds (pushed s d now) ≡ None
-pushed_quiet s d now seconds t unused early =
-    ap (λ b. due_by (not b) (is_over now seconds t) (not (length (pushed s d now).held == 0))) unused
-    ∙ ap (λ b. due_by true b (not (length (pushed s d now).held == 0))) early
+pub pushed_quiet : (s : Shown) (key : List ℕ) (d : Datum) (now seconds t : ℕ) → is_over now unused_seconds t ≡ false → is_over now seconds t ≡ false → due_of t seconds (pushed s key d now) ≡ None
+pushed_quiet s key d now seconds t unused early =
+    ap (λ b. due_by (not b) (is_over now seconds t) (not (length (pushed s key d now).held == 0))) unused
+    ∙ ap (λ b. due_by true b (not (length (pushed s key d now).held == 0))) early
+
+given_by : (repeats : Bool) (o : Option Shown) (e : List ℕ) (size : ℕ) (key : List ℕ) (d : Datum) (now seconds t : ℕ) → is_over now unused_seconds t ≡ false → is_over now seconds t ≡ false
+    → due_at t seconds o ≡ None → due_of t seconds (cond repeats (used_at (stood_or o e size) now) (pushed (stood_or o e size) key d now)) ≡ None
+given_by true o e size key d now seconds t unused early h = used_quiet o e size now seconds t unused h
+given_by false o e size key d now seconds t unused early h = pushed_quiet (stood_or o e size) key d now seconds t unused early
+
+-- a publish, which is a use alone where it repeats one
+pub given_quiet : (o : Option Shown) (e : List ℕ) (size : ℕ) (key : List ℕ) (d : Datum) (now seconds t : ℕ) → is_over now unused_seconds t ≡ false → is_over now seconds t ≡ false
+    → due_at t seconds o ≡ None → due_of t seconds (given (stood_or o e size) key d now) ≡ None
+given_quiet o e size key d now seconds t = given_by (is_some (repeated_by (stood_or o e size) key)) o e size key d now seconds t
 
 trim_cases : (stays over z : Bool) (held : List Datum) (k : ℕ) → (length held == 0) ≡ z → due_by stays over (not z) ≡ None → due_by stays over (not (length (newest k held) == 0)) ≡ None
 trim_cases false over z held k e h = h
@@ -63,6 +75,26 @@ trim_cases true true false held k e h = absurd (cc)
 pub trimmed_quiet : (o : Option Shown) (k seconds t : ℕ) → due_at t seconds o ≡ None → due_at t seconds (option_map (trimmed k) o) ≡ None
 trimmed_quiet None k seconds t h = refl
 trimmed_quiet (Some s) k seconds t h = trim_cases (stays t s) (is_over s.published seconds t) (length s.held == 0) s.held k refl h
+
+sized_quiet : (b : Bool) (n seconds t : ℕ) (o : Option Shown) → due_at t seconds o ≡ None → due_at t seconds (cond b (option_map (resized n) o) o) ≡ None
+sized_quiet false n seconds t o h = h
+sized_quiet true n seconds t None h = refl
+sized_quiet true n seconds t (Some s) h = trim_cases (stays t s) (is_over s.published seconds t) (length s.held == 0) s.held n refl h
+
+sized_seconds : (b : Bool) (n : ℕ) (o : Option Settings) → seconds_of (option_map (λ (s : Settings). cond b (record s { size = n }) s) o) ≡ seconds_of o
+sized_seconds b n None = refl
+sized_seconds true n (Some s) = refl
+sized_seconds false n (Some s) = refl
+
+-- streams of another size in one namespace
+pub quiet_sized : (until : ℕ) (name : List ℕ) (n : ℕ) (table : NamespaceTable) (m m' : BTreeMap (String Global) Shown) → AreQuiet until table (get_by_text m)
+    → ((q : List ℕ) → get_by_text m' q ≡ resized_in name n q (get_by_text m q)) → AreQuiet until (with_size name n table) (get_by_text m')
+quiet_sized until name n table m m' quiet is = λ t early q.
+    let key : List ℕ = namespace_of q in
+    ap (due_at t (seconds_at (with_size name n table) q)) (is q)
+    ∙ ap (λ o. due_at t (seconds_of o) (resized_in name n q (get_by_text m q))) (entry_at-with_size name n table key)
+    ∙ ap (λ k. due_at t k (resized_in name n q (get_by_text m q))) (sized_seconds (bytes_eq key name) n (entry_at table key))
+    ∙ sized_quiet (in_namespace name q) n (seconds_at table q) t (get_by_text m q) (quiet t early q)
 
 -- streams of which one is another now
 pub quiet_set : (until sooner : ℕ) (table : NamespaceTable) (m n : BTreeMap (String Global) Shown) (c : List ℕ) (w : Option Shown) → sooner ≤ until → AreQuiet until table (get_by_text m)
@@ -101,7 +133,7 @@ rest_due until table e es t quiet early = ap (λ d. cons_option (option_map (λ 
 pub entries_quiet : (until : ℕ) (table : NamespaceTable) (m : BTreeMap (String Global) Shown) → IsOrdered string_cmp m
     → ((t : ℕ) → t < until → due_channels t table (by_bytes m.entries) ≡ []) → AreQuiet until table (get_by_text m)
 entries_quiet until table m ordered none = λ t early q.
-    let kept : Kept = record { namespaces = table; streams = by_channel m } in
+    let kept : StreamMap = record { namespaces = table; streams = by_channel m } in
     ap (due_at t (seconds_at table q)) (sym (get-by_channel m q))
     ∙ sym (due_exact kept t q)
     ∙ ap (λ es. due_to (due_channels t table es) q) (entries-by_channel m ordered)
@@ -118,7 +150,7 @@ none_due (d ∷ ds) h = absurd (
 pub quiet_entries : (until : ℕ) (table : NamespaceTable) (m : BTreeMap (String Global) Shown) → IsOrdered string_cmp m → AreQuiet until table (get_by_text m)
     → (t : ℕ) → t < until → due_channels t table (by_bytes m.entries) ≡ []
 quiet_entries until table m ordered quiet t early =
-    let kept : Kept = record { namespaces = table; streams = by_channel m } in
+    let kept : StreamMap = record { namespaces = table; streams = by_channel m } in
     none_due (due_channels t table (by_bytes m.entries)) (λ q.
     ap (λ es. due_to (due_channels t table es) q) (sym (entries-by_channel m ordered))
     ∙ due_exact kept t q

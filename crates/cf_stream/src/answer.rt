@@ -1,6 +1,15 @@
 //! What streams answer.
 use cf_protocol::{Position, Publication};
 
+/// What becomes of a publish.
+#[derive(Clone, Copy, Debug)]
+pub struct Published {
+    /// Where the publication stands: that which was made, or that which is repeated.
+    pub position: Position,
+    /// Whether a publication with this key stood among the last hundred, so that none was made.
+    pub repeated: bool,
+}
+
 /// What a client that comes back has missed.
 #[derive(Drop)]
 pub struct Recovery {

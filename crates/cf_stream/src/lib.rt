@@ -5,15 +5,16 @@
 
 mod answer;
 mod due;
+mod keys;
 mod opening;
 mod refusal;
 mod ring;
 mod stream;
 mod streams;
 
-pub use answer::{History, Recovery};
+pub use answer::{History, Published, Recovery};
 pub use due::{Due, DueWalk};
 pub use opening::Epochs;
 pub use refusal::StreamRefusal;
-pub use stream::{Fate, LARGEST_SIZE, LAST_OFFSET, Stream, UNUSED_SECONDS};
+pub use stream::{LARGEST_SIZE, LAST_OFFSET, Stream, TickOutcome, UNUSED_SECONDS};
 pub use streams::Streams;

@@ -1,11 +1,13 @@
 //! How a channel's stream opens. All room is made before its epoch is drawn, so that a refused call draws none.
-ghost use Rattle.std.specs.Prelude.{◌≡◌, ◌≢◌, ◌≤◌, IfOk, IfErr, OnErr, IfSome, IfNone, Option, Some, None, Err, List, ℕ};
+ghost use Rattle.std.specs.Prelude.{◌≡◌, ◌≢◌, ◌≤◌, IfOk, IfErr, OnErr, IfSome, IfNone, false, Option, Some, None, Err, List, ℕ};
 ghost use Rattle.std.specs.Option.{option_map};
 ghost use Rattle.std.specs.BTreeMap.{get_by_text};
+ghost use Rattle.std.specs.String.{string_bytes};
 ghost use Rattle.cf_stream.specs.Stream.{datum_of, started, first_pushed, used_at, in_epoch, newest_of};
 ghost use Rattle.cf_stream.specs.Streams.{SetsAt};
 ghost use Rattle.cf_stream.specs.FreshEpochs.{DrawsNone, DrawsEpoch};
 
+use crate::answer::Published;
 use crate::refusal::StreamRefusal;
 use crate::stream::{LARGEST_SIZE, Stream};
 use cf_protocol::{Epoch, Info, Position};
@@ -68,18 +70,21 @@ pub(crate) fn publish_new<E: Epochs>(
     size: usize,
     channel: &str,
     body: String,
+    key: String,
     info: Option<Info>,
     now: u64,
-) -> Result<Position, StreamRefusal>
+) -> Result<Published, StreamRefusal>
     requires absent { get_by_text map.old channel.now ≡ None }
     requires sized { (1 ≤ size) × (size ≤ LARGEST_SIZE) }
     ensures ok { IfOk result (λ p. SetsAt map.old map.new channel.now
-        (Some (first_pushed p.epoch size (datum_of body info) now))) }
-    ensures position { IfOk result (λ p. p.offset ≡ 1) }
+        (Some (first_pushed p.position.epoch size (string_bytes key) (datum_of body info) now))) }
+    ensures answer { IfOk result (λ p.
+        (p.position.offset ≡ 1) × (p.repeated ≡ false)) }
     ensures newest { IfOk result (λ p.
-        newest_of (first_pushed p.epoch size (datum_of body info) now)
+        newest_of (first_pushed p.position.epoch size (string_bytes key) (datum_of body info) now)
         ≡ Some (record { offset = 1; datum = datum_of body info })) }
-    ensures drawn { IfOk result (λ p. DrawsEpoch E.draws p.epoch epochs.old epochs.new) }
+    ensures drawn { IfOk result (λ p.
+        DrawsEpoch E.draws p.position.epoch epochs.old epochs.new) }
     ensures no_epoch { result ≡ Err StreamRefusal.NoEpoch
         → DrawsNone E.draws epochs.old epochs.new }
     ensures memory { IfErr result (λ e. e ≢ StreamRefusal.NoEpoch
@@ -87,11 +92,14 @@ pub(crate) fn publish_new<E: Epochs>(
     ensures err { OnErr result ((q : List ℕ) → get_by_text map.new q ≡ get_by_text map.old q) }
 {
     let mut stream = Stream::unnamed(alloc, size)?;
-    let position = stream.publish(body, info, now)?;
+    let published = stream.publish(body, key, info, now)?;
     let epoch = open(map, epochs, alloc, channel, stream)?;
-    Ok(Position {
-        epoch,
-        offset: position.offset,
+    Ok(Published {
+        position: Position {
+            epoch,
+            offset: published.position.offset,
+        },
+        repeated: false,
     })
 }
 

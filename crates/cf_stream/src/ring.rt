@@ -1,30 +1,37 @@
 //! The ring behind a stream.
-ghost use Rattle.std.specs.Prelude.{◌≡◌, ◌+◌, ◌≤◌, [], ◌∷◌, ◌++◌, length, take, drop, IfOk, OnOk, OnErr};
-ghost use Rattle.cf_stream.specs.Stream.{newest};
+ghost use Rattle.std.specs.Prelude.{◌≡◌, ◌+◌, ◌≤◌, [], ◌∷◌, ◌++◌, length, min, take, drop, IfOk, OnOk};
+ghost use Rattle.cf_stream.specs.Keys.{newest};
 
 use cf_protocol::Publication;
 use circular_buffer::HeapCircularBuffer;
 use std::alloc::{AllocError, Global};
 
-/// Appends an item and lets the oldest go past `size`. The block grows only where it has to, to about twice what is held.
-pub(crate) fn put(
-    ring: &mut HeapCircularBuffer<Publication>,
+/// Makes room for one item more where `size` allows it. The block grows only where it has to, to about twice what is held.
+pub(crate) fn make_room<T: Drop>(
+    ring: &mut HeapCircularBuffer<T>,
     size: usize,
-    item: Publication,
 ) -> Result<(), AllocError>
-    requires { (1 ≤ size) × (size ≤ 1000) × (length ring.old.items ≤ size) }
-    ensures ok { OnOk result (ring.new.items ≡ newest size (ring.old.items ++ item ∷ [])) }
-    ensures err { OnErr result (ring.new.items ≡ ring.old.items) }
+    requires { (1 ≤ size) × (size ≤ 10000) × (length ring.old.items ≤ size) }
+    ensures items { ring.new.items ≡ ring.old.items }
+    ensures room { OnOk result (min size (length ring.old.items + 1) ≤ ring.new.capacity) }
 {
     let len = ring.len();
     if len < size && len == ring.capacity() {
         ring.resize((2 * len + 1).min(size))?;
     }
-    if len >= size {
+    Ok(())
+}
+
+/// Appends an item and lets the oldest go past `size`. It takes no memory.
+pub(crate) fn put<T: Drop>(ring: &mut HeapCircularBuffer<T>, size: usize, item: T)
+    requires sized { (1 ≤ size) × (length ring.old.items ≤ size) }
+    requires room { min size (length ring.old.items + 1) ≤ ring.old.capacity }
+    ensures { ring.new.items ≡ newest size (ring.old.items ++ item ∷ []) }
+{
+    if ring.len() >= size {
         ring.truncate_front(size - 1);
     }
     ring.push_back(item);
-    Ok(())
 }
 
 /// Copies of `count` items from the place `from` on.

@@ -1,16 +1,18 @@
 //! One stream.
-ghost use Rattle.std.specs.Prelude.{◌≡◌, ◌≢◌, ◌+◌, ◌-◌, ◌≤◌, ◌↔◌, [], ◌∷◌, ◌++◌, ◌==◌, length, take, IfOk, IfErr, OnOk, OnErr, IsErrOf, IsOkUnless, SomeIff, IsSomeAnd, IfSome, IsNone, option_copied, if◌then◌else◌, List};
-ghost use Rattle.cf_stream.specs.Stream.{datum_of, started, pushed, used_at, trimmed, resized, ticked, position_of, missed_from, RecoversFrom, IsWithin, start_of, after, in_epoch, IsRecovery, IsHistory, IsInEpoch, newest_of, stays, is_over};
-ghost use Rattle.cf_stream.specs.PublicationList.{Shows, GoesOn, AnswersRead, AnswersHistory, opened, published, kept_newest, same};
+ghost use Rattle.std.specs.Prelude.{◌≡◌, ◌≢◌, ◌+◌, ◌-◌, ◌<◌, ◌≤◌, ℕ, Some, Ok, false, ◌↔◌, [], ◌∷◌, ◌++◌, ◌==◌, length, take, IfOk, IfErr, OnOk, OnErr, IsErrOf, IsOkUnless, SomeIff, IsSomeAnd, IfSome, IsNone, option_copied, if◌then◌else◌, List};
+ghost use Rattle.std.specs.String.{string_bytes};
+ghost use Rattle.cf_stream.specs.Stream.{datum_of, started, given, pushed, answer_to, repeated_by, IsStuck, used_at, trimmed, resized, ticked, position_of, missed_from, RecoversFrom, IsWithin, start_of, after, in_epoch, IsRecovery, IsHistory, IsInEpoch, newest_of, stays, is_over};
+ghost use Rattle.cf_stream.specs.PublicationList.{unkeyed, Shows, GoesOn, AnswersPublish, AnswersRead, AnswersHistory, opened, offered, kept_newest, same};
 ghost use Rattle.cf_protocol.specs.Datum.{Datum};
 ghost use Rattle.cf_stream.specs.StreamAnswer.{allowed_by};
-ghost use Rattle.cf_stream.specs.Streams.{due_of};
+ghost use Rattle.cf_stream.specs.Streams.{due_of, repeat_at};
 ghost use Rattle.cf_stream.specs.Quiet.{IsQuiet};
 
-use crate::answer::{History, Recovery};
+use crate::answer::{History, Published, Recovery};
 use crate::due::Due;
+use crate::keys::RecentKeys;
 use crate::refusal::StreamRefusal;
-use crate::ring::{copies, put};
+use crate::ring::{copies, make_room, put};
 use cf_protocol::{Epoch, Info, Position, Publication};
 use circular_buffer::HeapCircularBuffer;
 use std::alloc::{AllocError, Global};
@@ -20,7 +22,7 @@ use std::marker::Model;
 pub const LAST_OFFSET: u64 = 9007199254740991;
 
 /// The most publications that a stream may hold.
-pub const LARGEST_SIZE: usize = 1000;
+pub const LARGEST_SIZE: usize = 10000;
 
 /// How long an unused stream stands, in seconds.
 pub const UNUSED_SECONDS: u64 = 2592000;
@@ -30,13 +32,13 @@ const MOST_ANSWERED: usize = 300;
 
 /// Whether a stream still stands after a tick.
 #[derive(Clone, Copy, PartialEq, Eq, Debug)]
-pub enum Fate {
+pub enum TickOutcome {
     Alive,
     Forgotten,
 }
 
-/// The last publications of one epoch of a channel, at most `size`, and how many were published in it. They lie in a block of
-/// their own, so that a table of many channels moves words, and keeps no room for streams that it doesn't have.
+/// The last publications of one epoch of a channel, at most `size`, how many were published in it, and the last hundred keys. They
+/// lie in a block of their own, so that a table of many channels moves words, and keeps no room for streams that it doesn't have.
 #[derive(Drop)]
 pub struct Stream {
     inner: Box<Inner>,
@@ -50,6 +52,7 @@ struct Inner {
     published: u64,
     used: u64,
     ring: HeapCircularBuffer<Publication>,
+    recent: RecentKeys,
     alloc: Global,
 }
 
@@ -65,11 +68,13 @@ impl Model for Stream {
       size = s.inner.value.size;
       top = s.inner.value.top;
       held = map (λ p. p.datum) s.inner.value.ring.items;
+      recent = s.inner.value.recent.items;
       published = s.inner.value.published;
       used = s.inner.value.used;
     } };
 
-    ghost invariant = { λ s. IsRing s.inner.value.size s.inner.value.top s.inner.value.ring.items };
+    ghost invariant = { λ s.
+        IsRing s.inner.value.size s.inner.value.top s.inner.value.ring.items s.inner.value.recent.items };
 }
 
 impl Stream {
@@ -95,7 +100,7 @@ impl Stream {
         requires top_fits { top ≤ LAST_OFFSET }
         ensures started { IfOk result (λ s. s ≡ started epoch size top) }
         ensures list { IfOk result (λ s. (ds : List Datum) → length ds ≡ top
-            → Shows s (record { epoch = epoch; list = ds; held = 0 })) }
+            → Shows s (record { epoch = epoch; list = ds; keys = unkeyed ds; held = 0 })) }
     {
         after_top(alloc, epoch, size, top)
     }
@@ -139,32 +144,99 @@ impl Stream {
         self.inner.used = now;
     }
 
+    /// Where the publication stands that a publish with this key repeats, if it repeats one. It takes no memory.
+    pub fn repeat_of(&self, key: &str) -> Option<Position>
+        ensures { result ≡ repeat_at (Some self.now) key.now }
+    {
+        match self.repeated_by(key) {
+            None => None,
+            Some(offset) => Some(Position {
+                epoch: self.inner.epoch,
+                offset,
+            }),
+        }
+    }
+
+    /// The offset of the publication that a publish with this key repeats.
+    fn repeated_by(&self, key: &str) -> Option<u64>
+        ensures { result ≡ repeated_by self.now key.now }
+    {
+        if key.is_empty() {
+            None
+        } else {
+            self.inner.recent.offset_of(key)
+        }
+    }
+
     /// Appends a publication at a moment in seconds, and answers its position. The oldest one held goes where there are `size`.
+    /// A publish whose key is among the last hundred repeats the publication that brought it: it appends nothing, is a use alone
+    /// and is answered with that one's position, without memory and at the last offset too. The empty key is none.
     pub fn publish(
         &mut self,
         body: String,
+        key: String,
         info: Option<Info>,
         now: u64,
-    ) -> Result<Position, StreamRefusal>
-        ensures ok { OnOk result (self.new ≡ pushed self.old (datum_of body info) now) }
-        ensures position { IfOk result (λ p. p ≡ position_of self.new) }
-        ensures last { IsErrOf result StreamRefusal.AtLastOffset ↔ (self.old.top ≡ LAST_OFFSET) }
+    ) -> Result<Published, StreamRefusal>
+        ensures ok { OnOk result (self.new ≡ given self.old (string_bytes key) (datum_of body info) now) }
+        ensures answer { IfOk result (λ p. p ≡ answer_to self.old (string_bytes key)) }
+        ensures repeat { (o : ℕ) → repeated_by self.old (string_bytes key) ≡ Some o
+            → result ≡ Ok (answer_to self.old (string_bytes key)) }
+        ensures last { IsErrOf result StreamRefusal.AtLastOffset ↔ IsStuck self.old (string_bytes key) }
         ensures refusals { IfErr result (λ e.
             e ≢ StreamRefusal.AtLastOffset → e ≡ StreamRefusal.Memory) }
         ensures err { OnErr result (self.new ≡ self.old) }
         ensures within { IsWithin self.new }
-        ensures newest { IfOk result (λ p. newest_of self.new
-            ≡ Some (record { offset = p.offset; datum = datum_of body info })) }
+        ensures newest { IfOk result (λ p. p.repeated ≡ false → newest_of self.new
+            ≡ Some (record { offset = p.position.offset; datum = datum_of body info })) }
         ensures list { OnOk result (GoesOn self.old self.new
-            (published self.old.size (datum_of body info))) }
+            (offered self.old.size (string_bytes key) (datum_of body info))) }
+        ensures list_answer { IfOk result (λ p.
+            AnswersPublish self.old (string_bytes key) p.position p.repeated) }
     {
-        let inner = self.inner.as_mut();
-        if inner.top == LAST_OFFSET {
+        if let Some(offset) = self.repeated_by(key.as_str()) {
+            let position = Position {
+                epoch: self.inner.epoch,
+                offset,
+            };
+            self.touch(now);
+            return Ok(Published {
+                position,
+                repeated: true,
+            });
+        }
+        if self.inner.top == LAST_OFFSET {
             return Err(StreamRefusal::AtLastOffset);
         }
+        let position = self.append(body, key, info, now)?;
+        Ok(Published {
+            position,
+            repeated: false,
+        })
+    }
+
+    /// Appends a publication. All room is made before anything changes.
+    fn append(
+        &mut self,
+        body: String,
+        key: String,
+        info: Option<Info>,
+        now: u64,
+    ) -> Result<Position, AllocError>
+        requires { self.old.top < LAST_OFFSET }
+        ensures ok { OnOk result (self.new ≡ pushed self.old (string_bytes key) (datum_of body info) now) }
+        ensures position { IfOk result (λ p. p ≡ position_of self.new) }
+        ensures err { OnErr result (self.new ≡ self.old) }
+        ensures newest { OnOk result (newest_of self.new
+            ≡ Some (record { offset = self.old.top + 1; datum = datum_of body info })) }
+    {
+        let inner = self.inner.as_mut();
+        inner.recent.make_room(inner.alloc, key.as_str())?;
+        make_room(&mut inner.ring, inner.size)?;
         let offset = inner.top + 1;
         let publication = Publication { offset, body, info };
-        put(&mut inner.ring, inner.size, publication)?;
+        inner.recent.remember(key, offset);
+        put(&mut inner.ring, inner.size, publication);
         inner.top = offset;
         inner.published = now;
         inner.used = now;
@@ -221,12 +293,13 @@ impl Stream {
         ensures newer { IfSome result (λ n.
             after self.now (self.now.top - n) ≡ after self.now (start_of self.now since)) }
     {
-        let held = self.inner.ring.len();
+        let inner = self.inner.as_ref();
+        let held = inner.ring.len();
         match since {
             None => Some(held),
             Some(since) => {
-                if since.epoch == self.inner.epoch {
-                    Some(self.inner.top.saturating_sub(since.offset).min(held as u64) as usize)
+                if since.epoch == inner.epoch {
+                    Some(inner.top.saturating_sub(since.offset).min(held as u64) as usize)
                 } else {
                     None
                 }
@@ -301,8 +374,8 @@ impl Stream {
 
     /// Empties the history where `seconds` have passed since the last publication, and says whether the stream is to be forgotten,
     /// since it wasn't used for 2,592,000 seconds. A moment earlier than the last one does nothing. It takes no memory.
-    pub fn tick(&mut self, now: u64, seconds: u64) -> Fate
-        ensures fate { (result ≡ Fate.Forgotten) ↔ (self.old.used + UNUSED_SECONDS ≤ now) }
+    pub fn tick(&mut self, now: u64, seconds: u64) -> TickOutcome
+        ensures outcome { (result ≡ TickOutcome.Forgotten) ↔ (self.old.used + UNUSED_SECONDS ≤ now) }
         ensures ticked { self.new ≡ ticked now seconds self.old }
         ensures list { GoesOn self.old self.new
             (if is_over self.old.published seconds now then kept_newest 0 else same) }
@@ -311,9 +384,9 @@ impl Stream {
             self.inner.ring.clear();
         }
         if has_passed(self.inner.used, UNUSED_SECONDS, now) {
-            Fate::Forgotten
+            TickOutcome::Forgotten
         } else {
-            Fate::Alive
+            TickOutcome::Alive
         }
     }
 
@@ -322,7 +395,7 @@ impl Stream {
         ensures stays { result ≡ stays now self.old }
         ensures ticked { self.new ≡ ticked now seconds self.old }
     {
-        self.tick(now, seconds) == Fate::Alive
+        self.tick(now, seconds) == TickOutcome::Alive
     }
 
     /// What a tick would do.
@@ -372,6 +445,7 @@ fn after_top(alloc: Global, epoch: Epoch, size: usize, top: u64) -> Result<Strea
         published: 0,
         used: 0,
         ring,
+        recent: RecentKeys::new(),
         alloc,
     };
     Ok(Stream {

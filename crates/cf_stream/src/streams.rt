@@ -1,25 +1,25 @@
 //! The streams of all channels.
-ghost use Rattle.std.specs.Prelude.{◌≡◌, ◌≢◌, ◌+◌, ◌≤◌, ◌↔◌, IfOk, IfErr, OnErr, IsErrOf, IsSomeAnd, IsTrue, option_copied, Some, None, List, [], ◌∷◌, ℕ, map, filter, IsSome};
+ghost use Rattle.std.specs.Prelude.{◌≡◌, ◌≢◌, ◌+◌, ◌≤◌, ◌↔◌, IfOk, IfErr, OnErr, IsErrOf, IsSomeAnd, IsTrue, option_copied, Some, None, Ok, true, false, if◌then◌else◌, List, [], ◌∷◌, ℕ, map, filter, IsSome, is_some};
 ghost use Rattle.std.specs.Option.{option_map};
 ghost use Rattle.std.specs.BTreeMap.{get_by_text, IsOrdered};
 ghost use Rattle.std.specs.FinMap as fin;
 ghost use Rattle.std.specs.String.{string_bytes, string_cmp};
-ghost use Rattle.cf_protocol.specs.Settings.{settings_of};
-ghost use Rattle.cf_stream.specs.Stream.{datum_of, pushed, used_at, trimmed, position_of, IsAtLast, IsRecovery, IsHistory, stays, ticked, newest_of};
-ghost use Rattle.cf_stream.specs.Streams.{stream_of, held_at, newest_at, put_at, stood_or, stood_or_opened, pushed_at, with_pushed, with_used, ticked_at, IsOfAnother, SetsAt, due_in, due_to, all_due, IsSetUp, size_at, seconds_at};
+ghost use Rattle.cf_protocol.specs.Settings.{settings_of, entry_at, namespace_of, with_size};
+ghost use Rattle.cf_stream.specs.Stream.{datum_of, given, answer_to, resized, used_at, trimmed, position_of, IsAtLast, IsRecovery, IsHistory, stays, ticked, newest_of};
+ghost use Rattle.cf_stream.specs.Streams.{stream_of, held_at, newest_at, put_at, stood_or, stood_or_opened, with_given, repeat_at, in_namespace, resized_in, with_used, ticked_at, IsOfAnother, SetsAt, due_in, due_to, all_due, IsSetUp, size_at, seconds_at};
 ghost use Rattle.cf_stream.specs.PublicationList.{kept_newest};
 ghost use Rattle.cf_stream.specs.Quiet.{AreQuiet};
-ghost use Rattle.cf_stream.specs.ChannelLists.{AreShown, ChangesAt, ReadsAt, ListsAt, StandsAt, life_read, life_with};
-ghost use Rattle.cf_stream.specs.LogState.{IsState, Adds, opening, if_stands, ending, due_entries};
-ghost use Rattle.cf_protocol.specs.LogEntry.Entry.{Publish, Trim, Forget};
+ghost use Rattle.cf_stream.specs.ChannelLists.{AreShown, ChangesAt, ChangesSize, RepeatsAt, PublishesAt, ReadsAt, ListsAt, StandsAt, life_read, life_with};
+ghost use Rattle.cf_stream.specs.LogState.{IsState, Adds, opening, publishing, if_stands, ending, due_entries};
+ghost use Rattle.cf_protocol.specs.LogEntry.Entry.{Trim, Forget, Size};
 ghost use Rattle.cf_stream.specs.FreshEpochs.{LacksEpoch, Draws};
 
-use crate::answer::{History, Recovery};
+use crate::answer::{History, Published, Recovery};
 use crate::due::DueWalk;
 use crate::opening::{Epochs, open_idle, publish_new};
 use crate::refusal::StreamRefusal;
 use crate::stream::{LARGEST_SIZE, Stream, UNUSED_SECONDS};
-use cf_protocol::{Epoch, Info, Namespaces, Position, Publication};
+use cf_protocol::{Epoch, Info, Namespaces, Position, Publication, namespace_of};
 use std::alloc::{AllocError, Global};
 use std::collections::BTreeMap;
 use std::marker::Model;
@@ -36,10 +36,10 @@ pub struct Streams {
 
 impl Model for Streams {
     ghost use Rattle.std.specs.BTreeMap.{get_by_text};
-    ghost use Rattle.cf_stream.specs.Streams.{Kept, coded_kept, by_channel};
+    ghost use Rattle.cf_stream.specs.Streams.{StreamMap, coded_kept, by_channel};
     ghost use Rattle.cf_stream.specs.Quiet.{AreQuiet};
 
-    ghost Value = { Kept };
+    ghost Value = { StreamMap };
 
     ghost coded = { coded_kept };
 
@@ -53,7 +53,7 @@ impl Streams {
     pub fn new(alloc: Global, namespaces: &Namespaces) -> Result<Streams, AllocError>
         ensures empty { IfOk result (λ s.
             s ≡ record { namespaces = namespaces.now; streams = fin.empty }) }
-        ensures log { IfOk result (λ s. IsState s []) }
+        ensures log { IfOk result (λ s. IsState namespaces.now s []) }
         ensures lists { IfOk result (λ s. AreShown s (λ _. None)) }
     {
         Ok(Streams {
@@ -71,38 +71,65 @@ impl Streams {
         self.namespaces.find(channel).is_some()
     }
 
+    /// Whether a namespace of this name is set up.
+    pub fn has_namespace(&self, name: &str) -> bool
+        ensures { result ≡ is_some (entry_at self.now.namespaces name.now) }
+    {
+        self.namespaces.contains(name)
+    }
+
+    /// Where the publication stands that a publish to a channel with this key repeats, if it repeats one. It takes no memory, opens
+    /// nothing and is no use.
+    pub fn repeat_of(&self, channel: &str, key: &str) -> Option<Position>
+        ensures repeat { result ≡ repeat_at (stream_of self.now channel.now) key.now }
+        ensures list_answer { RepeatsAt self.now channel.now key.now result }
+    {
+        match self.map.get(channel) {
+            None => None,
+            Some(stream) => stream.repeat_of(key),
+        }
+    }
+
     /// Publishes to a channel at a moment in seconds, and answers the position. The channel's stream opens where there is none.
+    /// A publish whose key is among the last hundred of the stream is a repeat: it adds nothing, and is answered with the position
+    /// of the publication that it repeats. The empty key is none.
     pub fn publish<E: Epochs>(
         &mut self,
         epochs: &mut E,
         channel: &str,
         body: String,
+        key: String,
         info: Option<Info>,
         now: u64,
-    ) -> Result<Position, StreamRefusal>
+    ) -> Result<Published, StreamRefusal>
         requires { IsSetUp self.old channel.now }
         ensures ok { IfOk result (λ p. self.new
-            ≡ with_pushed self.old channel.now p.epoch (datum_of body info) now) }
-        ensures position { IfOk result (λ p. p
-            ≡ position_of (pushed_at self.old channel.now p.epoch (datum_of body info) now)) }
+            ≡ with_given self.old channel.now p.position.epoch (string_bytes key) (datum_of body info) now) }
+        ensures answer { IfOk result (λ p. p
+            ≡ answer_to (stood_or_opened self.old channel.now p.position.epoch) (string_bytes key)) }
+        ensures repeat { (p : Position)
+            → repeat_at (stream_of self.old channel.now) (string_bytes key) ≡ Some p
+            → result ≡ Ok (record { position = p; repeated = true }) }
         ensures drawn { IfOk result (λ p.
-            Draws E.draws (stream_of self.old channel.now) p.epoch epochs.old epochs.new) }
+            Draws E.draws (stream_of self.old channel.now) p.position.epoch epochs.old epochs.new) }
         ensures last { IsErrOf result StreamRefusal.AtLastOffset
-            ↔ IsAtLast (stream_of self.old channel.now) }
+            ↔ IsAtLast (stream_of self.old channel.now) (string_bytes key) }
         ensures no_epoch { IsErrOf result StreamRefusal.NoEpoch
             → LacksEpoch E.draws (stream_of self.old channel.now) epochs.old epochs.new }
         ensures refusals { IfErr result (λ e. e ≢ StreamRefusal.WrongEpoch
             × (e ≢ StreamRefusal.NoEpoch → epochs.new ≡ epochs.old)) }
         ensures err { OnErr result (self.new ≡ self.old) }
         ensures namespaces { self.new.namespaces ≡ self.old.namespaces }
-        ensures log { IfOk result (λ p. Adds self.old self.new
-            (opening (stream_of self.old channel.now) channel.now p.epoch
-            (Publish channel.now (datum_of body info) ∷ []))) }
-        ensures newest { IfOk result (λ p. newest_at self.new channel.now
-            ≡ Some (record { offset = p.offset; datum = datum_of body info })) }
-        ensures list_answer { IfOk result (λ p. StandsAt self.new channel.now (Some p)) }
+        ensures log { IfOk result (λ p. Adds self.old self.new (publishing p.repeated
+            (stream_of self.old channel.now) channel.now p.position.epoch (string_bytes key)
+            (datum_of body info))) }
+        ensures newest { IfOk result (λ p. p.repeated ≡ false → newest_at self.new channel.now
+            ≡ Some (record { offset = p.position.offset; datum = datum_of body info })) }
+        ensures list_answer { IfOk result (λ p.
+            PublishesAt self.old channel.now (string_bytes key) p.position p.repeated) }
         ensures lists { IfOk result (λ p. ChangesAt self.old self.new channel.now
-            (life_with (size_at self.old.namespaces channel.now) (datum_of body info) p.epoch)) }
+            (life_with (size_at self.old.namespaces channel.now) (string_bytes key) (datum_of body info)
+            p.position.epoch)) }
     {
         let size = size_for(&self.namespaces, channel);
         let seconds = seconds_for(&self.namespaces, channel);
@@ -114,9 +141,24 @@ impl Streams {
             size,
             channel,
             body,
+            key,
             info,
             now,
         )
+    }
+
+    /// Sets how many publications the streams of a namespace may hold. Of those that hold more the newest stay. It takes no memory.
+    pub fn set_size(&mut self, name: &str, size: usize)
+        requires set_up { IsSome (entry_at self.old.namespaces name.now) }
+        requires sized { (1 ≤ size) × (size ≤ LARGEST_SIZE) }
+        ensures namespaces { self.new.namespaces ≡ with_size name.now size self.old.namespaces }
+        ensures streams { (q : List ℕ) → stream_of self.new q
+            ≡ resized_in name.now size q (stream_of self.old q) }
+        ensures log { Adds self.old self.new (Size name.now size ∷ []) }
+        ensures lists { ChangesSize self.old self.new name.now size }
+    {
+        self.namespaces.set_size(name, size);
+        resize_in(&mut self.map, name, size);
     }
 
     /// The publications of a channel after a position, where all are held. Its stream opens where there is none.
@@ -224,7 +266,7 @@ impl Streams {
     pub fn forget_all(&mut self)
         ensures forgotten { self.new ≡ record self.old { streams = fin.empty } }
         ensures log { Adds self.old self.new (ending (fin.entries self.old.streams)) }
-        ensures fresh { IsState self.new [] }
+        ensures fresh { IsState self.old.namespaces self.new [] }
         ensures lists { AreShown self.new (λ _. None) }
     {
         self.map.clear();
@@ -321,23 +363,27 @@ fn publish_in<E: Epochs>(
     size: usize,
     channel: &str,
     body: String,
+    key: String,
     info: Option<Info>,
     now: u64,
-) -> Result<Position, StreamRefusal>
+) -> Result<Published, StreamRefusal>
     requires { (1 ≤ size) × (size ≤ LARGEST_SIZE) }
     ensures ok { IfOk result (λ p. SetsAt map.old map.new channel.now
-        (Some (pushed (stood_or (get_by_text map.old channel.now) p.epoch size)
+        (Some (given (stood_or (get_by_text map.old channel.now) p.position.epoch size) (string_bytes key)
         (datum_of body info) now))) }
-    ensures position { IfOk result (λ p. p ≡ position_of
-        (pushed (stood_or (get_by_text map.old channel.now) p.epoch size)
-        (datum_of body info) now)) }
-    ensures newest { IfOk result (λ p. newest_of
-        (pushed (stood_or (get_by_text map.old channel.now) p.epoch size) (datum_of body info) now)
-        ≡ Some (record { offset = p.offset; datum = datum_of body info })) }
+    ensures answer { IfOk result (λ p. p
+        ≡ answer_to (stood_or (get_by_text map.old channel.now) p.position.epoch size) (string_bytes key)) }
+    ensures repeat { (p : Position)
+        → repeat_at (get_by_text map.old channel.now) (string_bytes key) ≡ Some p
+        → result ≡ Ok (record { position = p; repeated = true }) }
+    ensures newest { IfOk result (λ p. p.repeated ≡ false → newest_of
+        (given (stood_or (get_by_text map.old channel.now) p.position.epoch size) (string_bytes key)
+        (datum_of body info) now)
+        ≡ Some (record { offset = p.position.offset; datum = datum_of body info })) }
     ensures drawn { IfOk result (λ p.
-        Draws E.draws (get_by_text map.old channel.now) p.epoch epochs.old epochs.new) }
+        Draws E.draws (get_by_text map.old channel.now) p.position.epoch epochs.old epochs.new) }
     ensures last { IsErrOf result StreamRefusal.AtLastOffset
-        ↔ IsAtLast (get_by_text map.old channel.now) }
+        ↔ IsAtLast (get_by_text map.old channel.now) (string_bytes key) }
     ensures no_epoch { IsErrOf result StreamRefusal.NoEpoch
         → LacksEpoch E.draws (get_by_text map.old channel.now) epochs.old epochs.new }
     ensures refusals { IfErr result (λ e. e ≢ StreamRefusal.WrongEpoch
@@ -345,8 +391,8 @@ fn publish_in<E: Epochs>(
     ensures err { OnErr result ((q : List ℕ) → get_by_text map.new q ≡ get_by_text map.old q) }
 {
     match map.get_mut(channel) {
-        Some(stream) => stream.publish(body, info, now),
-        None => publish_new(map, epochs, alloc, size, channel, body, info, now),
+        Some(stream) => stream.publish(body, key, info, now),
+        None => publish_new(map, epochs, alloc, size, channel, body, key, info, now),
     }
 }
 
@@ -470,6 +516,22 @@ fn first_due(map: &BTreeMap<String, Stream>, namespaces: &Namespaces) -> u64
         until = until.min(stream.due_from(seconds_for(namespaces, channel)));
     }
     until
+}
+
+/// Sets the size of each stream of a namespace.
+fn resize_in(streams: &mut BTreeMap<String, Stream>, name: &str, size: usize)
+    requires { (1 ≤ size) × (size ≤ LARGEST_SIZE) }
+    ensures ordered { IsOrdered string_cmp streams.old }
+    ensures entries { streams.new.entries
+        ≡ map (λ e. (e.0, if in_namespace name.now (string_bytes e.0) then resized size e.1 else e.1))
+        streams.old.entries }
+{
+    streams.retain(|channel, stream| {
+        if namespace_of(channel) == name {
+            stream.resize(size);
+        }
+        true
+    });
 }
 
 fn tick_in(streams: &mut BTreeMap<String, Stream>, namespaces: &Namespaces, now: u64)

@@ -30,8 +30,8 @@ use Rattle.cf_world.specs.HubCalls.{AtHub, Closed, Told}
 use Rattle.cf_world.specs.NodesTie.{IsSeated, MayAsk, seated}
 use Rattle.cf_world.specs.Tie.{AreTied}
 use Rattle.cf_world.specs.declared.broker.Broker.{Broker as Code}
-use Rattle.cf_world.specs.declared.peers.Peer.{Peer}
-use Rattle.cf_world.specs.declared.peers.Seat.{Seat}
+use Rattle.cf_world.specs.declared.clients.Peer.{Peer}
+use Rattle.cf_world.specs.declared.clients.Seat.{Seat}
 use Rattle.cf_world.proofs.Ends.{Keeps, closes_keeps, push_keeps}
 use Rattle.cf_world.proofs.Exchanged.{after}
 use Rattle.cf_world.proofs.Exchanging.{exchange_goes, sat}

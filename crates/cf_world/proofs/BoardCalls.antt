@@ -10,24 +10,28 @@ use Rattle.cf_protocol.specs.Names.{with}
 use Rattle.cf_protocol.specs.Datum.{Datum}
 use Rattle.cf_protocol.specs.Note.{Lists, placed_from}
 use Rattle.cf_protocol.specs.Position.{Position}
-use Rattle.cf_protocol.specs.Settings.{NamespaceTable}
+use Rattle.cf_protocol.specs.Settings.{NamespaceTable, entry_at, namespace_of, settings_of, with_size}
+use Rattle.cf_protocol.specs.declared.settings.Settings.{Settings}
+use Rattle.cf_stream.specs.Stream.{Shown}
 use Rattle.cf_stream.specs.StreamState.{StreamState, last_offset, with_at_most}
 use Rattle.cf_stream.specs.StreamAnswer.{Listing, listed_above, read_of}
-use Rattle.cf_stream.specs.Streams.{Kept, stream_of}
+use Rattle.cf_stream.specs.Streams.{StreamMap, in_namespace, size_of as stream_size, stream_of}
 use Rattle.cf_stream.specs.PublicationList.{Life, kept_newest, state_of, IsListed, IsRead}
-use Rattle.cf_stream.specs.ChannelLists.{AreShown, ChangesAt, ListsAt, ReadsAt, life_or}
+use Rattle.cf_stream.specs.ChannelLists.{AreShown, ChangesAt, ChangesSize, ListsAt, ReadsAt, life_or}
 use Rattle.cf_stream.specs.FreshEpochs.{Draws}
 use Rattle.cf_stream.specs.declared.answer.History.{History}
 use Rattle.cf_stream.specs.declared.answer.Recovery.{Recovery}
-use Rattle.cf_world.specs.BrokerTie.{IsAccepted, IsStanding, IsDatum, ShowsBroker, Brings, Finds, FindsPast}
+use Rattle.cf_world.specs.BrokerTie.{AreSized, IsAccepted, IsStanding, IsDatum, ShowsBroker, Brings, Finds, FindsPast}
 use Rattle.cf_machine.specs.FreshEpochs.{AreFresh}
+use Rattle.cf_machine.specs.IntervalMachine.{size_by}
 use Rattle.cf_machine.specs.Lives.{life_at}
-use Rattle.cf_machine.specs.PublicationList.{Broker, epoch_comes, no_stream, opened, trim, trim_at, forget, forget_all}
+use Rattle.cf_machine.specs.PublicationList.{Broker, Keys, epoch_comes, no_stream, opened, set_size, trim, trim_at, forget, forget_all}
 use Rattle.cf_world.specs.declared.broker.Broker.{Broker as Code}
 use Rattle.cf_world.specs.declared.epochs.WaitingEpochs.{WaitingEpochs}
-use Rattle.cf_world.proofs.Boards.{shown-changed, life_of, takes_front, Opened, draws_opened}
+use Rattle.cf_world.proofs.Boards.{shown-as, shown-changed, sized-still, life_of, takes_front, Opened, draws_opened}
 use Rattle.cf_world.proofs.Named.{all-one}
 use Rattle.cf_machine.proofs.Names.{with-all, with-same, with-other}
+use Rattle.cf_protocol.proofs.Sizes.{entry_at-with_size}
 
 -- ---- other streams over the same lists
 
@@ -37,7 +41,7 @@ pub shows-with : (table : NamespaceTable) (b new : Code) (m : Broker) (streams :
     → ((q : List ℕ) (s : StreamState) → streams q ≡ Some s → IsStanding m.lists q s)
     → ShowsBroker table new (record m { streams = streams })
 shows-with table b new m streams h ns epochs accepted shown standing = record {
-  namespaces = ns ∙ h.namespaces;
+  namespaces = sized-still table b.streams.namespaces new.streams.namespaces m.sizes m.sizes ns refl h.namespaces;
   waiting = ap (λ (w : WaitingEpochs). w.waiting.items) epochs ∙ h.waiting;
   came = λ x. ap (λ (w : WaitingEpochs). contains_text w.came x) epochs ∙ h.came x;
   epochs = h.epochs;
@@ -46,6 +50,7 @@ shows-with table b new m streams h ns epochs accepted shown standing = record {
   accepted = subst (λ v. AllZip (IsAccepted m.lists) v.items m.accepted) (sym accepted) h.accepted;
   regular = h.regular;
   bounded = h.bounded;
+  keyed = h.keyed;
 }
 
 -- nothing but the set of epochs was gone through
@@ -53,15 +58,16 @@ pub shows-same : (table : NamespaceTable) (b new : Code) (m : Broker) → ShowsB
     → new.streams ≡ b.streams → new.epochs.waiting.items ≡ b.epochs.waiting.items → ((x : List ℕ) → contains_text new.epochs.came x ≡ contains_text b.epochs.came x)
     → new.accepted ≡ b.accepted → ShowsBroker table new m
 shows-same table b new m h streams waiting came accepted = record {
-  namespaces = ap (λ (k : Kept). k.namespaces) streams ∙ h.namespaces;
+  namespaces = sized-still table b.streams.namespaces new.streams.namespaces m.sizes m.sizes (ap (λ (k : StreamMap). k.namespaces) streams) refl h.namespaces;
   waiting = waiting ∙ h.waiting;
   came = λ x. came x ∙ h.came x;
   epochs = h.epochs;
-  streams = subst (λ (k : Kept). AreShown k (life_at m)) (sym streams) h.streams;
+  streams = subst (λ (k : StreamMap). AreShown k (life_at m)) (sym streams) h.streams;
   standing = h.standing;
   accepted = subst (λ v. AllZip (IsAccepted m.lists) v.items m.accepted) (sym accepted) h.accepted;
   regular = h.regular;
   bounded = h.bounded;
+  keyed = h.keyed;
 }
 
 module _ (table : NamespaceTable) (b new : Code) (m : Broker) (h : ShowsBroker table b m) (c : List ℕ)
@@ -70,19 +76,19 @@ module _ (table : NamespaceTable) (b new : Code) (m : Broker) (h : ShowsBroker t
   trims : (n : ℕ) → ChangesAt b.streams new.streams c (option_map (kept_newest n)) → (o : Option StreamState) → m.streams c ≡ o → ShowsBroker table new (trim_at c n o m)
   trims n ch None j =
       let here : option_map (kept_newest n) (life_at m c) ≡ life_at m c =
-      ap (λ (y : Option StreamState). option_map (kept_newest n) (option_map (life_of (m.lists c)) y)) j ∙ sym (ap (option_map (life_of (m.lists c))) j) in
+      ap (λ (y : Option StreamState). option_map (kept_newest n) (option_map (life_of (m.lists c) (m.keys c)) y)) j ∙ sym (ap (option_map (life_of (m.lists c) (m.keys c))) j) in
       shows-with table b new m m.streams h ns epochs accepted
       (shown-changed b.streams new.streams c (option_map (kept_newest n)) (life_at m) (life_at m) ch h.streams here (λ q ne. refl)) h.standing
   trims n ch (Some s) j =
       let streams : List ℕ → Option StreamState = with m.streams c (Some (with_at_most n s)) in
       let m2 : Broker = record m { streams = streams } in
       let here : option_map (kept_newest n) (life_at m c) ≡ life_at m2 c =
-      ap (λ (y : Option StreamState). option_map (kept_newest n) (option_map (life_of (m.lists c)) y)) j
-      ∙ sym (ap (option_map (life_of (m.lists c))) (with-same m.streams c (Some (with_at_most n s)))) in
+      ap (λ (y : Option StreamState). option_map (kept_newest n) (option_map (life_of (m.lists c) (m.keys c)) y)) j
+      ∙ sym (ap (option_map (life_of (m.lists c) (m.keys c))) (with-same m.streams c (Some (with_at_most n s)))) in
       let stood = h.standing c s j in
       shows-with table b new m streams h ns epochs accepted
       (shown-changed b.streams new.streams c (option_map (kept_newest n)) (life_at m) (life_at m2) ch h.streams here
-      (λ q ne. sym (ap (option_map (life_of (m.lists q))) (with-other m.streams c (Some (with_at_most n s)) q ne))))
+      (λ q ne. sym (ap (option_map (life_of (m.lists q) (m.keys q))) (with-other m.streams c (Some (with_at_most n s)) q ne))))
       (with-all (λ q (y : Option StreamState). (s : StreamState) → y ≡ Some s → IsStanding m.lists q s) m.streams c (Some (with_at_most n s))
       (λ t i. let is : with_at_most n s ≡ t = cc in subst (IsStanding m.lists c) is (record { top = stood.top; within = stood.within; epoch = stood.epoch }))
       (λ q ne. h.standing q))
@@ -94,8 +100,8 @@ module _ (table : NamespaceTable) (b new : Code) (m : Broker) (h : ShowsBroker t
       let m2 : Broker = record m { streams = streams } in
       shows-with table b new m streams h ns epochs accepted
       (shown-changed b.streams new.streams c (λ _. None) (life_at m) (life_at m2) ch h.streams
-      (sym (ap (option_map (life_of (m.lists c))) (with-same m.streams c None)))
-      (λ q ne. sym (ap (option_map (life_of (m.lists q))) (with-other m.streams c None q ne))))
+      (sym (ap (option_map (life_of (m.lists c) (m.keys c))) (with-same m.streams c None)))
+      (λ q ne. sym (ap (option_map (life_of (m.lists q) (m.keys q))) (with-other m.streams c None q ne))))
       (with-all (λ q (y : Option StreamState). (s : StreamState) → y ≡ Some s → IsStanding m.lists q s) m.streams c None
       (λ t i. absurd (cc)) (λ q ne. h.standing q))
 
@@ -103,7 +109,7 @@ module _ (table : NamespaceTable) (b new : Code) (m : Broker) (h : ShowsBroker t
   forgets_none ch j =
       shows-with table b new m m.streams h ns epochs accepted
       (shown-changed b.streams new.streams c (λ _. None) (life_at m) (life_at m) ch h.streams
-      (sym (ap (option_map (life_of (m.lists c))) j)) (λ q ne. refl)) h.standing
+      (sym (ap (option_map (life_of (m.lists c) (m.keys c))) j)) (λ q ne. refl)) h.standing
 
   forgets_by : ChangesAt b.streams new.streams c (λ _. None) → (o : Option StreamState) → m.streams c ≡ o → ShowsBroker table new (if is_some o then forget c m else m)
   forgets_by ch None j = forgets_none ch j
@@ -124,6 +130,95 @@ pub restart_shows : (table : NamespaceTable) (b new : Code) (m : Broker) → Sho
     → AreShown new.streams (λ _. None) → ShowsBroker table new (forget_all m)
 restart_shows table b new m h ns epochs accepted none = shows-with table b new m no_stream h ns epochs accepted none (λ q s i. absurd (cc))
 
+-- ---- a namespace gets another size
+
+is_some-map : {A : Type 0} (f : A → A) (o : Option A) → is_some (option_map f o) ≡ is_some o
+is_some-map f None = refl
+is_some-map f (Some s) = refl
+
+-- a channel's size, by whether its namespace is the one
+size-set : (t : Bool) (n : ℕ) (now set : Option Settings) (was : Option ℕ) → is_some now ≡ is_some set → stream_size now ≡ size_by was set
+    → stream_size (option_map (λ (s : Settings). if t then record s { size = n } else s) now) ≡ size_by (if t then Some n else was) set
+size-set true n None None was h k = refl
+size-set true n None (Some r) was h k = absurd (cc)
+size-set true n (Some s) None was h k = absurd (cc)
+size-set true n (Some s) (Some r) was h k = refl
+size-set false n None set was h k = k
+size-set false n (Some s) set was h k = k
+
+sized-anew : (table now : NamespaceTable) (was : List ℕ → Option ℕ) (name : List ℕ) (n : ℕ) → AreSized table now was
+    → AreSized table (with_size name n now) (λ c. if in_namespace name c then Some n else was c)
+sized-anew table now was name n h = record {
+  names = λ k. ap is_some (entry_at-with_size name n now k) ∙ (is_some-map _ (entry_at now k) ∙ h.names k);
+  size = λ c.
+      ap stream_size (entry_at-with_size name n now (namespace_of c))
+      ∙ size-set (in_namespace name c) n (settings_of now c) (settings_of table c) (was c) (h.names (namespace_of c)) (h.size c);
+}
+
+-- a stream of it holds no more than that
+life-set : (t : Bool) (n : ℕ) (list : List ℕ → List Datum) (keys : List ℕ → List (List ℕ)) (o : Option StreamState)
+    → (if t then option_map (kept_newest n) (option_map (life_of list keys) o) else option_map (life_of list keys) o)
+    ≡ option_map (life_of list keys) (if t then option_map (with_at_most n) o else o)
+life-set true n list keys None = refl
+life-set true n list keys (Some s) = refl
+life-set false n list keys o = refl
+
+stands-set : (t : Bool) (n : ℕ) (lists : Lists) (q : List ℕ) (o : Option StreamState) → ((s : StreamState) → o ≡ Some s → IsStanding lists q s)
+    → (s : StreamState) → (if t then option_map (with_at_most n) o else o) ≡ Some s → IsStanding lists q s
+stands-set true n lists q None h s i = absurd (cc)
+stands-set true n lists q (Some r) h s i =
+    let stood = h r refl in
+    let is : with_at_most n r ≡ s = cc in
+    subst (IsStanding lists q) is (record { top = stood.top; within = stood.within; epoch = stood.epoch })
+stands-set false n lists q o h s i = h s i
+
+pub size_shows : (table : NamespaceTable) (b new : Code) (m : Broker) (name : List ℕ) (n : ℕ) → ShowsBroker table b m
+    → new.streams.namespaces ≡ with_size name n b.streams.namespaces → new.epochs ≡ b.epochs → new.accepted ≡ b.accepted
+    → ChangesSize b.streams new.streams name n → ShowsBroker table new (set_size (in_namespace name) n m)
+size_shows table b new m name n h ns epochs accepted ch =
+    let after : Broker = set_size (in_namespace name) n m in
+    record {
+      namespaces = subst (λ (t : NamespaceTable). AreSized table t after.sizes) (sym ns) (sized-anew table b.streams.namespaces m.sizes name n h.namespaces);
+      waiting = ap (λ (w : WaitingEpochs). w.waiting.items) epochs ∙ h.waiting;
+      came = λ x. ap (λ (w : WaitingEpochs). contains_text w.came x) epochs ∙ h.came x;
+      epochs = h.epochs;
+      streams = shown-as new.streams _ (life_at after) (ch.shows (life_at m) h.streams)
+          (λ q. life-set (in_namespace name q) n (m.lists q) (m.keys q) (m.streams q));
+      standing = λ q. stands-set (in_namespace name q) n m.lists q (m.streams q) (h.standing q);
+      accepted = subst (λ v. AllZip (IsAccepted m.lists) v.items m.accepted) (sym accepted) h.accepted;
+      regular = h.regular;
+      bounded = h.bounded;
+      keyed = h.keyed;
+    }
+
+-- it is set up, or nothing changes
+pub size_shows_if : (table : NamespaceTable) (b : Code) (m : Broker) (name : List ℕ) (n : ℕ) → ShowsBroker table b m → (set : Bool) → set ≡ is_some (entry_at b.streams.namespaces name)
+    → (new : Code) → ShowsBroker table new (if set then set_size (in_namespace name) n m else m)
+    → ShowsBroker table new (if is_some (entry_at table name) then set_size (in_namespace name) n m else m)
+size_shows_if table b m name n h set is new shows =
+    subst (λ (t : Bool). ShowsBroker table new (if t then set_size (in_namespace name) n m else m)) (is ∙ h.namespaces.names name) shows
+
+-- ---- the stream of a channel stands, or was opened
+
+pub opened_shows : (table : NamespaceTable) (b new : Code) (m m1 : Broker) → ShowsBroker table b m → (k : Option Shown) (c e : List ℕ) (o : Opened b m m1 k c e new.epochs)
+    → new.streams.namespaces ≡ b.streams.namespaces → (change : Option Life → Option Life) → ChangesAt b.streams new.streams c change
+    → change (life_at m c) ≡ Some (life_of (m1.lists c) (m1.keys c) o.state) → new.accepted ≡ b.accepted
+    → ShowsBroker table new m1
+opened_shows table b new m m1 h k c e o ns change ch here accepted = record {
+  namespaces = sized-still table b.streams.namespaces new.streams.namespaces m.sizes m1.sizes ns o.sizes h.namespaces;
+  waiting = o.waiting;
+  came = o.came;
+  epochs = o.epochs;
+  streams = shown-changed b.streams new.streams c change (life_at m) (life_at m1) ch h.streams
+      (here ∙ sym (ap (option_map (life_of (m1.lists c) (m1.keys c))) o.stands)) o.others;
+  standing = o.standing;
+  accepted = subst (λ v. AllZip (IsAccepted m1.lists) v.items m1.accepted) (sym accepted) o.accepted;
+  regular = subst (λ (t : Lists). (x i : List ℕ) → All IsDatum (t x i)) (sym o.lists) h.regular;
+  bounded = subst (λ (t : Lists). (x i : List ℕ) → length (t x i) ≤ last_offset) (sym o.lists) h.bounded;
+  keyed = subst (λ (ks : Keys). (x i : List ℕ) → length (ks x i) ≡ length (m1.lists x i)) (sym o.keys)
+      (subst (λ (t : Lists). (x i : List ℕ) → length (m.keys x i) ≡ length (t x i)) (sym o.lists) h.keyed);
+}
+
 -- ---- a read
 
 pub read_shows : (table : NamespaceTable) (b new : Code) (m : Broker) (c : List ℕ) (since : Option Position) (r : Recovery)
@@ -138,9 +233,9 @@ read_shows table b new m c since r h fresh drawn ns ch reads accepted =
     let s : StreamState = o.state in
     let list : List Datum = m1.lists c s.epoch in
     let top : s.top ≡ length list = (o.standing c s o.stands).top in
-    let found : IsRead (life_of (m1.lists c) s) since r.position r.recovered r.publications.items =
+    let found : IsRead (life_of (m1.lists c) (m1.keys c) s) since r.position r.recovered r.publications.items =
     subst (λ (l : Life). IsRead l since r.position r.recovered r.publications.items) o.life (reads.off (life_at m) h.streams) in
-    let state : state_of (life_of (m1.lists c) s) ≡ s = ap (λ (n : ℕ). record { epoch = s.epoch; top = n; held = s.held }) (sym top) in
+    let state : state_of (life_of (m1.lists c) (m1.keys c) s) ≡ s = ap (λ (n : ℕ). record { epoch = s.epoch; top = n; held = s.held }) (sym top) in
     let brings : Brings m1.lists c since s r = record {
       at = found.at ∙ ap (λ (n : ℕ). record { epoch = s.epoch; offset = n }) (sym top);
       recovered = found.exact ∙ ap (λ (t : StreamState). (read_of since t).recovered) state;
@@ -150,18 +245,7 @@ read_shows table b new m c since r h fresh drawn ns ch reads accepted =
       state = s;
       stands = o.stands;
       brings = subst (λ (t : Lists). Brings t c since s r) o.lists brings;
-      shows = record {
-        namespaces = ns ∙ h.namespaces;
-        waiting = o.waiting;
-        came = o.came;
-        epochs = o.epochs;
-        streams = shown-changed b.streams new.streams c (λ l. Some (life_or l e)) (life_at m) (life_at m1) ch h.streams
-            (ap (λ (l : Life). Some l) o.life ∙ sym (ap (option_map (life_of (m1.lists c))) o.stands)) o.others;
-        standing = o.standing;
-        accepted = subst (λ v. AllZip (IsAccepted m1.lists) v.items m1.accepted) (sym accepted) o.accepted;
-        regular = subst (λ (t : Lists). (x i : List ℕ) → All IsDatum (t x i)) (sym o.lists) h.regular;
-        bounded = subst (λ (t : Lists). (x i : List ℕ) → length (t x i) ≤ last_offset) (sym o.lists) h.bounded;
-      };
+      shows = opened_shows table b new m m1 h (stream_of b.streams c) c e o ns (λ l. Some (life_or l e)) ch (ap (λ (l : Life). Some l) o.life) accepted;
     }
 
 -- ---- a history
@@ -178,9 +262,9 @@ history_shows table b new m c limit h shows fresh drawn ns ch lists accepted =
     let s : StreamState = o.state in
     let list : List Datum = m1.lists c s.epoch in
     let top : s.top ≡ length list = (o.standing c s o.stands).top in
-    let found : IsListed (life_of (m1.lists c) s) None limit h.position h.publications.items =
+    let found : IsListed (life_of (m1.lists c) (m1.keys c) s) None limit h.position h.publications.items =
     subst (λ (l : Life). IsListed l None limit h.position h.publications.items) o.life (lists.off (life_at m) shows.streams) in
-    let state : state_of (life_of (m1.lists c) s) ≡ s = ap (λ (n : ℕ). record { epoch = s.epoch; top = n; held = s.held }) (sym top) in
+    let state : state_of (life_of (m1.lists c) (m1.keys c) s) ≡ s = ap (λ (n : ℕ). record { epoch = s.epoch; top = n; held = s.held }) (sym top) in
     let listing : listed_above 0 limit s ≡ found.listing =
     ap (listed_above 0 limit) (sym state) ∙ same_Some _ _ found.is in
     let run : h.publications.items ≡ placed_from list (listed_above 0 limit s).low (listed_above 0 limit s).count =
@@ -190,18 +274,7 @@ history_shows table b new m c limit h shows fresh drawn ns ch lists accepted =
       stands = o.stands;
       at = found.at ∙ ap (λ (l : Listing). l.at) (sym listing);
       publications = subst (λ (t : Lists). h.publications.items ≡ placed_from (t c s.epoch) (listed_above 0 limit s).low (listed_above 0 limit s).count) o.lists run;
-      shows = record {
-        namespaces = ns ∙ shows.namespaces;
-        waiting = o.waiting;
-        came = o.came;
-        epochs = o.epochs;
-        streams = shown-changed b.streams new.streams c (λ l. Some (life_or l e)) (life_at m) (life_at m1) ch shows.streams
-            (ap (λ (l : Life). Some l) o.life ∙ sym (ap (option_map (life_of (m1.lists c))) o.stands)) o.others;
-        standing = o.standing;
-        accepted = subst (λ v. AllZip (IsAccepted m1.lists) v.items m1.accepted) (sym accepted) o.accepted;
-        regular = subst (λ (t : Lists). (x i : List ℕ) → All IsDatum (t x i)) (sym o.lists) shows.regular;
-        bounded = subst (λ (t : Lists). (x i : List ℕ) → length (t x i) ≤ last_offset) (sym o.lists) shows.bounded;
-      };
+      shows = opened_shows table b new m m1 shows (stream_of b.streams c) c e o ns (λ l. Some (life_or l e)) ch (ap (λ (l : Life). Some l) o.life) accepted;
     }
 
 -- ---- an epoch comes
@@ -221,6 +294,7 @@ epoch_by table b m e new h letters false waiting came = record {
   accepted = h.accepted;
   regular = h.regular;
   bounded = h.bounded;
+  keyed = h.keyed;
 }
 
 pub epoch_shows : (table : NamespaceTable) (b : Code) (m : Broker) (e : List ℕ) (new : WaitingEpochs) → ShowsBroker table b m → IsEpoch e

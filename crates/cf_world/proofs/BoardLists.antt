@@ -1,16 +1,17 @@
 -- Lists that grow, and what was accepted into them.
-use Rattle.std.proofs.Common.{◌≡◌, ℕ, zero, suc, ◌+◌, Some, List, [], ◌∷◌, ◌++◌, length, slice_get, append_assoc, add-one, refl, sym, ap, subst, ◌∙◌}
+use Rattle.std.proofs.Common.{◌≡◌, ℕ, zero, suc, ◌+◌, Some, List, [], ◌∷◌, ◌++◌, length, length-append, slice_get, append_assoc, add-one, refl, sym, ap, subst, ◌∙◌}
 use Rattle.std.specs.List.{AllZip}
 use Rattle.std.specs.String.{string_bytes}
 use Rattle.std.proofs.lemmas.List.{append-nil}
 use Rattle.cf_protocol.specs.Datum.{Datum, Placed}
+use Rattle.cf_protocol.specs.Names.{with}
 use Rattle.cf_protocol.specs.Note.{Lists, placed_at}
 use Rattle.cf_protocol.specs.Regular.{IsPlaced, IsBody}
 use Rattle.cf_world.specs.BrokerTie.{IsAccepted, Stands}
 use Rattle.cf_hub.specs.InNotes.{Grown}
-use Rattle.cf_machine.specs.PublicationList.{Place, Broker, list_with, publication}
+use Rattle.cf_machine.specs.PublicationList.{Place, Broker, Keys, keys_with, list_with, publication}
 use Rattle.cf_world.specs.declared.broker.Accepted.{Accepted}
-use Rattle.cf_machine.proofs.Names.{itself, with-two}
+use Rattle.cf_machine.proofs.Names.{itself, with-both, with-two}
 
 pub grown-refl : (lists : Lists) → Grown lists lists
 grown-refl lists = record { later = λ c e. ([], sym (append-nil (lists c e))) }
@@ -32,6 +33,19 @@ grown-list_with lists c e d = record {
 
 pub listed_here : (lists : Lists) (c e : List ℕ) (d : Datum) → list_with c e d lists c e ≡ lists c e ++ d ∷ []
 listed_here lists c e d = rw (itself c, itself e) refl
+
+pub keyed_here : (keys : Keys) (c e key : List ℕ) → keys_with c e key keys c e ≡ keys c e ++ key ∷ []
+keyed_here keys c e key = rw (itself c, itself e) refl
+
+-- as many keys as data, with one more of both
+pub keyed-with : (lists : Lists) (keys : Keys) (c e key : List ℕ) (d : Datum) → ((x i : List ℕ) → length (keys x i) ≡ length (lists x i))
+    → (x i : List ℕ) → length (keys_with c e key keys x i) ≡ length (list_with c e d lists x i)
+keyed-with lists keys c e key d same x i =
+    with-both (λ x (f : List ℕ → List (List ℕ)) (g : List ℕ → List Datum). (i : List ℕ) → length (f i) ≡ length (g i)) keys lists c
+    (with (keys c) e (keys c e ++ key ∷ [])) (with (lists c) e (lists c e ++ d ∷ []))
+    (λ i. with-both (λ i (ks : List (List ℕ)) (ds : List Datum). length ks ≡ length ds) (keys c) (lists c) e (keys c e ++ key ∷ []) (lists c e ++ d ∷ [])
+    (length-append (keys c e) (key ∷ []) ∙ (ap (λ n. n + 1) (same c e) ∙ sym (length-append (lists c e) (d ∷ [])))) (λ i ne. same c i) i)
+    (λ x ne. same x) x i
 
 -- what was accepted stays where it is
 accepted-later : (old new : Lists) (a : Accepted) (p : Place) → Grown old new → IsAccepted old a p → IsAccepted new a p

@@ -18,8 +18,8 @@ use Rattle.cf_world.specs.ClientTie.{IsOwn, ShowsClient, ShowsPeer, Unseats}
 use Rattle.cf_world.specs.HubCalls.{AtHub, Gone}
 use Rattle.cf_world.specs.Tie.{AreTied, seats_of}
 use Rattle.cf_world.specs.declared.broker.Broker.{Broker as Code}
-use Rattle.cf_world.specs.declared.peers.Peer.{Peer}
-use Rattle.cf_world.specs.declared.peers.Seat.{Seat}
+use Rattle.cf_world.specs.declared.clients.Peer.{Peer}
+use Rattle.cf_world.specs.declared.clients.Seat.{Seat}
 use Rattle.cf_machine.proofs.Names.{with-both}
 use Rattle.cf_world.proofs.NodesTie.{detach_goes, seat_shows}
 use Rattle.cf_world.proofs.Served.{opens-away, rests}

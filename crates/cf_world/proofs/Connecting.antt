@@ -18,8 +18,8 @@ use Rattle.cf_world.specs.HubCalls.{Attaches, NoSeat, OneHub}
 use Rattle.cf_world.specs.NodesTie.{ShowsNodes, name_of}
 use Rattle.cf_world.specs.Tie.{AreTied, seats_of}
 use Rattle.cf_world.specs.declared.broker.Broker.{Broker as Code}
-use Rattle.cf_world.specs.declared.peers.Peer.{Peer}
-use Rattle.cf_world.specs.declared.peers.Seat.{Seat}
+use Rattle.cf_world.specs.declared.clients.Peer.{Peer}
+use Rattle.cf_world.specs.declared.clients.Seat.{Seat}
 use Rattle.cf_world.proofs.Breaking.{none-own, seats-with}
 use Rattle.cf_machine.proofs.Names.{with-both}
 use Rattle.cf_world.proofs.NodesTie.{attach_goes, away_shows, still_goes}

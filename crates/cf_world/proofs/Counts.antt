@@ -9,7 +9,7 @@ use Rattle.std.proofs.lemmas.Bool.Decides.{nat_tests}
 use Rattle.std.proofs.lemmas.Option.{same_Some}
 use Rattle.std.proofs.lemmas.List.Sums.{sum_by-cons}
 use Rattle.cf_protocol.specs.Names.{is_among}
-use Rattle.cf_followers.specs.Follows.{AreFollows, channels_of, follows}
+use Rattle.cf_subscribers.specs.Follows.{AreFollows, channels_of, follows}
 use Rattle.cf_hub.specs.Counts.{AreNumbersOnce, CountsAll, CountsSession, CountsSessions, IsHub}
 use Rattle.cf_hub.specs.Hub.{IsBounded, Node, attached_at, is_in, most_sessions}
 use Rattle.cf_hub.specs.Rows.{Agrees, sub_in}

@@ -71,7 +71,7 @@ with_id id e = record { id = id; request = e }
 abbrev pub passed_over : ClientRequest → Session → Session
 passed_over (Subscribe c from) s = s
 passed_over (Unsubscribe c) s = leaves c s
-passed_over (Publish c body) s = s
+passed_over (Publish c key body) s = s
 passed_over (History c limit) s = s
 
 -- no subscription to this channel waits for its reply
@@ -95,7 +95,7 @@ module _ (lists : Lists) (b : Broker) (id : ℕ) (l : ClientLink) where
       → hears (wording lists) true (with_id id e) [] (sends e l) ≡ after (with_id id e) (passed_over e l.session) l.channels l
   heard_over (Subscribe c from) q = unbegun c from (l.session.subs c) q
   heard_over (Unsubscribe c) q = refl
-  heard_over (Publish c body) q = refl
+  heard_over (Publish c key body) q = refl
   heard_over (History c limit) q = refl
 
   -- it is closed, or the text is too long, or an error answers
@@ -114,7 +114,7 @@ module _ (lists : Lists) (b : Broker) (id : ℕ) (l : ClientLink) where
   still-quiet : (e : ClientRequest) → IsQuiet e l.session → is_unfinished ((passed_over e l.session).subs (channel_of e)) ≡ false
   still-quiet (Subscribe c from) q = q
   still-quiet (Unsubscribe c) q = ap is_unfinished (with-same l.session.subs c Off)
-  still-quiet (Publish c body) q = q
+  still-quiet (Publish c key body) q = q
   still-quiet (History c limit) q = q
 
   pub met_refused : (e : ClientRequest) (code : ℕ) → IsQuiet e l.session
@@ -146,8 +146,8 @@ module _ (lists : Lists) (b : Broker) (id : ℕ) (l : ClientLink) where
   pub met_leave : (c : List ℕ) → met lists b (with_id id (Unsubscribe c)) Accepted l ≡ after (with_id id (Unsubscribe c)) (push (wording b.lists) (Left id) (leaves c l.session)) l.channels l
   met_leave c = refl
 
-  pub met_publish : (c body : List ℕ) → met lists b (with_id id (Publish c body)) Accepted l ≡ after (with_id id (Publish c body)) (push (wording b.lists) (PutDone id) l.session) l.channels l
-  met_publish c body = refl
+  pub met_publish : (c key body : List ℕ) → met lists b (with_id id (Publish c key body)) Accepted l ≡ after (with_id id (Publish c key body)) (push (wording b.lists) (PutDone id) l.session) l.channels l
+  met_publish c key body = refl
 
   pub met_history : (c : List ℕ) (limit : ℤ) (s : StreamState) → b.streams c ≡ Some s
       → met lists b (with_id id (History c limit)) Accepted l

@@ -18,15 +18,15 @@ use Rattle.cf_machine.specs.PublicationList.{Broker, can_open}
 use Rattle.cf_machine.specs.World.{World}
 use Rattle.cf_world.specs.BrokerTie.{ShowsBroker}
 use Rattle.cf_world.specs.ClientTie.{Becomes, request_by, sent_state}
-use Rattle.cf_world.specs.Errands.{event_by}
+use Rattle.cf_world.specs.ClientCommands.{event_by}
 use Rattle.cf_world.specs.Exchange.{IsGranted, Lists, Puts, asks_too_much}
 use Rattle.cf_world.specs.HubCalls.{Asks, AtHub, Hubs, LeftTold, who_in}
 use Rattle.cf_world.specs.NodesTie.{seated}
 use Rattle.cf_world.specs.Sending.{IsSent, Keeps}
 use Rattle.cf_world.specs.Tie.{AreTied}
 use Rattle.cf_world.specs.declared.broker.Broker.{Broker as Code}
-use Rattle.cf_world.specs.declared.errand.Errand.{Errand}
-use Rattle.cf_world.specs.declared.peers.Peer.{Peer}
+use Rattle.cf_world.specs.declared.client_command.ClientCommand.{ClientCommand}
+use Rattle.cf_world.specs.declared.clients.Peer.{Peer}
 use Rattle.cf_world.specs.declared.sending.Granted.{Granted}
 use Rattle.cf_world.specs.declared.world.World.{World as Whole}
 use Rattle.cf_world.proofs.Going.{Stays}
@@ -35,7 +35,7 @@ use Rattle.cf_world.proofs.Passing.{list-set-up}
 use Rattle.cf_world.proofs.Reading.{Missing}
 
 module _ {cfg : Config} {table : NamespaceTable} {b : Code} {hubs : ℕ → Option Node} {peers : List ℕ → Option Peer} {m : World}
-    (t : AreTied cfg table b hubs peers m) (x : List ℕ) (e : Errand) (mid : ℕ → Option Node) (peers' : List ℕ → Option Peer)
+    (t : AreTied cfg table b hubs peers m) (x : List ℕ) (e : ClientCommand) (mid : ℕ → Option Node) (peers' : List ℕ → Option Peer)
     (g : Granted) (sent : IsSent cfg m x e hubs mid peers peers' g) (stays : Stays)
     (calls : (lists : PublicationLists) → CallsAreAlike lists) (moves : (lists : PublicationLists) → MovesAreAlike lists) where
   abbrev p : Peer
@@ -85,18 +85,18 @@ module _ {cfg : Config} {table : NamespaceTable} {b : Code} {hubs : ℕ → Opti
       (leave_granted t x g.seat p sent.found sent.sits c peers' (becomes q is) stays calls moves (granted q is) n refl hubs'
       (as_before (λ (f : Hubs). AtHub g.seat.node (LeftTold g.seat.session c n) f hubs') (did n c (command q is))))
 
-  pub put_done : (c body : List ℕ) → asked ≡ Publish c body → AreFresh m.broker → IsBody body → (new : Code) (hubs' : ℕ → Option Node)
-      → ((id : ℕ) (channel text : List ℕ) → shown_command g.command ≡ command_of (record { id = id; request = Publish channel text }) → (namespaces : NamespaceTable) (shared : Broker)
-      → AreFresh shared → IsBody text → IsInfo (who_in (seated mid g.seat)) → ShowsBroker namespaces b shared → Puts namespaces shared g.seat channel text id new mid hubs')
+  pub put_done : (c key body : List ℕ) → asked ≡ Publish c key body → AreFresh m.broker → IsBody body → (new : Code) (hubs' : ℕ → Option Node)
+      → ((id : ℕ) (channel under text : List ℕ) → shown_command g.command ≡ command_of (record { id = id; request = Publish channel under text }) → (namespaces : NamespaceTable) (shared : Broker)
+      → AreFresh shared → IsBody text → IsInfo (who_in (seated mid g.seat)) → ShowsBroker namespaces b shared → Puts namespaces shared g.seat channel under text id new mid hubs')
       → AreTied cfg table new hubs' peers' (happens cfg m (event_by e x))
-  put_done c body is fresh is_body new hubs' did =
-      let q : ClientRequest = Publish c body in
+  put_done c key body is fresh is_body new hubs' did =
+      let q : ClientRequest = Publish c key body in
       let n : ℕ = (m.links x).client.fresh in
-      let info : IsInfo (who_in (seated hubs g.seat)) = info_regular t x g.seat p sent.found sent.sits c body peers' (becomes q is) stays calls moves (granted q is) in
+      let info : IsInfo (who_in (seated hubs g.seat)) = info_regular t x g.seat p sent.found sent.sits c key body peers' (becomes q is) stays calls moves (granted q is) in
       let here : IsInfo (who_in (seated mid g.seat)) = subst (λ (f : Hubs). IsInfo (who_in (seated f g.seat))) (λ i j. sym (sent.same j) i) info in
       happened q is new hubs'
-      (put_granted t x g.seat p sent.found sent.sits c body peers' (becomes q is) stays calls moves (granted q is) n refl (not-false (can_open c m.broker) (opens q is)) new hubs'
-      (as_before (λ (f : Hubs). Puts cfg.namespaces m.broker g.seat c body n new f hubs') (did n c body (command q is) cfg.namespaces m.broker fresh is_body here t.broker)))
+      (put_granted t x g.seat p sent.found sent.sits c key body peers' (becomes q is) stays calls moves (granted q is) n refl (not-false (can_open c m.broker) (opens q is)) new hubs'
+      (as_before (λ (f : Hubs). Puts cfg.namespaces m.broker g.seat c key body n new f hubs') (did n c key body (command q is) cfg.namespaces m.broker fresh is_body here t.broker)))
 
   pub list_done : (c : List ℕ) (limit : ℤ) → asked ≡ History c limit → AreFresh m.broker → Missing → (new : Code) (hubs' : ℕ → Option Node)
       → ((id : ℕ) (channel : List ℕ) (most : ℤ) → shown_command g.command ≡ command_of (record { id = id; request = History channel most }) → (namespaces : NamespaceTable) (shared : Broker)

@@ -18,8 +18,8 @@ use Rattle.cf_world.specs.ClientTie.{Becomes, IsOwn, ShowsClient, ShowsPeer, sen
 use Rattle.cf_world.specs.NodesTie.{ShowsNodes, name_of}
 use Rattle.cf_world.specs.Tie.{AreTied, seats_of}
 use Rattle.cf_world.specs.declared.broker.Broker.{Broker as Code}
-use Rattle.cf_world.specs.declared.peers.Peer.{Peer}
-use Rattle.cf_world.specs.declared.peers.Seat.{Seat}
+use Rattle.cf_world.specs.declared.clients.Peer.{Peer}
+use Rattle.cf_world.specs.declared.clients.Seat.{Seat}
 use Rattle.cf_world.proofs.Breaking.{seats-with}
 use Rattle.cf_world.proofs.Exchanged.{after}
 use Rattle.cf_world.proofs.Going.{Stays}
@@ -32,13 +32,13 @@ use Rattle.cf_world.proofs.Sitting.{client_here, seat_here}
 sent-client : (e : ClientRequest) (s : State) → (sent_state e s).client ≡ client_sends e s.client
 sent-client (Subscribe c from) s = refl
 sent-client (Unsubscribe c) s = refl
-sent-client (Publish c body) s = refl
+sent-client (Publish c key body) s = refl
 sent-client (History c limit) s = refl
 
 sent-connected : (e : ClientRequest) (s : State) → (sent_state e s).connected ≡ s.connected
 sent-connected (Subscribe c from) s = refl
 sent-connected (Unsubscribe c) s = refl
-sent-connected (Publish c body) s = refl
+sent-connected (Publish c key body) s = refl
 sent-connected (History c limit) s = refl
 
 -- a seat that is set to what it is stays

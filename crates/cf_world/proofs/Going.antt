@@ -1,20 +1,21 @@
 -- The world goes on with the machine: what an event at the broker leaves.
-use Rattle.std.proofs.Common.{◌≡◌, ℕ, ◌==◌, ◌||◌, Bool, true, false, Option, Some, None, List, [], ◌∷◌, length, nat_lt, refl, if◌then◌else◌}
+use Rattle.std.proofs.Common.{◌≡◌, ℕ, ◌==◌, ◌&&◌, ◌||◌, not, is_some, Bool, true, false, Option, Some, None, List, [], ◌∷◌, length, nat_lt, refl, ap, ◌∙◌, if◌then◌else◌}
 use Rattle.cf_protocol.specs.Datum.{Datum}
 use Rattle.cf_protocol.specs.Names.{is_among}
 use Rattle.cf_protocol.specs.Note.{Lists}
 use Rattle.cf_protocol.specs.Settings.{NamespaceTable}
+use Rattle.cf_stream.specs.Keys.{repeat_of}
 use Rattle.cf_stream.specs.StreamState.{StreamState, last_offset}
 use Rattle.cf_hub.specs.AlikeMoves.{Notes, Texts}
 use Rattle.cf_hub.specs.Hub.{Node}
 use Rattle.cf_hub.specs.InNotes.{Grown, SaysSession}
 use Rattle.cf_machine.specs.Config.{Config}
-use Rattle.cf_machine.specs.PublicationList.{Broker, add_at, epoch_comes, open_at, opened, publish, trim, trim_at}
+use Rattle.cf_machine.specs.PublicationList.{Broker, add_at, epoch_comes, is_repeat, open_at, opened, publish, repeats, trim, trim_at}
 use Rattle.cf_machine.specs.World.{World, broker_with}
 use Rattle.cf_world.specs.BrokerTie.{ShowsBroker}
 use Rattle.cf_world.specs.Tie.{AreTied}
 use Rattle.cf_world.specs.declared.broker.Broker.{Broker as Code}
-use Rattle.cf_world.specs.declared.peers.Peer.{Peer}
+use Rattle.cf_world.specs.declared.clients.Peer.{Peer}
 use Rattle.cf_world.proofs.BoardLists.{grown-list_with, grown-refl, grown-trans}
 use Rattle.cf_machine.proofs.Names.{by_test}
 use Rattle.cf_world.proofs.NodesTie.{lists_grow}
@@ -31,13 +32,31 @@ grown-open_at c None (e ∷ es) b = grown-refl b.lists
 pub grown-opened : (c : List ℕ) (b : Broker) → Grown b.lists (opened c b).lists
 grown-opened c b = grown-open_at c (b.streams c) b.waiting b
 
-grown-add : (size : ℕ) (c : List ℕ) (d : Datum) (s : Option StreamState) (b : Broker) → Grown b.lists (add_at size c d s b).lists
-grown-add size c d None b = grown-refl b.lists
-grown-add size c d (Some s) b =
-    by_test (λ (m : Broker). Grown b.lists m.lists) (nat_lt s.top last_offset) _ b (λ t. grown-list_with b.lists c s.epoch d) (λ t. grown-refl b.lists)
+grown-add : (size : ℕ) (c key : List ℕ) (d : Datum) (s : Option StreamState) (b : Broker) → Grown b.lists (add_at size c key d s b).lists
+grown-add size c key d None b = grown-refl b.lists
+grown-add size c key d (Some s) b =
+    by_test (λ (m : Broker). Grown b.lists m.lists) (not (is_some (repeat_of key (b.keys c s.epoch))) && nat_lt s.top last_offset) _ b
+    (λ t. grown-list_with b.lists c s.epoch d) (λ t. grown-refl b.lists)
 
-pub grown-publish : (size : ℕ) (c : List ℕ) (d : Datum) (b : Broker) → Grown b.lists (publish size c d b).lists
-grown-publish size c d b = grown-trans b.lists (opened c b).lists (publish size c d b).lists (grown-opened c b) (grown-add size c d ((opened c b).streams c) (opened c b))
+pub grown-publish : (size : ℕ) (c key : List ℕ) (d : Datum) (b : Broker) → Grown b.lists (publish size c key d b).lists
+grown-publish size c key d b =
+    grown-trans b.lists (opened c b).lists (publish size c key d b).lists (grown-opened c b) (grown-add size c key d ((opened c b).streams c) (opened c b))
+
+-- A REPEAT leaves all as it was
+given-again : {A : Type 0} (repeated room : Bool) (x y : A) → repeated ≡ true → (if not repeated && room then x else y) ≡ y
+given-again true room x y h = refl
+given-again false room x y h = absurd (cc)
+
+module _ (size : ℕ) (c key : List ℕ) (d : Datum) (b : Broker) where
+  repeat-by : (o : Option StreamState) → b.streams c ≡ o → repeats b.keys c key o ≡ true → publish size c key d b ≡ b
+  repeat-by None e h = absurd (cc)
+  repeat-by (Some s) e h =
+      ap (λ (m : Broker). add_at size c key d (m.streams c) m) (ap (λ (y : Option StreamState). open_at c y b.waiting b) e)
+      ∙ (ap (λ (y : Option StreamState). add_at size c key d y b) e
+      ∙ given-again (is_some (repeat_of key (b.keys c s.epoch))) (nat_lt s.top last_offset) _ b h)
+
+  pub publish-repeat : is_repeat c key b ≡ true → publish size c key d b ≡ b
+  publish-repeat h = repeat-by (b.streams c) refl h
 
 pub grown-trim : (c : List ℕ) (k : ℕ) (b : Broker) → Grown b.lists (trim c k b).lists
 grown-trim c k b = trim_by (b.streams c)

@@ -1,5 +1,5 @@
 -- A command that passed its checks is carried out, and the world goes on with the machine.
-use Rattle.std.proofs.Common.{◌≡◌, ◌≤◌, ◌+◌, inl, inr, ℕ, ℤ, not, Bool, true, false, if◌then◌else◌, is_some, Option, Some, None, option_map, List, [], length, arith, refl, sym, ap, ◌∙◌, subst}
+use Rattle.std.proofs.Common.{◌≡◌, ◌≤◌, ◌+◌, ◌&&◌, inl, inr, ℕ, ℤ, not, Bool, true, false, if◌then◌else◌, is_some, Option, Some, None, option_map, List, [], length, arith, refl, sym, ap, ◌∙◌, subst}
 use Rattle.std.proofs.lemmas.Bool.{both_ways}
 use Rattle.std.proofs.lemmas.Bool.Decides.{nat_tests}
 use Rattle.std.proofs.lemmas.Option.{none-some, same_Some}
@@ -33,7 +33,7 @@ use Rattle.cf_machine.specs.ClientLink.{ClientLink}
 use Rattle.cf_machine.specs.ClientRequest.{ClientRequest, SentCommand, Subscribe, Unsubscribe, Publish, History as ListHistory, channel_of}
 use Rattle.cf_machine.specs.Config.{Config}
 use Rattle.cf_machine.specs.IntervalMachine.{broker_by, command_by, datum_by, exchange, judgement, size_of}
-use Rattle.cf_machine.specs.PublicationList.{Broker, can_open, opened, publish}
+use Rattle.cf_machine.specs.PublicationList.{Broker, at_last_offset, can_open, is_repeat, opened, publish}
 use Rattle.cf_machine.specs.Refusals.{Accepted, Judgement, Refused, TooLong, Unheard, has_no_room, refusal_of, refused_with, subscribe_refusal}
 use Rattle.cf_machine.specs.Session.{Session}
 use Rattle.cf_machine.specs.World.{World}
@@ -41,20 +41,20 @@ use Rattle.cf_machine.proofs.Brokering.{lists-opened}
 use Rattle.cf_world.specs.BrokerTie.{Histories, IsStanding, Publishes, ShowsBroker}
 use Rattle.cf_world.specs.ClientTie.{Becomes, IsOwn, ShowsPeer, sent_state}
 use Rattle.cf_world.specs.Exchange.{IsGranted, Lists, Puts, PutAnswered, ListAnswered}
-use Rattle.cf_world.specs.HubCalls.{AskedTooMuch, AskedTwice, Asks, AtHub, Began, Hubs, LeftTold, OneHub, Told, error_text, reply_text, who_in}
+use Rattle.cf_world.specs.HubCalls.{Answered, AskedTooMuch, AskedTwice, Asks, AtHub, Began, Hubs, LeftTold, OneHub, Told, error_text, reply_text, who_in}
 use Rattle.cf_world.specs.NodesTie.{IsSeated, name_of, seated, session_in}
 use Rattle.cf_world.specs.Tie.{AreTied}
 use Rattle.cf_world.specs.declared.broker.Broker.{Broker as Code}
 use Rattle.cf_world.specs.declared.broker.Published.{Published}
 use Rattle.cf_world.specs.declared.broker.Published.TheVariants as outcome
-use Rattle.cf_world.specs.declared.peers.Peer.{Peer}
-use Rattle.cf_world.specs.declared.peers.Seat.{Seat}
+use Rattle.cf_world.specs.declared.clients.Peer.{Peer}
+use Rattle.cf_world.specs.declared.clients.Seat.{Seat}
 use Rattle.cf_world.proofs.Answering.{answer_goes, begin_goes}
 use Rattle.cf_world.proofs.BoardLists.{grown-refl}
 use Rattle.cf_world.proofs.Ends.{Keeps, leaves_keeps, push_keeps}
 use Rattle.cf_world.proofs.Exchanged.{after, exchange_as, met, met_ask, met_history, met_refused}
 use Rattle.cf_world.proofs.Exchanging.{exchange_goes, sat}
-use Rattle.cf_world.proofs.Going.{Stays, grown-opened, grown-publish}
+use Rattle.cf_world.proofs.Going.{Stays, grown-opened, grown-publish, publish-repeat}
 use Rattle.cf_world.proofs.Looking.{off_at, off_is, open_at}
 use Rattle.cf_world.proofs.NodesTie.{link_goes, met_name, one_name, seat_shows}
 use Rattle.cf_world.proofs.Owned.{push-own}
@@ -250,12 +250,25 @@ module _ {cfg : Config} {table : NamespaceTable} {b : Code} {hubs : ℕ → Opti
 
 -- ---- a publish
 
+-- a publish is refused where the stream is at its last offset, and it is no repeat
+unfull : (repeated full : Bool) → full ≡ false → (if not repeated && full then Some AtLastOffset else None) ≡ None
+unfull true full h = refl
+unfull false full h = ap (λ (t : Bool). if t then Some AtLastOffset else None) h
+
+unrefused : (repeated full : Bool) → repeated ≡ true → (if not repeated && full then Some AtLastOffset else None) ≡ None
+unrefused true full h = refl
+unrefused false full h = absurd (cc)
+
+refused-full : (repeated full : Bool) → repeated ≡ false → full ≡ true → (if not repeated && full then Some AtLastOffset else None) ≡ Some AtLastOffset
+refused-full true full h k = absurd (cc)
+refused-full false full h k = ap (λ (t : Bool). if t then Some AtLastOffset else None) k
+
 module _ {cfg : Config} {table : NamespaceTable} {b : Code} {hubs : ℕ → Option Node} {peers : List ℕ → Option Peer} {m : World}
     (t : AreTied cfg table b hubs peers m) (x : List ℕ) (s : Seat) (p : Peer) (found : peers x ≡ Some p) (sits : p.seat ≡ Some s)
-    (c body : List ℕ) (peers' : List ℕ → Option Peer) (becomes : Becomes x p (sent_state (Publish c body) (state_of p.client)) peers peers')
-    (stays : Stays) (calls : (lists : PublicationLists) → CallsAreAlike lists) (moves : (lists : PublicationLists) → MovesAreAlike lists) (g : IsGranted cfg m x p (Publish c body)) where
+    (c key body : List ℕ) (peers' : List ℕ → Option Peer) (becomes : Becomes x p (sent_state (Publish c key body) (state_of p.client)) peers peers')
+    (stays : Stays) (calls : (lists : PublicationLists) → CallsAreAlike lists) (moves : (lists : PublicationLists) → MovesAreAlike lists) (g : IsGranted cfg m x p (Publish c key body)) where
   abbrev puts : ClientRequest
-  puts = Publish c body
+  puts = Publish c key body
 
   abbrev datum : Datum
   datum = record { body = body; info = who_in (seated hubs s) }
@@ -268,23 +281,33 @@ module _ {cfg : Config} {table : NamespaceTable} {b : Code} {hubs : ℕ → Opti
   pub info_regular : IsInfo (who_in (seated hubs s))
   info_regular = subst IsInfo (sym (who_is (seated hubs s) (m.links x).name (seat t x s p found sits puts peers' becomes stays calls moves g).name)) (seat t x s p found sits puts peers' becomes stays calls moves g).named
 
-  by_result : (new : Code) (hubs' : ℕ → Option Node) → can_open c m.broker ≡ true → (r : Published) → Publishes cfg.namespaces m.broker c datum new r → PutAnswered r s (m.links x).client.fresh hubs hubs' → AreTied cfg table new hubs' peers' (exchange cfg x puts m)
-  by_result new hubs' can outcome.Accepted y at =
-      let after_it : Broker = publish (size_of cfg c) c (datum_by (m.links x) body) m.broker in
+  -- it was carried out, and the client is told
+  done : (new : Code) (hubs' : ℕ → Option Node) → refusal_of puts (m.links x) m ≡ None → ShowsBroker cfg.namespaces new (publish (size_of cfg c m.broker) c key (datum_by (m.links x) body) m.broker)
+      → Answered s (m.links x).client.fresh PublishedOutcome hubs hubs' → AreTied cfg table new hubs' peers' (exchange cfg x puts m)
+  done new hubs' none shows at =
+      let after_it : Broker = publish (size_of cfg c m.broker) c key (datum_by (m.links x) body) m.broker in
       ends t x s p found sits puts peers' becomes stays calls moves g new hubs' Accepted
-      (by_hub t x s p found sits puts peers' becomes stays calls moves g None (ap (λ (full : Bool). if full then Some AtLastOffset else None) y.2))
-      (answer_goes t x s p found sits (command_by x puts m) peers' becomes stays new after_it (grown-publish (size_of cfg c) c (datum_by (m.links x) body) m.broker)
-      (subst (λ (d : Datum). ShowsBroker cfg.namespaces new (publish (size_of cfg c) c d m.broker)) datum_is y.3) (calls after_it.lists) (moves after_it.lists)
+      (by_hub t x s p found sits puts peers' becomes stays calls moves g None none)
+      (answer_goes t x s p found sits (command_by x puts m) peers' becomes stays new after_it (grown-publish (size_of cfg c m.broker) c key (datum_by (m.links x) body) m.broker)
+      shows (calls after_it.lists) (moves after_it.lists)
       (reply_text (m.links x).client.fresh PublishedOutcome) (PutDone (m.links x).client.fresh)
       (says_put after_it.lists (m.links x).client.fresh (code t x s p found sits puts peers' becomes stays calls moves g)) tt hubs' at)
+
+  by_result : (new : Code) (hubs' : ℕ → Option Node) → can_open c m.broker ≡ true → (r : Published) → Publishes cfg.namespaces m.broker c key datum new r → PutAnswered r s (m.links x).client.fresh hubs hubs' → AreTied cfg table new hubs' peers' (exchange cfg x puts m)
+  by_result new hubs' can outcome.Accepted y at =
+      done new hubs' (unfull (is_repeat c key m.broker) (at_last_offset c m.broker) y.3)
+      (subst (λ (d : Datum). ShowsBroker cfg.namespaces new (publish (size_of cfg c m.broker) c key d m.broker)) datum_is y.4) at
+  by_result new hubs' can outcome.Repeated y at =
+      done new hubs' (unrefused (is_repeat c key m.broker) (at_last_offset c m.broker) y.2)
+      (subst (λ (b : Broker). ShowsBroker cfg.namespaces new b) (sym (publish-repeat (size_of cfg c m.broker) c key (datum_by (m.links x) body) m.broker y.2)) y.3) at
   by_result new hubs' can outcome.AtLastOffset y at =
-      errs t x s p found sits puts peers' becomes stays calls moves g new hubs' y.2 AtLastOffset (ap (λ (full : Bool). if full then Some AtLastOffset else None) y.1) at (omega arith, omega arith)
+      errs t x s p found sits puts peers' becomes stays calls moves g new hubs' y.3 AtLastOffset (refused-full (is_repeat c key m.broker) (at_last_offset c m.broker) y.1 y.2) at (omega arith, omega arith)
       (met_refused m.broker.lists m.broker (m.links x).client.fresh (m.links x) puts (code_of error.LimitExceeded) (g.quiet c))
   by_result new hubs' can outcome.NoEpoch y at = absurd (both_ways (can_open c m.broker) y.0 can)
-  by_result new hubs' can outcome.NotSetUp y at = absurd (both_ways (is_some (settings_of cfg.namespaces c)) (ap is_some y.0) (publish-set-up cfg.namespaces c body g.checked))
+  by_result new hubs' can outcome.NotSetUp y at = absurd (both_ways (is_some (settings_of cfg.namespaces c)) (ap is_some y.0) (publish-set-up cfg.namespaces c key body g.checked))
 
   -- A CLIENT PUBLISHES
-  pub put_granted : (id : ℕ) → id ≡ (m.links x).client.fresh → can_open c m.broker ≡ true → (new : Code) (hubs' : ℕ → Option Node) → Puts cfg.namespaces m.broker s c body id new hubs hubs' → AreTied cfg table new hubs' peers' (exchange cfg x puts m)
+  pub put_granted : (id : ℕ) → id ≡ (m.links x).client.fresh → can_open c m.broker ≡ true → (new : Code) (hubs' : ℕ → Option Node) → Puts cfg.namespaces m.broker s c key body id new hubs hubs' → AreTied cfg table new hubs' peers' (exchange cfg x puts m)
   put_granted id is can new hubs' y = by_result new hubs' can y.result y.publishes (subst (λ (i : ℕ). PutAnswered y.result s i hubs hubs') is y.answered)
 
 -- ---- a history

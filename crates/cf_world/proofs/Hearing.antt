@@ -31,8 +31,8 @@ use Rattle.cf_world.specs.HubCalls.{AreSame, AtHub, Closed, Told}
 use Rattle.cf_world.specs.NodesTie.{IsSeated, seated}
 use Rattle.cf_world.specs.Tie.{AreTied}
 use Rattle.cf_world.specs.declared.broker.Broker.{Broker as Code}
-use Rattle.cf_world.specs.declared.peers.Peer.{Peer}
-use Rattle.cf_world.specs.declared.peers.Seat.{Seat}
+use Rattle.cf_world.specs.declared.clients.Peer.{Peer}
+use Rattle.cf_world.specs.declared.clients.Seat.{Seat}
 use Rattle.cf_world.proofs.Answering.{answer_goes, close_goes, goes_by, judged_by_checks, judged_too_long, judged_unheard}
 use Rattle.cf_world.proofs.BoardLists.{grown-refl}
 use Rattle.cf_world.proofs.Ends.{stays_keeps}
@@ -61,19 +61,19 @@ left_same c d h = λ i. record d { subs = λ y. by_name y i }
 abbrev pub HasNoChannel : ClientRequest → Session → Type 0
 HasNoChannel (Subscribe c from) d = Unit {0}
 HasNoChannel (Unsubscribe c) d = is_off (d.subs c) ≡ true
-HasNoChannel (Publish c body) d = Unit {0}
+HasNoChannel (Publish c key body) d = Unit {0}
 HasNoChannel (History c limit) d = Unit {0}
 
 passed_same : (e : ClientRequest) (d : Session) → HasNoChannel e d → passed_over e d ≡ d
 passed_same (Subscribe c from) d h = refl
 passed_same (Unsubscribe c) d h = left_same c d h
-passed_same (Publish c body) d h = refl
+passed_same (Publish c key body) d h = refl
 passed_same (History c limit) d h = refl
 
 closes_same : (n : Note) (e : ClientRequest) (d : Session) → d.closed ≡ false → closes_now n (passed_over e d) ≡ closes_now n d
 closes_same n (Subscribe c from) d h = refl
 closes_same n (Unsubscribe c) d h = rw h refl
-closes_same n (Publish c body) d h = refl
+closes_same n (Publish c key body) d h = refl
 closes_same n (History c limit) d h = refl
 
 closes_own : (s : State) (n : Note) (d : Session) → IsOwn s n → All (IsOwn s) d.notes → All (IsOwn s) (closes_now n d).notes
@@ -125,7 +125,7 @@ module _ {cfg : Config} {table : NamespaceTable} {b : Code} {hubs : ℕ → Opti
   shut_off : (e : ClientRequest) → (m.links x).session.closed ≡ true → HasNoChannel e (m.links x).session
   shut_off (Subscribe c from) h = tt
   shut_off (Unsubscribe c) h = seat.shut h c
-  shut_off (Publish c body) h = tt
+  shut_off (Publish c key body) h = tt
   shut_off (History c limit) h = tt
 
   pub unheard_goes : (m.links x).session.closed ≡ true → (hubs' : ℕ → Option Node) → AreSame hubs hubs' → AreTied cfg table b hubs' peers' (exchange cfg x e m)
@@ -157,7 +157,7 @@ module _ {cfg : Config} {table : NamespaceTable} {b : Code} {hubs : ℕ → Opti
         not_both : (bad : Bool) (rest : Option ErrorCode) → bad ≡ true → (if bad then Some error.BadRequest else rest) ≡ None → ⊥
         not_both true rest h k = absurd (cc)
         not_both false rest h k = absurd (cc)
-    no_channel (Publish c body) code h = tt
+    no_channel (Publish c key body) code h = tt
     no_channel (History c limit) code h = tt
 
     pub refused_goes : nat_lt longest_text (command_length (command_of k)) ≡ false → (code : ErrorCode) → first_failed (checks cfg.namespaces (request_of e)) ≡ Some code

@@ -17,8 +17,8 @@ use Rattle.cf_world.specs.ClientTie.{IsOwn, LeavesAs, LeavesNode, ShowsClient, i
 use Rattle.cf_world.specs.HubCalls.{AtHub, Renewed}
 use Rattle.cf_world.specs.Tie.{AreTied, seats_of}
 use Rattle.cf_world.specs.declared.broker.Broker.{Broker as Code}
-use Rattle.cf_world.specs.declared.peers.Peer.{Peer}
-use Rattle.cf_world.specs.declared.peers.Seat.{Seat}
+use Rattle.cf_world.specs.declared.clients.Peer.{Peer}
+use Rattle.cf_world.specs.declared.clients.Seat.{Seat}
 use Rattle.cf_world.proofs.Breaking.{none-own}
 use Rattle.cf_world.proofs.NodesTie.{away_shows, restart_goes, seat_shows}
 use Rattle.cf_world.proofs.Served.{rests}

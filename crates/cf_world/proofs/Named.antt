@@ -10,7 +10,7 @@ use Rattle.cf_protocol.specs.Names.{with}
 use Rattle.cf_client.specs.ClientCalls.{RefusedBy}
 use Rattle.cf_client.specs.declared.fault.ClientFault.{ClientFault}
 use Rattle.cf_client.specs.declared.fault.ClientFault.TheVariants.{Memory}
-use Rattle.cf_world.specs.declared.peers.Peer.{Peer}
+use Rattle.cf_world.specs.declared.clients.Peer.{Peer}
 
 turned : (a b : List ℕ) → bytes_eq a b ≡ bytes_eq b a
 turned a b = same_from_decides (bytes_eq a b) (bytes_eq b a) (bytes_decides a b) (Decides-like (bytes_eq b a) sym sym (bytes_decides b a))

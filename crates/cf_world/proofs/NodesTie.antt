@@ -10,7 +10,7 @@ use Rattle.cf_protocol.specs.Names.{with, is_among, and_also}
 use Rattle.cf_protocol.specs.Note.{Lists}
 use Rattle.cf_protocol.specs.Position.{Position}
 use Rattle.cf_protocol.specs.Settings.{NamespaceTable}
-use Rattle.cf_followers.specs.Follows.{AreFollows}
+use Rattle.cf_subscribers.specs.Follows.{AreFollows}
 use Rattle.cf_hub.specs.Alike.{AlikeSub}
 use Rattle.cf_hub.specs.AlikeMoves.{CallsAreAlike, Texts}
 use Rattle.cf_hub.specs.Hub.{Delivers, InState, IsBounded, Meets, Node, One, Opens, OthersStay, SameNode, SameRest, attached_at, client_id, empty, is_in, largest, moves}
@@ -30,7 +30,7 @@ use Rattle.cf_machine.specs.Session.{Session, Sub, Words}
 use Rattle.cf_machine.specs.World.{World, broker_with, link_with, on_node, with_at}
 use Rattle.cf_world.specs.ClientTie.{leave_node}
 use Rattle.cf_world.specs.NodesTie.{IsAway, IsNode, IsSeated, IsShutOff, MayAsk, ShowsLink, ShowsNodes, name_of, seated, session_in}
-use Rattle.cf_world.specs.declared.peers.Seat.{Seat}
+use Rattle.cf_world.specs.declared.clients.Seat.{Seat}
 use Rattle.cf_world.proofs.Counts.{Seats}
 use Rattle.cf_world.proofs.Ends.{Keeps, comes_keeps}
 use Rattle.cf_world.proofs.Looking.{attached, off_at}

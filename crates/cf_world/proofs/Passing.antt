@@ -1,8 +1,8 @@
 -- What a command has that passes its checks, and whether it would open a stream while no epoch waits.
-use Rattle.std.proofs.Common.{◌≡◌, ℕ, ℤ, ◌&&◌, not, nat_lt, Bool, true, false, if◌then◌else◌, is_some, IsSome, Option, Some, None, option_map, List, [], ◌∷◌, refl, sym, ap, ◌∙◌, length}
+use Rattle.std.proofs.Common.{◌≡◌, ℕ, ℤ, ◌&&◌, ◌||◌, not, nat_lt, Bool, true, false, if◌then◌else◌, is_some, IsSome, Option, Some, None, option_map, List, [], ◌∷◌, refl, sym, ap, ◌∙◌, length}
 use Rattle.std.proofs.Math.Bool.{and-false, and-true}
 use Rattle.std.proofs.lemmas.Bool.{and_right, not-false, not-true}
-use Rattle.cf_protocol.specs.Checks.{Check, Refusal, AtLastOffset, checks, first_failed, is_bad_channel, longest_text, refusal_code, set_up, well_named}
+use Rattle.cf_protocol.specs.Checks.{Check, Refusal, AtLastOffset, checks, first_failed, is_bad_channel, is_bad_data, is_bad_key, longest_text, refusal_code, set_up, well_named}
 use Rattle.cf_protocol.specs.Request as request
 use Rattle.cf_protocol.specs.Request.{Command}
 use Rattle.cf_protocol.specs.Settings.{NamespaceTable, settings_of}
@@ -15,15 +15,15 @@ use Rattle.cf_machine.specs.ClientLink.{ClientLink}
 use Rattle.cf_machine.specs.ClientRequest.{ClientRequest, SentCommand, Subscribe, Unsubscribe, Publish, History, command_of, request_of}
 use Rattle.cf_machine.specs.Config.{Config}
 use Rattle.cf_machine.specs.IntervalMachine.{command_by, judgement, lacks_epoch}
-use Rattle.cf_machine.specs.PublicationList.{Broker, can_open, is_full, stands_or_opens}
+use Rattle.cf_machine.specs.PublicationList.{Broker, at_last_offset, can_open, is_full, is_repeat, stands_or_opens}
 use Rattle.cf_machine.specs.Refusals.{Accepted, TooLong, Unheard, refusal_of, refused_with}
 use Rattle.cf_machine.specs.Weights.{command_length}
 use Rattle.cf_machine.specs.World.{World}
 use Rattle.cf_world.specs.ClientTie.{request_by}
 use Rattle.cf_world.specs.Exchange.{asks_too_much, lacks_by, passes, sent_by}
 use Rattle.cf_world.specs.NodesTie.{MayAsk}
-use Rattle.cf_world.specs.declared.errand.Errand.{Errand}
-use Rattle.cf_world.specs.declared.peers.Peer.{Peer}
+use Rattle.cf_world.specs.declared.client_command.ClientCommand.{ClientCommand}
+use Rattle.cf_world.specs.declared.clients.Peer.{Peer}
 
 pub length_is : (k : Command) → command_length k ≡ length (command_text k)
 unfolding command_length
@@ -54,8 +54,11 @@ asks-too false false e f rest h = refl
 pub list-set-up : (table : NamespaceTable) (c : List ℕ) (limit : ℤ) → first_failed (checks table (request_of (History c limit))) ≡ None → IsSome (settings_of table c)
 list-set-up table c limit h = set-up table c (asks-too (is_bad_channel c) (not (is_some (settings_of table c))) _ _ _ h)
 
-pub publish-set-up : (table : NamespaceTable) (c body : List ℕ) → first_failed (checks table (request_of (Publish c body))) ≡ None → IsSome (settings_of table c)
-publish-set-up table c body h = set-up table c (asks-too (is_bad_channel c) (not (is_some (settings_of table c))) _ _ _ h)
+pub publish-set-up : (table : NamespaceTable) (c key body : List ℕ) → first_failed (checks table (request_of (Publish c key body))) ≡ None → IsSome (settings_of table c)
+publish-set-up table c key body h =
+    let named = first-passes (is_bad_channel c) _ _ h in
+    let short = first-passes (is_bad_key key || is_bad_data (request.Body body)) _ _ named.1 in
+    not-false (is_some (settings_of table c)) (first-passes (not (is_some (settings_of table c))) _ _ short.1).0
 
 -- ---- it would open a stream while no epoch waits
 
@@ -69,13 +72,15 @@ module _ (l : ClientLink) (w : World) where
   unrefused : (e : ClientRequest) → asks_too_much e w.broker ≡ true → refusal_of e l w ≡ None
   unrefused (Subscribe c from) h = absurd (cc)
   unrefused (Unsubscribe c) h = absurd (cc)
-  unrefused (Publish c body) h = ap (λ (b : Bool). if b then Some AtLastOffset else None) (unopened (w.broker.streams c) w.broker.waiting (not-true (can_open c w.broker) h))
+  unrefused (Publish c key body) h =
+      ap (λ (b : Bool). if b then Some AtLastOffset else None)
+      (and_right (not (is_repeat c key w.broker)) (at_last_offset c w.broker) (unopened (w.broker.streams c) w.broker.waiting (not-true (can_open c w.broker) h)))
   unrefused (History c limit) h = refl
 
 accepted-lacks : (e : ClientRequest) (b : Broker) → lacks_epoch Accepted e b ≡ asks_too_much e b
 accepted-lacks (Subscribe c from) b = refl
 accepted-lacks (Unsubscribe c) b = refl
-accepted-lacks (Publish c body) b = refl
+accepted-lacks (Publish c key body) b = refl
 accepted-lacks (History c limit) b = refl
 
 module _ (e : ClientRequest) (b : Broker) where
@@ -104,24 +109,24 @@ lacks_is cfg m x e =
     by_judgement e m.broker (m.links x).session.closed (nat_lt longest_text (command_length (command_of k))) (first_failed (checks cfg.namespaces (request_of e))) (refusal_of e (m.links x) m) (unrefused (m.links x) m e)
     ∙ ap (λ (n : ℕ). (asks_too_much e m.broker && (not (is_some (first_failed (checks cfg.namespaces (request_of e)))) && not (nat_lt longest_text n))) && not (m.links x).session.closed) (length_is (command_of k))
 
--- ---- the same of an errand, by the request that it would be
+-- ---- the same of a command, by the request that it would be
 
-module _ (table : NamespaceTable) (errand : Errand) (p : Peer) (m : Broker) (c : List ℕ) where
+module _ (table : NamespaceTable) (command : ClientCommand) (p : Peer) (m : Broker) (c : List ℕ) where
   abbrev client : Client
   client = (state_of p.client).client
 
   -- it would open a stream
-  unopened-lacks : (e : ClientRequest) → request_by errand client ≡ e → asks_too_much e m ≡ true → passes table (command_of (record { id = client.fresh; request = e })) ≡ lacks_by table (sent_by errand p) m
+  unopened-lacks : (e : ClientRequest) → request_by command client ≡ e → asks_too_much e m ≡ true → passes table (command_of (record { id = client.fresh; request = e })) ≡ lacks_by table (sent_by command p) m
   unopened-lacks e is lacks =
       ap (λ (t : Bool). t && passes table (command_of (record { id = client.fresh; request = e }))) (sym lacks)
       ∙ ap (λ (r : ClientRequest). asks_too_much r m && passes table (command_of (record { id = client.fresh; request = r }))) (sym is)
 
-  pub put-lacks : (body channel text : List ℕ) → request_by errand client ≡ Publish c body → channel ≡ c → text ≡ body → can_open c m ≡ false
-      → passes table (record { id = client.fresh; request = request.Publish channel (request.Body text) }) ≡ lacks_by table (sent_by errand p) m
-  put-lacks body channel text is e f none =
-      (λ i. passes table (record { id = client.fresh; request = request.Publish (e i) (request.Body (f i)) })) ∙ unopened-lacks (Publish c body) is (ap not none)
+  pub put-lacks : (key body channel under text : List ℕ) → request_by command client ≡ Publish c key body → channel ≡ c → under ≡ key → text ≡ body → can_open c m ≡ false
+      → passes table (record { id = client.fresh; request = request.Publish channel under (request.Body text) }) ≡ lacks_by table (sent_by command p) m
+  put-lacks key body channel under text is e g f none =
+      (λ i. passes table (record { id = client.fresh; request = request.Publish (e i) (g i) (request.Body (f i)) })) ∙ unopened-lacks (Publish c key body) is (ap not none)
 
-  pub list-lacks : (limit most : ℤ) (channel : List ℕ) → request_by errand client ≡ History c limit → channel ≡ c → most ≡ limit → can_open c m ≡ false
-      → passes table (record { id = client.fresh; request = request.History channel most None false }) ≡ lacks_by table (sent_by errand p) m
+  pub list-lacks : (limit most : ℤ) (channel : List ℕ) → request_by command client ≡ History c limit → channel ≡ c → most ≡ limit → can_open c m ≡ false
+      → passes table (record { id = client.fresh; request = request.History channel most None false }) ≡ lacks_by table (sent_by command p) m
   list-lacks limit most channel is e f none =
       (λ i. passes table (record { id = client.fresh; request = request.History (e i) (f i) None false })) ∙ unopened-lacks (History c limit) is (ap not none)

@@ -28,8 +28,8 @@ use Rattle.cf_world.specs.HubCalls.{AtHub, WasRead}
 use Rattle.cf_world.specs.NodesTie.{seated, session_in}
 use Rattle.cf_world.specs.Tie.{AreTied, seats_of}
 use Rattle.cf_world.specs.declared.broker.Broker.{Broker as Code}
-use Rattle.cf_world.specs.declared.peers.Peer.{Peer}
-use Rattle.cf_world.specs.declared.peers.Seat.{Seat}
+use Rattle.cf_world.specs.declared.clients.Peer.{Peer}
+use Rattle.cf_world.specs.declared.clients.Seat.{Seat}
 use Rattle.cf_world.proofs.Ends.{reads_keeps}
 use Rattle.cf_world.proofs.Going.{Stays, broker-goes, broker-stays, grown-opened}
 use Rattle.cf_world.proofs.Looking.{asks_at}

@@ -1,7 +1,7 @@
 -- Whether a node has room for one more session: as its hub says, and as the machine counts.
 use Rattle.std.proofs.Common.{◌≡◌, inl, inr, ℕ, ◌≤◌, ◌==◌, ◌&&◌, ◌||◌, not, nat_le, nat_lt, Bool, true, false, if◌then◌else◌, is_some, length, Option, Some, None, List, arith, refl, sym, ap, ◌∙◌, subst}
 use Rattle.std.proofs.lemmas.Bool.Decides.{nat_tests}
-use Rattle.cf_followers.specs.Follows.{AreFollows, channels_of, most_rows}
+use Rattle.cf_subscribers.specs.Follows.{AreFollows, channels_of, most_rows}
 use Rattle.cf_hub.specs.Counts.{CountsAll, CountsSession, CountsSessions}
 use Rattle.cf_hub.specs.Hub.{IsBounded, IsFull, Node, NoRoom, attached_at, largest, most_channels, most_sessions}
 use Rattle.cf_hub.specs.Rows.{Agrees}
@@ -10,7 +10,7 @@ use Rattle.cf_machine.specs.Refusals.{has_no_room, node_is_full}
 use Rattle.cf_machine.specs.World.{World, is_connected, rows, rows_of, sessions_of}
 use Rattle.cf_world.specs.HubCalls.{IsSound}
 use Rattle.cf_world.specs.NodesTie.{IsSeated, ShowsNodes, seated}
-use Rattle.cf_world.specs.declared.peers.Seat.{Seat}
+use Rattle.cf_world.specs.declared.clients.Seat.{Seat}
 use Rattle.cf_world.proofs.Counts.{Seats, all_rows, full, mine, room}
 use Rattle.cf_world.proofs.NodesTie.{away_shows, number_at, seat_shows, seats_at}
 

@@ -14,7 +14,7 @@ use Rattle.cf_world.specs.HubCalls.{Hubs, reply_text, who_in}
 use Rattle.cf_world.specs.NodesTie.{seated}
 use Rattle.cf_world.specs.declared.broker.Broker.{Broker as Code}
 use Rattle.cf_world.specs.declared.broker.Published.{Published}
-use Rattle.cf_world.specs.declared.peers.Seat.{Seat}
+use Rattle.cf_world.specs.declared.clients.Seat.{Seat}
 use Rattle.cf_world.proofs.Reading.{Missing}
 
 module _ (lists : Lists) (id : ℕ) (is-code : IsCode id) where
@@ -44,13 +44,13 @@ module _ (lists : Lists) (id : ℕ) (is-code : IsCode id) where
       }
 
 -- what was published by the session's client, and what it was told
-pub puts_so : (table : NamespaceTable) (m : Broker) (s : Seat) (c body : List ℕ) (id : ℕ) (new : Code) (hubs hubs' : Hubs) (info : Option Who) (r found : Published) → info ≡ who_in (seated hubs s) → r ≡ found
-    → (IsDatum (record { body = body; info = info }) → Publishes table m c (record { body = body; info = info }) new r) → IsBody body → IsInfo (who_in (seated hubs s)) → PutAnswered found s id hubs hubs'
-    → Puts table m s c body id new hubs hubs'
-puts_so table m s c body id new hubs hubs' info r found who is publishes regular named answered = record {
+pub puts_so : (table : NamespaceTable) (m : Broker) (s : Seat) (c key body : List ℕ) (id : ℕ) (new : Code) (hubs hubs' : Hubs) (info : Option Who) (r found : Published) → info ≡ who_in (seated hubs s) → r ≡ found
+    → (IsDatum (record { body = body; info = info }) → Publishes table m c key (record { body = body; info = info }) new r) → IsBody body → IsInfo (who_in (seated hubs s)) → PutAnswered found s id hubs hubs'
+    → Puts table m s c key body id new hubs hubs'
+puts_so table m s c key body id new hubs hubs' info r found who is publishes regular named answered = record {
   result = found;
   publishes =
-      subst (λ (w : Option Who). Publishes table m c (record { body = body; info = w }) new found) who
-      (subst (λ (z : Published). Publishes table m c (record { body = body; info = info }) new z) is (publishes (regular, subst IsInfo (sym who) named)));
+      subst (λ (w : Option Who). Publishes table m c key (record { body = body; info = w }) new found) who
+      (subst (λ (z : Published). Publishes table m c key (record { body = body; info = info }) new z) is (publishes (regular, subst IsInfo (sym who) named)));
   answered = answered;
 }

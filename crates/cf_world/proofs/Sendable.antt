@@ -1,4 +1,4 @@
--- Whether a client can carry out an errand, by its own fault, by its session, and by the machine's condition.
+-- Whether a client can carry out a command, by its own fault, by its session, and by the machine's condition.
 use Rattle.std.proofs.Common.{◌≡◌, ◌≢◌, ◌⊎◌, inl, inr, ◌∙◌, ◌&&◌, ◌||◌, ℕ, not, Bool, true, false, if◌then◌else◌, Option, Some, None, is_some, List, [], ◌∷◌, nat_le, refl, sym, ap, subst}
 use Rattle.std.proofs.lemmas.Bool.{and_left, and_right}
 use Rattle.cf_protocol.specs.Names.{is_among}
@@ -14,19 +14,19 @@ use Rattle.cf_machine.specs.IntervalMachine.{allows, can_command, effect, exchan
 use Rattle.cf_machine.specs.Session.{Sub}
 use Rattle.cf_machine.specs.World.{World, any_unfinished, is_ready}
 use Rattle.cf_world.specs.ClientTie.{request_by, send_fault}
-use Rattle.cf_world.specs.Errands.{event_by}
-use Rattle.cf_world.specs.declared.errand.Errand.{Errand}
-use Rattle.cf_world.specs.declared.errand.Errand.TheVariants as errand
+use Rattle.cf_world.specs.ClientCommands.{event_by}
+use Rattle.cf_world.specs.declared.client_command.ClientCommand.{ClientCommand}
+use Rattle.cf_world.specs.declared.client_command.ClientCommand.TheVariants as client_command
 use Rattle.cf_world.proofs.Exchanged.{cannot_by_epoch, cannot_by_id}
 use Rattle.cf_machine.proofs.Names.{text_tells}
 
--- whether the channel's mode is one in which the errand can be carried out
-abbrev pub fits : Errand → Client → Bool
-fits (errand.Ask channel) v = is_idle (v.modes channel.now)
-fits (errand.AskFrom channel) v = is_idle (v.modes channel.now)
-fits (errand.Leave channel) v = not (is_idle (v.modes channel.now))
-fits (errand.Put channel body) v = true
-fits (errand.List channel limit) v = true
+-- whether the channel's mode is one in which the command can be carried out
+abbrev pub fits : ClientCommand → Client → Bool
+fits (client_command.Ask channel) v = is_idle (v.modes channel.now)
+fits (client_command.AskFrom channel) v = is_idle (v.modes channel.now)
+fits (client_command.Leave channel) v = not (is_idle (v.modes channel.now))
+fits (client_command.Put channel key body) v = true
+fits (client_command.List channel limit) v = true
 
 abbrev fault_by : Bool → Option ClientFault → Option ClientFault
 fault_by mode rest = if mode then rest else Some NotNow
@@ -35,12 +35,12 @@ turned : (idle : Bool) (rest : Option ClientFault) → (if idle then Some NotNow
 turned true rest = refl
 turned false rest = refl
 
-fault_is : (e : Errand) (s : State) → send_fault e s ≡ fault_by (fits e s.client) (call_fault s)
-fault_is (errand.Ask channel) s = refl
-fault_is (errand.AskFrom channel) s = refl
-fault_is (errand.Leave channel) s = turned (is_idle (s.client.modes channel.now)) (call_fault s)
-fault_is (errand.Put channel body) s = refl
-fault_is (errand.List channel limit) s = refl
+fault_is : (e : ClientCommand) (s : State) → send_fault e s ≡ fault_by (fits e s.client) (call_fault s)
+fault_is (client_command.Ask channel) s = refl
+fault_is (client_command.AskFrom channel) s = refl
+fault_is (client_command.Leave channel) s = turned (is_idle (s.client.modes channel.now)) (call_fault s)
+fault_is (client_command.Put channel key body) s = refl
+fault_is (client_command.List channel limit) s = refl
 
 none_by : (mode : Bool) (rest : Option ClientFault) → fault_by mode rest ≡ None → (mode ≡ true) × (rest ≡ None)
 none_by true rest h = (refl, h)
@@ -60,28 +60,28 @@ lacks-of true true c h = absurd (h refl)
 lacks-of true false c h = refl
 lacks-of false left c h = absurd (cc)
 
--- ---- the machine's event of an errand
+-- ---- the machine's event of a command
 
-module _ (cfg : Config) (m : World) (x : List ℕ) (e : Errand) where
+module _ (cfg : Config) (m : World) (x : List ℕ) (e : ClientCommand) where
   abbrev asked : ClientRequest
   asked = request_by e (m.links x).client
 
   allows_is : allows cfg m (event_by e x) ≡ (fits e (m.links x).client && can_command cfg x asked m)
-  allows_is = by_errand e
+  allows_is = by_command e
     where
-      by_errand : (v : Errand) → allows cfg m (event_by v x) ≡ (fits v (m.links x).client && can_command cfg x (request_by v (m.links x).client) m)
-      by_errand (errand.Ask channel) = refl
-      by_errand (errand.AskFrom channel) = refl
-      by_errand (errand.Leave channel) = refl
-      by_errand (errand.Put channel body) = refl
-      by_errand (errand.List channel limit) = refl
+      by_command : (v : ClientCommand) → allows cfg m (event_by v x) ≡ (fits v (m.links x).client && can_command cfg x (request_by v (m.links x).client) m)
+      by_command (client_command.Ask channel) = refl
+      by_command (client_command.AskFrom channel) = refl
+      by_command (client_command.Leave channel) = refl
+      by_command (client_command.Put channel key body) = refl
+      by_command (client_command.List channel limit) = refl
 
-  effect_is : (v : Errand) → effect cfg m (event_by v x) ≡ exchange cfg x (request_by v (m.links x).client) m
-  effect_is (errand.Ask channel) = refl
-  effect_is (errand.AskFrom channel) = refl
-  effect_is (errand.Leave channel) = refl
-  effect_is (errand.Put channel body) = refl
-  effect_is (errand.List channel limit) = refl
+  effect_is : (v : ClientCommand) → effect cfg m (event_by v x) ≡ exchange cfg x (request_by v (m.links x).client) m
+  effect_is (client_command.Ask channel) = refl
+  effect_is (client_command.AskFrom channel) = refl
+  effect_is (client_command.Leave channel) = refl
+  effect_is (client_command.Put channel key body) = refl
+  effect_is (client_command.List channel limit) = refl
 
   -- the command can't be sent, or its mode doesn't fit
   pub nothing_happens : (fits e (m.links x).client ≡ false) ⊎ (can_command cfg x asked m ≡ false) → happens cfg m (event_by e x) ≡ m

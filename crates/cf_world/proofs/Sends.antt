@@ -1,4 +1,4 @@
--- What becomes of an errand, up to where hub and broker are asked: it is as the machine has it.
+-- What becomes of a command, up to where hub and broker are asked: it is as the machine has it.
 use Rattle.std.proofs.Common.{◌≡◌, ◌↔◌, ◌∙◌, ◌&&◌, ℕ, nat_le, nat_lt, not, Bool, true, false, Option, Some, None, is_some, List, [], ◌∷◌, length, inr, arith, refl, sym, ap, subst}
 use Rattle.std.proofs.Math.Bool.{not-not}
 use Rattle.std.proofs.lemmas.Bool.Decides.{nat_tests}
@@ -31,7 +31,7 @@ use Rattle.cf_machine.specs.IntervalMachine.{command_by, exchange, happens, id_l
 use Rattle.cf_machine.specs.Weights.{command_length}
 use Rattle.cf_machine.specs.World.{World}
 use Rattle.cf_world.specs.ClientTie.{AsksFrom, IsOwn, NotSent, Sent, ShowsClient, ShowsPeer, request_by, sent_state}
-use Rattle.cf_world.specs.Errands.{IsReadBack, event_by}
+use Rattle.cf_world.specs.ClientCommands.{IsReadBack, event_by}
 use Rattle.cf_world.specs.Exchange.{asks_too_much, lacks_by, sent_by}
 use Rattle.cf_world.specs.HubCalls.{AtHub, Told, reply_text}
 use Rattle.cf_world.specs.Judging.{Judges, Passes}
@@ -39,12 +39,12 @@ use Rattle.cf_world.specs.NodesTie.{IsSeated, ShowsNodes, seated}
 use Rattle.cf_world.specs.Sending.{Acts, Hears, IsSent}
 use Rattle.cf_world.specs.Tie.{AreTied, seats_of}
 use Rattle.cf_world.specs.declared.broker.Broker.{Broker as Code}
-use Rattle.cf_world.specs.declared.errand.Errand.{Errand}
-use Rattle.cf_world.specs.declared.errand.Errand.TheVariants as errand
+use Rattle.cf_world.specs.declared.client_command.ClientCommand.{ClientCommand}
+use Rattle.cf_world.specs.declared.client_command.ClientCommand.TheVariants as client_command
 use Rattle.cf_world.specs.declared.judging.Judged.{Judged}
 use Rattle.cf_world.specs.declared.judging.Judged.TheVariants as judged
-use Rattle.cf_world.specs.declared.peers.Peer.{Peer}
-use Rattle.cf_world.specs.declared.peers.Seat.{Seat}
+use Rattle.cf_world.specs.declared.clients.Peer.{Peer}
+use Rattle.cf_world.specs.declared.clients.Seat.{Seat}
 use Rattle.cf_world.proofs.Breaking.{seats-with}
 use Rattle.cf_world.proofs.Exchanged.{can_send, cannot_away, cannot_unready}
 use Rattle.cf_world.proofs.Exchanging.{same-seats}
@@ -70,19 +70,19 @@ is_code error.BadRequest = (omega arith, omega arith)
 is_code error.NotAvailable = (omega arith, omega arith)
 is_code error.UnrecoverablePosition = (omega arith, omega arith)
 
--- the command of an errand is read back
+-- the command of a command is read back
 fresh_code : (v : ClientView) → call_fault (state_of v) ≡ None → IsCode (state_of v).client.fresh
 fresh_code v h =
     let left : nat_le (state_of v).client.fresh last_id ≡ true = left-of v.connected (nat_le (state_of v).client.fresh last_id) h in
     (omega arith, grind (arith, nat_tests, left))
 
-is_regular : (e : Errand) (v : ClientView) → call_fault (state_of v) ≡ None → AsksFrom (request_by e (state_of v).client) → IsReadBack e
+is_regular : (e : ClientCommand) (v : ClientView) → call_fault (state_of v) ≡ None → AsksFrom (request_by e (state_of v).client) → IsReadBack e
     → IsRegularCommand (command_of (record { id = (state_of v).client.fresh; request = request_by e (state_of v).client }))
-is_regular (errand.Ask channel) v left from back = (fresh_code v left, tt)
-is_regular (errand.AskFrom channel) v left from back = (fresh_code v left, from)
-is_regular (errand.Leave channel) v left from back = fresh_code v left
-is_regular (errand.Put channel body) v left from back = (fresh_code v left, back)
-is_regular (errand.List channel limit) v left from back = (fresh_code v left, back, tt)
+is_regular (client_command.Ask channel) v left from back = (fresh_code v left, tt)
+is_regular (client_command.AskFrom channel) v left from back = (fresh_code v left, from)
+is_regular (client_command.Leave channel) v left from back = fresh_code v left
+is_regular (client_command.Put channel key body) v left from back = (fresh_code v left, back)
+is_regular (client_command.List channel limit) v left from back = (fresh_code v left, back, tt)
 
 -- a command that passes, and lacks no epoch, asks for no more than there is
 enough : (much checked fits shut : Bool) → ((much && (checked && fits)) && not shut) ≡ false → checked ≡ true → fits ≡ true → shut ≡ false → much ≡ false
@@ -111,7 +111,7 @@ against_by (judged.Refused id code) h = tt
 against_by (judged.Granted command) h = h command refl
 
 module _ {cfg : Config} {table : NamespaceTable} {b : Code} {hubs : ℕ → Option Node} {peers : List ℕ → Option Peer} {m : World}
-    (t : AreTied cfg table b hubs peers m) (x : List ℕ) (e : Errand) where
+    (t : AreTied cfg table b hubs peers m) (x : List ℕ) (e : ClientCommand) where
   abbrev l : ClientLink
   l = m.links x
 

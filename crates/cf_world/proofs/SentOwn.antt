@@ -67,7 +67,7 @@ module _ (s : State) where
   calls-sent : (e : ClientRequest) (id : ℕ) (d : List ℕ) → id < s.client.fresh → CallsAt id d s → CallsAt id d (sent_state e s)
   calls-sent (Subscribe c from) id d less h = h
   calls-sent (Unsubscribe c) id d less h = h
-  calls-sent (Publish c body) id d less h = calls-kept c id d less h
+  calls-sent (Publish c key body) id d less h = calls-kept c id d less h
   calls-sent (History c limit) id d less h = calls-kept c id d less h
 
   call-own : (c : List ℕ) → AreOld s → (e : List ℕ) → channel_under s.client.fresh (s.out ++ record { id = s.client.fresh; channel = c } ∷ []) ≡ Some e → e ≡ c
@@ -80,13 +80,13 @@ module _ (s : State) where
   pub calls-new : (e : ClientRequest) → AreOld s → CallsAt s.client.fresh (channel_of e) (sent_state e s)
   calls-new (Subscribe c from) old d is = absurd (not-less s.client.fresh (old s.client.fresh d is))
   calls-new (Unsubscribe c) old d is = absurd (not-less s.client.fresh (old s.client.fresh d is))
-  calls-new (Publish c body) old d is = call-own c old d is
+  calls-new (Publish c key body) old d is = call-own c old d is
   calls-new (History c limit) old d is = call-own c old d is
 
   fresh-sent : (e : ClientRequest) → (sent_state e s).client.fresh ≡ suc s.client.fresh
   fresh-sent (Subscribe c from) = refl
   fresh-sent (Unsubscribe c) = refl
-  fresh-sent (Publish c body) = refl
+  fresh-sent (Publish c key body) = refl
   fresh-sent (History c limit) = refl
 
   less-sent : (e : ClientRequest) (i : ℕ) → i < s.client.fresh → i < (sent_state e s).client.fresh
@@ -104,7 +104,7 @@ module _ (s : State) where
   pub old-sent : (e : ClientRequest) → AreOld s → AreOld (sent_state e s)
   old-sent (Subscribe c from) old i d is = less-sent (Subscribe c from) i (old i d is)
   old-sent (Unsubscribe c) old i d is = less-sent (Unsubscribe c) i (old i d is)
-  old-sent (Publish c body) old i d is = old-more (Publish c body) c old i d is
+  old-sent (Publish c key body) old i d is = old-more (Publish c key body) c old i d is
   old-sent (History c limit) old i d is = old-more (History c limit) c old i d is
 
   own-note : (e : ClientRequest) (n : Note) → IsOwn s n → IsOwn (sent_state e s) n

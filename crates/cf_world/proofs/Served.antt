@@ -26,8 +26,8 @@ use Rattle.cf_world.specs.NodesTie.{IsAway, ShowsNodes}
 use Rattle.cf_world.specs.Tie.{AreTied, seats_of}
 use Rattle.cf_world.specs.declared.broker.Accepted.{Accepted}
 use Rattle.cf_world.specs.declared.broker.Broker.{Broker as Code}
-use Rattle.cf_world.specs.declared.peers.Peer.{Peer}
-use Rattle.cf_world.specs.declared.peers.Seat.{Seat}
+use Rattle.cf_world.specs.declared.clients.Peer.{Peer}
+use Rattle.cf_world.specs.declared.clients.Seat.{Seat}
 use Rattle.cf_client.specs.ClientView.{state_of}
 use Rattle.cf_world.proofs.Ends.{checks_keeps, finishes_keeps}
 use Rattle.cf_world.proofs.NodesTie.{away_shows, both_name, deliver_goes, met_name, nodes_same, seat_shows}

@@ -16,8 +16,8 @@ use Rattle.cf_world.specs.ClientTie.{IsOwn, ShowsClient, ShowsPeer}
 use Rattle.cf_world.specs.NodesTie.{ShowsNodes, name_of, session_in}
 use Rattle.cf_world.specs.Tie.{AreTied, seats_of}
 use Rattle.cf_world.specs.declared.broker.Broker.{Broker as Code}
-use Rattle.cf_world.specs.declared.peers.Peer.{Peer}
-use Rattle.cf_world.specs.declared.peers.Seat.{Seat}
+use Rattle.cf_world.specs.declared.clients.Peer.{Peer}
+use Rattle.cf_world.specs.declared.clients.Seat.{Seat}
 use Rattle.cf_world.proofs.Ends.{Keeps}
 use Rattle.cf_machine.proofs.Names.{with-all}
 use Rattle.cf_world.proofs.NodesTie.{nodes_same, seat_shows, session_goes, session_moves}

@@ -15,8 +15,8 @@ use Rattle.cf_world.specs.HubCalls.{AreNew}
 use Rattle.cf_world.specs.NodesTie.{ShowsLink, session_in}
 use Rattle.cf_world.specs.Tie.{AreTied, seats_of}
 use Rattle.cf_world.specs.declared.broker.Broker.{Broker as Code}
-use Rattle.cf_world.specs.declared.peers.Peer.{Peer}
-use Rattle.cf_world.specs.declared.peers.Seat.{Seat}
+use Rattle.cf_world.specs.declared.clients.Peer.{Peer}
+use Rattle.cf_world.specs.declared.clients.Seat.{Seat}
 
 -- one more
 pub new-snoc : (n : ℕ) (hs : List Node) (k : ℕ) → k ≡ n + length hs → AreNew n hs → AreNew n (hs ++ empty k 1 ∷ [])

@@ -35,8 +35,8 @@ use Rattle.cf_world.specs.HubCalls.{AtHub, Taken}
 use Rattle.cf_world.specs.NodesTie.{IsSeated, ShowsNodes, seated}
 use Rattle.cf_world.specs.Tie.{AreTied, seats_of}
 use Rattle.cf_world.specs.declared.broker.Broker.{Broker as Code}
-use Rattle.cf_world.specs.declared.peers.Peer.{Peer}
-use Rattle.cf_world.specs.declared.peers.Seat.{Seat}
+use Rattle.cf_world.specs.declared.clients.Peer.{Peer}
+use Rattle.cf_world.specs.declared.clients.Seat.{Seat}
 use Rattle.cf_world.proofs.BoardLists.{grown-refl}
 use Rattle.cf_world.proofs.Breaking.{seats-with}
 use Rattle.cf_world.proofs.Ends.{takes_keeps}

@@ -21,8 +21,8 @@ use Rattle.cf_world.specs.HubCalls.{AtHub, Gone, Taken}
 use Rattle.cf_world.specs.NodesTie.{session_in}
 use Rattle.cf_world.specs.Tie.{AreTied, seats_of}
 use Rattle.cf_world.specs.declared.broker.Broker.{Broker as Code}
-use Rattle.cf_world.specs.declared.peers.Peer.{Peer}
-use Rattle.cf_world.specs.declared.peers.Seat.{Seat}
+use Rattle.cf_world.specs.declared.clients.Peer.{Peer}
+use Rattle.cf_world.specs.declared.clients.Seat.{Seat}
 use Rattle.cf_world.proofs.Breaking.{breaks-goes}
 use Rattle.cf_world.proofs.Ends.{takes_keeps}
 use Rattle.cf_world.proofs.NodesTie.{one_name, seat_shows}

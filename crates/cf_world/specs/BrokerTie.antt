@@ -9,15 +9,16 @@ use Rattle.cf_protocol.specs.Datum.{Datum}
 use Rattle.cf_protocol.specs.Note.{Lists, placed_at, placed_from}
 use Rattle.cf_protocol.specs.Position.{Position}
 use Rattle.cf_protocol.specs.Regular.{IsPlaced, IsBody, IsInfo}
-use Rattle.cf_protocol.specs.Settings.{NamespaceTable, settings_of}
+use Rattle.cf_protocol.specs.Settings.{NamespaceTable, entry_at, settings_of}
 use Rattle.cf_stream.specs.StreamState.{StreamState, last_offset, position_of}
 use Rattle.cf_stream.specs.StreamAnswer.{listed_above, read_of}
 use Rattle.cf_stream.specs.ChannelLists.{AreShown}
+use Rattle.cf_stream.specs.Streams.{size_at}
 use Rattle.cf_stream.specs.declared.answer.History.{History}
 use Rattle.cf_stream.specs.declared.answer.Recovery.{Recovery}
 use Rattle.cf_hub.specs.InNotes.{Grown}
 use Rattle.cf_machine.specs.Lives.{life_at}
-use Rattle.cf_machine.specs.PublicationList.{Place, Broker, at_last_offset, can_open, opened, publish}
+use Rattle.cf_machine.specs.PublicationList.{Place, Broker, at_last_offset, can_open, is_repeat, opened, publish}
 use Rattle.cf_machine.specs.IntervalMachine.{size_by}
 use Rattle.cf_world.specs.declared.broker.Accepted.{Accepted}
 use Rattle.cf_world.specs.declared.broker.Published.{Published}
@@ -40,8 +41,14 @@ pub record IsStanding (lists : Lists) (c : List ℕ) (s : StreamState) : Type 0 
 abbrev pub IsDatum : Datum → Type 0
 IsDatum d = IsBody d.body × IsInfo d.info
 
+-- The settings that streams have now, where they began with the table: the same names are set up, and each channel's size is the
+-- one that was set for it last.
+pub record AreSized (table now : NamespaceTable) (sizes : List ℕ → Option ℕ) : Type 0 where
+  pub names : (name : List ℕ) → is_some (entry_at now name) ≡ is_some (entry_at table name)
+  pub size : (c : List ℕ) → size_at now c ≡ size_by (sizes c) (settings_of table c)
+
 pub record ShowsBroker (table : NamespaceTable) (b : Code) (m : Broker) : Type 0 where
-  pub namespaces : b.streams.namespaces ≡ table
+  pub namespaces : AreSized table b.streams.namespaces m.sizes
   pub waiting : b.epochs.waiting.items ≡ m.waiting
   pub came : (e : List ℕ) → contains_text b.epochs.came e ≡ is_among e m.came
   pub epochs : All IsEpoch m.waiting
@@ -51,6 +58,8 @@ pub record ShowsBroker (table : NamespaceTable) (b : Code) (m : Broker) : Type 0
   -- all that was ever published has texts that are read back, at offsets that there are
   pub regular : (c e : List ℕ) → All IsDatum (m.lists c e)
   pub bounded : (c e : List ℕ) → length (m.lists c e) ≤ last_offset
+  -- each datum has its key, which may be the empty one
+  pub keyed : (c e : List ℕ) → length (m.keys c e) ≡ length (m.lists c e)
 
 -- what a read brings of a channel's stream
 pub record Brings (lists : Lists) (c : List ℕ) (since : Option Position) (s : StreamState) (r : Recovery) : Type 0 where
@@ -85,14 +94,20 @@ abbrev pub Histories : NamespaceTable → Broker → List ℕ → ℤ → Code �
 Histories table m c limit new (Some h) = FindsPast table m c limit new h
 Histories table m c limit new None = FindsNone table m c new
 
--- what a publish comes to: it is accepted; or the stream is at its last offset, or would open while no epoch waits, or the
--- channel's namespace isn't set up, and then nothing changes
-abbrev pub Publishes : NamespaceTable → Broker → List ℕ → Datum → Code → Published → Type 0
-Publishes table m c d new outcome.Accepted =
-    (is_some (settings_of table c) ≡ true) × (can_open c m ≡ true) × (at_last_offset c m ≡ false) × ShowsBroker table new (publish (size_by (settings_of table c)) c d m)
-Publishes table m c d new outcome.AtLastOffset = (can_open c m ≡ true) × (at_last_offset c m ≡ true) × ShowsBroker table new m
-Publishes table m c d new outcome.NoEpoch = (can_open c m ≡ false) × ShowsBroker table new m
-Publishes table m c d new outcome.NotSetUp = (settings_of table c ≡ None) × ShowsBroker table new m
+-- how much the stream of a channel holds
+abbrev pub size_in : NamespaceTable → Broker → List ℕ → ℕ
+size_in table m c = size_by (m.sizes c) (settings_of table c)
+
+-- what a publish under a key comes to: it is accepted; or it is a repeat, or the stream is at its last offset, or would open while
+-- no epoch waits, or the channel's namespace isn't set up, and then nothing changes
+abbrev pub Publishes : NamespaceTable → Broker → (channel key : List ℕ) → Datum → Code → Published → Type 0
+Publishes table m c key d new outcome.Accepted =
+    (is_some (settings_of table c) ≡ true) × (can_open c m ≡ true) × (is_repeat c key m ≡ false) × (at_last_offset c m ≡ false) × ShowsBroker table new (publish (size_in table m c) c key d m)
+Publishes table m c key d new outcome.Repeated =
+    (is_some (settings_of table c) ≡ true) × (can_open c m ≡ true) × (is_repeat c key m ≡ true) × ShowsBroker table new m
+Publishes table m c key d new outcome.AtLastOffset = (can_open c m ≡ true) × (is_repeat c key m ≡ false) × (at_last_offset c m ≡ true) × ShowsBroker table new m
+Publishes table m c key d new outcome.NoEpoch = (can_open c m ≡ false) × ShowsBroker table new m
+Publishes table m c key d new outcome.NotSetUp = (settings_of table c ≡ None) × ShowsBroker table new m
 
 -- the publication of a place
 abbrev pub Stands : Lists → Option Accepted → Option Place → Type 0

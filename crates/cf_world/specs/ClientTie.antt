@@ -19,10 +19,10 @@ use Rattle.cf_client.specs.OneMeaning.{CallsAt}
 use Rattle.cf_client.specs.declared.fault.ClientFault.{ClientFault}
 use Rattle.cf_machine.specs.ClientLink.{ClientLink}
 use Rattle.cf_machine.specs.ClientRequest.{ClientRequest, Subscribe, Unsubscribe, Publish, History, command_of}
-use Rattle.cf_world.specs.declared.errand.Errand.{Errand}
-use Rattle.cf_world.specs.declared.errand.Errand.TheVariants as errand
-use Rattle.cf_world.specs.declared.peers.Peer.{Peer}
-use Rattle.cf_world.specs.declared.peers.Seat.{Seat}
+use Rattle.cf_world.specs.declared.client_command.ClientCommand.{ClientCommand}
+use Rattle.cf_world.specs.declared.client_command.ClientCommand.TheVariants as client_command
+use Rattle.cf_world.specs.declared.clients.Peer.{Peer}
+use Rattle.cf_world.specs.declared.clients.Seat.{Seat}
 
 -- ---- a client
 
@@ -50,32 +50,32 @@ ShowsClient (Some p) l = ShowsPeer p l
 
 -- ---- what a client is to send
 
-abbrev pub request_by : Errand → Client → ClientRequest
-request_by (errand.Ask channel) x = Subscribe channel.now None
-request_by (errand.AskFrom channel) x = Subscribe channel.now (last_of (x.modes channel.now))
-request_by (errand.Leave channel) x = Unsubscribe channel.now
-request_by (errand.Put channel body) x = Publish channel.now body.now
-request_by (errand.List channel limit) x = History channel.now limit
+abbrev pub request_by : ClientCommand → Client → ClientRequest
+request_by (client_command.Ask channel) x = Subscribe channel.now None
+request_by (client_command.AskFrom channel) x = Subscribe channel.now (last_of (x.modes channel.now))
+request_by (client_command.Leave channel) x = Unsubscribe channel.now
+request_by (client_command.Put channel key body) x = Publish channel.now key.now body.now
+request_by (client_command.List channel limit) x = History channel.now limit
 
-abbrev pub send_fault : Errand → State → Option ClientFault
-send_fault (errand.Ask channel) s = ask_fault channel.now s
-send_fault (errand.AskFrom channel) s = ask_fault channel.now s
-send_fault (errand.Leave channel) s = leave_fault channel.now s
-send_fault (errand.Put channel body) s = call_fault s
-send_fault (errand.List channel limit) s = call_fault s
+abbrev pub send_fault : ClientCommand → State → Option ClientFault
+send_fault (client_command.Ask channel) s = ask_fault channel.now s
+send_fault (client_command.AskFrom channel) s = ask_fault channel.now s
+send_fault (client_command.Leave channel) s = leave_fault channel.now s
+send_fault (client_command.Put channel key body) s = call_fault s
+send_fault (client_command.List channel limit) s = call_fault s
 
 -- a position from which it asks is read back
 abbrev pub AsksFrom : ClientRequest → Type 0
 AsksFrom (Subscribe c from) = IsFrom from
 AsksFrom (Unsubscribe c) = ⊤
-AsksFrom (Publish c body) = ⊤
+AsksFrom (Publish c key body) = ⊤
 AsksFrom (History c limit) = ⊤
 
--- what a client makes of an errand that it sends
+-- what a client makes of a command that it sends
 abbrev pub sent_state : ClientRequest → State → State
 sent_state (Subscribe c from) s = asked c from s
 sent_state (Unsubscribe c) s = left c s
-sent_state (Publish c body) s = called c s
+sent_state (Publish c key body) s = called c s
 sent_state (History c limit) s = called c s
 
 -- ---- one client changes, and the others stay
@@ -122,7 +122,7 @@ pub record Joins (x : List ℕ) (s : Seat) (was : State) (old new : List ℕ →
   pub now : (y : List ℕ) → new y ≡ with old x (Some (record { client = client; seat = Some s })) y
   pub state_is : state_of client ≡ connected was
 
-pub record Sent (e : Errand) (x text : List ℕ) (p : Peer) (old new : List ℕ → Option Peer) : Type 0 where
+pub record Sent (e : ClientCommand) (x text : List ℕ) (p : Peer) (old new : List ℕ → Option Peer) : Type 0 where
   pub allowed : send_fault e (state_of p.client) ≡ None
   pub said : text ≡ command_text (command_of (record { id = (state_of p.client).client.fresh; request = request_by e (state_of p.client).client }))
   pub becomes : Becomes x p (sent_state (request_by e (state_of p.client).client) (state_of p.client)) old new
@@ -130,11 +130,11 @@ pub record Sent (e : Errand) (x text : List ℕ) (p : Peer) (old new : List ℕ 
   pub since : AsksFrom (request_by e (state_of p.client).client)
 
 -- it can't, and stays as it was
-pub record NotSent (e : Errand) (x : List ℕ) (p : Peer) (old new : List ℕ → Option Peer) : Type 0 where
+pub record NotSent (e : ClientCommand) (x : List ℕ) (p : Peer) (old new : List ℕ → Option Peer) : Type 0 where
   pub refused : send_fault e (state_of p.client) ≢ None
   pub becomes : Becomes x p (state_of p.client) old new
 
-abbrev pub Sends : Errand → List ℕ → Peer → (List ℕ → Option Peer) → (List ℕ → Option Peer) → Option (String Global) → Type 0
+abbrev pub Sends : ClientCommand → List ℕ → Peer → (List ℕ → Option Peer) → (List ℕ → Option Peer) → Option (String Global) → Type 0
 Sends e x p old new None = NotSent e x p old new
 Sends e x p old new (Some text) = Sent e x (string_bytes text) p old new
 

@@ -24,14 +24,14 @@ use Rattle.cf_world.specs.NodesTie.{seated}
 use Rattle.cf_world.specs.declared.broker.Broker.{Broker as Code}
 use Rattle.cf_world.specs.declared.broker.Published.{Published}
 use Rattle.cf_world.specs.declared.broker.Published.TheVariants as outcome
-use Rattle.cf_world.specs.declared.errand.Errand.{Errand}
-use Rattle.cf_world.specs.declared.peers.Peer.{Peer}
-use Rattle.cf_world.specs.declared.peers.Seat.{Seat}
+use Rattle.cf_world.specs.declared.client_command.ClientCommand.{ClientCommand}
+use Rattle.cf_world.specs.declared.clients.Peer.{Peer}
+use Rattle.cf_world.specs.declared.clients.Seat.{Seat}
 
 -- ---- before anything is sent
 
--- the command by which a client carries out an errand
-abbrev pub sent_by : Errand → Peer → SentCommand
+-- the command that is sent, under the next id
+abbrev pub sent_by : ClientCommand → Peer → SentCommand
 sent_by e p = record { id = (state_of p.client).client.fresh; request = request_by e (state_of p.client).client }
 
 -- its text is not too long, and no check of it fails
@@ -42,7 +42,7 @@ passes table k = not (is_some (first_failed (checks table k.request))) && not (n
 abbrev pub asks_too_much : ClientRequest → Broker → Bool
 asks_too_much (Subscribe c from) b = false
 asks_too_much (Unsubscribe c) b = false
-asks_too_much (Publish c body) b = not (can_open c b)
+asks_too_much (Publish c key body) b = not (can_open c b)
 asks_too_much (ListHistory c limit) b = not (can_open c b)
 
 abbrev pub lacks_by : NamespaceTable → SentCommand → Broker → Bool
@@ -62,14 +62,15 @@ pub record IsGranted (cfg : Config) (m : World) (x : List ℕ) (p : Peer) (e : C
 -- what is said to a publish
 abbrev pub PutAnswered : Published → Seat → ℕ → Hubs → Hubs → Type 0
 PutAnswered outcome.Accepted s id old new = Answered s id PutDone old new
+PutAnswered outcome.Repeated s id old new = Answered s id PutDone old new
 PutAnswered outcome.AtLastOffset s id old new = Answered s id (Failed (code_of error.LimitExceeded)) old new
 PutAnswered outcome.NoEpoch s id old new = AreSame old new
 PutAnswered outcome.NotSetUp s id old new = AreSame old new
 
--- a client's datum, which names it, is published, and the client is answered
-pub record Puts (table : NamespaceTable) (m : Broker) (s : Seat) (c body : List ℕ) (id : ℕ) (new : Code) (hubs hubs' : Hubs) : Type 0 where
+-- a client's datum, which names it, is published under a key, and the client is answered
+pub record Puts (table : NamespaceTable) (m : Broker) (s : Seat) (c key body : List ℕ) (id : ℕ) (new : Code) (hubs hubs' : Hubs) : Type 0 where
   pub result : Published
-  pub publishes : Publishes table m c (record { body = body; info = who_in (seated hubs s) }) new result
+  pub publishes : Publishes table m c key (record { body = body; info = who_in (seated hubs s) }) new result
   pub answered : PutAnswered result s id hubs hubs'
 
 -- what is said to a history

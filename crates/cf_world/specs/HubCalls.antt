@@ -11,7 +11,7 @@ use Rattle.cf_protocol.specs.declared.codes.ErrorCode.TheVariants as error
 use Rattle.cf_queue.specs.OutQueue.{Item, Close, Text}
 use Rattle.cf_hub.specs.Finish.{FinishesAt}
 use Rattle.cf_hub.specs.Hub.{Begins, Delivers, Meets, Node, One, OthersStay, SameNode, SameRest, attached_at, empty, is_open, sub_at, IsBounded, IsFull, NoRoom, Opens}
-use Rattle.cf_followers.specs.Follows.{AreFollows}
+use Rattle.cf_subscribers.specs.Follows.{AreFollows}
 use Rattle.cf_hub.specs.Rows.{Agrees, sub_in}
 use Rattle.cf_hub.specs.Session.{Attached}
 use Rattle.cf_hub.specs.SessionState.{checks, closes_now, is_off, is_unfinished, leaves, push, reads, takes_front}
@@ -20,7 +20,7 @@ use Rattle.cf_hub.specs.WantOfMemory.{OrCloses}
 use Rattle.cf_hub.specs.Wordings.{plain, reading}
 use Rattle.cf_stream.specs.declared.answer.Recovery.{Recovery}
 use Rattle.cf_protocol.specs.Datum.{Who}
-use Rattle.cf_world.specs.declared.peers.Seat.{Seat}
+use Rattle.cf_world.specs.declared.clients.Seat.{Seat}
 
 abbrev pub Hubs : Type 0
 Hubs = ℕ → Option Node

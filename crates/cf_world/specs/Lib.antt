@@ -8,4 +8,4 @@ pub mod Entries
 pub mod Exchange
 pub mod Judging
 pub mod Sending
-pub mod Errands
+pub mod ClientCommands

@@ -13,18 +13,18 @@ use Rattle.cf_machine.specs.IntervalMachine.{command_by, exchange, happens}
 use Rattle.cf_machine.specs.Refusals.{bad_message}
 use Rattle.cf_machine.specs.World.{World}
 use Rattle.cf_world.specs.ClientTie.{Becomes, request_by, sent_state}
-use Rattle.cf_world.specs.Errands.{event_by}
+use Rattle.cf_world.specs.ClientCommands.{event_by}
 use Rattle.cf_world.specs.Exchange.{IsGranted, asks_too_much}
 use Rattle.cf_world.specs.HubCalls.{AreSame, Answered, AtHub, Closed, Hubs}
 use Rattle.cf_world.specs.Judging.{Judges}
 use Rattle.cf_world.specs.NodesTie.{seated}
 use Rattle.cf_world.specs.Tie.{AreTied}
 use Rattle.cf_world.specs.declared.broker.Broker.{Broker as Code}
-use Rattle.cf_world.specs.declared.errand.Errand.{Errand}
+use Rattle.cf_world.specs.declared.client_command.ClientCommand.{ClientCommand}
 use Rattle.cf_world.specs.declared.judging.Judged.{Judged}
 use Rattle.cf_world.specs.declared.judging.Judged.TheVariants as judged
-use Rattle.cf_world.specs.declared.peers.Peer.{Peer}
-use Rattle.cf_world.specs.declared.peers.Seat.{Seat}
+use Rattle.cf_world.specs.declared.clients.Peer.{Peer}
+use Rattle.cf_world.specs.declared.clients.Seat.{Seat}
 use Rattle.cf_world.specs.declared.sending.Granted.{Granted}
 use Rattle.cf_world.specs.declared.world.World.{World as Whole}
 
@@ -46,7 +46,7 @@ pub record Hears (table : NamespaceTable) (s : Seat) (text : List ℕ) (old new 
 
 -- ---- what is sent
 
-module _ (cfg : Config) (m : World) (x : List ℕ) (e : Errand) (hubs hubs' : Hubs) (peers peers' : List ℕ → Option Peer) where
+module _ (cfg : Config) (m : World) (x : List ℕ) (e : ClientCommand) (hubs hubs' : Hubs) (peers peers' : List ℕ → Option Peer) where
   -- The client sent its command, which passed its checks, and hub and broker are to be asked.
   pub record IsSent (g : Granted) : Type 0 where
     pub peer : Peer
@@ -71,6 +71,6 @@ pub record Keeps (old new : Whole) : Type 0 where
   pub namespaces : new.namespaces ≡ old.namespaces
   pub broker : new.broker ≡ old.broker
 
-abbrev pub WorldSends : Config → World → List ℕ → Errand → Whole → Whole → Option Granted → Type 0
+abbrev pub WorldSends : Config → World → List ℕ → ClientCommand → Whole → Whole → Option Granted → Type 0
 WorldSends cfg m x e old new g =
-    SendsAs cfg m x e (slice_get old.hubs.items) (slice_get new.hubs.items) (get_by_text old.peers) (get_by_text new.peers) new.namespaces new.broker g
+    SendsAs cfg m x e (slice_get old.hubs.items) (slice_get new.hubs.items) (get_by_text old.clients) (get_by_text new.clients) new.namespaces new.broker g

@@ -4,7 +4,7 @@ use Rattle.std.specs.BTreeMap.{get_by_text}
 use Rattle.cf_protocol.specs.Settings.{NamespaceTable}
 use Rattle.cf_client.specs.ClientView.{ClientView}
 use Rattle.cf_hub.specs.Hub.{Node}
-use Rattle.cf_stream.specs.Streams.{Kept}
+use Rattle.cf_stream.specs.Streams.{StreamMap}
 use Rattle.cf_machine.specs.Config.{Config}
 use Rattle.cf_machine.specs.Event.{Event}
 use Rattle.cf_machine.specs.IntervalMachine.{happens, run}
@@ -16,8 +16,8 @@ use Rattle.cf_world.specs.Entries.{shown_entry}
 use Rattle.cf_world.specs.NodesTie.{ShowsNodes}
 use Rattle.cf_world.specs.declared.broker.Broker.{Broker}
 use Rattle.cf_world.specs.declared.entry.Entry.{Entry}
-use Rattle.cf_world.specs.declared.peers.Peer.{Peer}
-use Rattle.cf_world.specs.declared.peers.Seat.{Seat}
+use Rattle.cf_world.specs.declared.clients.Peer.{Peer}
+use Rattle.cf_world.specs.declared.clients.Seat.{Seat}
 use Rattle.cf_world.specs.declared.world.World.{World as Code}
 
 -- where each client's session is
@@ -31,7 +31,7 @@ pub record AreTied (cfg : Config) (table : NamespaceTable) (b : Broker) (hubs : 
   pub clients : (x : List ℕ) → ShowsClient (peers x) (m.links x)
 
 abbrev pub Tied : Config → Code → World → Type 0
-Tied cfg w m = AreTied cfg w.namespaces w.broker (slice_get w.hubs.items) (get_by_text w.peers) m
+Tied cfg w m = AreTied cfg w.namespaces w.broker (slice_get w.hubs.items) (get_by_text w.clients) m
 
 -- the world goes on with the machine, whatever events led to it
 abbrev pub GoesOn : Event → Code → Code → Type 0
@@ -46,11 +46,11 @@ Writes n e old es = (cfg : Config) (past : List Event) → Tied cfg old (run cfg
 abbrev pub hub_of : Code → ℕ → Option Node
 hub_of w n = slice_get w.hubs.items n
 
-abbrev pub streams_of : Code → Kept
+abbrev pub streams_of : Code → StreamMap
 streams_of w = w.broker.streams
 
 abbrev pub client_of : Code → List ℕ → Option ClientView
-client_of w x = option_map (λ p. p.client) (get_by_text w.peers x)
+client_of w x = option_map (λ p. p.client) (get_by_text w.clients x)
 
 abbrev pub seat_at : Code → List ℕ → Option Seat
-seat_at w x = seats_of (get_by_text w.peers) x
+seat_at w x = seats_of (get_by_text w.clients) x

@@ -1,14 +1,15 @@
 //! What nodes share: the streams, the epochs that wait for them, and all that was accepted.
-ghost use Rattle.std.specs.Prelude.{◌≡◌, if◌then◌else◌, is_some, IfOk, OnOk, IsSome, None, option_copied, string_bytes};
-ghost use Rattle.cf_protocol.specs.Settings.{NamespaceTable, settings_of};
+ghost use Rattle.std.specs.Prelude.{◌≡◌, ◌≤◌, if◌then◌else◌, is_some, IfOk, OnOk, IsSome, None, option_copied, string_bytes};
+ghost use Rattle.cf_protocol.specs.Settings.{NamespaceTable, entry_at, settings_of};
 ghost use Rattle.cf_machine.specs.FreshEpochs.{AreFresh};
-ghost use Rattle.cf_machine.specs.PublicationList.{Broker as Shared, can_open, epoch_comes, forget, forget_all, new_broker, publication, stands_at, trim};
+ghost use Rattle.cf_machine.specs.PublicationList.{Broker as Shared, can_open, epoch_comes, forget, forget_all, new_broker, publication, set_size, stands_at, trim};
+ghost use Rattle.cf_stream.specs.Streams.{in_namespace};
 ghost use Rattle.cf_world.specs.BrokerTie.{IsDatum, ShowsBroker, Histories, Publishes, Reads, Stands};
 
 use crate::epochs::WaitingEpochs;
 use crate::short::Short;
 use cf_protocol::{Epoch, Info, Namespaces, Position, Publication};
-use cf_stream::{History, Recovery, StreamRefusal, Streams};
+use cf_stream::{History, LARGEST_SIZE, Recovery, StreamRefusal, Streams};
 use std::alloc::{AllocError, Global};
 
 /// The moment of all that happens in a schedule, in seconds.
@@ -26,6 +27,8 @@ pub(crate) struct Accepted {
 #[derive(Clone, Copy, PartialEq, Eq)]
 pub(crate) enum Published {
     Accepted,
+    /// It repeats a publication that stands: its key is among the last hundred of the stream.
+    Repeated,
     /// The stream is at its last offset.
     AtLastOffset,
     /// A stream would open, and no epoch waits.
@@ -106,28 +109,34 @@ impl Broker {
         !self.epochs.is_empty()
     }
 
-    /// Publishes to a channel.
+    /// Publishes to a channel, under a key, which may be the empty one.
     pub(crate) fn publish(
         &mut self,
         channel: &str,
+        key: &str,
         body: &str,
         info: Option<Info>,
     ) -> Result<Published, Short>
         ensures { IfOk result (λ r. (table : NamespaceTable) (m : Shared) → AreFresh m
             → IsDatum (record { body = body.now; info = info }) → ShowsBroker table self.old m
-            → Publishes table m channel.now (record { body = body.now; info = info }) self.new r) }
+            → Publishes table m channel.now key.now (record { body = body.now; info = info })
+            self.new r) }
     {
         if !self.streams.is_set_up(channel) {
             return Ok(Published::NotSetUp);
         }
         let kept = copied(&info)?;
         let sent = String::from_str(self.alloc, body)?;
+        let under = String::from_str(self.alloc, key)?;
         match self
             .streams
-            .publish(&mut self.epochs, channel, sent, info, NOW)
+            .publish(&mut self.epochs, channel, sent, under, info, NOW)
         {
-            Ok(position) => {
-                let accepted = Accepted::new(self.alloc, channel, position, body, kept)?;
+            Ok(published) => {
+                if published.repeated {
+                    return Ok(Published::Repeated);
+                }
+                let accepted = Accepted::new(self.alloc, channel, published.position, body, kept)?;
                 self.accepted.push(accepted)?;
                 Ok(Published::Accepted)
             }
@@ -210,6 +219,19 @@ impl Broker {
             → ShowsBroker table self.new (forget_all m) }
     {
         self.streams.forget_all();
+    }
+
+    /// Streams of a namespace that is set up hold at most so many from now on. It takes no memory.
+    pub(crate) fn set_size(&mut self, name: &str, size: usize)
+        requires { (1 ≤ size) × (size ≤ LARGEST_SIZE) }
+        ensures { (table : NamespaceTable) (m : Shared) → ShowsBroker table self.old m
+            → ShowsBroker table self.new
+            (if is_some (entry_at table name.now) then set_size (in_namespace name.now) size m
+            else m) }
+    {
+        if self.streams.has_namespace(name) {
+            self.streams.set_size(name, size);
+        }
     }
 
     /// The publication of this number, from 1, among all that were accepted.

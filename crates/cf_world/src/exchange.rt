@@ -16,7 +16,7 @@ ghost use Rattle.cf_world.specs.NodesTie.{seated};
 ghost use Rattle.cf_world.specs.Tie.{GoesOn};
 
 use crate::broker::Broker;
-use crate::errand::Errand;
+use crate::client_command::ClientCommand;
 use crate::granted::{list_in, put_in};
 use crate::hubs::{ask_in, lose_in};
 use crate::sending::Granted;
@@ -37,8 +37,8 @@ impl World {
         moves_are_alike();
         what_is_said_stays();
         rows_are_counted();
-        let errand = Errand::Ask { channel };
-        let Some(granted) = self.send(name, &errand)? else {
+        let command = ClientCommand::Ask { channel };
+        let Some(granted) = self.send(name, &command)? else {
             return Ok(());
         };
         subscribe_in(&mut self.hubs, self.alloc, granted)?;
@@ -53,8 +53,8 @@ impl World {
         moves_are_alike();
         what_is_said_stays();
         rows_are_counted();
-        let errand = Errand::AskFrom { channel };
-        let Some(granted) = self.send(name, &errand)? else {
+        let command = ClientCommand::AskFrom { channel };
+        let Some(granted) = self.send(name, &command)? else {
             return Ok(());
         };
         subscribe_in(&mut self.hubs, self.alloc, granted)?;
@@ -68,26 +68,26 @@ impl World {
         calls_are_alike();
         moves_are_alike();
         what_is_said_stays();
-        let errand = Errand::Leave { channel };
-        let Some(granted) = self.send(name, &errand)? else {
+        let command = ClientCommand::Leave { channel };
+        let Some(granted) = self.send(name, &command)? else {
             return Ok(());
         };
         unsubscribe_in(&mut self.hubs, self.alloc, granted)?;
         Ok(())
     }
 
-    /// A client publishes a datum to a channel.
-    pub fn put(&mut self, name: &str, channel: &str, body: &str) -> Result<(), Short>
+    /// A client publishes a datum to a channel, under a key, which may be the empty one.
+    pub fn put(&mut self, name: &str, channel: &str, key: &str, body: &str) -> Result<(), Short>
         requires { IsBody body.now }
         ensures { OnOk result
-            (GoesOn (said.PublishBy name.now channel.now body.now) self.old self.new) }
+            (GoesOn (said.PublishBy name.now channel.now key.now body.now) self.old self.new) }
     {
         calls_are_alike();
         moves_are_alike();
         what_is_said_stays();
         epochs_are_fresh();
-        let errand = Errand::Put { channel, body };
-        let Some(granted) = self.send(name, &errand)? else {
+        let command = ClientCommand::Put { channel, key, body };
+        let Some(granted) = self.send(name, &command)? else {
             return Ok(());
         };
         publish_in(&mut self.broker, &mut self.hubs, self.alloc, granted)?;
@@ -103,8 +103,8 @@ impl World {
         moves_are_alike();
         what_is_said_stays();
         epochs_are_fresh();
-        let errand = Errand::List { channel, limit };
-        let Some(granted) = self.send(name, &errand)? else {
+        let command = ClientCommand::List { channel, limit };
+        let Some(granted) = self.send(name, &command)? else {
             return Ok(());
         };
         history_in(&mut self.broker, &mut self.hubs, self.alloc, granted)?;
@@ -148,26 +148,26 @@ fn unsubscribe_in(hubs: &mut Vec<Hub>, alloc: Global, granted: Granted) -> Resul
     }
 }
 
-// The command is a publish: its datum is published, or the publish refused.
+// The command is a publish: its datum is published under its key, or the publish refused.
 fn publish_in(
     broker: &mut Broker,
     hubs: &mut Vec<Hub>,
     alloc: Global,
     granted: Granted,
 ) -> Result<(), Short>
-    ensures { OnOk result ((id : ℕ) (channel body : List ℕ)
+    ensures { OnOk result ((id : ℕ) (channel key body : List ℕ)
         → shown_command granted.command
-        ≡ command_of (record { id = id; request = request.Publish channel body })
+        ≡ command_of (record { id = id; request = request.Publish channel key body })
         → (table : NamespaceTable) (m : Shared) → AreFresh m → IsBody body
         → IsInfo (who_in (seated (hub_at hubs.old) granted.seat))
         → ShowsBroker table broker.old m
-        → Puts table m granted.seat channel body id broker.new (hub_at hubs.old)
+        → Puts table m granted.seat channel key body id broker.new (hub_at hubs.old)
         (hub_at hubs.new)) }
 {
     let Granted { seat, command } = granted;
     let Command { id, request } = command;
     match request {
-        Request::Publish { channel, body } => match body {
+        Request::Publish { channel, key, body } => match body {
             Data::Body(body) => {
                 put_in(
                     broker,
@@ -176,6 +176,7 @@ fn publish_in(
                     seat,
                     id,
                     channel.as_str(),
+                    key.as_str(),
                     body.as_str(),
                 )?;
                 Ok(())

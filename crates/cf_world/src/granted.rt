@@ -12,13 +12,13 @@ ghost use Rattle.cf_world.specs.BrokerTie.{ShowsBroker};
 ghost use Rattle.cf_world.specs.Exchange.{Lists, Puts, lacks_by, passes, sent_by};
 ghost use Rattle.cf_world.specs.HubCalls.{hub_at, who_in};
 ghost use Rattle.cf_world.specs.NodesTie.{seated};
-ghost use Rattle.cf_world.specs.declared.peers.Peer.{Peer as AnyPeer};
+ghost use Rattle.cf_world.specs.declared.clients.Peer.{Peer as AnyPeer};
 
 use crate::broker::{Broker, Published};
-use crate::errand::Errand;
+use crate::client_command::ClientCommand;
+use crate::clients::{Peer, Seat};
 use crate::hubs::{answer_in, info_in, refuse_in};
 use crate::judging::LONGEST_TEXT;
-use crate::peers::{Peer, Seat};
 use crate::short::Short;
 use cf_hub::Hub;
 use cf_protocol::{Command, Data, ErrorCode, Namespaces, Outcome, Request, write_command};
@@ -31,31 +31,28 @@ pub(crate) fn lacks_epoch(
     alloc: Global,
     namespaces: &Namespaces,
     broker: &Broker,
-    peers: &BTreeMap<String, Peer>,
+    clients: &BTreeMap<String, Peer>,
     name: &str,
-    errand: &Errand<'_>,
+    command: &ClientCommand<'_>,
 ) -> Result<bool, Short>
     ensures { IfOk result (λ lacks. (table : NamespaceTable) (m : Shared) (p : AnyPeer)
-        → ShowsBroker table broker.now m → get_by_text peers.now name.now ≡ Some p
+        → ShowsBroker table broker.now m → get_by_text clients.now name.now ≡ Some p
         → call_fault (state_of p.client) ≡ None
-        → lacks ≡ lacks_by namespaces.now (sent_by errand.now p) m) }
+        → lacks ≡ lacks_by namespaces.now (sent_by command.now p) m) }
 {
-    match errand {
-        Errand::Put { channel, body } => {
+    match command {
+        ClientCommand::Put { channel, key, body } => {
             if broker.can_open(channel) {
                 return Ok(false);
             }
-            let channel = String::from_str(alloc, channel)?;
-            let body = Data::Body(String::from_str(alloc, body)?);
-            would_pass(
-                alloc,
-                namespaces,
-                peers,
-                name,
-                Request::Publish { channel, body },
-            )
+            let request = Request::Publish {
+                channel: String::from_str(alloc, channel)?,
+                key: String::from_str(alloc, key)?,
+                body: Data::Body(String::from_str(alloc, body)?),
+            };
+            would_pass(alloc, namespaces, clients, name, request)
         }
-        Errand::List { channel, limit } => {
+        ClientCommand::List { channel, limit } => {
             if broker.can_open(channel) {
                 return Ok(false);
             }
@@ -65,7 +62,7 @@ pub(crate) fn lacks_epoch(
                 since: None,
                 reverse: false,
             };
-            would_pass(alloc, namespaces, peers, name, request)
+            would_pass(alloc, namespaces, clients, name, request)
         }
         _ => Ok(false),
     }
@@ -75,16 +72,16 @@ pub(crate) fn lacks_epoch(
 fn would_pass(
     alloc: Global,
     namespaces: &Namespaces,
-    peers: &BTreeMap<String, Peer>,
+    clients: &BTreeMap<String, Peer>,
     name: &str,
     request: Request,
 ) -> Result<bool, Short>
-    ensures { IfOk result (λ pass. (p : AnyPeer) → get_by_text peers.now name.now ≡ Some p
+    ensures { IfOk result (λ pass. (p : AnyPeer) → get_by_text clients.now name.now ≡ Some p
         → call_fault (state_of p.client) ≡ None
         → pass ≡ passes namespaces.now
         (record { id = (state_of p.client).client.fresh; request = shown_request request })) }
 {
-    let Some(peer) = peers.get(name) else {
+    let Some(peer) = clients.get(name) else {
         return Ok(false);
     };
     match peer.client.next_id() {
@@ -104,7 +101,7 @@ fn passes(alloc: Global, namespaces: &Namespaces, command: &Command) -> Result<b
     Ok(text.len() <= LONGEST_TEXT)
 }
 
-/// A client's datum is published, and the client is told.
+/// A client's datum is published under a key, and the client is told.
 pub(crate) fn put_in(
     broker: &mut Broker,
     hubs: &mut Vec<Hub>,
@@ -112,16 +109,18 @@ pub(crate) fn put_in(
     seat: Seat,
     id: u32,
     channel: &str,
+    key: &str,
     body: &str,
 ) -> Result<(), Short>
     ensures { OnOk result ((table : NamespaceTable) (m : Shared) → AreFresh m → IsBody body.now
         → IsInfo (who_in (seated (hub_at hubs.old) seat)) → ShowsBroker table broker.old m
-        → Puts table m seat channel.now body.now id broker.new (hub_at hubs.old)
+        → Puts table m seat channel.now key.now body.now id broker.new (hub_at hubs.old)
         (hub_at hubs.new)) }
 {
     let info = info_in(hubs, alloc, seat)?;
-    match broker.publish(channel, body, info)? {
+    match broker.publish(channel, key, body, info)? {
         Published::Accepted => answer_in(hubs, alloc, seat, id, Outcome::Published),
+        Published::Repeated => answer_in(hubs, alloc, seat, id, Outcome::Published),
         Published::AtLastOffset => refuse_in(hubs, alloc, seat, id, ErrorCode::LimitExceeded),
         Published::NoEpoch => Ok(()),
         Published::NotSetUp => Ok(()),

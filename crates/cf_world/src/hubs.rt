@@ -10,7 +10,7 @@ ghost use Rattle.cf_world.specs.HubCalls.{Answered, AreSame, Asks, AtNode, Attac
 ghost use Rattle.cf_world.specs.NodesTie.{seated};
 
 use crate::broker::{Accepted, NOW};
-use crate::peers::Seat;
+use crate::clients::Seat;
 use crate::short::Short;
 use cf_hub::{Asked, Hub, HubRefusal};
 use cf_protocol::{CloseCode, ErrorCode, Info, Outcome, Outgoing, Position, write_reply};
@@ -162,7 +162,7 @@ fn ask(
 ) -> Result<(), Short>
     ensures { OnOk result (Asks session channel.now id since hub.old hub.new) }
 {
-    hub.is_sound();
+    hub.invariant();
     match hub.begin(session, channel, id, since) {
         Ok(()) => Ok(()),
         Err(HubRefusal::Already) => {
@@ -305,7 +305,7 @@ pub(crate) fn attach_in(hubs: &mut Vec<Hub>, alloc: Global, node: u8) -> Result<
     let Some(hub) = hubs.get_mut(node as usize) else {
         return Ok(None);
     };
-    hub.is_sound();
+    hub.invariant();
     match hub.attach(String::new(alloc), NOW) {
         Ok(session) => Ok(Some(session)),
         Err(HubRefusal::TooMany) => Ok(None),

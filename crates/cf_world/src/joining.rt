@@ -3,8 +3,8 @@ ghost use Rattle.std.specs.Prelude.{OnOk};
 ghost use Rattle.cf_machine.specs.Event as said;
 ghost use Rattle.cf_world.specs.Tie.{GoesOn};
 
+use crate::clients::{Seat, join, seat_of, unseat, unseat_all};
 use crate::hubs::{attach_in, detach_in, renew_in};
-use crate::peers::{Seat, join, seat_of, unseat, unseat_all};
 use crate::short::Short;
 use crate::world::World;
 use cf_hub::laws::{calls_are_alike, sessions_are_counted};
@@ -16,14 +16,14 @@ impl World {
     {
         calls_are_alike();
         sessions_are_counted();
-        if let Some(_seat) = seat_of(&self.peers, name) {
+        if let Some(_seat) = seat_of(&self.clients, name) {
             return Ok(());
         }
         let Some(session) = attach_in(&mut self.hubs, self.alloc, node)? else {
             return Ok(());
         };
         let seat = Seat { node, session };
-        join(self.alloc, &mut self.peers, name, seat)?;
+        join(self.alloc, &mut self.clients, name, seat)?;
         Ok(())
     }
 
@@ -31,11 +31,11 @@ impl World {
     pub fn break_off(&mut self, name: &str)
         ensures { GoesOn (said.Break name.now) self.old self.new }
     {
-        let Some(seat) = seat_of(&self.peers, name) else {
+        let Some(seat) = seat_of(&self.clients, name) else {
             return;
         };
         detach_in(&mut self.hubs, seat);
-        unseat(&mut self.peers, name);
+        unseat(&mut self.clients, name);
     }
     /// A node restarts: its sessions are gone, and its boot number grows. It answers `Short` too where the boot number is the last.
     pub fn restart(&mut self, node: u8) -> Result<(), Short>
@@ -45,7 +45,7 @@ impl World {
             return Ok(());
         }
         renew_in(&mut self.hubs, self.alloc, node)?;
-        unseat_all(&mut self.peers, node);
+        unseat_all(&mut self.clients, node);
         Ok(())
     }
 }

@@ -2,15 +2,15 @@
 #![tactic(auto)]
 
 mod broker;
+mod client_command;
+mod clients;
 mod entry;
 mod epochs;
-mod errand;
 mod exchange;
 mod granted;
 mod hubs;
 mod joining;
 mod judging;
-mod peers;
 mod sending;
 mod serving;
 mod short;
@@ -18,7 +18,7 @@ mod sight;
 mod taking;
 mod world;
 
+pub use clients::Seat;
 pub use entry::{Entry, Item};
-pub use peers::Seat;
 pub use short::Short;
 pub use world::World;

@@ -3,17 +3,17 @@ ghost use Rattle.std.specs.Prelude.{IfOk};
 ghost use Rattle.std.specs.BTreeMap.{get_by_text};
 ghost use Rattle.cf_machine.specs.Config.{Config};
 ghost use Rattle.cf_machine.specs.World.{World as Machine};
-ghost use Rattle.cf_world.specs.Errands.{IsReadBack};
+ghost use Rattle.cf_world.specs.ClientCommands.{IsReadBack};
 ghost use Rattle.cf_world.specs.HubCalls.{hub_at};
 ghost use Rattle.cf_world.specs.Sending.{Hears, Keeps, SendsAs, WorldSends};
 ghost use Rattle.cf_world.specs.Tie.{AreTied, Tied};
 
 use crate::broker::Broker;
-use crate::errand::Errand;
+use crate::client_command::ClientCommand;
+use crate::clients::{Peer, Seat, seat_of, send};
 use crate::granted::lacks_epoch;
 use crate::hubs::{close_in, is_closed_in, is_settled_in, refuse_in};
 use crate::judging::{Judged, judge};
-use crate::peers::{Peer, Seat, seat_of, send};
 use crate::short::Short;
 use crate::world::World;
 use cf_hub::Hub;
@@ -60,20 +60,24 @@ fn hear_in(
 impl World {
     /// A client sends a command, where it can, and its node hears it. None where hub and broker needn't be asked: nothing was
     /// sent, or nothing comes of it, or what does is done.
-    pub(crate) fn send(&mut self, name: &str, errand: &Errand<'_>) -> Result<Option<Granted>, Short>
+    pub(crate) fn send(
+        &mut self,
+        name: &str,
+        command: &ClientCommand<'_>,
+    ) -> Result<Option<Granted>, Short>
         ensures sends { IfOk result (λ granted. (cfg : Config) (m : Machine)
-            → IsReadBack errand.now → Tied cfg self.old m
-            → WorldSends cfg m name.now errand.now self.old self.new granted) }
+            → IsReadBack command.now → Tied cfg self.old m
+            → WorldSends cfg m name.now command.now self.old self.new granted) }
         ensures stays { Keeps self.old self.new }
     {
         send_in(
             &self.namespaces,
             &self.broker,
             &mut self.hubs,
-            &mut self.peers,
+            &mut self.clients,
             self.alloc,
             name,
-            errand,
+            command,
         )
     }
 }
@@ -83,30 +87,32 @@ fn send_in(
     namespaces: &Namespaces,
     broker: &Broker,
     hubs: &mut Vec<Hub>,
-    peers: &mut BTreeMap<String, Peer>,
+    clients: &mut BTreeMap<String, Peer>,
     alloc: Global,
     name: &str,
-    errand: &Errand<'_>,
+    command: &ClientCommand<'_>,
 ) -> Result<Option<Granted>, Short>
-    ensures { IfOk result (λ granted. (cfg : Config) (m : Machine) → IsReadBack errand.now
-        → AreTied cfg namespaces.now broker.now (hub_at hubs.old) (get_by_text peers.old) m
-        → SendsAs cfg m name.now errand.now (hub_at hubs.old) (hub_at hubs.new)
-        (get_by_text peers.old) (get_by_text peers.new) namespaces.now broker.now granted) }
+    ensures { IfOk result (λ granted. (cfg : Config) (m : Machine) → IsReadBack command.now
+        → AreTied cfg namespaces.now broker.now (hub_at hubs.old) (get_by_text clients.old) m
+        → SendsAs cfg m name.now command.now (hub_at hubs.old) (hub_at hubs.new)
+        (get_by_text clients.old) (get_by_text clients.new) namespaces.now broker.now granted) }
 {
     calls_are_alike();
     moves_are_alike();
     what_is_said_stays();
     commands_read_back();
-    let Some(seat) = seat_of(peers, name) else {
+    let Some(seat) = seat_of(clients, name) else {
         return Ok(None);
     };
     if !is_settled_in(hubs, seat) {
         return Ok(None);
     }
-    if lacks_epoch(alloc, namespaces, broker, peers, name, errand)? && !is_closed_in(hubs, seat) {
+    if lacks_epoch(alloc, namespaces, broker, clients, name, command)?
+        && !is_closed_in(hubs, seat)
+    {
         return Ok(None);
     }
-    let Some(text) = send(peers, name, errand)? else {
+    let Some(text) = send(clients, name, command)? else {
         return Ok(None);
     };
     match hear_in(hubs, alloc, namespaces, seat, text.as_str())? {

@@ -3,8 +3,8 @@ ghost use Rattle.std.specs.Prelude.{OnOk};
 ghost use Rattle.cf_machine.specs.Event as said;
 ghost use Rattle.cf_world.specs.Tie.{GoesOn};
 
+use crate::clients::seat_of;
 use crate::hubs::{asked_in, check_in, deliver_in, finish_in, read_in};
-use crate::peers::seat_of;
 use crate::short::Short;
 use crate::world::World;
 use cf_hub::laws::{calls_are_alike, moves_are_alike, what_is_said_stays};
@@ -19,7 +19,7 @@ impl World {
         moves_are_alike();
         what_is_said_stays();
         epochs_are_fresh();
-        let Some(seat) = seat_of(&self.peers, name) else {
+        let Some(seat) = seat_of(&self.clients, name) else {
             return Ok(());
         };
         let Some(asked) = asked_in(&self.hubs, seat, channel) else {
@@ -37,7 +37,7 @@ impl World {
         ensures { OnOk result (GoesOn (said.Finish name.now channel.now) self.old self.new) }
     {
         calls_are_alike();
-        let Some(seat) = seat_of(&self.peers, name) else {
+        let Some(seat) = seat_of(&self.clients, name) else {
             return Ok(());
         };
         finish_in(&mut self.hubs, seat, channel)?;
@@ -62,7 +62,7 @@ impl World {
     {
         calls_are_alike();
         moves_are_alike();
-        let Some(seat) = seat_of(&self.peers, name) else {
+        let Some(seat) = seat_of(&self.clients, name) else {
             return Ok(());
         };
         let top = self.broker.top(channel);

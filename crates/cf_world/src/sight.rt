@@ -2,7 +2,7 @@
 ghost use Rattle.std.specs.Prelude.{◌≡◌};
 ghost use Rattle.cf_world.specs.Tie.{seat_at};
 
-use crate::peers::{Seat, seat_of};
+use crate::clients::{Seat, seat_of};
 use crate::world::World;
 
 impl World {
@@ -10,6 +10,6 @@ impl World {
     pub fn seat(&self, name: &str) -> Option<Seat>
         ensures { result ≡ seat_at self.now name.now }
     {
-        seat_of(&self.peers, name)
+        seat_of(&self.clients, name)
     }
 }

@@ -8,9 +8,9 @@ ghost use Rattle.cf_world.specs.Entries.{shown_entry};
 ghost use Rattle.cf_world.specs.Items.{is_got, told_of};
 ghost use Rattle.cf_world.specs.Tie.{GoesOn, Writes};
 
+use crate::clients::{hear, seat_of, unseat};
 use crate::entry::{Entry, Item};
 use crate::hubs::{detach_in, take_in};
-use crate::peers::{hear, seat_of, unseat};
 use crate::short::Short;
 use crate::world::World;
 use cf_client::AppEvent;
@@ -34,19 +34,19 @@ impl World {
         answers_by_id();
         schedules_are_loose_runs();
         what_waits_is_listed();
-        let Some(seat) = seat_of(&self.peers, name) else {
+        let Some(seat) = seat_of(&self.clients, name) else {
             return Ok(Vec::new(self.alloc));
         };
         match take_in(&mut self.hubs, seat) {
             None => Ok(Vec::new(self.alloc)),
             Some(Out::Text(text)) => {
-                let told = hear(self.alloc, &mut self.peers, name, text.as_str())?;
+                let told = hear(self.alloc, &mut self.clients, name, text.as_str())?;
                 let entries = entries(self.alloc, at, name, told)?;
                 Ok(entries)
             }
             Some(Out::Close(code)) => {
                 detach_in(&mut self.hubs, seat);
-                unseat(&mut self.peers, name);
+                unseat(&mut self.clients, name);
                 let entries = closed(self.alloc, at, name, code)?;
                 Ok(entries)
             }

@@ -1,5 +1,5 @@
 //! The world of a schedule: a broker, nodes and clients, and what happens to them.
-ghost use Rattle.std.specs.Prelude.{◌≡◌, IfOk, OnOk, None, length, option_copied};
+ghost use Rattle.std.specs.Prelude.{◌≡◌, ◌≤◌, IfOk, OnOk, None, length, option_copied};
 ghost use Rattle.cf_protocol.specs.Regular.{IsBody};
 ghost use Rattle.cf_machine.specs.Event as said;
 ghost use Rattle.cf_machine.specs.World.{start};
@@ -7,14 +7,14 @@ ghost use Rattle.cf_world.specs.HubCalls.{AreNew};
 ghost use Rattle.cf_world.specs.Tie.{GoesOn, Tied, client_of, hub_of, streams_of};
 
 use crate::broker::Broker;
-use crate::peers::Peer;
+use crate::clients::Peer;
 use crate::short::Short;
 use cf_client::Client;
 use cf_hub::Hub;
 use cf_hub::laws::what_is_said_stays;
 use cf_machine::laws::epochs_are_fresh;
 use cf_protocol::{Epoch, Namespaces};
-use cf_stream::Streams;
+use cf_stream::{LARGEST_SIZE, Streams};
 use std::alloc::Global;
 use std::collections::BTreeMap;
 
@@ -27,7 +27,7 @@ pub struct World {
     pub(crate) namespaces: Namespaces,
     pub(crate) broker: Broker,
     pub(crate) hubs: Vec<Hub>,
-    pub(crate) peers: BTreeMap<String, Peer>,
+    pub(crate) clients: BTreeMap<String, Peer>,
     pub(crate) alloc: Global,
 }
 
@@ -44,7 +44,7 @@ impl World {
             namespaces: namespaces_kept,
             broker,
             hubs,
-            peers: BTreeMap::new(alloc),
+            clients: BTreeMap::new(alloc),
             alloc,
         })
     }
@@ -67,7 +67,7 @@ impl World {
     pub fn client(&self, name: &str) -> Option<&Client>
         ensures { option_copied result ≡ client_of self.now name.now }
     {
-        match self.peers.get(name) {
+        match self.clients.get(name) {
             None => None,
             Some(peer) => Some(&peer.client),
         }
@@ -82,14 +82,16 @@ impl World {
         Ok(())
     }
 
-    /// A datum is published, unless the channel's namespace is not set up, no epoch waits for its stream, or the stream is full.
-    pub fn publish(&mut self, channel: &str, body: &str) -> Result<(), Short>
+    /// A datum is published under a key, which may be the empty one, unless the channel's namespace is not set up, no epoch waits
+    /// for its stream, the stream is full, or the key is among its last hundred.
+    pub fn publish(&mut self, channel: &str, key: &str, body: &str) -> Result<(), Short>
         requires { IsBody body.now }
-        ensures { OnOk result (GoesOn (said.Publish channel.now body.now) self.old self.new) }
+        ensures { OnOk result
+            (GoesOn (said.Publish channel.now key.now body.now) self.old self.new) }
     {
         what_is_said_stays();
         epochs_are_fresh();
-        let _published = self.broker.publish(channel, body, None)?;
+        let _published = self.broker.publish(channel, key, body, None)?;
         Ok(())
     }
 
@@ -115,6 +117,16 @@ impl World {
     {
         what_is_said_stays();
         self.broker.forget_all();
+    }
+
+    /// Streams of a namespace hold at most so many publications from now on, if it is set up. Of those that hold more the newest
+    /// stay.
+    pub fn set_size(&mut self, name: &str, size: usize)
+        requires { (1 ≤ size) × (size ≤ LARGEST_SIZE) }
+        ensures { GoesOn (said.SetSize name.now size) self.old self.new }
+    {
+        what_is_said_stays();
+        self.broker.set_size(name, size);
     }
 }
 

@@ -5,11 +5,10 @@ use crate::wire::{
     CONNECTED, Echo, Pieces, long_text, masked_connect, stream_of, text_frame, texts, turns,
     wire_over, wrote,
 };
-use cf_hub::{Hub, Said};
+use cf_hub::{Hub, Queued};
 use cf_protocol::{ErrorCode, Namespaces, Tokens, read_namespaces, read_tokens};
 use cf_queue::Out;
-use cf_session::{Action, Answer, Kind, Session};
-use cf_wire::{Desk, TurnEnd, Wire, WireFault};
+use cf_session::{Action, Answer, Desk, Kind, Session, TurnEnd, Wire, WireFault};
 use std::alloc::{AllocError, Global};
 
 /// A wire over three texts by pieces of three bytes, whose stream fails from the call of this number on.
@@ -206,7 +205,7 @@ fn hub_desk(alloc: Global) -> Option<HubDesk> {
 }
 
 /// Whether a text of so many bytes is met so by the hub.
-fn says(desk: &mut HubDesk, alloc: Global, bytes: usize, said: Said) -> bool {
+fn says(desk: &mut HubDesk, alloc: Global, bytes: usize, said: Queued) -> bool {
     match "x".repeat(alloc, bytes) {
         Ok(text) => desk.hub.say(desk.session, text) == said,
         Err(_) => false,
@@ -225,11 +224,11 @@ fn is_stuck(wire: &mut Wire<Pieces>, desk: &mut HubDesk) -> bool {
 /// Whether what a blocked stream doesn't take waits, one message at the wire and the rest in the queue, until that is full.
 fn fills_queue(wire: &mut Wire<Pieces>, desk: &mut HubDesk, alloc: Global) -> bool {
     wire.stream_mut().blocked = true;
-    says(desk, alloc, 5, Said::Kept)
+    says(desk, alloc, 5, Queued::Kept)
         && is_stuck(wire, desk)
-        && says(desk, alloc, 600_000, Said::Kept)
+        && says(desk, alloc, 600_000, Queued::Kept)
         && is_stuck(wire, desk)
-        && says(desk, alloc, 600_000, Said::Closed)
+        && says(desk, alloc, 600_000, Queued::Closed)
         && is_stuck(wire, desk)
 }
 

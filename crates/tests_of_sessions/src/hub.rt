@@ -1,5 +1,5 @@
 //! A hub's sessions, and what is said to their clients.
-use cf_hub::{Checked, Delivered, Hub, HubRefusal, Said};
+use cf_hub::{Checked, Delivered, Hub, HubRefusal, Queued};
 use cf_protocol::{Epoch, Position, Publication};
 use cf_queue::Out;
 use cf_stream::Recovery;
@@ -283,7 +283,7 @@ fn longest_text(alloc: Global) -> Result<String, AllocError> {
 
 /// One of two that follow `news` has so much waiting that a delivery closes it.
 fn overflows<R: Abort>(rt: &R, alloc: Global, hub: &mut Hub, slow: u32) -> Result<(), Fail> {
-    assert_eq!(rt; hub.say(slow, longest_text(alloc)?), Said::Kept);
+    assert_eq!(rt; hub.say(slow, longest_text(alloc)?), Queued::Kept);
     let met = deliver(hub, alloc, 1)?;
     assert_eq!(rt; (met.passed, met.closed), (1, 1));
     Ok(())
@@ -291,7 +291,7 @@ fn overflows<R: Abort>(rt: &R, alloc: Global, hub: &mut Hub, slow: u32) -> Resul
 
 /// A client that was too slow gets what waited, and the close.
 fn is_closed_as_slow<R: Abort>(rt: &R, alloc: Global, hub: &mut Hub, slow: u32) {
-    assert_eq!(rt; hub.say(slow, String::new(alloc)), Said::Closed);
+    assert_eq!(rt; hub.say(slow, String::new(alloc)), Queued::Closed);
     assert!(rt; hub.take(slow).is_some());
     gets_close(rt, hub, slow, 3008);
 }
@@ -305,7 +305,7 @@ fn slow_consumer(rt: HostRuntime) -> Result<(), Fail> {
     overflows(&rt, alloc, hub, slow)?;
     is_closed_as_slow(&rt, alloc, hub, slow);
     gets(&rt, hub, other, FIRST);
-    assert_eq!(rt; hub.say(9, String::new(alloc)), Said::Gone);
+    assert_eq!(rt; hub.say(9, String::new(alloc)), Queued::Gone);
     Ok(())
 }
 

@@ -128,6 +128,13 @@ fn read_words(alloc: Global, since: &Option<Position>) -> Result<String, AllocEr
     }
 }
 
+fn publish_words(alloc: Global, key: &str, body: &str, client: &str) -> Result<String, AllocError> {
+    if key.is_empty() {
+        return format!(in alloc; "publish {body} {client}");
+    }
+    format!(in alloc; "publish {key}: {body} {client}")
+}
+
 /// The action in words.
 fn words_of(alloc: Global, action: &Action) -> Result<String, AllocError> {
     match action {
@@ -136,9 +143,12 @@ fn words_of(alloc: Global, action: &Action) -> Result<String, AllocError> {
         Action::Read { since, .. } => read_words(alloc, since),
         Action::Finish { .. } => String::from_str(alloc, "finish"),
         Action::Leave { .. } => String::from_str(alloc, "leave"),
-        Action::Publish { body, info, .. } => {
-            format!(in alloc; "publish {body} {}", info.client)
-        }
+        Action::Publish {
+            key,
+            body,
+            info,
+            ..
+        } => publish_words(alloc, key.as_str(), body.as_str(), info.client.as_str()),
         Action::History { limit, .. } => format!(in alloc; "history {limit}"),
         Action::Presence { .. } => String::from_str(alloc, "presence"),
         Action::Stats { .. } => String::from_str(alloc, "stats"),
@@ -219,6 +229,31 @@ const COMMANDS: &str =
 #[test]
 fn each_command(rt: HostRuntime) {
     talks(&rt, rt.alloc(), COMMANDS);
+}
+
+const KEYS: &str =
+    r#"{"id":1,"connect":{}} => attach  / {"connect":{"client":"0-1-1","ping":25,"pong":true,"version":"1.0.0"},"id":1}
+{"id":3,"publish":{"channel":"news","data":1,"key":"k"}} => publish k: 1 0-1-1 / {"id":3,"publish":{}}
+{"id":3,"publish":{"channel":"news","data":1,"key":null}} => publish 1 0-1-1 / {"id":3,"publish":{}}
+{"id":3,"publish":{"channel":"news","data":1,"key":""}} => publish 1 0-1-1 / {"id":3,"publish":{}}
+{"id":3,"publish":{"key":"k","channel":"news","data":1,"key":"l"}} => publish l: 1 0-1-1 / {"id":3,"publish":{}}
+{"id":3,"publish":{"channel":"full","data":1,"key":"k"}} => publish k: 1 0-1-1 / {"error":{"code":106,"message":"limit exceeded"},"id":3}
+{"id":3,"publish":{"channel":"a","data":1,"key":"kkkkkkkkkkkkkkkkkkkkkkkkkkkkkkkkkkkkkkkkkkkkkkkkkkkkkkkkkkkkkkkk"}} => publish kkkkkkkkkkkkkkkkkkkkkkkkkkkkkkkkkkkkkkkkkkkkkkkkkkkkkkkkkkkkkkkk: 1 0-1-1 / {"id":3,"publish":{}}
+{"id":3,"publish":{"channel":"chat:x","data":1,"key":"kkkkkkkkkkkkkkkkkkkkkkkkkkkkkkkkkkkkkkkkkkkkkkkkkkkkkkkkkkkkkkkk"}} => {"error":{"code":102,"message":"unknown channel"},"id":3}
+{"id":3,"publish":{"channel":"bare:a","data":1,"key":"kkkkkkkkkkkkkkkkkkkkkkkkkkkkkkkkkkkkkkkkkkkkkkkkkkkkkkkkkkkkkkkk"}} => {"error":{"code":103,"message":"permission denied"},"id":3}
+{"id":3,"publish":{"channel":"a","data":1,"key":"kkkkkkkkkkkkkkkkkkkkkkkkkkkkkkkkkkkkkkkkkkkkkkkkkkkkkkkkkkkkkkkkk"}} => {"error":{"code":107,"message":"bad request"},"id":3}
+{"id":3,"publish":{"channel":"a","data":1,"key":"ééééééééééééééééééééééééééééééééé"}} => {"error":{"code":107,"message":"bad request"},"id":3}
+{"id":3,"publish":{"channel":"","data":1,"key":"kkkkkkkkkkkkkkkkkkkkkkkkkkkkkkkkkkkkkkkkkkkkkkkkkkkkkkkkkkkkkkkkk"}} => {"error":{"code":107,"message":"bad request"},"id":3}
+{"id":3,"publish":{"channel":"a","key":"kkkkkkkkkkkkkkkkkkkkkkkkkkkkkkkkkkkkkkkkkkkkkkkkkkkkkkkkkkkkkkkkk"}} => {"error":{"code":107,"message":"bad request"},"id":3}
+{"id":3,"publish":{"channel":"chat:x","data":1,"key":"kkkkkkkkkkkkkkkkkkkkkkkkkkkkkkkkkkkkkkkkkkkkkkkkkkkkkkkkkkkkkkkkk"}} => {"error":{"code":107,"message":"bad request"},"id":3}
+{"id":3,"publish":{"channel":"bare:a","data":1,"key":"kkkkkkkkkkkkkkkkkkkkkkkkkkkkkkkkkkkkkkkkkkkkkkkkkkkkkkkkkkkkkkkkk"}} => {"error":{"code":107,"message":"bad request"},"id":3}
+{"id":3,"publish":{"channel":"a","data":1,"key":1}} => close 3501 bad request"#;
+
+/// A publish under a key. Its key is looked at with its data: behind the channel's name, and before
+/// the namespace.
+#[test]
+fn keys(rt: HostRuntime) {
+    talks(&rt, rt.alloc(), KEYS);
 }
 
 const PINGS: &str =
@@ -404,7 +439,7 @@ const CONNECT_ROW: &str =
 const SUBSCRIBE_ROW: &str = r#"{"id":2,"subscribe":{"channel":"news"}} => begin 2 / read / finish"#;
 
 const PUBLISH_ROW: &str =
-    r#"{"id":2,"publish":{"channel":"news","data":1}} => publish 1 0-1-1 / {"id":2,"publish":{}}"#;
+    r#"{"id":2,"publish":{"channel":"news","data":1,"key":"k"}} => publish k: 1 0-1-1 / {"id":2,"publish":{}}"#;
 
 const HISTORY_ROW: &str =
     r#"{"id":2,"history":{"channel":"news","limit":-1}} => history -1 / {"history":{"epoch":"aaaa","offset":3,"publications":[{"data":{},"info":{"client":"0-1-1","user":"ann"},"offset":3}]},"id":2}"#;
@@ -452,7 +487,7 @@ fn may_all_give_up(rt: &impl Abort, alloc: Global, session: &mut Session<'_>) ->
     may_give_up(rt, alloc, session, CONNECT_ROW, "attach  / ", NO_MEMORY)?;
     for (row, call) in [
         (SUBSCRIBE_ROW, ""),
-        (PUBLISH_ROW, "publish 1 0-1-1 / "),
+        (PUBLISH_ROW, "publish k: 1 0-1-1 / "),
         (HISTORY_ROW, "history -1 / "),
     ] {
         may_give_up(rt, alloc, session, row, call, FAILED)?;

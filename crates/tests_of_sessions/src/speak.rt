@@ -58,6 +58,44 @@ fn conversation(rt: HostRuntime) {
     assert!(rt; is_spoken(rt.alloc(), LINES, ANSWERS));
 }
 
+const REPEATED: &str = r#"{"id":1,"connect":{}}
+{"id":2,"publish":{"channel":"news","data":1,"key":"k"}}
+{"id":3,"publish":{"channel":"news","data":2,"key":"k"}}
+{"id":4,"history":{"channel":"news","limit":-1}}
+"#;
+
+const HELD_ONCE: &str =
+    r#"{"connect":{"client":"0-1-1","ping":25,"pong":true,"version":"1.0.0"},"id":1}
+{"id":2,"publish":{}}
+{"id":3,"publish":{}}
+{"history":{"epoch":"aaaa","offset":1,"publications":[{"data":1,"info":{"client":"0-1-1"},"offset":1}]},"id":4}
+"#;
+
+const SUBSCRIBED: &str = r#"{"id":1,"connect":{}}
+{"id":2,"subscribe":{"channel":"news"}}
+{"id":3,"publish":{"channel":"news","data":1,"key":"k"}}{"id":4,"publish":{"channel":"news","data":2,"key":"k"}}
+{"id":5,"publish":{"channel":"news","data":3,"key":null}}
+{"id":6,"publish":{"channel":"news","data":4,"key":"k"}}
+"#;
+
+const PUSHED_ONCE: &str =
+    r#"{"connect":{"client":"0-1-1","ping":25,"pong":true,"version":"1.0.0"},"id":1}
+{"id":2,"subscribe":{"epoch":"aaaa","positioned":true,"recoverable":true}}
+{"id":3,"publish":{}}
+{"push":{"channel":"news","pub":{"data":1,"info":{"client":"0-1-1"},"offset":1}}}
+{"id":4,"publish":{}}
+{"id":5,"publish":{}}
+{"push":{"channel":"news","pub":{"data":3,"info":{"client":"0-1-1"},"offset":2}}}
+{"id":6,"publish":{}}
+"#;
+
+/// A publish whose key comes again is answered, and nothing is added or delivered.
+#[test]
+fn repeated(rt: HostRuntime) {
+    assert!(rt; is_spoken(rt.alloc(), REPEATED, HELD_ONCE));
+    assert!(rt; is_spoken(rt.alloc(), SUBSCRIBED, PUSHED_ONCE));
+}
+
 const REFUSED: &str = r#"{"id":1,"connect":{"token":"t8"}}
 {"id":1,"connect":{}}
 "#;

@@ -2,9 +2,11 @@
 ghost use Rattle.std.specs.Prelude.{◌≡◌};
 
 use cf_presence::Stats;
-use cf_protocol::{ErrorCode, Namespaces, Tokens, read_namespaces, read_tokens};
-use cf_session::{Action, Answer, Session};
-use cf_talk::{Budget, Node, carry_on, hear_text, serve_lines};
+use cf_protocol::{
+    CloseCode, ErrorCode, Info, Namespaces, Position, Tokens, read_namespaces, read_tokens,
+};
+use cf_session::{Budget, Node, Session, carry_on, hear_text, serve_lines};
+use cf_stream::History;
 use std::alloc::{AllocError, Global};
 use std::collections::BTreeMap;
 
@@ -19,6 +21,13 @@ struct Stand<'a> {
 }
 
 impl Stand<'_> {
+    // One act more is done.
+    fn count(&mut self)
+        ensures { self.new.namespaces.now ≡ self.old.namespaces.now }
+    {
+        self.left = self.left.saturating_sub(1);
+    }
+
     fn write(&mut self, words: &str) -> Result<(), AllocError>
         ensures { self.new.namespaces.now ≡ self.old.namespaces.now }
     {
@@ -40,34 +49,80 @@ impl Node for Stand<'_> {
         self.left == 0
     }
 
-    fn act(&mut self, action: Action) -> Option<Answer> {
-        self.left = self.left.saturating_sub(1);
-        match action {
-            Action::Attach { .. } => match String::from_str(self.alloc, "0-1-1") {
-                Ok(client) => Some(Answer::Attach(Ok(client))),
-                Err(_) => Some(Answer::Attach(Err(ErrorCode::Internal))),
-            },
-            Action::Begin { .. } => Some(Answer::Begin(Ok(()))),
-            Action::Read { .. } => Some(Answer::Read(Err(ErrorCode::Internal))),
-            Action::Finish { .. } => Some(Answer::Finish),
-            Action::Leave { .. } => Some(Answer::Leave),
-            Action::Publish { .. } => Some(Answer::Publish(Ok(()))),
-            Action::History { .. } => Some(Answer::History(Err(ErrorCode::Internal))),
-            Action::Presence { .. } => Some(Answer::Presence(Ok(BTreeMap::new(self.alloc)))),
-            Action::Stats { .. } => Some(Answer::Stats(Stats {
-                clients: 1,
-                users: 1,
-            })),
-            Action::Say(text) => {
-                let _ = self.write(text.as_str());
-                None
-            }
-            Action::Pong => None,
-            Action::Close(code) => {
-                let _ = self.write(code.reason());
-                None
-            }
+    fn attach(&mut self, _user: String) -> Result<String, ErrorCode> {
+        self.count();
+        String::from_str(self.alloc, "0-1-1").map_err(|_| ErrorCode::Internal)
+    }
+
+    fn begin(
+        &mut self,
+        _channel: &str,
+        _id: u32,
+        _since: Option<Position>,
+    ) -> Result<(), ErrorCode> {
+        self.count();
+        Ok(())
+    }
+
+    fn read(&mut self, _channel: &str, _since: Option<Position>) -> Result<(), ErrorCode> {
+        self.count();
+        Err(ErrorCode::Internal)
+    }
+
+    fn finish(&mut self, _channel: String) {
+        self.count();
+    }
+
+    fn leave(&mut self, _channel: &str) {
+        self.count();
+    }
+
+    fn publish(
+        &mut self,
+        _channel: String,
+        _key: String,
+        _body: String,
+        _info: Info,
+    ) -> Result<(), ErrorCode> {
+        self.count();
+        Ok(())
+    }
+
+    fn history(
+        &mut self,
+        _channel: &str,
+        _limit: i32,
+        _since: Option<Position>,
+    ) -> Result<History, ErrorCode> {
+        self.count();
+        Err(ErrorCode::Internal)
+    }
+
+    fn presence(&mut self, _channel: &str) -> Result<BTreeMap<String, String>, ErrorCode> {
+        self.count();
+        Ok(BTreeMap::new(self.alloc))
+    }
+
+    fn stats(&mut self, _channel: &str) -> Stats {
+        self.count();
+        Stats {
+            clients: 1,
+            users: 1,
         }
+    }
+
+    fn say(&mut self, text: String) {
+        self.count();
+        let _ = self.write(text.as_str());
+    }
+
+    fn pong(&mut self) {
+        self.count();
+    }
+
+    fn close(&mut self, code: CloseCode) {
+        self.count();
+        let _ = self.write(code.reason());
     }
 }
 

@@ -121,6 +121,19 @@ deliver 0 18446744073709551616 => line 1: unreadable
 trim news 10001 => line 1: unreadable
 forget news 0 => line 1: unreadable
 brokerrestart / brokerrestart 0 => line 2: unreadable
+publishkey news 1 => line 1: unreadable
+publishkey news  1 => line 1: unreadable
+publishkey news k 1 2 => line 1: unreadable
+publishkey news é 1 => line 1: unreadable
+putkey ann news 1 => line 1: unreadable
+putkey ann news k => line 1: unreadable
+size =0 => line 1: unreadable
+size =10001 => line 1: unreadable
+size =05 => line 1: unreadable
+size 5 => line 1: unreadable
+size ==5 => line 1: unreadable
+size a:b=5 => line 1: unreadable
+size a =5 => line 1: unreadable
 publish news {"t":1 => line 1: unreadable"#;
 
 fn is_fault(alloc: Global, row: &str) -> bool {
@@ -153,6 +166,28 @@ fn ends_of_lines(rt: HostRuntime) {
     );
     assert!(rt; prints(rt.alloc(), DEFAULTS, "", ""));
     assert!(rt; prints(rt.alloc(), DEFAULTS, "list ann news -2147483648", ""));
+}
+
+const LONG_WORDS: &str = "size =1
+size =10000
+size chat=5
+size 32_letters-and-what-else-stands_=1
+publishkey news 64-visible-characters,the-last-of-which-is-this-one(!)---------> 1
+putkey ann news ~ 1
+";
+
+const LONGER_NAME: &str = "size 33_letters-and-what-else-stands__=1";
+
+const LONGER_KEY: &str =
+    "publishkey news 65-visible-characters,the-last-of-which-is-this-one(!)----------> 1";
+
+/// Keys and namespaces of as many characters as they may have, and of one more.
+#[test]
+fn long_words(rt: HostRuntime) {
+    assert!(rt; prints(rt.alloc(), DEFAULTS, LONG_WORDS, ""));
+    for line in [LONGER_NAME, LONGER_KEY] {
+        assert!(rt; is_refused(rt.alloc(), DEFAULTS, line.as_bytes(), "line 1: unreadable"));
+    }
 }
 
 /// What isn't UTF-8 is looked for in the whole input first.

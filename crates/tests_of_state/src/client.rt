@@ -151,6 +151,16 @@ fn texts_of_commands(rt: HostRuntime) {
         client.ask_from("news"),
         r#"{"id":6,"subscribe":{"channel":"news"}}"#,
     );
+    sends(
+        &rt,
+        client.put_key("news", "k", "1"),
+        r#"{"id":7,"publish":{"channel":"news","data":1,"key":"k"}}"#,
+    );
+    sends(
+        &rt,
+        client.put_key("news", "", "1"),
+        r#"{"id":8,"publish":{"channel":"news","data":1}}"#,
+    );
 }
 
 /// To a client with a publish under id 3, and a history under id 4. It answers an ask that is

@@ -1,7 +1,7 @@
 //! One stream, and the streams of all channels.
 use crate::shown::says;
 use cf_protocol::{Epoch, Info, Position, read_namespaces};
-use cf_stream::{Epochs, Stream, StreamRefusal, Streams};
+use cf_stream::{Epochs, LAST_OFFSET, Stream, StreamRefusal, Streams};
 use std::alloc::Global;
 use std::process::Abort;
 
@@ -44,7 +44,9 @@ fn ann(alloc: Global) -> Option<Info> {
 fn publish_one(alloc: Global, stream: &mut Stream) -> Option<()> {
     let info = ann(alloc)?;
     let body = String::from_str(alloc, "1").ok()?;
-    stream.publish(body, Some(info), 0).ok()?;
+    stream
+        .publish(body, String::new(alloc), Some(info), 0)
+        .ok()?;
     Some(())
 }
 
@@ -160,8 +162,15 @@ fn publish(alloc: Global, streams: &mut Streams, channel: &str, epoch: Epoch) ->
     if !streams.is_set_up(channel) {
         return None;
     }
-    let answer = streams.publish(&mut Same(epoch), channel, String::new(alloc), None, 0);
-    Some(answer.ok()?.offset)
+    let answer = streams.publish(
+        &mut Same(epoch),
+        channel,
+        String::new(alloc),
+        String::new(alloc),
+        None,
+        0,
+    );
+    Some(answer.ok()?.position.offset)
 }
 
 /// How many publications of a channel are recovered from an offset on.
@@ -230,4 +239,96 @@ fn takes_long_name(alloc: Global, length: usize) -> Option<bool> {
 #[test]
 fn long_names_and_empty_bodies(rt: HostRuntime) {
     assert!(rt; takes_long_name(rt.alloc(), 65_536) == Some(true));
+}
+
+/// What a publish with the key `k` and a number is answered with: its offset, and whether it is a repeat.
+fn keyed(alloc: Global, stream: &mut Stream, number: u64) -> Option<(u64, bool)> {
+    let key = format!(in alloc; "k{number}").ok()?;
+    let body = String::from_str(alloc, "1").ok()?;
+    let answer = stream.publish(body, key, None, 0).ok()?;
+    Some((answer.position.offset, answer.repeated))
+}
+
+/// A stream of three that was given a hundred keys.
+fn hundred_keys(alloc: Global) -> Option<Stream> {
+    let epoch = aaaa();
+    if epoch.is_empty() {
+        return None;
+    }
+    let mut stream = Stream::start(alloc, epoch, 3).ok()?;
+    for number in 1..101 {
+        if keyed(alloc, &mut stream, number) != Some((number, false)) {
+            return None;
+        }
+    }
+    Some(stream)
+}
+
+#[test]
+fn keys_are_remembered(rt: HostRuntime) {
+    let Some(mut stream) = hundred_keys(rt.alloc()) else {
+        panic!(rt; "no memory");
+    };
+    assert!(rt; keyed(rt.alloc(), &mut stream, 1) == Some((1, true)));
+    assert!(rt; keyed(rt.alloc(), &mut stream, 101) == Some((101, false)));
+    assert!(rt; keyed(rt.alloc(), &mut stream, 1) == Some((102, false)));
+    assert!(rt; keyed(rt.alloc(), &mut stream, 2) == Some((103, false)));
+    assert!(rt; keyed(rt.alloc(), &mut stream, 4) == Some((4, true)));
+    assert!(rt; stream.repeat_of("k4").is_some());
+    assert!(rt; stream.repeat_of("k3").is_none());
+    assert!(rt; stream.held() == 3);
+}
+
+// A repeat is answered at the last offset too, and after a trim to nothing.
+#[test]
+fn repeat_at_last_offset(rt: HostRuntime) {
+    let alloc = rt.alloc();
+    let Some(mut stream) = started_late(alloc) else {
+        panic!(rt; "no memory");
+    };
+    assert!(rt; keyed(alloc, &mut stream, 1) == Some((LAST_OFFSET, false)));
+    assert!(rt; keyed(alloc, &mut stream, 1) == Some((LAST_OFFSET, true)));
+    assert!(rt; keyed(alloc, &mut stream, 2).is_none());
+    stream.trim(0);
+    assert!(rt; keyed(alloc, &mut stream, 1) == Some((LAST_OFFSET, true)));
+    assert!(rt; stream.held() == 0);
+}
+
+/// A stream of 10,000 that was given as many.
+fn great(alloc: Global) -> Option<Stream> {
+    let epoch = aaaa();
+    if epoch.is_empty() {
+        return None;
+    }
+    let mut stream = Stream::start(alloc, epoch, 10000).ok()?;
+    for _ in 0..10000 {
+        publish_one(alloc, &mut stream)?;
+    }
+    Some(stream)
+}
+
+#[test]
+fn great_stream(rt: HostRuntime) {
+    let Some(mut stream) = great(rt.alloc()) else {
+        panic!(rt; "no memory");
+    };
+    let Ok(found) = stream.recover(at(9700), 0) else {
+        panic!(rt; "no memory");
+    };
+    assert!(rt; found.recovered && found.publications.len() == 300);
+    let Ok(gone) = stream.recover(at(9699), 0) else {
+        panic!(rt; "no memory");
+    };
+    assert!(rt; !gone.recovered);
+    let Ok(listed) = stream.history(None, -1, 0) else {
+        panic!(rt; "no memory");
+    };
+    assert!(rt; listed.publications.len() == 300);
+    assert!(rt; listed.publications.iter().all(|one| one.offset <= 300));
+    stream.resize(2);
+    stream.resize(5);
+    let Ok(lost) = stream.recover(at(9997), 0) else {
+        panic!(rt; "no memory");
+    };
+    assert!(rt; !lost.recovered && stream.held() == 2);
 }

@@ -3,8 +3,10 @@ ghost use Rattle.std.specs.Prelude.{◌≡◌, IsSome};
 ghost use Rattle.cf_protocol.specs.Settings.{settings_of};
 ghost use Rattle.cf_broker.specs.Shards.{names, number_of};
 
+mod keys;
 mod moments;
 mod offers;
+mod sizes;
 mod threads;
 
 use cf_broker::{Broker, Passes, Words, shard_of};
@@ -136,8 +138,8 @@ fn publishes_at<N: Naming, R: Wait>(
     let Ok(body) = String::from_str(alloc, "1") else {
         return false;
     };
-    match broker.publish(rt, pass, channel, body, info(alloc), 0) {
-        Ok(position) => position.offset == offset,
+    match broker.publish(rt, pass, channel, body, String::new(alloc), info(alloc), 0) {
+        Ok(published) => published.position.offset == offset && !published.repeated,
         Err(_) => false,
     }
 }
@@ -437,7 +439,7 @@ fn is_published<N: Naming, E: Epochs + Drop, R: Wait>(
         return (pass, false);
     }
     let accepted = broker
-        .publish(rt, &mut pass, channel, body, None, 0)
+        .publish(rt, &mut pass, channel, body, String::new(alloc), None, 0)
         .is_ok();
     (pass, accepted)
 }

@@ -23,7 +23,7 @@ fn opened(word: &ShardWord, mut owner: Owner, mut pass: Pass) -> (Owner, Pass)
     word.append(
         &mut owner,
         &mut pass,
-        &Entry::Published("news", "1", Some(("ann", "n0-1"))),
+        &Entry::Published("news", "k", "1", Some(("ann", "n0-1"))),
     );
     (owner, pass)
 }
@@ -77,7 +77,7 @@ fn publish_often<N: Naming, R: Wait>(
     for _ in 0..100u32 {
         owner
             .lock(rt)
-            .append(word, &mut pass, &Entry::Published("news", "1", None));
+            .append(word, &mut pass, &Entry::Published("news", "", "1", None));
     }
     pass
 }

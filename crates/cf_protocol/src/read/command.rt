@@ -135,8 +135,9 @@ fn read_publish(alloc: Global, members: &Members<'_>) -> Result<Request, ReadFau
     ensures { OfFields members.now (λ fs. Answers shown_request result (publish fs)) }
 {
     let channel = members.text(alloc, "channel")?;
+    let key = members.text(alloc, "key")?;
     let body = read_data(alloc, members)?;
-    Ok(Request::Publish { channel, body })
+    Ok(Request::Publish { channel, key, body })
 }
 
 fn read_history(alloc: Global, members: &Members<'_>) -> Result<Request, ReadFault>

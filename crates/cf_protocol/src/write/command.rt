@@ -41,9 +41,9 @@ fn write_members(writer: &mut Writer, id: u32, request: &Request) -> Result<(), 
         Request::Unsubscribe { channel } => {
             write_on_channel(writer, id, "unsubscribe", channel.as_str())
         }
-        Request::Publish { channel, body } => {
+        Request::Publish { channel, key, body } => {
             write_id(writer, id)?;
-            write_publish(writer, channel.as_str(), body)?;
+            write_publish(writer, channel.as_str(), key.as_str(), body)?;
             Ok(())
         }
         Request::Presence { channel } => {
@@ -178,14 +178,21 @@ fn write_from(writer: &mut Writer, since: &Option<Position>) -> Result<(), Alloc
     Ok(())
 }
 
-fn write_publish(writer: &mut Writer, channel: &str, body: &Data) -> Result<(), AllocError>
+fn write_publish(
+    writer: &mut Writer,
+    channel: &str,
+    key: &str,
+    body: &Data,
+) -> Result<(), AllocError>
     ensures { IfOk result (λ _. Adds writer.old writer.new
         (("publish" ⇒ Some (object_of (("channel" ⇒ written.text channel.now)
-        ∷ ("data" ⇒ body_of as_it_is (shown_data body.now)) ∷ []))) ∷ [])) }
+        ∷ ("data" ⇒ body_of as_it_is (shown_data body.now))
+        ∷ ("key" ⇒ written.text key.now) ∷ []))) ∷ [])) }
 {
     writer.open("publish", "{")?;
     writer.text_member("channel", channel)?;
     write_data(writer, body)?;
+    writer.text_member("key", key)?;
     writer.value("}")?;
     Ok(())
 }

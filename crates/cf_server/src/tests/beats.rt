@@ -121,9 +121,12 @@ fn publishes<N: Naming, R: Wait>(
     if stage.namespaces.find(channel).is_none() {
         return false;
     }
+    let key = String::new(stage.alloc);
     let shard = shard_of(channel);
     let mut pass = passes.take(stage.broker, shard);
-    let published = stage.broker.publish(rt, &mut pass, channel, body, None, 0);
+    let published = stage
+        .broker
+        .publish(rt, &mut pass, channel, body, key, None, 0);
     passes.put(shard, pass);
     published.is_ok()
 }

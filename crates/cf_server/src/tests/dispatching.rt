@@ -1,5 +1,5 @@
 //! Turns of a dispatcher over a link and a hub in memory.
-use cf_dispatch::{Post, Seats, pass_on, take_batch, take_for};
+use cf_dispatch::{Mailbox, Outlets, pass_on, take_batch, take_for};
 use cf_hub::{Delivered, Hub};
 use cf_protocol::{Epoch, Position, Publication};
 use cf_queue::Out;
@@ -12,13 +12,13 @@ use std::process::Abort;
 
 // What comes, the hub to which it is brought, and whether the other worker was woken.
 #[derive(Drop)]
-struct Lane {
+struct TestMailbox {
     coming: VecDeque<Delivery>,
     hub: Hub,
     woken: bool,
 }
 
-impl Post for Lane {
+impl Mailbox for TestMailbox {
     ghost use Rattle.std.specs.Prelude.{◌≡◌, true, drop, slice_get};
     ghost use Rattle.cf_hub.specs.Hub.{Delivers};
 
@@ -93,25 +93,25 @@ fn are_texts(taken: &VecDeque<Out>, texts: &[&str]) -> bool {
         })
 }
 
-// A publication comes to a lane.
-fn send(rt: &impl Abort, alloc: Global, lane: &mut Lane, offset: u64, body: &str) {
-    let sent = lane.coming.push_back(delivery(rt, alloc, offset, body));
+// A publication comes to a mailbox.
+fn send(rt: &impl Abort, alloc: Global, mailbox: &mut TestMailbox, offset: u64, body: &str) {
+    let sent = mailbox.coming.push_back(delivery(rt, alloc, offset, body));
     assert!(rt; sent.is_ok());
 }
 
 // Two publications come, and the second comes again.
-fn send_three(rt: &impl Abort, alloc: Global, lane: &mut Lane) {
-    send(rt, alloc, lane, 1, "1");
-    send(rt, alloc, lane, 2, "2");
-    send(rt, alloc, lane, 2, "2");
+fn send_three(rt: &impl Abort, alloc: Global, mailbox: &mut TestMailbox) {
+    send(rt, alloc, mailbox, 1, "1");
+    send(rt, alloc, mailbox, 2, "2");
+    send(rt, alloc, mailbox, 2, "2");
 }
 
 // Whether two turns wake the other worker.
-fn wakes(lane: &mut Lane) -> bool {
-    lane.woken = false;
-    pass_on(lane);
-    pass_on(lane);
-    lane.woken
+fn wakes(mailbox: &mut TestMailbox) -> bool {
+    mailbox.woken = false;
+    pass_on(mailbox);
+    pass_on(mailbox);
+    mailbox.woken
 }
 
 // All that waits for the session are these texts.
@@ -129,33 +129,33 @@ const PUSHES: [&str; 2] = [
 #[test]
 fn dispatched_in_order(rt: HostRuntime) {
     let (hub, session) = hub_of_one(&rt, rt.alloc());
-    let mut lane = Lane {
+    let mut mailbox = TestMailbox {
         coming: VecDeque::new(rt.alloc()),
         hub,
         woken: false,
     };
-    send_three(&rt, rt.alloc(), &mut lane);
-    assert!(rt; wakes(&mut lane));
-    assert!(rt; !wakes(&mut lane));
-    assert!(rt; gets(rt.alloc(), &mut lane.hub, session, PUSHES.as_slice()));
+    send_three(&rt, rt.alloc(), &mut mailbox);
+    assert!(rt; wakes(&mut mailbox));
+    assert!(rt; !wakes(&mut mailbox));
+    assert!(rt; gets(rt.alloc(), &mut mailbox.hub, session, PUSHES.as_slice()));
 }
 
 // What was taken for a client, whether its wire is free, and whether more may wait for it.
 #[derive(Drop)]
-struct Seat {
+struct Outlet {
     taken: VecDeque<Out>,
     is_free: bool,
     owes: bool,
 }
 
-// The seats of a hub's sessions, by their numbers.
+// The outlets of a hub's sessions, by their numbers.
 #[derive(Drop)]
-struct Bench {
-    seats: Vec<Seat>,
+struct TestOutlets {
+    all: Vec<Outlet>,
     alloc: Global,
 }
 
-impl Seats for Bench {
+impl Outlets for TestOutlets {
     ghost frees = { λ _ _ _. Unit {0} };
 
     ghost lends = { λ _ _ _ _. Unit {0} };
@@ -163,32 +163,32 @@ impl Seats for Bench {
     ghost gets = { λ _ _ _ _ _. Unit {0} };
 
     fn is_free(&self, session: u32) -> bool {
-        match self.seats.get(session as usize) {
-            Some(seat) => seat.is_free,
+        match self.all.get(session as usize) {
+            Some(outlet) => outlet.is_free,
             None => false,
         }
     }
 
     fn lend(&mut self, session: u32) -> VecDeque<Out> {
         let nothing = VecDeque::new(self.alloc);
-        match self.seats.get_mut(session as usize) {
-            Some(seat) => mem::replace(&mut seat.taken, nothing),
+        match self.all.get_mut(session as usize) {
+            Some(outlet) => mem::replace(&mut outlet.taken, nothing),
             None => nothing,
         }
     }
 
     fn give(&mut self, session: u32, taken: VecDeque<Out>, more: bool) {
-        if let Some(seat) = self.seats.get_mut(session as usize) {
-            seat.taken = taken;
-            seat.owes = more;
+        if let Some(outlet) = self.all.get_mut(session as usize) {
+            outlet.taken = taken;
+            outlet.owes = more;
         }
     }
 }
 
 // These texts were taken for the client of a session, in this order.
-fn has_taken(bench: &Bench, session: usize, texts: &[&str]) -> bool {
-    match bench.seats.get(session) {
-        Some(seat) => are_texts(&seat.taken, texts),
+fn has_taken(outlets: &TestOutlets, session: usize, texts: &[&str]) -> bool {
+    match outlets.all.get(session) {
+        Some(outlet) => are_texts(&outlet.taken, texts),
         None => false,
     }
 }
@@ -199,11 +199,11 @@ fn say(rt: &impl Abort, alloc: Global, hub: &mut Hub, session: u32, text: &str) 
 }
 
 // A client more, to which two texts were said, and whose wire is free or isn't.
-fn join(rt: &impl Abort, alloc: Global, hub: &mut Hub, bench: &mut Bench, is_free: bool) {
+fn join(rt: &impl Abort, alloc: Global, hub: &mut Hub, outlets: &mut TestOutlets, is_free: bool) {
     let session = hub.attach(String::new(alloc), 0).expect(rt, "memory");
     say(rt, alloc, hub, session, "first");
     say(rt, alloc, hub, session, "second");
-    let joined = bench.seats.push(Seat {
+    let joined = outlets.all.push(Outlet {
         taken: VecDeque::new(alloc),
         is_free,
         owes: false,
@@ -212,20 +212,20 @@ fn join(rt: &impl Abort, alloc: Global, hub: &mut Hub, bench: &mut Bench, is_fre
 }
 
 // Frees the wire of the second client, and says whether something was owed to it.
-fn frees_second(bench: &mut Bench) -> bool {
-    match bench.seats.get_mut(1) {
-        Some(seat) => {
-            seat.is_free = true;
-            seat.owes
+fn frees_second(outlets: &mut TestOutlets) -> bool {
+    match outlets.all.get_mut(1) {
+        Some(outlet) => {
+            outlet.is_free = true;
+            outlet.owes
         }
         None => false,
     }
 }
 
 // Once the sessions had their turns, these texts were taken for the two clients.
-fn take_two(hub: &mut Hub, bench: &mut Bench, first: &[&str], second: &[&str]) -> bool {
-    take_batch(hub, bench);
-    has_taken(bench, 0, first) && has_taken(bench, 1, second)
+fn take_two(hub: &mut Hub, outlets: &mut TestOutlets, first: &[&str], second: &[&str]) -> bool {
+    take_batch(hub, outlets);
+    has_taken(outlets, 0, first) && has_taken(outlets, 1, second)
 }
 
 const SAID: [&str; 3] = ["first", "second", "third"];
@@ -234,14 +234,14 @@ const SAID: [&str; 3] = ["first", "second", "third"];
 #[test]
 fn taken_in_turn(rt: HostRuntime) {
     let mut hub = Hub::new(rt.alloc(), 0, 1);
-    let mut bench = Bench {
-        seats: Vec::new(rt.alloc()),
+    let mut outlets = TestOutlets {
+        all: Vec::new(rt.alloc()),
         alloc: rt.alloc(),
     };
-    join(&rt, rt.alloc(), &mut hub, &mut bench, true);
-    join(&rt, rt.alloc(), &mut hub, &mut bench, false);
-    assert!(rt; take_two(&mut hub, &mut bench, &SAID[..2], &[]));
-    assert!(rt; frees_second(&mut bench));
+    join(&rt, rt.alloc(), &mut hub, &mut outlets, true);
+    join(&rt, rt.alloc(), &mut hub, &mut outlets, false);
+    assert!(rt; take_two(&mut hub, &mut outlets, &SAID[..2], &[]));
+    assert!(rt; frees_second(&mut outlets));
     say(&rt, rt.alloc(), &mut hub, 1, "third");
-    assert!(rt; take_two(&mut hub, &mut bench, &SAID[..2], &SAID[..]));
+    assert!(rt; take_two(&mut hub, &mut outlets, &SAID[..2], &SAID[..]));
 }

@@ -217,6 +217,34 @@ fn frames(rt: HostRuntime) {
     assert!(rt; goes_so(rt.alloc(), DEFAULTS, lines));
 }
 
+// A publish whose key came before is answered, and nothing else comes of it, whatever its data. No key is one with no key.
+#[test]
+fn speak_keys(rt: HostRuntime) {
+    let lines = r#"> {"id":1,"connect":{}}
+{"connect":{"client":"0-1-1","ping":25,"pong":true,"version":"1.0.0"},"id":1}
+> {"id":2,"publish":{"channel":"news","data":1,"key":"k"}}
+{"id":2,"publish":{}}
+> {"id":3,"publish":{"channel":"news","data":2,"key":"k"}}
+{"id":3,"publish":{}}
+> {"id":4,"history":{"channel":"news","limit":-1}}
+{"history":{"epoch":"aaaa","offset":1,"publications":[{"data":1,"info":{"client":"0-1-1"},"offset":1}]},"id":4}
+> {"id":5,"subscribe":{"channel":"news"}}
+{"id":5,"subscribe":{"epoch":"aaaa","offset":1,"positioned":true,"recoverable":true}}
+> {"id":6,"publish":{"channel":"news","data":3,"key":"k"}}
+{"id":6,"publish":{}}
+> {"id":7,"publish":{"channel":"news","data":4,"key":""}}{"id":8,"publish":{"channel":"news","data":5,"key":null}}
+{"id":7,"publish":{}}
+{"push":{"channel":"news","pub":{"data":4,"info":{"client":"0-1-1"},"offset":2}}}
+{"id":8,"publish":{}}
+{"push":{"channel":"news","pub":{"data":5,"info":{"client":"0-1-1"},"offset":3}}}
+> {"id":9,"publish":{"channel":"chat:x","data":6,"key":"k2345678901234567890123456789012345678901234567890123456789012345"}}
+{"error":{"code":107,"message":"bad request"},"id":9}
+> {"id":10,"publish":{"channel":"news","data":6,"key":7}}
+close 3501 bad request
+"#;
+    assert!(rt; goes_so(rt.alloc(), DEFAULTS, lines));
+}
+
 // A client connects, publishes so many times 60,000 bytes, and asks for all of them; a ping stands behind.
 fn flood(alloc: Global, count: usize) -> Result<String, AllocError> {
     let data = "x".repeat(alloc, 60_000)?;

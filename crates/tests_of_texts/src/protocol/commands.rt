@@ -27,6 +27,13 @@ const KEPT: &str = r#"// what clients send
 {"id":5,"subscribe":{"channel":"a"}}
 {"id":8,"subscribe":{"channel":"b"}}
 {"id":9,"unsubscribe":{"channel":"news"}}
+// publishes under a key, which stands behind the data; a long one is no matter of its text
+{"id":3,"publish":{"channel":"news","data":1,"key":"k"}}
+{"id":3,"publish":{"channel":"news","data":{"key":"x"},"key":"a\"b"}}
+{"id":3,"publish":{"channel":"news","key":"k"}}
+{"id":3,"publish":{"data":null,"key":" "}}
+{"id":3,"publish":{"channel":"news","data":1,"key":"kkkkkkkkkkkkkkkkkkkkkkkkkkkkkkkkkkkkkkkkkkkkkkkkkkkkkkkkkkkkkkkk"}}
+{"id":3,"publish":{"channel":"news","data":1,"key":"kkkkkkkkkkkkkkkkkkkkkkkkkkkkkkkkkkkkkkkkkkkkkkkkkkkkkkkkkkkkkkkkk"}}
 // numbers at their limits; an epoch has at most 32 letters or digits
 {"id":1,"ping":{}}
 {"id":7,"send":{}}
@@ -48,6 +55,13 @@ const REWRITTEN: &str = r#"// what clients send, with keys and white space as th
 {"id":7,"history":{"channel":"a","since":{"epoch":"zzzz","offset":0}}} => {"history":{"channel":"a","since":{"epoch":"zzzz"}},"id":7}
 {"id":2,"publish":{"channel":"","data":1}} => {"id":2,"publish":{"data":1}}
 {"id":8,"ping":{}} {} => {"id":8,"ping":{}}{}
+// publishes under a key; absent, null and empty are none
+{"id":3,"publish":{"key":"k","data":1,"channel":"news"}} => {"id":3,"publish":{"channel":"news","data":1,"key":"k"}}
+{"id":3,"publish":{"channel":"news","data":1,"key":null}} => {"id":3,"publish":{"channel":"news","data":1}}
+{"id":3,"publish":{"channel":"news","data":1,"key":""}} => {"id":3,"publish":{"channel":"news","data":1}}
+{"id":3,"publish":{"channel":"news","data":1,"k\u0065y":"\u006b\/"}} => {"id":3,"publish":{"channel":"news","data":1,"key":"k/"}}
+{"id":3,"key":"x","publish":{"channel":"news","data":1}} => {"id":3,"publish":{"channel":"news","data":1}}
+{"id":3,"unsubscribe":{"channel":"news","key":1}} => {"id":3,"unsubscribe":{"channel":"news"}}
 // what is not served, passed over, escaped, or left out when it is written again
 {"id":1,"ping":{},"rpc":null,"x":7} => {"id":1,"ping":{}}
 {"id":5,"refresh":7} => {"id":5,"rpc":{}}
@@ -79,6 +93,9 @@ const REWRITTEN: &str = r#"// what clients send, with keys and white space as th
 {"id":5,"rpc":{},"ping":{},"rpc":null} => {"id":5,"ping":{}}
 {"id":1,"unsubscribe":{"channel":"\ud800","channel":"a"}} => {"id":1,"unsubscribe":{"channel":"a"}}
 {"id":1,"unsubscribe":{"ch\u0061nnel":"\u0061\/"}} => {"id":1,"unsubscribe":{"channel":"a/"}}
+{"id":1,"publish":{"channel":"a","key":"k","data":1,"key":"l"}} => {"id":1,"publish":{"channel":"a","data":1,"key":"l"}}
+{"id":1,"publish":{"channel":"a","key":"k","data":1,"k\u0065y":null}} => {"id":1,"publish":{"channel":"a","data":1}}
+{"id":1,"publish":{"channel":"a","key":7,"data":1,"key":"k"}} => {"id":1,"publish":{"channel":"a","data":1,"key":"k"}}
 // lone surrogates in what is not read
 {"id":1,"unsubscribe":{"channel":"\ud83d\ude00"}} => {"id":1,"unsubscribe":{"channel":"😀"}}
 {"id":1,"ping":{},"x":"\ud800"} => {"id":1,"ping":{}}
@@ -162,6 +179,11 @@ const REFUSED: &str = r#"// no frame
 {"id":1,"unsubscribe":{"channel":1}}
 {"id":1,"publish":{"channel":true,"data":1}}
 {"id":1,"publish":[1]}
+{"id":1,"publish":{"channel":"a","data":1,"key":1}}
+{"id":1,"publish":{"channel":"a","data":1,"key":0}}
+{"id":1,"publish":{"channel":"a","data":1,"key":false}}
+{"id":1,"publish":{"channel":"a","data":1,"key":["k"]}}
+{"id":1,"publish":{"channel":"a","data":1,"key":{}}}
 {"id":1,"presence":{"channel":{}}}
 {"id":1,"presence_stats":{"channel":0}}
 {"id":1,"history":{"channel":7}}
@@ -184,12 +206,14 @@ null
 {"id":5,"ping":{},"ping":null}
 {"id":5,"ping":{},"rpc":null,"rpc":{}}
 {"id":1,"unsubscribe":{"channel":"a","channel":1}}
+{"id":1,"publish":{"channel":"a","data":1,"key":"k","key":1}}
 // lone surrogates in what is read
 {"id":1,"ping":{},"\ud800":1}
 {"id":1,"connect":{"token":"\ud800"}}
 {"id":1,"subscribe":{"channel":"\udc00\ud800"}}
 {"id":1,"subscribe":{"channel":"a","epoch":"\ud800"}}
 {"id":1,"publish":{"channel":"a","\ud800":1}}
+{"id":1,"publish":{"channel":"a","data":1,"key":"\ud800"}}
 {"id":1,"history":{"channel":"a","since":{"\ud800":1}}}
 {"id":1,"history":{"channel":"a","since":{"epoch":"\ud83dx"}}}
 // frames with one bad command
@@ -266,6 +290,7 @@ fn is_too_deep(request: &Request) -> bool {
         Request::Publish {
             channel,
             body: Data::TooDeep,
+            ..
         } => channel.as_str() == "a",
         _ => false,
     }

@@ -12,18 +12,18 @@ const ALL: Settings = Settings {
 };
 
 const LONGEST: Settings = Settings {
-    size: 1000,
+    size: 10_000,
     seconds: 2_592_000,
     publish: false,
     history: false,
     presence: false,
 };
 
-const NAMESPACES: &str = "=100,300,phs;chat=1000,2592000,;a-_9=1,1,sp";
+const NAMESPACES: &str = "=100,300,phs;chat=10000,2592000,;a-_9=1,1,sp";
 
 /// Texts that set up no namespaces, parted by bars.
 const NO_NAMESPACES: &str =
-    "|=100,300,phs;|=0,300,|=1001,300,|=0100,300,|=+1,300,|=1,2592001,|=1,300|=1,300,x|=1,300,pp|=1,300,;=2,300,|a b=1,300,|abcdefghijabcdefghijabcdefghijabc=1,300,";
+    "|=100,300,phs;|=0,300,|=10001,300,|=0100,300,|=+1,300,|=1,2592001,|=1,300|=1,300,x|=1,300,pp|=1,300,;=2,300,|a b=1,300,|abcdefghijabcdefghijabcdefghijabc=1,300,";
 
 fn has_settings(alloc: Global, channel: &str, settings: Option<Settings>) -> bool {
     match read_namespaces(alloc, NAMESPACES) {

@@ -26,7 +26,15 @@ fn publishes_then<N: Naming, R: Wait>(
     ensures { pass.new.word ≡ pass.old.word }
 {
     broker
-        .publish(rt, pass, channel, String::new(alloc), None, now)
+        .publish(
+            rt,
+            pass,
+            channel,
+            String::new(alloc),
+            String::new(alloc),
+            None,
+            now,
+        )
         .is_ok()
 }
 

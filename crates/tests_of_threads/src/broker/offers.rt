@@ -30,7 +30,9 @@ fn publishes<N: Naming, R: Wait>(
     let Ok(body) = String::from_str(alloc, body) else {
         return false;
     };
-    broker.publish(rt, pass, channel, body, client, 0).is_ok()
+    broker
+        .publish(rt, pass, channel, body, String::new(alloc), client, 0)
+        .is_ok()
 }
 
 /// Publishes twice, first for a client and then for none.

@@ -16,7 +16,7 @@ use std::thread;
 use std::thread::Threads;
 
 /// Publishes so often, and gives the pass back.
-fn publish_often<N: Naming, R: Wait>(
+pub(super) fn publish_often<N: Naming, R: Wait>(
     rt: &R,
     alloc: Global,
     broker: &Broker<N, Same>,
@@ -33,7 +33,15 @@ fn publish_often<N: Naming, R: Wait>(
         return pass;
     }
     for _ in 0..times {
-        let _ = broker.publish(rt, &mut pass, channel, String::new(alloc), None, 0);
+        let _ = broker.publish(
+            rt,
+            &mut pass,
+            channel,
+            String::new(alloc),
+            String::new(alloc),
+            None,
+            0,
+        );
     }
     pass
 }
@@ -86,7 +94,15 @@ fn is_told<N: Naming, R: Wait>(
     requires set_up { IsSome (settings_of N.namespaces channel.now) }
 {
     let was_quiet = is_quiet(broker, ours, channel, mark);
-    let published = broker.publish(rt, theirs, channel, String::new(alloc), None, 0);
+    let published = broker.publish(
+        rt,
+        theirs,
+        channel,
+        String::new(alloc),
+        String::new(alloc),
+        None,
+        0,
+    );
     if !was_quiet || published.is_err() || is_quiet(broker, ours, channel, mark) {
         return false;
     }

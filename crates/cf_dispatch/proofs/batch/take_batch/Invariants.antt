@@ -2,4 +2,4 @@ use Rattle.cf_dispatch.specs.Batch.{TakesFor}
 use Rattle.cf_dispatch.proofs.batch.take_batch.Given as goal
 
 abbrev pub invariant-loop-named : goal.invariant-loop-named
-invariant-loop-named g l = TakesFor g.S.Seats.frees g.S.Seats.lends g.S.Seats.gets l._named l.initial.hub l.hub l.initial.seats l.seats
+invariant-loop-named g l = TakesFor g.O.Outlets.frees g.O.Outlets.lends g.O.Outlets.gets l._named l.initial.hub l.hub l.initial.outlets l.outlets

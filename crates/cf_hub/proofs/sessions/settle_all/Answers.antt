@@ -1,5 +1,5 @@
 use Rattle.std.proofs.Common.{◌≡◌, ◌<◌, ℕ, Option, Some, None, subst, sym, rules}
-use Rattle.cf_followers.specs.Follows.{after_in, sessions_of}
+use Rattle.cf_subscribers.specs.Follows.{after_in, sessions_of}
 use Rattle.cf_hub.specs.Hub.{attached_in}
 use Rattle.cf_hub.proofs.Ending.{IsSettling, begins_settling, comes_nearer, ends_settling, from_on, settles}
 use Rattle.cf_hub.proofs.sessions.settle_all.Goals as goal

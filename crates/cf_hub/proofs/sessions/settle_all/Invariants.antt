@@ -1,4 +1,4 @@
-use Rattle.cf_followers.specs.Follows.{sessions_of}
+use Rattle.cf_subscribers.specs.Follows.{sessions_of}
 use Rattle.cf_hub.specs.Hub.{attached_in}
 use Rattle.cf_hub.proofs.Ending.{IsSettling, from_on}
 use Rattle.cf_hub.proofs.sessions.settle_all.Given as goal

@@ -1,8 +1,11 @@
-use Rattle.cf_running_ties.proofs.Links.{accepted, offered, others, receives, sends, starts, stays}
+use Rattle.cf_running_ties.proofs.Links.{accepted, offered, others, receives, repeated, sends, starts, stays}
 use Rattle.cf_running_ties.proofs.laws.links_carry_what_is_listed.Goals as goal
 
 pub returns-clause-accepted : goal.returns-clause-accepted
 returns-clause-accepted c = accepted c.what_is_said_stays.ensures.listed
+
+pub returns-clause-repeated : goal.returns-clause-repeated
+returns-clause-repeated c = repeated
 
 pub returns-clause-stays : goal.returns-clause-stays
 returns-clause-stays c = stays

@@ -18,6 +18,9 @@ returns-in-finish c = answers_at c.args.nodes c.args.line.now c.in-Some.word.now
 pub returns-in-publish : goal.returns-in-publish
 returns-in-publish c = answers_at c.args.nodes c.args.line.now c.in-Some.word.now (codes "publish") c.in-Some.rest.now c.publish.result c.in-Some.ensures c.in-publish.is (c.publish.ensures c.args.nodes)
 
+pub returns-in-publishkey : goal.returns-in-publishkey
+returns-in-publishkey c = answers_at c.args.nodes c.args.line.now c.in-Some.word.now (codes "publishkey") c.in-Some.rest.now c.publish_key.result c.in-Some.ensures c.in-publishkey.is (c.publish_key.ensures c.args.nodes)
+
 pub returns-in-take : goal.returns-in-take
 returns-in-take c = answers_at c.args.nodes c.args.line.now c.in-Some.word.now (codes "take") c.in-Some.rest.now c.take.result c.in-Some.ensures c.in-take.is (c.take.ensures c.args.nodes)
 
@@ -33,11 +36,17 @@ returns-in-askfrom c = answers_at c.args.nodes c.args.line.now c.in-Some.word.no
 pub returns-in-put : goal.returns-in-put
 returns-in-put c = answers_at c.args.nodes c.args.line.now c.in-Some.word.now (codes "put") c.in-Some.rest.now c.put.result c.in-Some.ensures c.in-put.is (c.put.ensures c.args.nodes)
 
+pub returns-in-putkey : goal.returns-in-putkey
+returns-in-putkey c = answers_at c.args.nodes c.args.line.now c.in-Some.word.now (codes "putkey") c.in-Some.rest.now c.put_key.result c.in-Some.ensures c.in-putkey.is (c.put_key.ensures c.args.nodes)
+
 pub returns-in-break : goal.returns-in-break
 returns-in-break c = answers_at c.args.nodes c.args.line.now c.in-Some.word.now (codes "break") c.in-Some.rest.now c.break_off.result c.in-Some.ensures c.in-break.is (c.break_off.ensures c.args.nodes)
 
 pub returns-in-leave : goal.returns-in-leave
 returns-in-leave c = answers_at c.args.nodes c.args.line.now c.in-Some.word.now (codes "leave") c.in-Some.rest.now c.leave.result c.in-Some.ensures c.in-leave.is (c.leave.ensures c.args.nodes)
+
+pub returns-in-size : goal.returns-in-size
+returns-in-size c = answers_at c.args.nodes c.args.line.now c.in-Some.word.now (codes "size") c.in-Some.rest.now c.size.result c.in-Some.ensures c.in-size.is (c.size.ensures c.args.nodes)
 
 pub returns-in-check : goal.returns-in-check
 returns-in-check c = answers_at c.args.nodes c.args.line.now c.in-Some.word.now (codes "check") c.in-Some.rest.now c.check.result c.in-Some.ensures c.in-check.is (c.check.ensures c.args.nodes)
@@ -53,4 +62,4 @@ returns-in_default-word c =
     let d = c.in_default-word in
     none_at c.args.nodes c.args.line.now c.in-Some.word.now c.in-Some.rest.now c.in-Some.ensures
     (no_word c.args.nodes c.in-Some.word.now c.in-Some.rest.now c.in-Some.ensures.word
-    (d.not-epoch, d.not-connect, d.not-ask, d.not-askfrom, d.not-read, d.not-finish, d.not-publish, d.not-put, d.not-deliver, d.not-take, d.not-break, d.not-leave, d.not-trim, d.not-forget, d.not-restart, d.not-check, d.not-list))
+    (d.not-epoch, d.not-connect, d.not-ask, d.not-askfrom, d.not-read, d.not-finish, d.not-publish, d.not-publishkey, d.not-put, d.not-putkey, d.not-deliver, d.not-take, d.not-break, d.not-leave, d.not-trim, d.not-forget, d.not-size, d.not-restart, d.not-check, d.not-list))

@@ -33,9 +33,10 @@ loop-done-preserved c =
     let number = past-length es c.loop-done.done lt in
     record {
       tied = subst (λ (m : World). Tied cfg c.step.new.self.parts m) (sym next) step;
+      counted = c.in-Ok-step.ensures.counts ∙ ap (λ n. n + 1) c.loop-done.invariant.counted;
       told =
           ap (map shown_entry) all ∙ map-append shown_entry a b ∙ (λ i. c.loop-done.invariant.told i ++ wrote i)
-          ∙ ap (λ n. trace cfg 1 start past ++ writes cfg n (run cfg start past) (seen e)) (sym number)
+          ∙ ap (λ n. trace cfg 1 start past ++ writes cfg n (run cfg start past) (seen e)) (ap (λ n. n + 1) c.loop-done.invariant.counted ∙ sym number)
           ∙ sym (ap (trace cfg 1 start) more ∙ law.trace cfg past (seen e));
     }
 

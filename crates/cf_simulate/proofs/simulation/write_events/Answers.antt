@@ -9,7 +9,7 @@ use Rattle.cf_simulate.proofs.simulation.write_events.Goals as goal
 
 pub loop-done-init : goal.loop-done-init
 loop-done-init g c =
-    stands_first c.args.explains (shown_config c.args.config.now) c.in_ok-world.world.parts c.as_slice-events.result.now (g.W.Write.contents c.args.writer.now) c.in_ok-world.ensures.tied
+    stands_first c.args.explains (shown_config c.args.config.now) c.in_ok-world.world c.as_slice-events.result.now (g.W.Write.contents c.args.writer.now) c.in_ok-world.ensures.tied c.in_ok-world.ensures.count
 
 pub loop-done-preserved : goal.loop-done-preserved
 loop-done-preserved g c =
@@ -17,8 +17,8 @@ loop-done-preserved g c =
     let law = c.one_event_more.ensures in
     let step = c.in_ok-lines.ensures in
     let adds = subst (λ bs. Appends (g.W.Write.contents c.loop-done.writer) (g.W.Write.contents c.write_bytes.new.writer) bs) c.as_bytes.ensures.value c.in_ok-write_bytes.ensures.all in
-    stands_next c.args.explains (shown_config c.args.config.now) c.loop-done.world.parts c.event_text.new.world.parts es c.loop-done.done c.index-events-done.result _ _ _ _
-    c.loop-done-test.true c.index-events-done.is law.run law.trace c.loop-done.invariant step.ok step.shows adds
+    stands_next c.args.explains (shown_config c.args.config.now) c.loop-done.world c.event_text.new.world es c.loop-done.done c.index-events-done.result _ _ _ _
+    c.loop-done-test.true c.index-events-done.is law.run law.trace c.loop-done.invariant step.ok step.counts step.shows adds
 
 pub returns-in_err-write_bytes-clause-ends : goal.returns-in_err-write_bytes-clause-ends
 returns-in_err-write_bytes-clause-ends g c =
@@ -27,7 +27,7 @@ returns-in_err-write_bytes-clause-ends g c =
     let law = c.one_event_more.ensures in
     let p = err_from_is_err_and c.from_residual-in_err-write_bytes.result c.from_residual-in_err-write_bytes.ensures.1 in
     let adds = subst (λ bs. AddsPart (g.W.Write.contents c.loop-done.writer) (g.W.Write.contents c.write_bytes.new.writer) bs) c.as_bytes.ensures.value c.in_err-write_bytes.ensures.part in
-    let part = stands_part c.args.explains cfg c.loop-done.world.parts es c.loop-done.done c.index-events-done.result _ _ _ _
+    let part = stands_part c.args.explains cfg c.loop-done.world es c.loop-done.done c.index-events-done.result _ _ _ _
     c.loop-done-test.true c.index-events-done.is law.trace c.loop-done.invariant c.in_ok-lines.ensures.shows adds in
     rw (p.1, p.2, c.in_err-write_bytes.ensures.fault) (subst (λ (l : List Event). PrintsPart c.args.explains cfg (map seen l) (g.W.Write.contents c.args.writer.now) (g.W.Write.contents c.write_bytes.new.writer)) c.as_slice-events.ensures.value part)
 
@@ -36,12 +36,12 @@ returns-in_err-lines-clause-ends g c =
     let es : List Event = c.as_slice-events.result.now in
     let cfg = shown_config c.args.config.now in
     let p = err_from_is_err_and c.from_residual-in_err-lines.result c.from_residual-in_err-lines.ensures.1 in
-    let whole = stands_whole c.args.explains cfg c.loop-done.world.parts es c.loop-done.done _ _ c.loop-done-test.true c.loop-done.invariant in
+    let whole = stands_whole c.args.explains cfg c.loop-done.world es c.loop-done.done _ _ c.loop-done-test.true c.loop-done.invariant in
     rw (p.1, p.2) (subst (λ (l : List Event). PrintsWhole c.args.explains cfg (map seen l) (g.W.Write.contents c.args.writer.now) (g.W.Write.contents c.loop-done.writer)) c.as_slice-events.ensures.value whole)
 
 pub returns-clause-done : goal.returns-clause-done
 returns-clause-done g c =
     let es : List Event = c.as_slice-events.result.now in
     let cfg = shown_config c.args.config.now in
-    let all = stands_all c.args.explains cfg c.loop-done.world.parts es c.loop-done.done _ _ (omega (arith, c.loop-done-test.false)) c.loop-done.invariant in
+    let all = stands_all c.args.explains cfg c.loop-done.world es c.loop-done.done _ _ (omega (arith, c.loop-done-test.false)) c.loop-done.invariant in
     subst (λ (l : List Event). WritesAll c.args.explains cfg (map seen l) (g.W.Write.contents c.args.writer.now) (g.W.Write.contents c.loop-done.writer)) c.as_slice-events.ensures.value all

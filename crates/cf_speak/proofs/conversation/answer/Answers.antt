@@ -3,7 +3,7 @@ use Rattle.std.specs.Io.KnownBytes.{Appends, Keeps}
 use Rattle.cf_session.specs.Standing.{is_short, progress_of, tables_of}
 use Rattle.cf_speak.specs.Scene.{fell_short, waits}
 use Rattle.cf_speak.specs.Shown.{scene_of}
-use Rattle.cf_talk.specs.Played.{Serves}
+use Rattle.cf_session.specs.Played.{Serves}
 use Rattle.cf_speak.proofs.Playing.{does_at, over_at, serves_long}
 use Rattle.cf_speak.proofs.conversation.answer.Goals as goal
 use Rattle.std.proofs.Common.{Option}

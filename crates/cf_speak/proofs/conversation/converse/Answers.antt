@@ -1,7 +1,4 @@
-use Rattle.std.proofs.Common.{rules, ◌≡◌, sym, List, Option, ℕ}
-use Rattle.std.specs.Prelude.{OnOk, IfSome, IsErrOf}
-use Rattle.cf_speak.specs.Conversation.{BreaksOffFrom, SpeaksFrom}
-use Rattle.cf_speak.specs.declared.fault.SpeakFault.TheVariants.{NotUtf8}
+use Rattle.std.proofs.Common.{sym}
 use Rattle.cf_speak.proofs.conversation.converse.Goals as goal
 
 pub returns-clause-done : goal.returns-clause-done

@@ -5,18 +5,18 @@ use Rattle.std.proofs.lemmas.Int.{to_z-of_z}
 use Rattle.std.proofs.lemmas.Result.{IfOk-weaker}
 use Rattle.cf_client.specs.ClientView.{state_of}
 use Rattle.cf_world.specs.ClientTie.{request_by}
-use Rattle.cf_world.specs.declared.errand.Errand.{Errand}
+use Rattle.cf_world.specs.declared.client_command.ClientCommand.{ClientCommand}
 use Rattle.cf_world.proofs.Passing.{list-lacks, put-lacks}
 use Rattle.cf_world.proofs.granted.lacks_epoch.Goals as goal
 
-pub returns-in_ok-from_str-in-Put : goal.returns-in_ok-from_str-in-Put
-returns-in_ok-from_str-in-Put c =
+pub returns-in_ok-from_str-in-Put-3 : goal.returns-in_ok-from_str-in-Put-3
+returns-in_ok-from_str-in-Put-3 c =
     let closed : c.can_open.result ≡ false = c.if-can_open.false in
     IfOk-weaker c.would_pass.result _ _
     (λ lacks pass. λ table m p shows there may.
     pass p there may
-    ∙ put-lacks c.args.namespaces.now c.args.errand.now p m c.in-Put.channel.now c.in-Put.body.now _ _ (ap (λ (e : Errand). request_by e (state_of p.client).client) c.in-Put.is)
-    c.in_ok-channel-in-Put.ensures.ok c.in_ok-from_str-in-Put.ensures.ok (sym (c.can_open.ensures table m shows) ∙ closed))
+    ∙ put-lacks c.args.namespaces.now c.args.command.now p m c.in-Put.channel.now c.in-Put.key.now c.in-Put.body.now _ _ _ (ap (λ (e : ClientCommand). request_by e (state_of p.client).client) c.in-Put.is)
+    c.in_ok-from_str-in-Put.ensures.ok c.in_ok-from_str-in-Put-2.ensures.ok c.in_ok-from_str-in-Put-3.ensures.ok (sym (c.can_open.ensures table m shows) ∙ closed))
     c.would_pass.ensures
 
 pub returns-in_ok-from_str-in-List : goal.returns-in_ok-from_str-in-List
@@ -26,6 +26,6 @@ returns-in_ok-from_str-in-List c =
     IfOk-weaker c.would_pass-in-List.result _ _
     (λ lacks pass. λ table m p shows there may.
     pass p there may
-    ∙ list-lacks c.args.namespaces.now c.args.errand.now p m c.in-List.channel.now c.in-List.limit _ _ (ap (λ (e : Errand). request_by e (state_of p.client).client) c.in-List.is)
+    ∙ list-lacks c.args.namespaces.now c.args.command.now p m c.in-List.channel.now c.in-List.limit _ _ (ap (λ (e : ClientCommand). request_by e (state_of p.client).client) c.in-List.is)
     c.in_ok-from_str-in-List.ensures.ok back (sym (c.can_open-in-List.ensures table m shows) ∙ closed))
     c.would_pass-in-List.ensures

@@ -24,7 +24,7 @@ returns-in-Ok c =
         hub = c.attach.new.self;
         now = set-here c.args.hubs.now.items c.args.node c.attach.new.self c.in-Some.hub.now here;
         changes = record {
-          sound = record { rows = c.is_sound.ensures.rows; agrees = c.is_sound.ensures.agrees; bounded = c.is_sound.ensures.bounded };
+          sound = record { rows = c.invariant.ensures.rows; agrees = c.invariant.ensures.agrees; bounded = c.invariant.ensures.bounded };
           room = λ f. no_err c.attach.result c.in-Ok.session c.in-Ok.is (c.attach.ensures.too_many.1 f);
           free = c.in-Ok.ensures.number.free;
           user = string_bytes c.new.result;
@@ -47,7 +47,7 @@ returns-in-Err-TooMany c =
         hub = c.attach.new.self;
         now = set-here c.args.hubs.now.items c.args.node c.attach.new.self c.in-Some.hub.now here;
         changes = record {
-          sound = record { rows = c.is_sound.ensures.rows; agrees = c.is_sound.ensures.agrees; bounded = c.is_sound.ensures.bounded };
+          sound = record { rows = c.invariant.ensures.rows; agrees = c.invariant.ensures.agrees; bounded = c.invariant.ensures.bounded };
           full = c.attach.ensures.too_many.0 (is_err c.attach.result c.in-Err-TooMany.field-0 c.in-Err-TooMany.is c.in-Err-TooMany.field-0-is);
           stays = c.in-Err-TooMany.ensures.err.sessions;
           same = c.in-Err-TooMany.ensures.err.rest;

@@ -1,8 +1,7 @@
-use Rattle.std.proofs.Common.{◌∙◌, ap}
 use Rattle.cf_broker.proofs.Refusals.{entry_by_log}
 use Rattle.cf_broker.proofs.place.PlacePlaces.forget.Goals as goal
 
 pub returns-clause-refusals : goal.returns-clause-refusals
 returns-clause-refusals g c =
     let p = c.forget.ensures in
-    entry_by_log _ _ _ _ _ p.state _ _ p.err (λ same. p.whole ∙ ap (λ s. s.log) same)
+    entry_by_log _ _ _ _ _ p.stays _ _ p.err

@@ -2,7 +2,7 @@ use Rattle.std.proofs.Common.{rules, ◌≡◌, ◌≤◌, ◌∙◌, ◌+◌, �
 use Rattle.std.specs.BTreeMap.{is_at}
 use Rattle.std.specs.Map.{lookup}
 use Rattle.std.specs.Ordering.{nat_cmp}
-use Rattle.cf_followers.specs.Follows.{AreFollows, sessions_of}
+use Rattle.cf_subscribers.specs.Follows.{AreFollows, sessions_of}
 use Rattle.cf_hub.specs.declared.delivered.Delivered.{Delivered}
 use Rattle.cf_hub.specs.Hub.{AreNumbered, Node, attached_at, attached_in, largest}
 use Rattle.cf_hub.specs.Places.{numbered}

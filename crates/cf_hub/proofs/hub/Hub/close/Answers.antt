@@ -1,7 +1,7 @@
 use Rattle.std.proofs.Common.{◌∙◌, List, [], subst, sym, ap, refl}
-use Rattle.cf_followers.specs.Follows.{Follow}
+use Rattle.cf_subscribers.specs.Follows.{Follow}
 use Rattle.cf_queue.specs.OutQueue.{Close}
-use Rattle.cf_hub.specs.declared.delivered.Fate.TheVariants as fate
+use Rattle.cf_hub.specs.declared.fate.Fate.TheVariants as fate
 use Rattle.cf_hub.specs.Hub.{Node, attached_in}
 use Rattle.cf_hub.specs.Rows.{Agrees}
 use Rattle.cf_hub.specs.SessionState.{closes_now}

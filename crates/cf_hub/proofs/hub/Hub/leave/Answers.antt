@@ -1,6 +1,6 @@
 use Rattle.std.proofs.Common.{◌∙◌, not, Option, List, ℕ, subst, sym, ap, refl}
-use Rattle.cf_followers.specs.Follows.{Follow}
-use Rattle.cf_hub.specs.declared.delivered.Fate.TheVariants as fate
+use Rattle.cf_subscribers.specs.Follows.{Follow}
+use Rattle.cf_hub.specs.declared.fate.Fate.TheVariants as fate
 use Rattle.cf_hub.specs.Hub.{Node, attached_in}
 use Rattle.cf_hub.specs.Rows.{Agrees, sub_in}
 use Rattle.cf_hub.specs.Session.{Attached}

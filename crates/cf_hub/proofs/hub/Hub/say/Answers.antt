@@ -1,6 +1,6 @@
 use Rattle.std.proofs.Common.{◌∙◌, [], sym, ap, refl}
 use Rattle.cf_queue.specs.OutQueue.{Text}
-use Rattle.cf_hub.specs.Hub.{Node, said_in, counted, one_if}
+use Rattle.cf_hub.specs.Hub.{Node, queued_in, counted, one_if}
 use Rattle.cf_hub.specs.SessionState.{push}
 use Rattle.cf_hub.proofs.Bounds.{bounded_both}
 use Rattle.cf_hub.proofs.Hubs.{seen_in}
@@ -24,4 +24,4 @@ returns-clause-session c =
     (c.count_more-self-inside.ensures ∙ ap (λ (h : Node). counted (one_if c.say_one-said.result.1.refused) h.refused) c.self.view_is)
 
 pub returns-clause-said : goal.returns-clause-said
-returns-clause-said c = c.say_one-said.ensures.said ∙ ap said_in (sym (seen_in c.say_one-said.new.sessions c.args.session))
+returns-clause-said c = c.say_one-said.ensures.said ∙ ap queued_in (sym (seen_in c.say_one-said.new.sessions c.args.session))

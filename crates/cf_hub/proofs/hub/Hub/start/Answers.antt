@@ -4,7 +4,7 @@ use Rattle.cf_hub.specs.Rows.{Agrees, sub_in}
 use Rattle.cf_hub.specs.Session.{Attached}
 use Rattle.cf_hub.specs.SessionState.{is_off, begins}
 use Rattle.cf_hub.specs.Wordings.{plain}
-use Rattle.cf_followers.specs.Follows.{Follow, follows, with_follow, without_follow}
+use Rattle.cf_subscribers.specs.Follows.{Follow, follows, with_follow, without_follow}
 use Rattle.cf_hub.proofs.Hubs.{seen, seen_in, agrees_shown}
 use Rattle.cf_hub.proofs.Bounds.{bounded_by, bounded_move}
 use Rattle.cf_hub.proofs.Begun.{begun_agrees, same_all, undone_agrees, with_without}

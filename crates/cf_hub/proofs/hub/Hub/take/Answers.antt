@@ -1,5 +1,5 @@
 use Rattle.std.proofs.Common.{◌∙◌, Option, [], ℕ, sym, ap, refl, option_and_then, slice_get}
-use Rattle.cf_hub.specs.declared.delivered.Fate.TheVariants as fate
+use Rattle.cf_hub.specs.declared.fate.Fate.TheVariants as fate
 use Rattle.cf_hub.specs.Hub.{Node}
 use Rattle.cf_hub.specs.Session.{Attached}
 use Rattle.cf_hub.specs.SessionState.{takes_front}

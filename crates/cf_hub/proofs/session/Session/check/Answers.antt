@@ -1,6 +1,6 @@
 use Rattle.std.proofs.Common.{rules, ◌≡◌, ◌∙◌, Bool, Some, subst, sym, ap, not, ◌&&◌, if◌then◌else◌}
 use Rattle.cf_queue.specs.OutQueue.{Item, Text, Close}
-use Rattle.cf_hub.specs.declared.delivered.Fate.TheVariants as fate
+use Rattle.cf_hub.specs.declared.fate.Fate.TheVariants as fate
 use Rattle.cf_hub.specs.Rows.{off_after}
 use Rattle.cf_hub.specs.Session.{state_of}
 use Rattle.cf_hub.specs.SessionState.{SessionState, is_off, no_memory, checks}
@@ -8,7 +8,7 @@ use Rattle.cf_hub.specs.Wordings.{plain, end_text}
 use Rattle.cf_hub.proofs.States.{said_off, ends_off}
 use Rattle.cf_hub.specs.Checked.{answer_of, stand_of}
 use Rattle.cf_hub.specs.PositionCheck.{Ended, position_check}
-use Rattle.cf_hub.specs.declared.session.Step.{Step}
+use Rattle.cf_hub.specs.declared.step.Step.{Step}
 use Rattle.cf_hub.specs.WantOfMemory.{OrCloses}
 use Rattle.cf_hub.proofs.Checks.{checks_as, ends_checked, stand_off}
 use Rattle.cf_hub.proofs.session.Session.check.Goals as goal

@@ -1,6 +1,6 @@
 use Rattle.std.proofs.Common.{◌∙◌, sym, ap, refl, false, not, ◌&&◌, if◌then◌else◌}
 use Rattle.cf_queue.specs.OutQueue.{Item}
-use Rattle.cf_hub.specs.declared.delivered.Fate.TheVariants as fate
+use Rattle.cf_hub.specs.declared.fate.Fate.TheVariants as fate
 use Rattle.cf_hub.specs.Rows.{off_after}
 use Rattle.cf_hub.specs.Session.{state_of}
 use Rattle.cf_hub.specs.SessionState.{SessionState, is_off}

@@ -1,16 +1,16 @@
 use Rattle.std.proofs.Common.{◌∙◌, [], sym, ap, refl, not, ◌&&◌, if◌then◌else◌}
 use Rattle.cf_queue.specs.OutQueue.{Text, Close}
-use Rattle.cf_hub.specs.declared.delivered.Fate.TheVariants as fate
+use Rattle.cf_hub.specs.declared.fate.Fate.TheVariants as fate
 use Rattle.cf_hub.specs.Rows.{off_after}
 use Rattle.cf_hub.specs.Session.{state_of}
-use Rattle.cf_hub.specs.SessionState.{is_off, no_memory, no_pong}
+use Rattle.cf_hub.specs.SessionState.{is_off, no_memory}
 use Rattle.cf_hub.specs.Wordings.{plain, ping_text}
 use Rattle.cf_hub.proofs.States.{said_off, closed_now_off}
 use Rattle.cf_hub.proofs.session.Session.tick.Goals as goal
 
 pub returns-then-is_unanswered-clause-offs : goal.returns-then-is_unanswered-clause-offs
 returns-then-is_unanswered-clause-offs c = λ d.
-    closed_now_off [] d (Close no_pong) (state_of c.args.self.now) (state_of c.close-open.new.self) fate.Passed c.close-open.ensures.state
+    closed_now_off [] d (Close c.code.result) (state_of c.args.self.now) (state_of c.close-open.new.self) fate.Passed c.close-open.ensures.state
     ∙ ap (λ f. off_after f [] d (is_off ((state_of c.args.self.now).subs d)))
     (sym (c.step.ensures.fate ∙ ap (λ t. if not t && (state_of c.close-open.new.self).closed then fate.Closed else fate.Passed) c.is_closed-was_closed.ensures))
 

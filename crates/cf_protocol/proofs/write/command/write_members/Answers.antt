@@ -5,7 +5,7 @@ pub returns-in_ok-write_subscribe-in-Subscribe : goal.returns-in_ok-write_subscr
 returns-in_ok-write_subscribe-in-Subscribe c = rw (c.in-Subscribe.is, ← c.as_str-in-Subscribe.ensures.value) (then c.in_ok-write_id-in-Subscribe.ensures c.in_ok-write_subscribe-in-Subscribe.ensures)
 
 pub returns-in_ok-write_publish-in-Publish : goal.returns-in_ok-write_publish-in-Publish
-returns-in_ok-write_publish-in-Publish c = rw (c.in-Publish.is, ← c.as_str-in-Publish.ensures.value) (then c.in_ok-write_id-in-Publish.ensures c.in_ok-write_publish-in-Publish.ensures)
+returns-in_ok-write_publish-in-Publish c = rw (c.in-Publish.is, ← c.as_str-in-Publish.ensures.value, ← c.as_str-in-Publish-2.ensures.value) (then c.in_ok-write_id-in-Publish.ensures c.in_ok-write_publish-in-Publish.ensures)
 
 pub returns-in_ok-write_id-in-History : goal.returns-in_ok-write_id-in-History
 returns-in_ok-write_id-in-History c = rw (c.in-History.is, ← c.as_str-in-History.ensures.value) (then c.in_ok-write_history-in-History.ensures c.in_ok-write_id-in-History.ensures)

@@ -1,6 +1,6 @@
 use Rattle.std.proofs.Common.{◌≡◌, ◌∷◌, ◌∙◌, sym, subst, false}
 use Rattle.cf_recovery.specs.Arrivals.{has, arrives, overfull}
-use Rattle.cf_recovery.specs.Kept.{Kept, arrival, places, TakesRoom, StandsFor, with_arrival, given_up}
+use Rattle.cf_recovery.specs.ArrivalBuffer.{ArrivalBuffer, arrival, places, TakesRoom, StandsFor, with_arrival, given_up}
 use Rattle.cf_recovery.proofs.Keeping.{neither, with_arrival-full, with_arrival-kept, stands_more, within-push, on_ok}
 use Rattle.cf_recovery.proofs.waiting.Waiting.keep.Goals as goal
 
@@ -18,7 +18,7 @@ returns-then-is_full-clause-stands c arrived stands =
     let first : has (places c.args.self.now.arrived) c.args.epoch.now c.args.publication.now.offset ≡ false = rw (← c.publication.view_is) (sym c.has.ensures ∙ c.if-has.false) in
     let full : with_arrival (arrival c.args.epoch.now c.args.publication.now) c.args.self.now ≡ given_up c.args.self.now.short = with_arrival-full (arrival c.args.epoch.now c.args.publication.now) c.args.self.now (neither _ _ whole first) (sym (c.is_full.ensures (arrival c.args.epoch.now c.args.publication.now).at) ∙ c.if-is_full.true) in
     let gone : c.give_up-then-is_full.new.self ≡ given_up c.args.self.now.short = rw (← c.give_up.view_is) c.give_up-then-is_full.ensures in
-    subst (λ (k : Kept). StandsFor k (arrives (arrival c.args.epoch.now c.args.publication.now).at arrived)) (full ∙ sym gone) (stands_more (arrival c.args.epoch.now c.args.publication.now) c.args.self.now arrived stands)
+    subst (λ (k : ArrivalBuffer). StandsFor k (arrives (arrival c.args.epoch.now c.args.publication.now).at arrived)) (full ∙ sym gone) (stands_more (arrival c.args.epoch.now c.args.publication.now) c.args.self.now arrived stands)
 
 pub store-requires : goal.store-requires
 store-requires c =

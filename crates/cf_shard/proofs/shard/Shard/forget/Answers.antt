@@ -1,4 +1,9 @@
+use Rattle.std.proofs.Common.{rules}
 use Rattle.cf_shard.proofs.shard.Shard.forget.Goals as goal
 
-pub returns-clause-streams : goal.returns-clause-streams
-returns-clause-streams g c = rw (← c.self.view_is) c.forget.ensures.forgotten
+pub returns-clause-makes : goal.returns-clause-makes
+returns-clause-makes g c = record {
+  streams = rw (← c.self.view_is) c.forget.ensures.forgotten;
+  log = search rules;
+  undrawn = search rules;
+}

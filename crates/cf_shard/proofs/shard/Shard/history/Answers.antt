@@ -2,12 +2,16 @@ use Rattle.std.proofs.Common.{ℤ, subst, w32, ◌∙◌}
 use Rattle.std.proofs.lemmas.Int.{to_z-of_z}
 use Rattle.cf_stream.specs.ChannelLists.{ListsAt}
 use Rattle.cf_shard.proofs.Calls.{opening_stood, noted, kept, history_by_log}
+use Rattle.cf_shard.proofs.Resizing.{stays_up}
 use Rattle.cf_shard.proofs.shard.Shard.history.Goals as goal
+
+pub history-requires : goal.history-requires
+history-requires g c = stays_up _ _ _ c.args.channel.now c.self.invariant.state c.requires.set_up
 
 pub invariant_of-self-2 : goal.invariant_of-self-2
 invariant_of-self-2 g c =
     let owner = noted _ _ _ _ _ c.follow.ensures.owner c.note_opening.ensures.owner (opening_stood c.self.inside.streams c.args.channel.now _ _ _ _ c.position.ensures.position c.top_of-stood.ensures) in
-    kept _ _ _ _ _ _ _ c.self.invariant c.in_ok-history.ensures.log c.history.ensures.namespaces owner.0 owner.1
+    kept _ _ _ _ _ _ _ c.self.invariant c.in_ok-history.ensures.log owner.0 owner.1
 
 pub returns-clause-answer : goal.returns-clause-answer
 returns-clause-answer g c =

@@ -1,6 +1,10 @@
 use Rattle.std.proofs.Common.{◌∙◌}
 use Rattle.cf_shard.proofs.Calls.{opening_stood, noted, read_by_log}
+use Rattle.cf_shard.proofs.Resizing.{stays_up}
 use Rattle.cf_shard.proofs.shard.Shard.read.Goals as goal
+
+pub read-requires : goal.read-requires
+read-requires g c = stays_up _ _ _ c.args.channel.now c.self.invariant.state c.requires.set_up
 
 pub returns-clause-by_log : goal.returns-clause-by_log
 returns-clause-by_log g c =

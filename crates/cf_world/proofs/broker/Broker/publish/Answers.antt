@@ -1,43 +1,59 @@
-use Rattle.std.proofs.Common.{◌≡◌, ℕ, List, Some, Ok, rules, refl, ap, subst, ◌∙◌}
+use Rattle.std.proofs.Common.{◌≡◌, ◌∙◌, ℕ, List, Ok, rules, refl, sym, subst}
 use Rattle.std.specs.String.{string_bytes}
 use Rattle.std.specs.Result.{IsErrOf}
 use Rattle.cf_protocol.specs.Datum.{Datum}
-use Rattle.cf_protocol.specs.Position.{Position}
-use Rattle.cf_stream.specs.Streams.{Kept, size_at}
-use Rattle.cf_stream.specs.PublicationList.{published}
-use Rattle.cf_stream.specs.ChannelLists.{ChangesAt, life_or}
+use Rattle.cf_stream.specs.Stream.{IsAtLast, answer_to}
+use Rattle.cf_stream.specs.Streams.{StreamMap, size_at, stood_or_opened, stream_of}
+use Rattle.cf_stream.specs.ChannelLists.{ChangesAt, life_with}
+use Rattle.cf_stream.specs.declared.answer.Published.{Published}
 use Rattle.cf_stream.specs.declared.refusal.StreamRefusal.{StreamRefusal}
 use Rattle.cf_world.specs.declared.broker.Accepted.{Accepted}
-use Rattle.cf_world.proofs.BoardPublishes.{published_shows, full_shows, no_epoch_shows}
+use Rattle.cf_world.proofs.BoardPublishes.{published_shows, repeated_shows, no_epoch_shows}
 use Rattle.cf_world.proofs.broker.Broker.publish.Goals as goal
 
 not_refused : {T E : Type 0} (x : T) (e : E) → IsErrOf (Ok x) e → ⊥
 not_refused x e h = cc
 
+-- the lists change by the texts that the copies were made of
+changes_by : (old new : StreamMap) (c under key sent body : List ℕ) (d : List ℕ → Datum) (e : List ℕ) → under ≡ key → sent ≡ body
+    → ChangesAt old new c (life_with (size_at old.namespaces c) under (d sent) e) → ChangesAt old new c (life_with (size_at old.namespaces c) key (d body) e)
+changes_by old new c under key sent body d e k s h =
+    subst (λ (ks : List ℕ). ChangesAt old new c (life_with (size_at old.namespaces c) ks (d body) e)) k
+    (subst (λ (bs : List ℕ). ChangesAt old new c (life_with (size_at old.namespaces c) under (d bs) e)) s h)
+
+pub returns-then-published : goal.returns-then-published
+returns-then-published c = λ table m fresh is-datum h.
+    let channel : List ℕ = c.args.channel.now in
+    let key : List ℕ = c.args.key.now in
+    let d : Datum = record { body = c.args.body.now; info = c.args.info } in
+    let p : Published = c.in-Ok.published in
+    let old : StreamMap = c.args.self.now.streams in
+    let under : string_bytes c.in_ok-under.under ≡ key = c.in_ok-under.ensures.ok in
+    let sent : string_bytes c.in_ok-sent.sent ≡ c.args.body.now = c.in_ok-sent.ensures.ok in
+    let changes = changes_by old c.publish.new.self channel _ key _ c.args.body.now (λ bs. record { body = bs; info = c.args.info }) p.position.epoch under sent c.in-Ok.ensures.lists in
+    let answer = subst (λ (ks : List ℕ). p ≡ answer_to (stood_or_opened old channel p.position.epoch) ks) under c.in-Ok.ensures.answer in
+    repeated_shows table m c.args.self.now _ channel key p.position.epoch d p fresh h (c.is_set_up.ensures.0 (search rules))
+    c.in-Ok.ensures.drawn c.in-Ok.ensures.namespaces changes answer c.if-published.true refl
+
 pub returns-in-Ok : goal.returns-in-Ok
 returns-in-Ok c = λ table m fresh is-datum h.
     let channel : List ℕ = c.args.channel.now in
+    let key : List ℕ = c.args.key.now in
     let d : Datum = record { body = c.args.body.now; info = c.args.info } in
-    let p : Position = c.in-Ok.position in
-    let old : Kept = c.args.self.now.streams in
-    let new : Kept = c.publish.new.self in
+    let p : Published = c.in-Ok.published in
+    let old : StreamMap = c.args.self.now.streams in
     let a : Accepted = c.in_ok-accepted-in-Ok.accepted in
     let made = c.in_ok-accepted-in-Ok.ensures in
+    let under : string_bytes c.in_ok-under.under ≡ key = c.in_ok-under.ensures.ok in
     let sent : string_bytes c.in_ok-sent.sent ≡ c.args.body.now = c.in_ok-sent.ensures.ok in
-    let changes = subst (λ (bs : List ℕ). ChangesAt old new channel (λ l. Some (published (size_at old.namespaces channel) (record { body = bs; info = c.args.info }) (life_or l p.epoch)))) sent c.in-Ok.ensures.lists in
-    published_shows table m c.args.self.now _ channel p.epoch d p.offset a fresh h (c.is_set_up.ensures.0 (search rules))
-    c.in-Ok.ensures.drawn c.in-Ok.ensures.namespaces changes
-    (λ last. not_refused p StreamRefusal.AtLastOffset (c.in-Ok.ensures.last.1 last)) (ap (λ (q : Position). q.offset) c.in-Ok.ensures.position)
+    let changes = changes_by old c.publish.new.self channel _ key _ c.args.body.now (λ bs. record { body = bs; info = c.args.info }) p.position.epoch under sent c.in-Ok.ensures.lists in
+    let answer = subst (λ (ks : List ℕ). p ≡ answer_to (stood_or_opened old channel p.position.epoch) ks) under c.in-Ok.ensures.answer in
+    published_shows table m c.args.self.now _ channel key p.position.epoch d p fresh h (c.is_set_up.ensures.0 (search rules))
+    c.in-Ok.ensures.drawn c.in-Ok.ensures.namespaces changes answer c.if-published.false a
+    (λ last. not_refused p StreamRefusal.AtLastOffset (c.in-Ok.ensures.last.1 (subst (IsAtLast (stream_of old channel)) (sym under) last)))
     c.in_ok-push-in-Ok.ensures.items made.channel made.epoch
     (made.publication ∙ search rules)
     is-datum.0 is-datum.1
-
-pub returns-in-Err-AtLastOffset : goal.returns-in-Err-AtLastOffset
-returns-in-Err-AtLastOffset c = λ table m fresh is-datum h.
-    let is : IsErrOf c.publish.result StreamRefusal.AtLastOffset = search rules in
-    let e = c.in-Err-AtLastOffset.ensures in
-    full_shows table m c.args.self.now _ c.args.channel.now h (record { body = c.args.body.now; info = c.args.info })
-    e.err (e.refusals.1 (λ i. absurd (cc))) refl (c.publish.ensures.last.0 is)
 
 pub returns-in-Err-NoEpoch : goal.returns-in-Err-NoEpoch
 returns-in-Err-NoEpoch c = λ table m fresh is-datum h.

@@ -11,14 +11,14 @@ use Rattle.cf_world.proofs.world.World.read.Goals as goal
 
 pub returns-in_default : goal.returns-in_default
 returns-in_default c = λ cfg past t.
-    let none : seats_of (get_by_text c.args.self.now.peers) c.args.name.now ≡ None = search rules in
+    let none : seats_of (get_by_text c.args.self.now.clients) c.args.name.now ≡ None = search rules in
     read-away t c.args.name.now c.args.channel.now none
 
 pub returns-in_default-2 : goal.returns-in_default-2
 returns-in_default-2 c = λ cfg past t.
     let w : World = run cfg start past in
     let since : Option Position = c.in-Some-asked_in.asked.since in
-    let sat : seats_of (get_by_text c.args.self.now.peers) c.args.name.now ≡ Some c.in-Some.seat = search rules in
+    let sat : seats_of (get_by_text c.args.self.now.clients) c.args.name.now ≡ Some c.in-Some.seat = search rules in
     let is : c.asked_in.result ≡ Some (record { since = since }) = search rules in
     let set = read-set-up t c.args.name.now c.args.channel.now c.in-Some.seat sat c.asked_in.result c.asked_in.ensures since is in
     let none : c.in_ok-recovery.field-0 ≡ None = search rules in
@@ -31,7 +31,7 @@ pub returns : goal.returns
 returns c = λ cfg past t.
     let w : World = run cfg start past in
     let since : Option Position = c.in-Some-asked_in.asked.since in
-    let sat : seats_of (get_by_text c.args.self.now.peers) c.args.name.now ≡ Some c.in-Some.seat = search rules in
+    let sat : seats_of (get_by_text c.args.self.now.clients) c.args.name.now ≡ Some c.in-Some.seat = search rules in
     let is : c.asked_in.result ≡ Some (record { since = since }) = search rules in
     let set = read-set-up t c.args.name.now c.args.channel.now c.in-Some.seat sat c.asked_in.result c.asked_in.ensures since is in
     let some : c.in_ok-recovery.field-0 ≡ Some c.in-Some-2.recovery = search rules in

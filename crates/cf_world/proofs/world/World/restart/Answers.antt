@@ -7,4 +7,4 @@ pub returns : goal.returns
 returns c = λ cfg past t.
     let some : is_some (slice_get c.args.self.now.hubs.items c.args.node) ≡ true = search rules in
     let h = there (slice_get c.args.self.now.hubs.items c.args.node) some in
-    restart-goes t c.args.node h.0 h.1 (slice_get c.renew_in.new.hubs.items) c.in_ok-renew_in.ensures (get_by_text c.unseat_all.new.peers) c.unseat_all.ensures
+    restart-goes t c.args.node h.0 h.1 (slice_get c.renew_in.new.hubs.items) c.in_ok-renew_in.ensures (get_by_text c.unseat_all.new.clients) c.unseat_all.ensures

@@ -1,0 +1,17 @@
+use Rattle.std.proofs.Common.{Some}
+use Rattle.cf_dispatch.proofs.mailbox.pass_on.Goals as goal
+
+pub returns-then-stirs : goal.returns-then-stirs
+returns-then-stirs g c = (
+  Some c.in-Some.delivery,
+  record {
+    received = c.receive.new.self;
+    receiving = c.in-Some.ensures;
+    forwarding = record {
+      delivered = c.bring-delivered.result;
+      brought = c.bring-delivered.new.self;
+      bringing = c.bring-delivered.ensures;
+      waking = rw (← c.if-stirs.ensures) c.wake.ensures;
+    };
+  },
+)

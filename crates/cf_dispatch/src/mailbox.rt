@@ -1,0 +1,53 @@
+//! What a dispatcher stands between: a link at which publications come, and the hub of its node.
+ghost use Rattle.std.specs.Prelude.{◌≡◌};
+ghost use Rattle.cf_dispatch.specs.Dispatch.{TakesTurn, stirs};
+
+use cf_hub::Delivered;
+use cf_shard::Delivery;
+
+/// Where publications come from, and where they go. What each call does it states itself.
+pub trait Mailbox {
+    ghost use Rattle.std.specs.Prelude.{Option};
+    ghost use Rattle.cf_shard.specs.Delivery.{Carried};
+    ghost use Rattle.cf_hub.specs.declared.delivered.Delivered.{Delivered as Counts};
+
+    /// This comes, or nothing does.
+    ghost receives: { Self → Option Carried → Self → Type 0 };
+
+    /// This is brought to the hub, and so many sessions met it.
+    ghost brings: { Self → Carried → Counts → Self → Type 0 };
+
+    /// The IO loop is woken.
+    ghost wakes: { Self → Self → Type 0 };
+
+    /// The oldest publication that waits. It may wait for one.
+    fn receive(&mut self) -> Option<Delivery>
+        ensures { receives self.old result self.new };
+
+    /// Brings a publication to the hub.
+    fn bring(&mut self, delivery: &Delivery) -> Delivered
+        ensures { brings self.old delivery.now result self.new };
+
+    /// Wakes the worker that sends what the hub has.
+    fn wake(&mut self)
+        ensures { wakes self.old self.new };
+}
+
+/// One turn of a dispatcher: what comes is brought to the hub, and the IO loop is woken where a client got something by it.
+pub fn pass_on<M: Mailbox>(mailbox: &mut M)
+    ensures { TakesTurn M.receives M.brings M.wakes mailbox.old mailbox.new }
+{
+    if let Some(delivery) = mailbox.receive() {
+        let delivered = mailbox.bring(&delivery);
+        if stirs(&delivered) {
+            mailbox.wake();
+        }
+    }
+}
+
+// Whether a client got something by a delivery.
+fn stirs(delivered: &Delivered) -> bool
+    ensures { result ≡ stirs delivered.now }
+{
+    delivered.passed > 0 || delivered.ended > 0 || delivered.closed > 0
+}

@@ -1,9 +1,0 @@
-use Rattle.std.proofs.Common.{◌∙◌, sym, ap, length}
-use Rattle.cf_followers.specs.Follows.{channels_of}
-use Rattle.cf_followers.specs.Names.{name_at}
-use Rattle.cf_followers.proofs.ByName.{channels_named}
-use Rattle.cf_followers.proofs.followers.Followers.count.Goals as goal
-
-pub returns : goal.returns
-returns c =
-    c.channel_count.ensures ∙ sym (channels_named (name_at c.self.inside.names) c.self.inside.rows c.args.session) ∙ ap (λ l. length (channels_of l c.args.session)) c.self.view_is

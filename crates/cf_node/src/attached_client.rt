@@ -1,0 +1,149 @@
+//! What the node keeps of a client, and what is done in the hub for it, while the hub is lent.
+use cf_dispatch::Standing;
+use cf_hub::Hub;
+use cf_protocol::{ErrorCode, Position};
+use cf_session::hub_error;
+use std::alloc::{AllocError, Global};
+use std::collections::VecDeque;
+
+/// A channel in which a client is present.
+#[derive(Drop)]
+pub(crate) struct Present {
+    pub(crate) channel: String,
+    /// How many entries its shard's log had at the last check of the subscription's position, where
+    /// that was fine.
+    pub(crate) mark: Option<u64>,
+}
+
+/// What the node keeps of a client.
+#[derive(Drop)]
+pub(crate) struct AttachedClient {
+    /// The number of its session in the hub, once it is attached, and whether it is over.
+    pub(crate) standing: Standing,
+    /// When its session was seen to be over, in seconds.
+    pub(crate) ended: u64,
+    /// It was counted as too slow.
+    pub(crate) is_slow: bool,
+    pub(crate) user: String,
+    pub(crate) id: String,
+    /// The code of a close before it was attached.
+    pub(crate) refused: Option<u16>,
+    /// The channels in which it is present, each once.
+    pub(crate) channels: VecDeque<Present>,
+    /// When its presence and positions were refreshed last, in seconds.
+    pub(crate) refreshed: u64,
+}
+
+impl AttachedClient {
+    /// Nobody yet, at this moment.
+    pub(crate) fn new(alloc: Global, now: u64) -> AttachedClient {
+        AttachedClient {
+            standing: Standing::nobody(),
+            ended: now,
+            is_slow: false,
+            user: String::new(alloc),
+            id: String::new(alloc),
+            refused: None,
+            channels: VecDeque::new(alloc),
+            refreshed: now,
+        }
+    }
+
+    /// The client is present in one channel more. Where memory is refused, it isn't noted, and its
+    /// presence ends by itself.
+    pub(crate) fn add(&mut self, channel: String) {
+        for present in self.channels.iter() {
+            if present.channel.as_str() == channel.as_str() {
+                return;
+            }
+        }
+        let _ = self.channels.push_back(Present {
+            channel,
+            mark: None,
+        });
+    }
+
+    /// The client is present in a channel no more.
+    pub(crate) fn remove(&mut self, channel: &str) {
+        self.channels.retain(|one| one.channel.as_str() != channel);
+    }
+
+    /// A session for a user. The answer is the client's id.
+    pub(crate) fn attach(
+        &mut self,
+        hub: &mut Hub,
+        alloc: Global,
+        user: String,
+        now: u64,
+    ) -> Result<String, ErrorCode> {
+        let Ok(kept) = user.clone() else {
+            return Err(ErrorCode::Internal);
+        };
+        let number = match hub.attach(user, now) {
+            Ok(number) => number,
+            Err(refusal) => return Err(hub_error(&refusal)),
+        };
+        self.standing.attach(number);
+        self.user = kept;
+        let client = hub.client_id(number).unwrap_or("");
+        match two_of(alloc, client) {
+            Ok((kept, given)) => {
+                self.id = kept;
+                Ok(given)
+            }
+            Err(_) => Err(ErrorCode::Internal),
+        }
+    }
+
+    /// A subscription begins.
+    pub(crate) fn begin(
+        &mut self,
+        hub: &mut Hub,
+        channel: &str,
+        id: u32,
+        since: Option<Position>,
+    ) -> Result<(), ErrorCode> {
+        let Some(number) = self.standing.number() else {
+            return Err(ErrorCode::Internal);
+        };
+        // Room for the channel at which the client will be present.
+        if self.channels.reserve(1).is_err() {
+            return Err(ErrorCode::Internal);
+        }
+        match hub.begin(number, channel, id, since) {
+            Ok(()) => Ok(()),
+            Err(refusal) => Err(hub_error(&refusal)),
+        }
+    }
+
+    /// The subscription is finished. Whether it stands then.
+    pub(crate) fn finish(&self, hub: &mut Hub, channel: &str) -> bool {
+        let Some(number) = self.standing.number() else {
+            return false;
+        };
+        hub.finish(number, channel);
+        hub.is_on(number, channel)
+    }
+
+    /// A subscription ends.
+    pub(crate) fn leave(&self, hub: &mut Hub, channel: &str) {
+        if let Some(number) = self.standing.number() {
+            hub.leave(number, channel);
+        }
+    }
+
+    /// Forgets the mark of each subscription that has ended meanwhile.
+    pub(crate) fn looks_at(&mut self, hub: &Hub, number: u32) {
+        for present in self.channels.iter_mut() {
+            if !hub.is_on(number, present.channel.as_str()) {
+                present.mark = None;
+            }
+        }
+    }
+}
+
+fn two_of(alloc: Global, text: &str) -> Result<(String, String), AllocError> {
+    let one = String::from_str(alloc, text)?;
+    let other = String::from_str(alloc, text)?;
+    Ok((one, other))
+}

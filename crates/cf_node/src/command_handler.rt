@@ -1,0 +1,249 @@
+//! What a session asks for, done on hub and broker.
+ghost use Rattle.std.specs.Prelude.{◌≡◌};
+
+use crate::attached_client::AttachedClient;
+use crate::backend::Backend;
+use cf_dispatch::{broker_error, take_for};
+use cf_hub::Queued;
+use cf_presence::Stats;
+use cf_protocol::{CloseCode, ErrorCode, Info, Position};
+use cf_queue::Out;
+use cf_session::Node;
+use cf_stream::History;
+use std::collections::{BTreeMap, VecDeque};
+
+/// Who carries out what one session asks for: it knows the client, and goes to hub and broker.
+#[derive(Drop)]
+pub(crate) struct CommandHandler<'a, B> {
+    pub(crate) backend: &'a B,
+    pub(crate) client: AttachedClient,
+    /// The moment of the turn, in seconds.
+    pub(crate) now: u64,
+}
+
+impl<'a, B: Backend> Node for CommandHandler<'a, B> {
+    ghost namespaces = { λ _. B.namespaces };
+
+    // It is over as far as the handler has seen: the hub is asked before each call, and what it says
+    // of a text is remembered.
+    ghost closed = { λ handler. handler.client.standing.is_over };
+
+    // Between two workers no more can be said of hub and broker.
+    ghost does = { λ _ _ _ _. Unit {0} };
+
+    fn is_closed(&self) -> bool {
+        self.client.standing.is_over()
+    }
+
+    fn attach(&mut self, user: String) -> Result<String, ErrorCode> {
+        if self.sees_end() {
+            return Err(ErrorCode::Internal);
+        }
+        let alloc = self.backend.alloc();
+        self.client
+            .attach(&mut self.backend.hub(), alloc, user, self.now)
+    }
+
+    fn begin(&mut self, channel: &str, id: u32, since: Option<Position>) -> Result<(), ErrorCode> {
+        if self.sees_end() {
+            return Err(ErrorCode::Internal);
+        }
+        self.client
+            .begin(&mut self.backend.hub(), channel, id, since)
+    }
+
+    fn read(&mut self, channel: &str, since: Option<Position>) -> Result<(), ErrorCode> {
+        if self.sees_end() {
+            return Err(ErrorCode::Internal);
+        }
+        let Some(number) = self.client.standing.number() else {
+            return Err(ErrorCode::Internal);
+        };
+        match self.backend.read(channel, since, self.now) {
+            Ok(answer) => {
+                self.backend
+                    .hub()
+                    .read_done(number, channel, answer.recovery);
+                Ok(())
+            }
+            Err(refused) => Err(broker_error(refused)),
+        }
+    }
+
+    // The subscription is finished, and where it stands then, its client is present.
+    fn finish(&mut self, channel: String) {
+        if self.sees_end() {
+            return;
+        }
+        if self
+            .client
+            .finish(&mut self.backend.hub(), channel.as_str())
+        {
+            self.enter(channel.as_str());
+            self.client.add(channel);
+        }
+    }
+
+    fn leave(&mut self, channel: &str) {
+        if self.sees_end() {
+            return;
+        }
+        self.client.leave(&mut self.backend.hub(), channel);
+        self.backend.leave(channel, self.client.id.as_str());
+        self.client.remove(channel);
+    }
+
+    fn publish(
+        &mut self,
+        channel: String,
+        key: String,
+        body: String,
+        info: Info,
+    ) -> Result<(), ErrorCode> {
+        if self.sees_end() {
+            return Err(ErrorCode::Internal);
+        }
+        match self
+            .backend
+            .publish(channel.as_str(), body, key, info, self.now)
+        {
+            Ok(_) => Ok(()),
+            Err(refused) => Err(broker_error(refused)),
+        }
+    }
+
+    fn history(
+        &mut self,
+        channel: &str,
+        limit: i32,
+        since: Option<Position>,
+    ) -> Result<History, ErrorCode> {
+        if self.sees_end() {
+            return Err(ErrorCode::Internal);
+        }
+        match self.backend.history(channel, since, limit, self.now) {
+            Ok(history) => Ok(history),
+            Err(refused) => Err(broker_error(refused)),
+        }
+    }
+
+    fn presence(&mut self, channel: &str) -> Result<BTreeMap<String, String>, ErrorCode> {
+        if self.sees_end() {
+            return Err(ErrorCode::Internal);
+        }
+        match self.backend.list(channel) {
+            Ok(clients) => Ok(clients),
+            Err(refused) => Err(broker_error(refused)),
+        }
+    }
+
+    fn stats(&mut self, channel: &str) -> Stats {
+        if self.sees_end() {
+            return Stats {
+                clients: 0,
+                users: 0,
+            };
+        }
+        self.backend.stats(channel)
+    }
+
+    // The text waits for the client, or its session is closed, which is remembered.
+    fn say(&mut self, text: String) {
+        let Some(number) = self.client.standing.number() else {
+            return;
+        };
+        let said = self.backend.hub().say(number, text);
+        if said != Queued::Kept {
+            self.stop();
+        }
+    }
+
+    fn pong(&mut self) {
+        if let Some(number) = self.client.standing.number() {
+            self.backend.hub().pong(number);
+        }
+    }
+
+    // The session is closed. One that isn't attached has no queue: its close is sent as it is.
+    fn close(&mut self, code: CloseCode) {
+        let code = code.code();
+        match self.client.standing.number() {
+            Some(number) => self.backend.hub().close(number, code),
+            None => self.client.refused = Some(code),
+        }
+        self.stop();
+    }
+}
+
+impl<'a, B: Backend> CommandHandler<'a, B> {
+    /// Takes what waits for the client, and puts it behind what was taken for it before. Whether
+    /// more may wait.
+    pub(crate) fn take(&self, taken: &mut VecDeque<Out>) -> bool {
+        match self.client.standing.number() {
+            Some(number) => { take_for(&mut self.backend.hub(), number, true, taken).leaves_more() }
+            None => false,
+        }
+    }
+
+    /// Whether the session is over, as the hub has it now. Where it is, its client is present
+    /// nowhere from now on.
+    pub(crate) fn sees_end(&mut self) -> bool {
+        if self.client.standing.is_over() {
+            return true;
+        }
+        self.client.standing.look(&self.backend.hub());
+        if !self.client.standing.is_over() {
+            return false;
+        }
+        self.end();
+        true
+    }
+
+    /// Whether the session is over, as far as the handler has seen.
+    pub(crate) fn is_over(&self) -> bool
+        ensures { result ≡ self.entry.now.client.standing.is_over }
+    {
+        self.client.standing.is_over()
+    }
+
+    /// The close goes out to the client.
+    pub(crate) fn sees_close(&mut self, code: u16) {
+        if code == CloseCode::Slow.code() {
+            self.note_slow();
+        }
+        self.stop();
+    }
+
+    /// The session does nothing more from now on.
+    pub(crate) fn stop(&mut self) {
+        if !self.is_over() {
+            self.end();
+        }
+    }
+
+    /// The client is too slow, which is counted once.
+    pub(crate) fn note_slow(&mut self) {
+        if !self.client.is_slow {
+            self.client.is_slow = true;
+            self.backend.note_slow();
+        }
+    }
+
+    // The session is over.
+    fn end(&mut self) {
+        self.client.standing.end();
+        self.client.ended = self.now;
+        self.leave_all();
+    }
+
+    /// The client is present in the channel from this moment on. Where memory is refused, it enters
+    /// with the next round.
+    pub(crate) fn enter(&self, channel: &str) {
+        self.backend.enter(
+            channel,
+            self.client.id.as_str(),
+            self.client.user.as_str(),
+            self.now,
+        );
+    }
+}

@@ -1,0 +1,206 @@
+//! A node's hub and the broker, each under its locks. Only the IO loop calls the broker, so no pass
+//! is ever out when it is asked for.
+ghost use Rattle.std.specs.Prelude.{◌≡◌, ◌<◌, IfSome};
+
+use crate::backend::Backend;
+use crate::node::Setup;
+use crate::shared::Shared;
+use cf_broker::{Broker, Passes, SHARDS, shard_of};
+use cf_dispatch::keeps_presence;
+use cf_hub::Hub;
+use cf_order::Pass;
+use cf_presence::Stats;
+use cf_protocol::{Info, Position};
+use cf_session::Session;
+use cf_shard::{Naming, ReadAnswer, Refused};
+use cf_stream::{Epochs, History, Published};
+use std::alloc::Global;
+use std::cell::RefCell;
+use std::collections::BTreeMap;
+use std::sync::{MutexGuard, Wait};
+
+/// What a node's connections are served with.
+#[derive(Drop)]
+pub(crate) struct LiveBackend<'a, R, N: Naming, E: Epochs + Drop> {
+    pub(crate) rt: &'a R,
+    pub(crate) alloc: Global,
+    pub(crate) setup: Setup<'a, N>,
+    pub(crate) shared: &'a Shared,
+    pub(crate) broker: &'a Broker<N, E>,
+    /// What the node knows of the logs of the broker's shards.
+    pub(crate) passes: RefCell<Passes<N>>,
+}
+
+// The node's pass of a shard.
+fn taken<N: Naming, E: Epochs + Drop>(
+    passes: &RefCell<Passes<N>>,
+    broker: &Broker<N, E>,
+    shard: usize,
+) -> Option<Pass>
+    requires { shard < SHARDS }
+    ensures { IfSome result (λ p. p.word ≡ N.words shard) }
+{
+    let mut passes = passes.try_borrow_mut().ok()?;
+    Some(passes.take(broker, shard))
+}
+
+// Puts the node's pass of a shard back.
+fn put_back<N: Naming>(passes: &RefCell<Passes<N>>, shard: usize, pass: Pass)
+    requires shard { shard < SHARDS }
+    requires pass { pass.word ≡ N.words shard }
+{
+    if let Ok(mut passes) = passes.try_borrow_mut() {
+        passes.put(shard, pass);
+    }
+}
+
+impl<'a, R: Wait, N: Naming, E: Epochs + Drop> Backend for LiveBackend<'a, R, N, E> {
+    ghost namespaces = { N.namespaces };
+
+    fn alloc(&self) -> Global {
+        self.alloc
+    }
+
+    fn session(&self) -> Session<'_> {
+        Session::new(self.alloc, self.setup.namespaces, self.setup.tokens)
+    }
+
+    fn hub(&self) -> MutexGuard<'_, Hub> {
+        self.shared.hub(self.rt)
+    }
+
+    fn look(&self) {
+        self.shared.look();
+    }
+
+    fn catch_up(&self) {
+        self.shared.catch_up();
+    }
+
+    fn is_well(&self, now: u64) -> bool {
+        self.shared.is_well(now)
+    }
+
+    fn note_refused(&self) {
+        if let Some(counts) = self.setup.counts {
+            counts.add_refused();
+        }
+    }
+
+    fn note_slow(&self) {
+        if let Some(counts) = self.setup.counts {
+            counts.add_slow();
+        }
+    }
+
+    fn publish(
+        &self,
+        channel: &str,
+        body: String,
+        key: String,
+        info: Info,
+        now: u64,
+    ) -> Result<Published, Refused> {
+        let shard = shard_of(channel);
+        let Some(mut pass) = taken(&self.passes, self.broker, shard) else {
+            return Err(Refused::NoEpoch);
+        };
+        let answer = self
+            .broker
+            .publish(self.rt, &mut pass, channel, body, key, Some(info), now);
+        put_back(&self.passes, shard, pass);
+        answer
+    }
+
+    fn read(
+        &self,
+        channel: &str,
+        since: Option<Position>,
+        now: u64,
+    ) -> Result<ReadAnswer, Refused> {
+        let shard = shard_of(channel);
+        let Some(mut pass) = taken(&self.passes, self.broker, shard) else {
+            return Err(Refused::NoEpoch);
+        };
+        let answer = self.broker.read(self.rt, &mut pass, channel, since, now);
+        put_back(&self.passes, shard, pass);
+        answer
+    }
+
+    fn history(
+        &self,
+        channel: &str,
+        since: Option<Position>,
+        limit: i32,
+        now: u64,
+    ) -> Result<History, Refused> {
+        let shard = shard_of(channel);
+        let Some(mut pass) = taken(&self.passes, self.broker, shard) else {
+            return Err(Refused::NoEpoch);
+        };
+        let answer = self
+            .broker
+            .history(self.rt, &mut pass, channel, since, limit, now);
+        put_back(&self.passes, shard, pass);
+        answer
+    }
+
+    fn position(&self, channel: &str) -> (Option<Position>, u64) {
+        let shard = shard_of(channel);
+        let Some(mut pass) = taken(&self.passes, self.broker, shard) else {
+            return (None, 0);
+        };
+        let answer = self.broker.position(self.rt, &mut pass, channel);
+        put_back(&self.passes, shard, pass);
+        answer
+    }
+
+    fn is_quiet_since(&self, channel: &str, mark: u64) -> bool {
+        let shard = shard_of(channel);
+        let Some(mut pass) = taken(&self.passes, self.broker, shard) else {
+            return false;
+        };
+        let answer = self.broker.quiet_since(&mut pass, channel, mark);
+        put_back(&self.passes, shard, pass);
+        answer
+    }
+
+    fn tick(&self, now: u64) {
+        if self.setup.node() == 0 {
+            for shard in 0..SHARDS {
+                self.tick_shard(shard, now);
+            }
+        }
+    }
+
+    fn enter(&self, channel: &str, client: &str, user: &str, now: u64) {
+        if keeps_presence(self.setup.namespaces, channel) {
+            let _ = self.broker.enter(self.rt, channel, client, user, now);
+        }
+    }
+
+    fn leave(&self, channel: &str, client: &str) {
+        self.broker.leave(self.rt, channel, client);
+    }
+
+    fn list(&self, channel: &str) -> Result<BTreeMap<String, String>, Refused> {
+        self.broker.list(self.rt, channel)
+    }
+
+    fn stats(&self, channel: &str) -> Stats {
+        self.broker.stats(self.rt, channel)
+    }
+}
+
+impl<'a, R: Wait, N: Naming, E: Epochs + Drop> LiveBackend<'a, R, N, E> {
+    // Brings a moment to a shard of the broker. Where its log is full, its streams stay as they
+    // are.
+    fn tick_shard(&self, shard: usize, now: u64)
+        requires { shard < SHARDS }
+    {
+        if let Some(mut pass) = taken(&self.passes, self.broker, shard) {
+            let _ = self.broker.tick(self.rt, &mut pass, shard, now);
+            put_back(&self.passes, shard, pass);
+        }
+    }
+}

@@ -1,0 +1,117 @@
+//! What an operator says while nodes serve: the lines of standard input that set sizes.
+ghost use Rattle.std.specs.Prelude.{◌≡◌, ◌≤◌};
+
+use cf_broker::{Broker, Passes};
+use cf_node::set_size;
+use cf_protocol::Namespaces;
+use cf_schedule::{Event, EventFault};
+use cf_shard::Naming;
+use cf_stream::Epochs;
+use std::alloc::{AllocError, Global};
+use std::str;
+use std::sync::Wait;
+
+/// So many bytes of a line are kept. A line that sets a size has 43 at most: a longer one is none, and neither are its first 44 bytes.
+const KEPT: usize = 44;
+
+/// Who hears the lines of standard input.
+pub(crate) trait Listener {
+    /// A whole line, without its line feed; of a long one its first 44 bytes.
+    fn hear_line(&mut self, line: &str);
+}
+
+/// A line of standard input, as far as it has come.
+#[derive(Drop)]
+pub(crate) struct Line {
+    bytes: Vec<u8>,
+}
+
+impl Line {
+    /// Nothing has come.
+    pub(crate) fn new(alloc: Global) -> Result<Line, AllocError> {
+        Ok(Line {
+            bytes: Vec::with_capacity(alloc, KEPT)?,
+        })
+    }
+
+    /// These bytes have come. The lines that they end are heard, but for those that aren't UTF-8.
+    pub(crate) fn add_all<L: Listener>(&mut self, bytes: &[u8], listener: &mut L) {
+        for byte in bytes {
+            self.add(*byte, listener);
+        }
+    }
+
+    fn add<L: Listener>(&mut self, byte: u8, listener: &mut L) {
+        if byte == b'\n' {
+            if let Ok(line) = str::from_utf8(self.bytes.as_slice()) {
+                listener.hear_line(line);
+            }
+            self.bytes.clear();
+        } else if self.bytes.len() < KEPT {
+            // There is room for it.
+            let _ = self.bytes.push(byte);
+        }
+    }
+}
+
+/// Sets the sizes of namespaces in the broker's shards, as lines say. All other lines are passed over.
+#[derive(Drop)]
+pub(crate) struct Sizes<'a, R, N: Naming, E: Epochs + Drop> {
+    rt: &'a R,
+    broker: &'a Broker<N, E>,
+    passes: Passes<N>,
+    namespaces: &'a Namespaces,
+    ghost named: { namespaces.now ≡ N.namespaces },
+}
+
+impl<'a, R, N: Naming, E: Epochs + Drop> Sizes<'a, R, N, E> {
+    /// By these passes of the broker's shards.
+    pub(crate) fn new(
+        rt: &'a R,
+        broker: &'a Broker<N, E>,
+        passes: Passes<N>,
+        namespaces: &'a Namespaces,
+    ) -> Sizes<'a, R, N, E>
+        requires { namespaces.now ≡ N.namespaces }
+    {
+        Sizes {
+            rt,
+            broker,
+            passes,
+            namespaces,
+        }
+    }
+}
+
+impl<'a, R, N, E> Listener for Sizes<'a, R, N, E>
+where
+    R: Wait + Eprint + AllocGlobal,
+    N: Naming,
+    E: Epochs + Drop,
+{
+    fn hear_line(&mut self, line: &str) {
+        match Event::read(self.rt.alloc(), line, 1) {
+            Ok(Some(Event::SetSize { namespace, size })) => {
+                self.set(namespace.as_str(), size.count());
+            }
+            Err(EventFault::Memory) => {
+                let _ = eprintln!(self.rt; "a line of standard input was not read: out of memory");
+            }
+            _ => {}
+        }
+    }
+}
+
+impl<'a, R: Wait + Eprint, N: Naming, E: Epochs + Drop> Sizes<'a, R, N, E> {
+    // Sets a size where a namespace of this name is set up. Where a shard refuses, that is said.
+    fn set(&mut self, name: &str, size: usize)
+        requires { (1 ≤ size) × (size ≤ 10000) }
+    {
+        if !self.namespaces.contains(name) {
+            return;
+        }
+        if !set_size(self.rt, self.broker, &mut self.passes, name, size) {
+            let _ = eprintln!(self.rt; "size {name} refused");
+        }
+    }
+}

@@ -1,0 +1,35 @@
+use Rattle.std.proofs.Common.{◌∙◌, sym}
+use Rattle.cf_session.specs.Standing.{tables_of, progress_of, is_short}
+use Rattle.cf_session.proofs.Playing.{done_ends, goes_on, serves_gone, still_long}
+use Rattle.cf_session.proofs.serve.serve_text.Goals as goal
+
+pub loop-preserved : goal.loop-preserved
+loop-preserved g c =
+    let before = c.loop.invariant in
+    let head = c.loop.session in
+    let last = c.carry_on.new.session in
+    record {
+      goes = λ long.
+          goes_on g.N.Node.closed g.N.Node.does (tables_of c.args.session.now) (progress_of c.args.session.now) (progress_of head) (progress_of last)
+          c.args.node.now c.loop.node c.carry_on.new.node c.args.text.now
+          (before.goes (still_long (is_short head) (is_short last) c.carry_on.ensures.keeps.short long)) (c.carry_on.ensures.leads long);
+      ready = c.carry_on.ensures.ready;
+      keeps = record {
+        tables = c.carry_on.ensures.keeps.tables ∙ before.keeps.tables;
+        short = λ s. c.carry_on.ensures.keeps.short (before.keeps.short s);
+      };
+      namespaces = c.carry_on.ensures.namespaces ∙ before.namespaces;
+    }
+
+pub returns-clause-serves : goal.returns-clause-serves
+returns-clause-serves g c = λ long.
+    let before = c.loop.invariant in
+    let head = c.loop.session in
+    let last = c.carry_on.new.session in
+    serves_gone g.N.Node.closed g.N.Node.does (tables_of c.args.session.now) (progress_of c.args.session.now) (progress_of last)
+    c.args.node.now c.carry_on.new.node c.args.text.now c.requires.stands
+    (goes_on g.N.Node.closed g.N.Node.does (tables_of c.args.session.now) (progress_of c.args.session.now) (progress_of head) (progress_of last)
+    c.args.node.now c.loop.node c.carry_on.new.node c.args.text.now
+    (before.goes (still_long (is_short head) (is_short last) c.carry_on.ensures.keeps.short long)) (c.carry_on.ensures.leads long))
+    c.carry_on.ensures.ready.awaits
+    (done_ends (g.N.Node.closed c.carry_on.new.node) last (sym c.carry_on.ensures.done ∙ c.loop-test.false))

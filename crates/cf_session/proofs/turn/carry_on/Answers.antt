@@ -1,0 +1,38 @@
+use Rattle.std.proofs.Common.{◌∙◌, ◌<◌, refl, inl, inr, arith}
+use Rattle.cf_session.specs.Standing.{progress_of, is_short, work_of}
+use Rattle.cf_session.specs.Turn.{rests, units_left}
+use Rattle.cf_session.proofs.Playing.{leads_more, still_long}
+use Rattle.cf_session.proofs.turn.carry_on.Goals as goal
+
+pub loop-session-init : goal.loop-session-init
+loop-session-init g c =
+    record {
+      leads = λ long m end rest. rest;
+      ready = c.requires.ready;
+      keeps = record { tables = refl; short = λ s. s };
+      namespaces = refl;
+      spends = rests;
+      down = omega (arith);
+      work = inr refl;
+    }
+
+pub loop-session-preserved : goal.loop-session-preserved
+loop-session-preserved g c =
+    let before = c.loop-session.invariant in
+    let head = c.loop-session.session in
+    let last = c.step.new.session in
+    let less : work_of last < work_of head = c.step.ensures.work c.if-not-step.false in
+    record {
+      leads = λ long.
+          leads_more g.N.Node.closed g.N.Node.does (progress_of c.args.session.now) (progress_of head) (progress_of last) c.args.node.now c.loop-session.node c.step.new.node
+          (before.leads (still_long (is_short head) (is_short last) c.step.ensures.keeps.short long)) (c.step.ensures.leads long);
+      ready = c.step.ensures.ready;
+      keeps = record {
+        tables = c.step.ensures.keeps.tables ∙ before.keeps.tables;
+        short = λ s. c.step.ensures.keeps.short (before.keeps.short s);
+      };
+      namespaces = c.step.ensures.namespaces ∙ before.namespaces;
+      spends = c.step.ensures.spends c.args.node.now (units_left c.args.budget.now) before.spends;
+      down = omega (arith, less, before.down);
+      work = inl (omega (arith, less, before.down));
+    }

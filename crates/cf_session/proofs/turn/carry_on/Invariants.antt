@@ -1,0 +1,20 @@
+use Rattle.std.proofs.Common.{◌≡◌, ◌<◌, ◌≤◌, ◌⊎◌, false}
+use Rattle.cf_session.specs.Standing.{progress_of, is_short, work_of}
+use Rattle.cf_session.specs.Played.{LeadsOn}
+use Rattle.cf_session.specs.Turn.{CanGoOn, StaysSetUp, Spends, units_left}
+use Rattle.cf_session.proofs.turn.carry_on.Given as goal
+
+abbrev pub invariant-loop-session : goal.invariant-loop-session
+invariant-loop-session g l = record {
+  leads : is_short l.session ≡ false
+      → LeadsOn g.N.Node.closed g.N.Node.does (progress_of l.fn.session) l.fn.node (progress_of l.session) l.node;
+  ready : CanGoOn l.session;
+  keeps : StaysSetUp l.fn.session l.session;
+  namespaces : g.N.Node.namespaces l.node ≡ g.N.Node.namespaces l.fn.node;
+  spends : Spends g.N.Node.closed g.N.Node.does l.fn.node (units_left l.fn.budget) l.node (units_left l.budget);
+  down : work_of l.session ≤ work_of l.fn.session;
+  work : (work_of l.session < work_of l.fn.session) ⊎ (units_left l.budget ≡ units_left l.fn.budget);
+}
+
+abbrev pub decreases-loop-session : goal.decreases-loop-session
+decreases-loop-session g l = work_of l.session

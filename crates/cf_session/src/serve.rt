@@ -1,0 +1,45 @@
+//! The texts of a client, carried out one after another.
+ghost use Rattle.std.specs.Prelude.{◌≡◌, ◌≤◌, true, false, Some, map, string_bytes};
+ghost use Rattle.cf_session.specs.SessionMachine.{Progress, Does, awaits};
+ghost use Rattle.cf_session.specs.Shown.{shown_action};
+ghost use Rattle.cf_session.specs.Standing.{is_idle, is_short, tables_of, progress_of, work_of};
+ghost use Rattle.cf_session.specs.Played.{Serves, Talks, Next, asked_kind, ActHasStream, AskStreams};
+
+use crate::budget::Budget;
+use crate::node::Node;
+use crate::session::Session;
+use crate::turn::{carry_on, hear_text};
+
+/// Carries out a text of the client, until nothing is left to do or the node has closed the session.
+pub fn serve_text<N: Node>(session: &mut Session<'_>, node: &mut N, text: &str)
+    requires idle { is_idle session.old ≡ true }
+    requires stands { N.closed node.old ≡ false }
+    requires tables { N.namespaces node.old ≡ (tables_of session.old).namespaces }
+    // Unless memory was refused to the session, the node has played the script of the text.
+    ensures serves { is_short session.new ≡ false →
+        Serves N.closed N.does (tables_of session.old) (progress_of session.old) node.old text.now
+        node.new (progress_of session.new) }
+    ensures idle { N.closed node.new ≡ false → is_idle session.new ≡ true }
+    ensures tables { tables_of session.new ≡ tables_of session.old }
+    ensures namespaces { N.namespaces node.new ≡ N.namespaces node.old }
+    ensures short { is_short session.old ≡ true → is_short session.new ≡ true }
+{
+    hear_text(session, text);
+    while !carry_on(session, node, &mut Budget::new(usize::MAX)) {}
+}
+
+/// Carries out the lines of a client in order, until the session is closed.
+pub fn serve_lines<N: Node>(session: &mut Session<'_>, node: &mut N, lines: &[String])
+    requires idle { is_idle session.old ≡ true }
+    requires tables { N.namespaces node.old ≡ (tables_of session.old).namespaces }
+    ensures talks { is_short session.new ≡ false →
+        Talks N.closed N.does (tables_of session.old) (progress_of session.old) node.old
+        (map string_bytes lines.now) node.new (progress_of session.new) }
+{
+    for line in lines {
+        if node.is_closed() {
+            return;
+        }
+        serve_text(session, node, line.as_str());
+    }
+}

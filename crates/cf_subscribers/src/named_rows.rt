@@ -1,0 +1,66 @@
+//! Rows by number, under names: what a row's coming or going makes of both.
+ghost use Rattle.std.specs.Prelude.{◌≡◌, false, None, OnOk, OnErr};
+ghost use Rattle.cf_subs.specs.Rows.{follows, with_row, without_row};
+ghost use Rattle.cf_subscribers.specs.Follows.{with_follow};
+ghost use Rattle.cf_subscribers.specs.Names.{AreNumbered, AreUsed, named, number_at};
+
+use crate::names::Names;
+use cf_subs::SubTable;
+use std::alloc::{AllocError, Global};
+
+/// Adds a row to a channel that has rows.
+pub(crate) fn add_row(rows: &mut SubTable, channel: u32, session: u32) -> Result<(), AllocError>
+    requires absent { follows rows.old channel session ≡ false }
+    ensures ok { OnOk result (rows.new ≡ with_row rows.old channel session) }
+    ensures err { OnErr result (rows.new ≡ rows.old) }
+{
+    match rows.add(channel, session) {
+        Ok(()) => Ok(()),
+        Err(_) => Err(AllocError),
+    }
+}
+
+/// Adds the first row of a channel, under a new number.
+pub(crate) fn add_first_row(
+    names: &mut Names,
+    rows: &mut SubTable,
+    alloc: Global,
+    channel: &str,
+    session: u32,
+) -> Result<(), AllocError>
+    requires numbered { AreNumbered names.old }
+    requires used { AreUsed names.old rows.old }
+    requires absent { number_at names.old channel.now ≡ None }
+    ensures numbered { AreNumbered names.new }
+    ensures used { AreUsed names.new rows.new }
+    ensures ok { OnOk result
+        (named names.new rows.new ≡ with_follow (named names.old rows.old) channel.now session) }
+    ensures err { OnErr result (named names.new rows.new ≡ named names.old rows.old) }
+{
+    let number = names.add(alloc, channel)?;
+    match add_row(rows, number, session) {
+        Ok(()) => Ok(()),
+        Err(refused) => {
+            names.remove(number);
+            Err(refused)
+        }
+    }
+}
+
+/// Removes a row, and its channel's name with the last row. Says whether there was one. It takes no memory.
+pub(crate) fn remove_row(names: &mut Names, rows: &mut SubTable, channel: u32, session: u32) -> bool
+    requires numbered { AreNumbered names.old }
+    requires used { AreUsed names.old rows.old }
+    ensures numbered { AreNumbered names.new }
+    ensures used { AreUsed names.new rows.new }
+    ensures rows { rows.new ≡ without_row rows.old channel session }
+    ensures removed { named names.new rows.new
+        ≡ named names.old (without_row rows.old channel session) }
+    ensures found { result ≡ follows rows.old channel session }
+{
+    let found = rows.remove(channel, session);
+    if !rows.has_channel(channel) {
+        names.remove(channel);
+    }
+    found
+}

@@ -1,0 +1,229 @@
+//! The clients by name, and where their sessions are.
+ghost use Rattle.std.specs.Prelude.{◌≡◌, ℕ, List, Bool, None, Some, true, false, is_some, map, IfOk, OnOk, IfErr, option_and_then, string_bytes, if◌then◌else◌};
+ghost use Rattle.std.specs.BTreeMap.{get_by_text};
+ghost use Rattle.cf_client.specs.ClientCalls.{new_state, connected, reconnected};
+ghost use Rattle.cf_client.specs.ClientView.{state_of};
+ghost use Rattle.cf_client.specs.Shown.{shown_item};
+ghost use Rattle.cf_world.specs.ClientTie.{Heard, Joins, LeavesNode, Sends, Unseats, state_before};
+ghost use Rattle.cf_world.specs.declared.clients.Peer.{Peer as AnyPeer};
+
+use crate::client_command::ClientCommand;
+use crate::short::Short;
+use cf_client::{AppEvent, Client, ClientFault};
+use std::alloc::Global;
+use std::collections::BTreeMap;
+
+/// Where a session is: its node, and its number there.
+#[derive(Clone, Copy, PartialEq, Eq)]
+pub struct Seat {
+    pub node: u8,
+    pub session: u32,
+}
+
+/// A client, and its session while it is connected.
+#[derive(Drop)]
+pub(crate) struct Peer {
+    pub(crate) client: Client,
+    pub(crate) seat: Option<Seat>,
+}
+
+/// Where the session of a client is, if it is connected.
+pub(crate) fn seat_of(clients: &BTreeMap<String, Peer>, name: &str) -> Option<Seat>
+    ensures { result ≡ option_and_then (λ p. p.seat) (get_by_text clients.now name.now) }
+{
+    match clients.get(name) {
+        None => None,
+        Some(peer) => peer.seat,
+    }
+}
+
+/// Whether a client was ever seen.
+fn is_known(clients: &BTreeMap<String, Peer>, name: &str) -> bool
+    ensures { result ≡ is_some (get_by_text clients.now name.now) }
+{
+    clients.contains_key(name)
+}
+
+/// A client connects, and sits here; one that was never seen comes new.
+pub(crate) fn join(
+    alloc: Global,
+    clients: &mut BTreeMap<String, Peer>,
+    name: &str,
+    seat: Seat,
+) -> Result<(), Short>
+    ensures { OnOk result
+        (Joins name.now seat (state_before (get_by_text clients.old name.now))
+        (get_by_text clients.old) (get_by_text clients.new)) }
+{
+    if is_known(clients, name) {
+        rejoin(clients, name, seat)?;
+    } else {
+        add(alloc, clients, name, seat)?;
+    }
+    Ok(())
+}
+
+/// A client that was seen before connects, and sits here.
+fn rejoin(clients: &mut BTreeMap<String, Peer>, name: &str, seat: Seat) -> Result<(), Short>
+    ensures { OnOk result ((p : AnyPeer) → get_by_text clients.old name.now ≡ Some p
+        → Joins name.now seat (state_of p.client) (get_by_text clients.old)
+        (get_by_text clients.new)) }
+{
+    let Some(peer) = clients.get_mut(name) else {
+        return Ok(());
+    };
+    peer.join(seat)?;
+    Ok(())
+}
+
+/// A new client connects, and sits here.
+fn add(
+    alloc: Global,
+    clients: &mut BTreeMap<String, Peer>,
+    name: &str,
+    seat: Seat,
+) -> Result<(), Short>
+    ensures { OnOk result
+        (Joins name.now seat new_state (get_by_text clients.old) (get_by_text clients.new)) }
+{
+    let client = Client::new(alloc);
+    let mut peer = Peer { client, seat: None };
+    peer.join(seat)?;
+    let key = String::from_str(alloc, name)?;
+    clients.insert(key, peer)?;
+    Ok(())
+}
+
+/// The connection of a client is gone.
+pub(crate) fn unseat(clients: &mut BTreeMap<String, Peer>, name: &str)
+    ensures { (p : AnyPeer) → get_by_text clients.old name.now ≡ Some p
+        → Unseats name.now p (get_by_text clients.old) (get_by_text clients.new) }
+{
+    if let Some(peer) = clients.get_mut(name) {
+        peer.break_off();
+    }
+}
+
+/// The connections to a node are gone.
+pub(crate) fn unseat_all(clients: &mut BTreeMap<String, Peer>, node: u8)
+    ensures { (y : List ℕ)
+        → LeavesNode node (get_by_text clients.old y) (get_by_text clients.new y) }
+{
+    clients.retain(|_name, peer| {
+        peer.leave_node(node);
+        true
+    });
+}
+
+/// What a client sends. None where it can't: the channel isn't idle, or is, or its ids are used up.
+pub(crate) fn send(
+    clients: &mut BTreeMap<String, Peer>,
+    name: &str,
+    command: &ClientCommand<'_>,
+) -> Result<Option<String>, Short>
+    ensures { IfOk result (λ text. (p : AnyPeer) → get_by_text clients.old name.now ≡ Some p
+        → Sends command.now name.now p (get_by_text clients.old) (get_by_text clients.new) text) }
+{
+    let Some(peer) = clients.get_mut(name) else {
+        return Ok(None);
+    };
+    match peer.send(command) {
+        Ok(text) => Ok(Some(text)),
+        Err(ClientFault::NotNow) => Ok(None),
+        Err(ClientFault::AtLastId) => Ok(None),
+        Err(_) => Err(Short),
+    }
+}
+
+/// A client takes a text.
+pub(crate) fn hear(
+    alloc: Global,
+    clients: &mut BTreeMap<String, Peer>,
+    name: &str,
+    text: &str,
+) -> Result<Vec<AppEvent>, Short>
+    ensures { IfOk result (λ told. (p : AnyPeer) → get_by_text clients.old name.now ≡ Some p
+        → Heard name.now text.now p (get_by_text clients.old) (get_by_text clients.new)
+        (map shown_item told.items)) }
+{
+    let Some(peer) = clients.get_mut(name) else {
+        return Ok(Vec::new(alloc));
+    };
+    match peer.client.on_text(text) {
+        Ok(events) => Ok(events),
+        Err(_) => Err(Short),
+    }
+}
+
+impl Peer {
+    ghost use Rattle.std.specs.Prelude.{◌≡◌, IfOk, OnOk, OnErr, None, Some, string_bytes};
+    ghost use Rattle.cf_protocol.specs.Written.{command_text};
+    ghost use Rattle.cf_client.specs.ClientCalls.{RefusedBy, connected, reconnected};
+    ghost use Rattle.cf_client.specs.ClientView.{state_of};
+    ghost use Rattle.cf_client.specs.OneAnswer.{AreApart};
+    ghost use Rattle.cf_machine.specs.ClientRequest.{command_of};
+    ghost use Rattle.cf_world.specs.ClientTie.{AsksFrom, LeavesAs, is_at, request_by, send_fault};
+    ghost use Rattle.cf_world.specs.ClientTie.{sent_state};
+    ghost use Rattle.cf_world.specs.Exchange.{sent_by};
+
+    fn break_off(&mut self)
+        ensures state { state_of self.new.client ≡ reconnected (state_of self.old.client) }
+        ensures seat { self.new.seat ≡ None }
+    {
+        self.client.reconnect();
+        self.seat = None;
+    }
+
+    fn leave_node(&mut self, node: u8)
+        ensures { LeavesAs node self.old self.new }
+    {
+        if self.is_on(node) {
+            self.break_off();
+        }
+    }
+
+    fn is_on(&self, node: u8) -> bool
+        ensures { result ≡ is_at node self.now.seat }
+    {
+        match self.seat {
+            None => false,
+            Some(seat) => seat.node == node,
+        }
+    }
+
+    fn join(&mut self, seat: Seat) -> Result<(), Short>
+        ensures state { OnOk result (state_of self.new.client
+            ≡ connected (state_of self.old.client)) }
+        ensures seat { OnOk result (self.new.seat ≡ Some seat) }
+    {
+        match self.client.connect("") {
+            Ok(_text) => {
+                self.seat = Some(seat);
+                Ok(())
+            }
+            Err(_) => Err(Short),
+        }
+    }
+
+    fn send(&mut self, command: &ClientCommand<'_>) -> Result<String, ClientFault>
+        ensures text { IfOk result (λ t. string_bytes t
+            ≡ command_text (command_of (sent_by command.now self.old))) }
+        ensures ok { OnOk result (state_of self.new.client
+            ≡ sent_state (request_by command.now (state_of self.old.client).client)
+            (state_of self.old.client)) }
+        ensures refused { RefusedBy (send_fault command.now (state_of self.old.client)) result }
+        ensures err { OnErr result (state_of self.new.client ≡ state_of self.old.client) }
+        ensures seat { self.new.seat ≡ self.old.seat }
+        ensures apart { AreApart (state_of self.old.client).client }
+        ensures since { AsksFrom (request_by command.now (state_of self.old.client).client) }
+    {
+        self.client.invariant();
+        match command {
+            ClientCommand::Ask { channel } => self.client.ask(channel),
+            ClientCommand::AskFrom { channel } => self.client.ask_from(channel),
+            ClientCommand::Leave { channel } => self.client.leave(channel),
+            ClientCommand::Put { channel, key, body } => self.client.put_key(channel, key, body),
+            ClientCommand::List { channel, limit } => self.client.list(channel, *limit),
+        }
+    }
+}
