@@ -10,8 +10,8 @@ ghost use Rattle.cf_hub.specs.Subscriptions.{sub_of};
 ghost use Rattle.indexmap.specs.IndexMap.{IsUnique};
 
 use crate::hub::Hub;
-use crate::places::Sessions;
 use crate::session::Session;
+use crate::session_table::Sessions;
 use crate::subscription::Progress;
 use cf_protocol::Position;
 use indexmap::IndexMap;

@@ -13,7 +13,7 @@ ghost use Rattle.cf_hub.specs.Wordings.{IsWritten};
 use crate::delivered::Delivered;
 use crate::fate::Fate;
 use crate::listed::Listed;
-use crate::places::Sessions;
+use crate::session_table::Sessions;
 use crate::sessions::{
     bring_one, close_one, count_more, drop_one, leave_one, settle_all, take_one,
 };

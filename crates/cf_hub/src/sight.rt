@@ -6,8 +6,8 @@ ghost use Rattle.cf_hub.specs.Hub.{attached_in, waits_in};
 ghost use Rattle.cf_hub.specs.Rows.{sub_in};
 
 use crate::hub::Hub;
-use crate::places::Sessions;
 use crate::session::Session;
+use crate::session_table::Sessions;
 use crate::subscription::Progress;
 use cf_protocol::Position;
 

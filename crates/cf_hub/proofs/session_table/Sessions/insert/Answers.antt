@@ -2,7 +2,7 @@ use Rattle.std.proofs.Common.{rules, ◌≡◌, ◌<◌, ◌∙◌, Some, arith,
 use Rattle.std.proofs.lemmas.List.{length-map}
 use Rattle.cf_hub.specs.Places.{Places, session_in, unboxed}
 use Rattle.cf_hub.proofs.Placing.{others_stay, written}
-use Rattle.cf_hub.proofs.places.Sessions.insert.Goals as goal
+use Rattle.cf_hub.proofs.session_table.Sessions.insert.Goals as goal
 
 pub returns-clause-here : goal.returns-clause-here
 returns-clause-here c =

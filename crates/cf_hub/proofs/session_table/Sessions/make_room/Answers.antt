@@ -1,7 +1,7 @@
 use Rattle.std.proofs.Common.{rules, ◌+◌, ◌≤◌, ◌∙◌, ap, length}
 use Rattle.cf_hub.specs.Places.{Places, session_in}
 use Rattle.cf_hub.proofs.Placing.{with_room}
-use Rattle.cf_hub.proofs.places.Sessions.make_room.Goals as goal
+use Rattle.cf_hub.proofs.session_table.Sessions.make_room.Goals as goal
 
 pub returns-in_ok-resize_with-clause-same : goal.returns-in_ok-resize_with-clause-same
 returns-in_ok-resize_with-clause-same c = λ j.

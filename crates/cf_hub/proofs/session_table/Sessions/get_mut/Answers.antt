@@ -2,7 +2,7 @@ use Rattle.std.proofs.Common.{rules, ◌≡◌, ◌∙◌, sym, ap, Some, None, 
 use Rattle.std.specs.Box.{with_value}
 use Rattle.std.proofs.lemmas.List.{map-set, get_or-map}
 use Rattle.cf_hub.specs.Places.{Places, session_in, unboxed}
-use Rattle.cf_hub.proofs.places.Sessions.get_mut.Goals as goal
+use Rattle.cf_hub.proofs.session_table.Sessions.get_mut.Goals as goal
 
 pub returns-in-Some : goal.returns-in-Some
 returns-in-Some c =

@@ -1,7 +1,7 @@
 use Rattle.std.proofs.Common.{rules, ◌<◌, ◌∙◌, ap, length}
 use Rattle.cf_hub.specs.Places.{Places, session_in, unboxed}
 use Rattle.cf_hub.proofs.Placing.{others_stay, written}
-use Rattle.cf_hub.proofs.places.Sessions.remove.Goals as goal
+use Rattle.cf_hub.proofs.session_table.Sessions.remove.Goals as goal
 
 pub returns-clause-here : goal.returns-clause-here
 returns-clause-here c =
