@@ -13,10 +13,10 @@ ghost use Rattle.cf_hub.specs.Wordings.{IsWritten};
 use crate::delivered::Delivered;
 use crate::fate::Fate;
 use crate::listed::Listed;
-use crate::session_table::Sessions;
-use crate::sessions::{
+use crate::one_session::{
     bring_one, close_one, count_more, drop_one, leave_one, settle_all, take_one,
 };
+use crate::session_table::Sessions;
 use crate::wording::push_text;
 use cf_protocol::{Epoch, Publication};
 use cf_queue::Out;

@@ -3,11 +3,11 @@ ghost use Rattle.std.specs.Prelude.{◌≡◌, IfOk, string_bytes};
 ghost use Rattle.cf_hub.specs.Hub.{client_id};
 
 use crate::hub::{Hub, MOST_CHANNELS, MOST_SESSIONS};
-use crate::refusal::HubRefusal;
-use crate::session::Session;
-use crate::sessions::{
+use crate::one_session::{
     begin_one, client_in, has_in, insert_one, is_closed_in, is_on_in, is_taken, user_in,
 };
+use crate::refusal::HubRefusal;
+use crate::session::Session;
 use cf_protocol::Position;
 use cf_subscribers::MOST_ROWS;
 use std::alloc::{AllocError, Global};

@@ -3,10 +3,10 @@ ghost use Rattle.std.specs.Prelude.{◌≡◌};
 
 use crate::checked::Checked;
 use crate::hub::Hub;
-use crate::queued::Queued;
-use crate::sessions::{
+use crate::one_session::{
     check_one, count_more, finish_one, next_in, pong_one, read_one, say_one, settle, tick_one,
 };
+use crate::queued::Queued;
 use cf_protocol::Position;
 use cf_stream::Recovery;
 

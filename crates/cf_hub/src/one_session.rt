@@ -1,4 +1,4 @@
-//! A node's sessions by number: what a call makes of one of them.
+//! What a call makes of one session of the table, by its number.
 ghost use Rattle.std.specs.Prelude.{◌≡◌, [], true, not, is_some, OnOk, OnErr, Some, None, string_bytes, option_map, option_and_then, slice_get};
 ghost use Rattle.cf_queue.specs.Meaning.{meaning};
 ghost use Rattle.cf_queue.specs.OutQueue.{Close};

@@ -2,7 +2,7 @@ use Rattle.std.proofs.Common.{rules, ◌≡◌, Some}
 use Rattle.cf_hub.specs.Places.{session_in}
 use Rattle.cf_hub.specs.Sessions.{takes_read}
 use Rattle.cf_hub.proofs.Placing.{moved_here}
-use Rattle.cf_hub.proofs.sessions.read_one.Goals as goal
+use Rattle.cf_hub.proofs.one_session.read_one.Goals as goal
 
 pub returns-in-Some-clause-here : goal.returns-in-Some-clause-here
 returns-in-Some-clause-here c =
