@@ -12,10 +12,10 @@ ghost use Rattle.cf_hub.specs.Wordings.{IsWritten};
 
 use crate::delivered::Delivered;
 use crate::fate::Fate;
-use crate::listed::Listed;
 use crate::one_session::{
     bring_one, close_one, count_more, drop_one, leave_one, settle_all, take_one,
 };
+use crate::pending::Pending;
 use crate::session_table::Sessions;
 use crate::wording::push_text;
 use cf_protocol::{Epoch, Publication};
@@ -41,7 +41,7 @@ pub struct Hub {
     pub(crate) free_from: u32,
     pub(crate) rows: Subscribers,
     pub(crate) refused: u64,
-    pub(crate) listed: Listed,
+    pub(crate) pending: Pending,
     pub(crate) alloc: Global,
 }
 
@@ -62,7 +62,7 @@ impl Model for Hub {
       sessions = shown_all (numbered 0 h.sessions);
       rows = h.rows;
       refused = h.refused;
-      turns = h.listed;
+      turns = h.pending;
     } };
 
     ghost invariant = { λ h. Agrees (attached_in h.sessions) h.rows
@@ -82,7 +82,7 @@ impl Hub {
             free_from: 0,
             rows: Subscribers::new(alloc),
             refused: 0,
-            listed: Listed::new(alloc),
+            pending: Pending::new(alloc),
             alloc,
         }
     }
@@ -127,7 +127,7 @@ impl Hub {
         ensures rest { SameRest self.old self.new }
         ensures turns { self.new.turns ≡ gets_turn session self.old.turns }
     {
-        self.listed.add(session);
+        self.pending.add(session);
         if close_one(&mut self.sessions, session, code) {
             let _gone = self.rows.detach(session);
         }
@@ -191,7 +191,7 @@ impl Hub {
                 publication,
                 written,
             );
-            self.listed.add(session);
+            self.pending.add(session);
             self.refused = count_more(self.refused, step.refused);
             counts = counts.and(step.fate);
         }

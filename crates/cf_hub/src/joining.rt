@@ -68,7 +68,7 @@ impl Hub {
         ensures known { OnOk result (number < self.new.turns.known) }
         ensures turns { SameTurns self.old.turns self.new.turns }
     {
-        self.listed.make_room(number)?;
+        self.pending.make_room(number)?;
         let client = write_client_id(self.alloc, self.node, self.boot, self.used + 1)?;
         let session = Session::new(self.alloc, client, user, now);
         insert_one(&mut self.sessions, self.alloc, number, session)?;

@@ -13,7 +13,7 @@ ghost use Rattle.cf_hub.specs.Wordings.{IsWritten, at_offset, plain};
 
 use crate::checked::Checked;
 use crate::fate::Fate;
-use crate::listed::Listed;
+use crate::pending::Pending;
 use crate::queued::Queued;
 use crate::session::Session;
 use crate::session_table::Sessions;
@@ -297,11 +297,11 @@ fn has_output(sessions: &Sessions, number: u32) -> bool
     }
 }
 
-/// The first listed number of a session for whose client something waits. It and those before it are no longer listed.
-pub(crate) fn next_in(listed: &mut Listed, sessions: &Sessions) -> Option<u32>
-    ensures { IsNextTurn (attached_in sessions.now) listed.old listed.new result }
+/// The first pending number of a session for whose client something waits. It and those before it are no longer pending.
+pub(crate) fn next_in(pending: &mut Pending, sessions: &Sessions) -> Option<u32>
+    ensures { IsNextTurn (attached_in sessions.now) pending.old pending.new result }
 {
-    while let Some(number) = listed.take() {
+    while let Some(number) = pending.take() {
         if has_output(sessions, number) {
             return Some(number);
         }

@@ -4,7 +4,7 @@ use Rattle.cf_hub.proofs.Naming.{IsNaming}
 use Rattle.cf_hub.proofs.one_session.next_in.Given as goal
 
 abbrev pub invariant-loop-number : goal.invariant-loop-number
-invariant-loop-number l = IsNaming (attached_in l.sessions) l.fn.listed l.listed
+invariant-loop-number l = IsNaming (attached_in l.sessions) l.fn.pending l.pending
 
 abbrev pub decreases-loop-number : goal.decreases-loop-number
-decreases-loop-number l = length l.listed.numbers
+decreases-loop-number l = length l.pending.numbers

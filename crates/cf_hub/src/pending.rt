@@ -8,13 +8,13 @@ use std::marker::Model;
 
 /// Numbers of sessions that have got something to send since they were last named, each once, in order.
 #[derive(Drop)]
-pub(crate) struct Listed {
+pub(crate) struct Pending {
     numbers: VecDeque<u32>,
     /// By number: whether it is among these.
-    is_listed: Vec<bool>,
+    is_pending: Vec<bool>,
 }
 
-impl Model for Listed {
+impl Model for Pending {
     ghost use Rattle.std.specs.Prelude.{length};
     ghost use Rattle.std.specs.VecDeque.{deque_capacity};
     ghost use Rattle.cf_hub.specs.Turns.{Turns};
@@ -22,23 +22,23 @@ impl Model for Listed {
 
     ghost Value = { Turns };
 
-    ghost view = { λ l. record { numbers = l.numbers.items; known = length l.is_listed.items } };
+    ghost view = { λ l. record { numbers = l.numbers.items; known = length l.is_pending.items } };
 
-    ghost invariant = { λ l. AreMarked l.numbers.items l.is_listed.items
+    ghost invariant = { λ l. AreMarked l.numbers.items l.is_pending.items
         (deque_capacity l.numbers) };
 }
 
-impl Listed {
+impl Pending {
     ghost use Rattle.std.specs.Prelude.{◌≡◌, ◌<◌, ◌∷◌, [], MatchOption, OnOk};
     ghost use Rattle.cf_hub.specs.Turns.{SameTurns, gets_turn, no_turns};
 
     /// None, and no room. It takes no memory.
-    pub(crate) fn new(alloc: Global) -> Listed
+    pub(crate) fn new(alloc: Global) -> Pending
         ensures { result ≡ no_turns }
     {
-        Listed {
+        Pending {
             numbers: VecDeque::new(alloc),
-            is_listed: Vec::new(alloc),
+            is_pending: Vec::new(alloc),
         }
     }
 
@@ -48,10 +48,10 @@ impl Listed {
         ensures same { SameTurns self.old self.new }
     {
         let count = number as usize + 1;
-        if count > self.is_listed.len() {
+        if count > self.is_pending.len() {
             self.numbers
                 .reserve(count.saturating_sub(self.numbers.len()))?;
-            self.is_listed.resize(count, false)?;
+            self.is_pending.resize(count, false)?;
         }
         Ok(())
     }
@@ -61,9 +61,9 @@ impl Listed {
         ensures { self.new ≡ gets_turn number self.old }
     {
         let place = number as usize;
-        if place < self.is_listed.len() && !self.is_listed[place] {
+        if place < self.is_pending.len() && !self.is_pending[place] {
             self.numbers.push_back_reserved(number);
-            self.is_listed[place] = true;
+            self.is_pending[place] = true;
         }
     }
 
@@ -74,7 +74,7 @@ impl Listed {
             (λ k. self.old.numbers ≡ k ∷ self.new.numbers) }
     {
         let number = self.numbers.pop_front()?;
-        self.is_listed[number as usize] = false;
+        self.is_pending[number as usize] = false;
         Some(number)
     }
 }
