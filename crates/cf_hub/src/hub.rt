@@ -1,10 +1,10 @@
 //! One node's sessions and rows.
 ghost use Rattle.std.specs.Prelude.{◌≡◌, ◌==◌, None, length, not, slice_get, option_map, option_and_then};
-ghost use Rattle.cf_subscribers.specs.Follows.{channels_of, sessions_of};
+ghost use Rattle.cf_subscribers.specs.Follows.{AreFollows, channels_of, sessions_of};
 ghost use Rattle.cf_queue.specs.Meaning.{meaning};
 ghost use Rattle.cf_queue.specs.OutQueue.{Close};
 ghost use Rattle.cf_hub.specs.Delivery.{total};
-ghost use Rattle.cf_hub.specs.Hub.{Delivers, EachGetsTurn, One, OthersStay, SameNode, SameRest, attached_at, empty, met_refusal, sub_at, tallied};
+ghost use Rattle.cf_hub.specs.Hub.{Delivers, EachGetsTurn, IsBounded, One, OthersStay, SameNode, SameRest, attached_at, empty, met_refusal, sub_at, tallied};
 ghost use Rattle.cf_hub.specs.Rows.{Agrees};
 ghost use Rattle.cf_hub.specs.SessionState.{closes_now, is_off, leaves, takes_front};
 ghost use Rattle.cf_hub.specs.Turns.{gets_turn};
@@ -85,6 +85,24 @@ impl Hub {
             pending: Pending::new(alloc),
             alloc,
         }
+    }
+
+    /// The node's boot number. It takes no memory.
+    pub fn boot(&self) -> u64
+        ensures { result ≡ self.now.boot }
+    {
+        self.boot
+    }
+
+    /// What always holds of a node: a row stands exactly where a session's channel isn't off, each once, and the sessions have
+    /// numbers below the most.
+    pub fn invariant(&self)
+        ensures agrees { Agrees (attached_at self.now) self.now.rows }
+        ensures bounded { IsBounded (attached_at self.now) }
+        ensures rows { AreFollows self.now.rows }
+    {
+        let _sessions = &self.sessions;
+        let _first = self.rows.first("");
     }
 
     /// Brings a publication to each session that follows its channel, each once, in order of their subscribing. Where memory is
