@@ -13,7 +13,7 @@ const MOST_READS: usize = 16;
 
 /// A socket that is answered, and what is left to be written to it.
 #[derive(Drop)]
-pub(crate) struct Leaving {
+pub(crate) struct Refusing {
     stream: Gather<Socket>,
     // When it was answered, in seconds.
     answered: u64,
@@ -21,14 +21,14 @@ pub(crate) struct Leaving {
     is_shut: bool,
 }
 
-impl Leaving {
+impl Refusing {
     /// What is refused at this moment, with the answer to who asks whether the node lives. `None` where
     /// there is nothing to be read: the socket failed, or memory was refused, or the head was too long.
     pub(crate) fn new(
         refused: Refused<Gather<Socket>>,
         is_well: bool,
         now: u64,
-    ) -> Option<Leaving> {
+    ) -> Option<Refusing> {
         let Refused {
             fault,
             mut stream,
@@ -41,7 +41,7 @@ impl Leaving {
         if !answers {
             return None;
         }
-        Some(Leaving {
+        Some(Refusing {
             stream,
             answered: now,
             is_shut: false,
