@@ -3,15 +3,15 @@ use std::sync::atomic::{AtomicU64, Ordering};
 
 /// What went wrong at the nodes since the program began, counted.
 #[derive(Drop)]
-pub struct Counts {
+pub struct FaultCounts {
     refused: AtomicU64,
     slow: AtomicU64,
 }
 
-impl Counts {
+impl FaultCounts {
     /// Nothing went wrong yet.
-    pub fn new() -> Counts {
-        Counts {
+    pub fn new() -> FaultCounts {
+        FaultCounts {
             refused: AtomicU64::new(0),
             slow: AtomicU64::new(0),
         }
