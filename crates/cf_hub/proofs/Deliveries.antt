@@ -26,7 +26,7 @@ Sessions = ℕ → Option Attached
 
 -- the sessions that were passed were served, each once, and all others are as they were; the rows stay, and while nothing ended
 -- they agree
-pub record IsOnItsWay (p : Placed) (c e : List ℕ) (old : Node) (now : Sessions) (refused : ℕ) (listed : Turns) (counts : Delivered) (done todo : List ℕ) : Type 0 where
+pub record IsOnItsWay (p : Placed) (c e : List ℕ) (old : Node) (now : Sessions) (refused : ℕ) (pending : Turns) (counts : Delivered) (done todo : List ℕ) : Type 0 where
   pub hit : List ℕ
   pub requests : ℕ
   pub few_hit : length hit ≤ requests
@@ -37,7 +37,7 @@ pub record IsOnItsWay (p : Placed) (c e : List ℕ) (old : Node) (now : Sessions
   pub served : (k : ℕ) → has k done ≡ true → Both (Brings (is_in k hit) c e p) (attached_at old k) (now k)
   pub counted : counts ≡ tally (λ k. fate_at c (at_offset e p) (attached_at old k) (now k)) done none
   pub so_many : total counts ≡ length done
-  pub turns : listed ≡ get_turns done old.turns
+  pub turns : pending ≡ get_turns done old.turns
   pub quiet : counts.ended + counts.closed ≡ 0 → Agrees now old.rows
 
 -- ---- at first
@@ -64,9 +64,9 @@ un_not false h = absurd (cc)
 within : (n : ℕ) → n ≤ 18446744073709551615 → n ≡ counted 0 n
 within n h = omega (arith, h)
 
-pub starts : (p : Placed) (c e : List ℕ) (old : Node) (now : Sessions) (refused : ℕ) (listed : Turns)
-    → attached_at old ≡ now → refused ≡ old.refused → listed ≡ old.turns → Agrees now old.rows → refused ≤ largest → IsOnItsWay p c e old now refused listed none [] (sessions_of old.rows c)
-starts p c e old now refused listed is was had agrees small =
+pub starts : (p : Placed) (c e : List ℕ) (old : Node) (now : Sessions) (refused : ℕ) (pending : Turns)
+    → attached_at old ≡ now → refused ≡ old.refused → pending ≡ old.turns → Agrees now old.rows → refused ≤ largest → IsOnItsWay p c e old now refused pending none [] (sessions_of old.rows c)
+starts p c e old now refused pending is was had agrees small =
     record {
       hit = [];
       requests = 0;
@@ -154,9 +154,9 @@ module _ (p : Placed) (c e : List ℕ) (old : Node) (now new : Sessions) (k : �
   stays_quiet agrees (inr (inl is)) = still_quiet agrees fate.Kept is
   stays_quiet agrees (inr (inr is)) = still_quiet agrees fate.Dropped is
 
-  pub steps : {refused more : ℕ} {listed turned : Turns} (counts : Delivered) (done rest : List ℕ) → AreFollows old.rows → IsOnItsWay p c e old now refused listed counts done (k ∷ rest)
-      → more ≡ counted (one_if hit) refused → turned ≡ gets_turn k listed → IsOnItsWay p c e old new more turned (one_more f counts) (done ++ k ∷ []) rest
-  steps {refused} {more} {listed} {turned} counts done rest rows w count turns =
+  pub steps : {refused more : ℕ} {pending turned : Turns} (counts : Delivered) (done rest : List ℕ) → AreFollows old.rows → IsOnItsWay p c e old now refused pending counts done (k ∷ rest)
+      → more ≡ counted (one_if hit) refused → turned ≡ gets_turn k pending → IsOnItsWay p c e old new more turned (one_more f counts) (done ++ k ∷ []) rest
+  steps {refused} {more} {pending} {turned} counts done rest rows w count turns =
       let once : Once (done ++ k ∷ rest) = subst Once w.all (once_sessions old.rows c rows.once) in
       let passed : has k done ≡ false = once_before k done rest once in
       let was : now k ≡ attached_at old k = w.untouched k passed in
@@ -175,11 +175,11 @@ module _ (p : Placed) (c e : List ℕ) (old : Node) (now new : Sessions) (k : �
         quiet = λ h. let q = quiet_before f counts h in stays_quiet (w.quiet q.0) q.1;
       }
     where
-      meet : (w : IsOnItsWay p c e old now refused listed counts done (k ∷ rest)) → (j : ℕ) → is_in j (hit_more hit k w.hit) ≡ true → (t : Bool) → (j == k) ≡ t → has j (done ++ k ∷ []) ≡ true
+      meet : (w : IsOnItsWay p c e old now refused pending counts done (k ∷ rest)) → (j : ℕ) → is_in j (hit_more hit k w.hit) ≡ true → (t : Bool) → (j == k) ≡ t → has j (done ++ k ∷ []) ≡ true
       meet w j m true same = is_last j k done same
       meet w j m false same = in_more j k done same ∙ w.hit_met j (hit_before hit k j w.hit m same)
 
-      serve : (w : IsOnItsWay p c e old now refused listed counts done (k ∷ rest)) → now k ≡ attached_at old k → (j : ℕ) → has j (done ++ k ∷ []) ≡ true → (t : Bool) → (j == k) ≡ t → Both (Brings (is_in j (hit_more hit k w.hit)) c e p) (attached_at old j) (new j)
+      serve : (w : IsOnItsWay p c e old now refused pending counts done (k ∷ rest)) → now k ≡ attached_at old k → (j : ℕ) → has j (done ++ k ∷ []) ≡ true → (t : Bool) → (j == k) ≡ t → Both (Brings (is_in j (hit_more hit k w.hit)) c e p) (attached_at old j) (new j)
       serve w was j m true same =
           subst (λ i. Both (Brings (is_in i (hit_more hit k w.hit)) c e p) (attached_at old i) (new i)) (sym ((Decides-eqb j k).0 same))
           (subst (λ o. Both (Brings (is_in k (hit_more hit k w.hit)) c e p) o (new k)) was (wider p c e hit (is_in k (hit_more hit k w.hit)) (hit_here hit k w.hit) (now k) (new k) here))
@@ -187,8 +187,8 @@ module _ (p : Placed) (c e : List ℕ) (old : Node) (now new : Sessions) (k : �
           subst (λ o. Both (Brings (is_in j (hit_more hit k w.hit)) c e p) (attached_at old j) o) (sym (others j (other j same)))
           (wider p c e (is_in j w.hit) (is_in j (hit_more hit k w.hit)) (hit_still hit k j w.hit) (attached_at old j) (now j) (w.served j (sym (in_more j k done same) ∙ m)))
 
-pub goes_on : (p : Placed) (c e : List ℕ) (old : Node) (now : Sessions) (refused : ℕ) (listed : Turns) (counts : Delivered) (done : List ℕ) (k : ℕ) (rest : List ℕ) → AreFollows old.rows → IsOnItsWay p c e old now refused listed counts done (k ∷ rest) → total counts < 65536
-goes_on p c e old now refused listed counts done k rest rows w =
+pub goes_on : (p : Placed) (c e : List ℕ) (old : Node) (now : Sessions) (refused : ℕ) (pending : Turns) (counts : Delivered) (done : List ℕ) (k : ℕ) (rest : List ℕ) → AreFollows old.rows → IsOnItsWay p c e old now refused pending counts done (k ∷ rest) → total counts < 65536
+goes_on p c e old now refused pending counts done k rest rows w =
     let few = few_sessions old.rows c rows.few in let all = ap length w.all in let so_many = w.so_many in omega (arith, few, all, so_many, length-append done (k ∷ rest))
 
 -- ---- the end
@@ -197,7 +197,7 @@ all_done : (ks : List ℕ) → ks ++ [] ≡ ks
 all_done [] = refl
 all_done (k ∷ ks) = ap (λ js. k ∷ js) (all_done ks)
 
-module _ (p : Placed) (c e : List ℕ) (old : Node) (now : Sessions) (refused : ℕ) (listed : Turns) (counts : Delivered) (done : List ℕ) (agrees : Agrees (attached_at old) old.rows) (w : IsOnItsWay p c e old now refused listed counts done []) where
+module _ (p : Placed) (c e : List ℕ) (old : Node) (now : Sessions) (refused : ℕ) (pending : Turns) (counts : Delivered) (done : List ℕ) (agrees : Agrees (attached_at old) old.rows) (w : IsOnItsWay p c e old now refused pending counts done []) where
   ends_all : sessions_of old.rows c ≡ done
   ends_all = w.all ∙ all_done done
 
@@ -228,7 +228,7 @@ module _ (p : Placed) (c e : List ℕ) (old : Node) (now : Sessions) (refused : 
   pub ends_so_many : total counts ≡ length (sessions_of old.rows c)
   ends_so_many = w.so_many ∙ ap length (sym ends_all)
 
-  pub ends_turns : listed ≡ get_turns (sessions_of old.rows c) old.turns
+  pub ends_turns : pending ≡ get_turns (sessions_of old.rows c) old.turns
   ends_turns = w.turns ∙ ap (λ ks. get_turns ks old.turns) (sym ends_all)
 
   -- whose rows may have to go

@@ -3,7 +3,7 @@ use Rattle.std.specs.Prelude.{ℕ, Option, Some, slice_set}
 use Rattle.std.specs.Borrow.{LendsIf, MutBor, Fml}
 use Rattle.cf_hub.specs.declared.session.Session.{Session}
 use Rattle.cf_hub.specs.contracts.session.Session.{the_row as session_row}
-use Rattle.cf_hub.specs.contracts.places.Sessions.{the_row}
+use Rattle.cf_hub.specs.contracts.session_table.Sessions.{the_row}
 use Rattle.cf_hub.specs.Places.{Places}
 
 -- number k has what was last behind r; where it has no session, nothing changes

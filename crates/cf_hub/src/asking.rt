@@ -10,8 +10,8 @@ ghost use Rattle.cf_hub.specs.Subscriptions.{sub_of};
 ghost use Rattle.indexmap.specs.IndexMap.{IsUnique};
 
 use crate::hub::Hub;
-use crate::places::Sessions;
 use crate::session::Session;
+use crate::session_table::Sessions;
 use crate::subscription::Progress;
 use cf_protocol::Position;
 use indexmap::IndexMap;
@@ -25,18 +25,9 @@ pub struct Asked {
 
 impl Hub {
     ghost use Rattle.std.specs.Prelude.{◌≡◌, ◌↔◌, ℕ, List, false, IsTrue};
-    ghost use Rattle.cf_subscribers.specs.Follows.{AreFollows};
     ghost use Rattle.cf_hub.specs.Asking.{asked_of};
-    ghost use Rattle.cf_hub.specs.Hub.{IsBounded, attached_at, sub_at};
-    ghost use Rattle.cf_hub.specs.Rows.{Agrees};
+    ghost use Rattle.cf_hub.specs.Hub.{sub_at};
     ghost use Rattle.cf_hub.specs.SessionState.{is_unfinished};
-
-    /// The node's boot number. It takes no memory.
-    pub fn boot(&self) -> u64
-        ensures { result ≡ self.now.boot }
-    {
-        self.boot
-    }
 
     /// The subscription of a session to a channel, while the stream was not read for it. It takes no memory.
     pub fn asked(&self, session: u32, channel: &str) -> Option<Asked>
@@ -51,17 +42,6 @@ impl Hub {
             ↔ ((c : List ℕ) → is_unfinished (sub_at self.now session c) ≡ false) }
     {
         is_settled_in(&self.sessions, session)
-    }
-
-    /// What always holds of a node: a row stands exactly where a session's channel isn't off, each once, and the sessions have
-    /// numbers below the most.
-    pub fn invariant(&self)
-        ensures agrees { Agrees (attached_at self.now) self.now.rows }
-        ensures bounded { IsBounded (attached_at self.now) }
-        ensures rows { AreFollows self.now.rows }
-    {
-        let _sessions = &self.sessions;
-        let _first = self.rows.first("");
     }
 }
 

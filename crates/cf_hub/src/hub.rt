@@ -1,10 +1,10 @@
 //! One node's sessions and rows.
 ghost use Rattle.std.specs.Prelude.{◌≡◌, ◌==◌, None, length, not, slice_get, option_map, option_and_then};
-ghost use Rattle.cf_subscribers.specs.Follows.{channels_of, sessions_of};
+ghost use Rattle.cf_subscribers.specs.Follows.{AreFollows, channels_of, sessions_of};
 ghost use Rattle.cf_queue.specs.Meaning.{meaning};
 ghost use Rattle.cf_queue.specs.OutQueue.{Close};
 ghost use Rattle.cf_hub.specs.Delivery.{total};
-ghost use Rattle.cf_hub.specs.Hub.{Delivers, EachGetsTurn, One, OthersStay, SameNode, SameRest, attached_at, empty, met_refusal, sub_at, tallied};
+ghost use Rattle.cf_hub.specs.Hub.{Delivers, EachGetsTurn, IsBounded, One, OthersStay, SameNode, SameRest, attached_at, empty, met_refusal, sub_at, tallied};
 ghost use Rattle.cf_hub.specs.Rows.{Agrees};
 ghost use Rattle.cf_hub.specs.SessionState.{closes_now, is_off, leaves, takes_front};
 ghost use Rattle.cf_hub.specs.Turns.{gets_turn};
@@ -12,11 +12,11 @@ ghost use Rattle.cf_hub.specs.Wordings.{IsWritten};
 
 use crate::delivered::Delivered;
 use crate::fate::Fate;
-use crate::listed::Listed;
-use crate::places::Sessions;
-use crate::sessions::{
+use crate::one_session::{
     bring_one, close_one, count_more, drop_one, leave_one, settle_all, take_one,
 };
+use crate::pending::Pending;
+use crate::session_table::Sessions;
 use crate::wording::push_text;
 use cf_protocol::{Epoch, Publication};
 use cf_queue::Out;
@@ -41,7 +41,7 @@ pub struct Hub {
     pub(crate) free_from: u32,
     pub(crate) rows: Subscribers,
     pub(crate) refused: u64,
-    pub(crate) listed: Listed,
+    pub(crate) pending: Pending,
     pub(crate) alloc: Global,
 }
 
@@ -62,7 +62,7 @@ impl Model for Hub {
       sessions = shown_all (numbered 0 h.sessions);
       rows = h.rows;
       refused = h.refused;
-      turns = h.listed;
+      turns = h.pending;
     } };
 
     ghost invariant = { λ h. Agrees (attached_in h.sessions) h.rows
@@ -82,9 +82,27 @@ impl Hub {
             free_from: 0,
             rows: Subscribers::new(alloc),
             refused: 0,
-            listed: Listed::new(alloc),
+            pending: Pending::new(alloc),
             alloc,
         }
+    }
+
+    /// The node's boot number. It takes no memory.
+    pub fn boot(&self) -> u64
+        ensures { result ≡ self.now.boot }
+    {
+        self.boot
+    }
+
+    /// What always holds of a node: a row stands exactly where a session's channel isn't off, each once, and the sessions have
+    /// numbers below the most.
+    pub fn invariant(&self)
+        ensures agrees { Agrees (attached_at self.now) self.now.rows }
+        ensures bounded { IsBounded (attached_at self.now) }
+        ensures rows { AreFollows self.now.rows }
+    {
+        let _sessions = &self.sessions;
+        let _first = self.rows.first("");
     }
 
     /// Brings a publication to each session that follows its channel, each once, in order of their subscribing. Where memory is
@@ -127,7 +145,7 @@ impl Hub {
         ensures rest { SameRest self.old self.new }
         ensures turns { self.new.turns ≡ gets_turn session self.old.turns }
     {
-        self.listed.add(session);
+        self.pending.add(session);
         if close_one(&mut self.sessions, session, code) {
             let _gone = self.rows.detach(session);
         }
@@ -191,7 +209,7 @@ impl Hub {
                 publication,
                 written,
             );
-            self.listed.add(session);
+            self.pending.add(session);
             self.refused = count_more(self.refused, step.refused);
             counts = counts.and(step.fate);
         }

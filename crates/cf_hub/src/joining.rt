@@ -3,11 +3,11 @@ ghost use Rattle.std.specs.Prelude.{◌≡◌, IfOk, string_bytes};
 ghost use Rattle.cf_hub.specs.Hub.{client_id};
 
 use crate::hub::{Hub, MOST_CHANNELS, MOST_SESSIONS};
-use crate::refusal::HubRefusal;
-use crate::session::Session;
-use crate::sessions::{
+use crate::one_session::{
     begin_one, client_in, has_in, insert_one, is_closed_in, is_on_in, is_taken, user_in,
 };
+use crate::refusal::HubRefusal;
+use crate::session::Session;
 use cf_protocol::Position;
 use cf_subscribers::MOST_ROWS;
 use std::alloc::{AllocError, Global};
@@ -68,7 +68,7 @@ impl Hub {
         ensures known { OnOk result (number < self.new.turns.known) }
         ensures turns { SameTurns self.old.turns self.new.turns }
     {
-        self.listed.make_room(number)?;
+        self.pending.make_room(number)?;
         let client = write_client_id(self.alloc, self.node, self.boot, self.used + 1)?;
         let session = Session::new(self.alloc, client, user, now);
         insert_one(&mut self.sessions, self.alloc, number, session)?;

@@ -3,10 +3,10 @@ ghost use Rattle.std.specs.Prelude.{◌≡◌};
 
 use crate::checked::Checked;
 use crate::hub::Hub;
-use crate::queued::Queued;
-use crate::sessions::{
+use crate::one_session::{
     check_one, count_more, finish_one, next_in, pong_one, read_one, say_one, settle, tick_one,
 };
+use crate::queued::Queued;
 use cf_protocol::Position;
 use cf_stream::Recovery;
 
@@ -47,7 +47,7 @@ impl Hub {
         ensures rest { SameNode self.old self.new }
         ensures turns { self.new.turns ≡ gets_turn session self.old.turns }
     {
-        self.listed.add(session);
+        self.pending.add(session);
         let (found, step) = finish_one(&mut self.sessions, self.alloc, session, channel);
         settle(&mut self.rows, session, channel, step.fate);
         self.refused = count_more(self.refused, step.refused);
@@ -63,7 +63,7 @@ impl Hub {
         ensures rest { SameNode self.old self.new }
         ensures turns { self.new.turns ≡ gets_turn session self.old.turns }
     {
-        self.listed.add(session);
+        self.pending.add(session);
         let (said, step) = say_one(&mut self.sessions, session, text);
         settle(&mut self.rows, session, "", step.fate);
         self.refused = count_more(self.refused, step.refused);
@@ -80,7 +80,7 @@ impl Hub {
         ensures rest { SameNode self.old self.new }
         ensures turns { self.new.turns ≡ gets_turn session self.old.turns }
     {
-        self.listed.add(session);
+        self.pending.add(session);
         let (checked, step) = check_one(&mut self.sessions, self.alloc, session, channel, top);
         settle(&mut self.rows, session, channel, step.fate);
         self.refused = count_more(self.refused, step.refused);
@@ -119,7 +119,7 @@ impl Hub {
         ensures next { IsNextTurn (attached_at self.old) self.old.turns self.new.turns result }
         ensures same { self.new ≡ record self.old { turns = self.new.turns } }
     {
-        next_in(&mut self.listed, &self.sessions)
+        next_in(&mut self.pending, &self.sessions)
     }
 
     // What always holds of it.
@@ -145,7 +145,7 @@ impl Hub {
         ensures step { PingStep now session self.old self.new }
         ensures rest { SameNode self.old self.new }
     {
-        self.listed.add(session);
+        self.pending.add(session);
         let step = tick_one(&mut self.sessions, self.alloc, session, now);
         settle(&mut self.rows, session, "", step.fate);
         self.refused = count_more(self.refused, step.refused);

@@ -133,7 +133,7 @@ impl AttachedClient {
     }
 
     /// Forgets the mark of each subscription that has ended meanwhile.
-    pub(crate) fn looks_at(&mut self, hub: &Hub, number: u32) {
+    pub(crate) fn forgets_ended(&mut self, hub: &Hub, number: u32) {
         for present in self.channels.iter_mut() {
             if !hub.is_on(number, present.channel.as_str()) {
                 present.mark = None;

@@ -1,7 +1,7 @@
 //! One connection: a socket whose head is collected, and then a wire and its session.
 use crate::backend::Backend;
 use crate::desk::SessionDesk;
-use crate::leaving::Leaving;
+use crate::refusing::Refusing;
 use crate::socket::Socket;
 use cf_dispatch::is_head_over;
 use cf_queue::Out;
@@ -24,7 +24,7 @@ pub(crate) enum Connection<'a, B: Backend> {
     Head(Head),
     Open(Box<Open<'a, B>>),
     /// It gets no WebSocket, and was told so.
-    Leaving(Leaving),
+    Refusing(Refusing),
 }
 
 /// A socket, and what came of its head.
@@ -108,7 +108,7 @@ impl<'a, B: Backend> Connection<'a, B> {
             Connection::Empty => true,
             Connection::Head(head) => !is_head_over(head.accepted, now),
             Connection::Open(open) => open.desk.handler.refresh(now),
-            Connection::Leaving(leaving) => !leaving.is_over(now),
+            Connection::Refusing(refusing) => !refusing.is_over(now),
         }
     }
 
@@ -124,8 +124,8 @@ impl<'a, B: Backend> Connection<'a, B> {
                 open.wire.stream_mut().stream_mut().notice(readable, ended);
                 true
             }
-            Connection::Leaving(leaving) => {
-                leaving.notice(readable, ended);
+            Connection::Refusing(refusing) => {
+                refusing.notice(readable, ended);
                 true
             }
         }

@@ -6,7 +6,7 @@ use crate::backend::Backend;
 use crate::connection::{Connection, Head, Open, Turned, takes_more};
 use crate::desk::SessionDesk;
 use crate::gate::{Gate, IO_LOOP};
-use crate::leaving::Leaving;
+use crate::refusing::Refusing;
 use crate::socket::Socket;
 use cf_dispatch::{Agenda, Outlets, SESSIONS_AT_ONCE, Seconds, take_batch};
 use cf_protocol::CloseCode;
@@ -117,8 +117,8 @@ fn opened<'a, B: Backend>(
     let gather = Gather::new(backend.alloc(), head.into_socket(), GATHERED);
     match Wire::accept(backend.alloc(), gather) {
         Ok(wire) => seated(backend, wire, now),
-        Err(refused) => match Leaving::new(refused, backend.is_well(now), now) {
-            Some(leaving) => Connection::Leaving(leaving),
+        Err(refused) => match Refusing::new(refused, backend.is_well(now), now) {
+            Some(refusing) => Connection::Refusing(refusing),
             None => Connection::Empty,
         },
     }
@@ -413,7 +413,7 @@ impl<'a, B: Backend> IoLoop<'a, B> {
                 }
                 turned
             }
-            Some(Connection::Leaving(leaving)) => leaving.turn(),
+            Some(Connection::Refusing(refusing)) => refusing.turn(),
             _ => return,
         };
         match turned {
@@ -435,7 +435,7 @@ impl<'a, B: Backend> IoLoop<'a, B> {
                 let Open { mut desk, .. } = Box::into_inner(open);
                 desk.handler.give_up();
             }
-            Connection::Leaving(_) => {}
+            Connection::Refusing(_) => {}
         }
         self.vacate(place);
     }

@@ -2,8 +2,8 @@
 ghost use Rattle.std.specs.Prelude.{◌≡◌};
 
 use crate::acceptor::Acceptor;
-use crate::counts::Counts;
 use crate::dispatcher::{NodeMailbox, dispatch};
+use crate::fault_counts::FaultCounts;
 use crate::gate::Gate;
 use crate::io_loop::serve;
 use crate::live_backend::LiveBackend;
@@ -31,7 +31,7 @@ pub struct Setup<'a, N: Naming> {
     boot: u64,
     pub(crate) namespaces: &'a Namespaces,
     pub(crate) tokens: &'a Tokens,
-    pub(crate) counts: Option<&'a Counts>,
+    pub(crate) counts: Option<&'a FaultCounts>,
     of: PhantomData<N>,
     ghost named: { namespaces.now ≡ N.namespaces },
 }
@@ -53,7 +53,7 @@ impl<'a, N: Naming> Setup<'a, N> {
     }
 
     /// The same, where what goes wrong is counted here.
-    pub fn counted(mut self, counts: &'a Counts) -> Setup<'a, N>
+    pub fn counted(mut self, counts: &'a FaultCounts) -> Setup<'a, N>
         ensures { result.node ≡ self.entry.node }
     {
         self.counts = Some(counts);

@@ -38,7 +38,7 @@ impl<'a, B: Backend> CommandHandler<'a, B> {
 
     // A round of the client.
     fn go_round(&mut self, number: u32) {
-        self.client.looks_at(&self.backend.hub(), number);
+        self.client.forgets_ended(&self.backend.hub(), number);
         for _ in 0..self.client.channels.len() {
             // Each is taken from the front and, where it stands, put back behind the others.
             if let Some(present) = self.client.channels.pop_front() {

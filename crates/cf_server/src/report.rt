@@ -1,7 +1,7 @@
 //! What an operator sees on standard error while nodes serve: at most one line a second of each kind.
 use crate::running::Running;
 use cf_broker::Broker;
-use cf_node::Counts;
+use cf_node::FaultCounts;
 use cf_shard::Naming;
 use cf_stream::Epochs;
 use std::fmt::{Display, Formatter};
@@ -48,7 +48,7 @@ fn tell<R: Eprint>(rt: &R, what: &'static str, before: u64, all: u64) {
 
 impl Tally {
     // What has gone wrong by now.
-    fn of<N: Naming, E: Epochs + Drop>(broker: &Broker<N, E>, counts: &Counts) -> Tally {
+    fn of<N: Naming, E: Epochs + Drop>(broker: &Broker<N, E>, counts: &FaultCounts) -> Tally {
         Tally {
             refused: counts.refused(),
             lost: lost_of(broker),

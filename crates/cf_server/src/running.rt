@@ -5,7 +5,7 @@ ghost use Rattle.cf_server.specs.Status.{IsOutside};
 
 use crate::fault::Fault;
 use crate::sizes::{Line, Listener};
-use cf_node::{Counts, Gate};
+use cf_node::{FaultCounts, Gate};
 use mio::unix::SourceFd;
 use mio::{Events, Interest, Poll, Token};
 use std::io::{ErrorKind, Read};
@@ -44,7 +44,7 @@ pub(crate) struct Running {
     // The number of a node whose loop ended, or `NONE`.
     failed: AtomicU64,
     /// What goes wrong at the nodes.
-    pub(crate) counts: Counts,
+    pub(crate) counts: FaultCounts,
     /// Whether nothing is said of that.
     pub(crate) is_quiet: bool,
 }
@@ -56,7 +56,7 @@ impl Running {
             start: Instant::now(rt)?,
             begun: AtomicU64::new(0),
             failed: AtomicU64::new(NONE),
-            counts: Counts::new(),
+            counts: FaultCounts::new(),
             is_quiet,
         })
     }

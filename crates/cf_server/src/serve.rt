@@ -11,7 +11,7 @@ use crate::{namespaces_of, tokens_of};
 use cf_broker::{Broker, Passes, Words};
 use cf_epochs::{Boot, BootEpochs};
 use cf_link::{Receiver, Sender, pair};
-use cf_node::{Counts, Node, Setup};
+use cf_node::{FaultCounts, Node, Setup};
 use cf_protocol::{Namespaces, Tokens};
 use cf_shard::{Delivery, Naming};
 use mio::net::TcpListener;
@@ -143,7 +143,7 @@ fn open_broker<N: Naming>(
 fn open_nodes<'a, N: Naming, R: Net + AllocGlobal>(
     rt: &R,
     options: ServeOptions<'_>,
-    counts: &'a Counts,
+    counts: &'a FaultCounts,
     namespaces: &'a Namespaces,
     tokens: &'a Tokens,
 ) -> Result<Opened<'a, N>, Fault>

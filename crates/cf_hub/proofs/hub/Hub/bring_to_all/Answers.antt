@@ -18,10 +18,10 @@ loop-session-init c =
     let was : attached_at c.args.self.now ≡ attached_in c.self.inside.sessions = seen c.args.self.now c.self.inside.sessions (ap (λ (h : Node). h.sessions) (sym c.self.view_is)) in
     let small : c.self.inside.refused ≤ largest = search rules in
     let agrees : Agrees (attached_in c.self.inside.sessions) c.args.self.now.rows = subst (λ (h : Node). Agrees (attached_in c.self.inside.sessions) h.rows) c.self.view_is c.self.invariant.0 in
-    let begins = starts c.args.publication.now c.args.channel.now c.args.epoch.now c.args.self.now (attached_in c.self.inside.sessions) c.self.inside.refused c.self.inside.listed was (ap (λ (h : Node). h.refused) c.self.view_is) (ap (λ (h : Node). h.turns) c.self.view_is) agrees small in
+    let begins = starts c.args.publication.now c.args.channel.now c.args.epoch.now c.args.self.now (attached_in c.self.inside.sessions) c.self.inside.refused c.self.inside.pending was (ap (λ (h : Node). h.refused) c.self.view_is) (ap (λ (h : Node). h.turns) c.self.view_is) agrees small in
     let all : sessions_of c.args.self.now.rows c.args.channel.now ≡ c.into_iter-session-iterator.result = ap (λ (h : Node). sessions_of h.rows c.args.channel.now) (sym c.self.view_is) ∙ sym c.walk-session-items.ensures.sessions ∙ sym c.into_iter-session-iterator.ensures.into_iter_gives in
-    subst (λ (todo : List ℕ). IsOnItsWay c.args.publication.now c.args.channel.now c.args.epoch.now c.args.self.now (attached_in c.self.inside.sessions) c.self.inside.refused c.self.inside.listed c.none-counts.result [] todo) all
-    (subst (λ (counts : Delivered). IsOnItsWay c.args.publication.now c.args.channel.now c.args.epoch.now c.args.self.now (attached_in c.self.inside.sessions) c.self.inside.refused c.self.inside.listed counts [] (sessions_of c.args.self.now.rows c.args.channel.now)) (sym c.none-counts.ensures) begins)
+    subst (λ (todo : List ℕ). IsOnItsWay c.args.publication.now c.args.channel.now c.args.epoch.now c.args.self.now (attached_in c.self.inside.sessions) c.self.inside.refused c.self.inside.pending c.none-counts.result [] todo) all
+    (subst (λ (counts : Delivered). IsOnItsWay c.args.publication.now c.args.channel.now c.args.epoch.now c.args.self.now (attached_in c.self.inside.sessions) c.self.inside.refused c.self.inside.pending counts [] (sessions_of c.args.self.now.rows c.args.channel.now)) (sym c.none-counts.ensures) begins)
 
 -- one more is to be met
 on_its_way : (c : In-Some) → IsOnItsWay c.args.publication.now c.args.channel.now c.args.epoch.now c.args.self.now (attached_in c.loop-session.self-inside.1.1.1.1.0) c.loop-session.self-inside.1.1.1.1.1.1.1.0 c.loop-session.self-inside.1.1.1.1.1.1.1.1.0 c.loop-session.counts c.loop-session.yielded (c.in-Some.session ∷ c.next.new.self)

@@ -1,6 +1,0 @@
-use Rattle.std.proofs.Common.{◌≡◌, ◌≤◌, ◌<◌, ℕ, None}
-use Rattle.cf_hub.specs.Hub.{attached_in}
-use Rattle.cf_hub.proofs.places.Sessions.next_from.Given as goal
-
-abbrev pub invariant-loop-place : goal.invariant-loop-place
-invariant-loop-place l = (j : ℕ) → l.from ≤ j → j < l.place → attached_in l.self j ≡ None
