@@ -4,6 +4,7 @@ ghost use Rattle.std.specs.String.{string_bytes};
 ghost use Rattle.cf_stream.specs.Stream.{datum_of, started, given, pushed, answer_to, repeated_by, IsStuck, used_at, trimmed, resized, ticked, position_of, missed_from, RecoversFrom, IsWithin, start_of, after, in_epoch, IsRecovery, IsHistory, IsInEpoch, newest_of, stays, is_over};
 ghost use Rattle.cf_stream.specs.PublicationList.{unkeyed, Shows, GoesOn, AnswersPublish, AnswersRead, AnswersHistory, opened, offered, kept_newest, same};
 ghost use Rattle.cf_protocol.specs.Datum.{Datum};
+ghost use Rattle.cf_stream.specs.Calls.{RefusalsOfOne};
 ghost use Rattle.cf_stream.specs.StreamAnswer.{allowed_by};
 ghost use Rattle.cf_stream.specs.Streams.{due_of, repeat_at};
 ghost use Rattle.cf_stream.specs.Quiet.{IsQuiet};
@@ -178,17 +179,14 @@ impl Stream {
         info: Option<Info>,
         now: u64,
     ) -> Result<Published, StreamRefusal>
-        ensures ok { OnOk result (self.new ≡ given self.old (string_bytes key) (datum_of body info) now) }
+        ensures makes { OnOk result
+            (self.new ≡ given self.old (string_bytes key) (datum_of body info) now) }
         ensures answer { IfOk result (λ p. p ≡ answer_to self.old (string_bytes key)) }
-        ensures repeat { (o : ℕ) → repeated_by self.old (string_bytes key) ≡ Some o
-            → result ≡ Ok (answer_to self.old (string_bytes key)) }
-        ensures last { IsErrOf result StreamRefusal.AtLastOffset ↔ IsStuck self.old (string_bytes key) }
-        ensures refusals { IfErr result (λ e.
-            e ≢ StreamRefusal.AtLastOffset → e ≡ StreamRefusal.Memory) }
-        ensures err { OnErr result (self.new ≡ self.old) }
-        ensures within { IsWithin self.new }
         ensures newest { IfOk result (λ p. p.repeated ≡ false → newest_of self.new
             ≡ Some (record { offset = p.position.offset; datum = datum_of body info })) }
+        ensures refusals { RefusalsOfOne self.old (string_bytes key) result }
+        ensures err { OnErr result (self.new ≡ self.old) }
+        ensures within { IsWithin self.new }
         ensures list { OnOk result (GoesOn self.old self.new
             (offered self.old.size (string_bytes key) (datum_of body info))) }
         ensures list_answer { IfOk result (λ p.
@@ -248,7 +246,7 @@ impl Stream {
 
     /// The publications after a position, where all of them are held and there are at most 300.
     pub fn recover(&mut self, since: Option<Position>, now: u64) -> Result<Recovery, StreamRefusal>
-        ensures ok { OnOk result (self.new ≡ used_at self.old now) }
+        ensures makes { OnOk result (self.new ≡ used_at self.old now) }
         ensures answer { IfOk result (λ r.
             IsRecovery self.old since r.position r.recovered r.publications.items) }
         ensures refusals { IsOkUnless result StreamRefusal.Memory }
@@ -328,7 +326,7 @@ impl Stream {
         limit: i32,
         now: u64,
     ) -> Result<History, StreamRefusal>
-        ensures ok { OnOk result (self.new ≡ used_at self.old now) }
+        ensures makes { OnOk result (self.new ≡ used_at self.old now) }
         ensures answer { IfOk result (λ h.
             IsHistory self.old since limit h.position h.publications.items) }
         ensures wrong_epoch { IsErrOf result StreamRefusal.WrongEpoch

@@ -13,6 +13,7 @@ ghost use Rattle.cf_stream.specs.ChannelLists.{AreShown, ChangesAt, ChangesSize,
 ghost use Rattle.cf_stream.specs.LogState.{IsState, Adds, opening, publishing, if_stands, ending, due_entries};
 ghost use Rattle.cf_protocol.specs.LogEntry.Entry.{Trim, Forget, Size};
 ghost use Rattle.cf_stream.specs.FreshEpochs.{LacksEpoch, Draws};
+ghost use Rattle.cf_stream.specs.Calls.{DrawsToOpen, ListsOfHistory, ListsOfPublish, ListsOfRead, RefusalsOfHistory, RefusalsOfPublish};
 
 use crate::answer::{History, Published, Recovery};
 use crate::due::DueWalk;
@@ -25,6 +26,10 @@ use std::collections::BTreeMap;
 use std::marker::Model;
 
 /// The streams of the channels that have one. A channel's namespace sets how many publications it holds, and for how long.
+///
+/// The clauses of `publish`, `read` and `history` have the same names: what a call `makes` of the streams, its `answer` off them,
+/// what becomes of the `epochs`, its `refusals`, what a refused one leaves (`err`), its entries in a `log`, and its answer and its
+/// change in the endless `lists`.
 #[derive(Drop)]
 pub struct Streams {
     namespaces: Namespaces,
@@ -103,48 +108,40 @@ impl Streams {
         now: u64,
     ) -> Result<Published, StreamRefusal>
         requires { IsSetUp self.old channel.now }
-        ensures ok { IfOk result (λ p. self.new
+        ensures makes { IfOk result (λ p. self.new
             ≡ with_given self.old channel.now p.position.epoch (string_bytes key) (datum_of body info) now) }
         ensures answer { IfOk result (λ p. p
             ≡ answer_to (stood_or_opened self.old channel.now p.position.epoch) (string_bytes key)) }
-        ensures repeat { (p : Position)
-            → repeat_at (stream_of self.old channel.now) (string_bytes key) ≡ Some p
-            → result ≡ Ok (record { position = p; repeated = true }) }
-        ensures drawn { IfOk result (λ p.
-            Draws E.draws (stream_of self.old channel.now) p.position.epoch epochs.old epochs.new) }
-        ensures last { IsErrOf result StreamRefusal.AtLastOffset
-            ↔ IsAtLast (stream_of self.old channel.now) (string_bytes key) }
-        ensures no_epoch { IsErrOf result StreamRefusal.NoEpoch
-            → LacksEpoch E.draws (stream_of self.old channel.now) epochs.old epochs.new }
-        ensures refusals { IfErr result (λ e. e ≢ StreamRefusal.WrongEpoch
-            × (e ≢ StreamRefusal.NoEpoch → epochs.new ≡ epochs.old)) }
+        ensures newest { IfOk result (λ p. p.repeated ≡ false → newest_at self.new channel.now
+            ≡ Some (record { offset = p.position.offset; datum = datum_of body info })) }
+        ensures epochs { DrawsToOpen E.draws (stream_of self.old channel.now)
+            epochs.old epochs.new result (λ p. p.position.epoch) }
+        ensures refusals { RefusalsOfPublish
+            (stream_of self.old channel.now) (string_bytes key) result }
         ensures err { OnErr result (self.new ≡ self.old) }
-        ensures namespaces { self.new.namespaces ≡ self.old.namespaces }
         ensures log { IfOk result (λ p. Adds self.old self.new (publishing p.repeated
             (stream_of self.old channel.now) channel.now p.position.epoch (string_bytes key)
             (datum_of body info))) }
-        ensures newest { IfOk result (λ p. p.repeated ≡ false → newest_at self.new channel.now
-            ≡ Some (record { offset = p.position.offset; datum = datum_of body info })) }
-        ensures list_answer { IfOk result (λ p.
-            PublishesAt self.old channel.now (string_bytes key) p.position p.repeated) }
-        ensures lists { IfOk result (λ p. ChangesAt self.old self.new channel.now
-            (life_with (size_at self.old.namespaces channel.now) (string_bytes key) (datum_of body info)
-            p.position.epoch)) }
+        ensures lists { IfOk result (ListsOfPublish channel.now (string_bytes key)
+            (datum_of body info) self.old self.new) }
     {
         let size = size_for(&self.namespaces, channel);
         let seconds = seconds_for(&self.namespaces, channel);
         self.quiet_until = quiet_after_use(self.quiet_until, now, seconds);
-        publish_in(
-            &mut self.map,
-            epochs,
-            self.alloc,
-            size,
-            channel,
-            body,
-            key,
-            info,
-            now,
-        )
+        match self.map.get_mut(channel) {
+            Some(stream) => stream.publish(body, key, info, now),
+            None => publish_new(
+                &mut self.map,
+                epochs,
+                self.alloc,
+                size,
+                channel,
+                body,
+                key,
+                info,
+                now,
+            ),
+        }
     }
 
     /// Sets how many publications the streams of a namespace may hold. Of those that hold more the newest stay. It takes no memory.
@@ -170,25 +167,19 @@ impl Streams {
         now: u64,
     ) -> Result<Recovery, StreamRefusal>
         requires { IsSetUp self.old channel.now }
-        ensures ok { IfOk result (λ r.
+        ensures makes { IfOk result (λ r.
             self.new ≡ with_used self.old channel.now r.position.epoch now) }
         ensures answer { IfOk result (λ r.
             IsRecovery (stood_or_opened self.old channel.now r.position.epoch)
             since r.position r.recovered r.publications.items) }
-        ensures drawn { IfOk result (λ r.
-            Draws E.draws (stream_of self.old channel.now) r.position.epoch epochs.old epochs.new) }
-        ensures no_epoch { IsErrOf result StreamRefusal.NoEpoch
-            → LacksEpoch E.draws (stream_of self.old channel.now) epochs.old epochs.new }
-        ensures refusals { IfErr result (λ e. e ≢ StreamRefusal.NoEpoch
-            → (e ≡ StreamRefusal.Memory) × (epochs.new ≡ epochs.old)) }
+        ensures epochs { DrawsToOpen E.draws (stream_of self.old channel.now)
+            epochs.old epochs.new result (λ r. r.position.epoch) }
+        ensures refusals { IfErr result (λ e.
+            e ≢ StreamRefusal.NoEpoch → e ≡ StreamRefusal.Memory) }
         ensures err { OnErr result (self.new ≡ self.old) }
-        ensures namespaces { self.new.namespaces ≡ self.old.namespaces }
-        ensures list_answer { IfOk result (λ r. ReadsAt self.old channel.now
-            since r.position r.recovered r.publications.items) }
         ensures log { IfOk result (λ r. Adds self.old self.new
             (opening (stream_of self.old channel.now) channel.now r.position.epoch [])) }
-        ensures lists { IfOk result (λ r.
-            ChangesAt self.old self.new channel.now (life_read r.position.epoch)) }
+        ensures lists { IfOk result (ListsOfRead channel.now since self.old self.new) }
     {
         let size = size_for(&self.namespaces, channel);
         self.quiet_until = quiet_after_use(self.quiet_until, now, UNUSED_SECONDS);
@@ -205,27 +196,18 @@ impl Streams {
         now: u64,
     ) -> Result<History, StreamRefusal>
         requires { IsSetUp self.old channel.now }
-        ensures ok { IfOk result (λ h.
+        ensures makes { IfOk result (λ h.
             self.new ≡ with_used self.old channel.now h.position.epoch now) }
         ensures answer { IfOk result (λ h.
             IsHistory (stood_or_opened self.old channel.now h.position.epoch)
             since limit h.position h.publications.items) }
-        ensures drawn { IfOk result (λ h.
-            Draws E.draws (stream_of self.old channel.now) h.position.epoch epochs.old epochs.new) }
-        ensures wrong_epoch { IsErrOf result StreamRefusal.WrongEpoch
-            ↔ IsOfAnother (stream_of self.old channel.now) since }
-        ensures no_epoch { IsErrOf result StreamRefusal.NoEpoch
-            → LacksEpoch E.draws (stream_of self.old channel.now) epochs.old epochs.new }
-        ensures refusals { IfErr result (λ e. e ≢ StreamRefusal.AtLastOffset
-            × (e ≢ StreamRefusal.NoEpoch → epochs.new ≡ epochs.old)) }
+        ensures epochs { DrawsToOpen E.draws (stream_of self.old channel.now)
+            epochs.old epochs.new result (λ h. h.position.epoch) }
+        ensures refusals { RefusalsOfHistory (stream_of self.old channel.now) since result }
         ensures err { OnErr result (self.new ≡ self.old) }
-        ensures namespaces { self.new.namespaces ≡ self.old.namespaces }
-        ensures list_answer { IfOk result (λ h. ListsAt self.old channel.now
-            since limit h.position h.publications.items) }
         ensures log { IfOk result (λ h. Adds self.old self.new
             (opening (stream_of self.old channel.now) channel.now h.position.epoch [])) }
-        ensures lists { IfOk result (λ h.
-            ChangesAt self.old self.new channel.now (life_read h.position.epoch)) }
+        ensures lists { IfOk result (ListsOfHistory channel.now since limit self.old self.new) }
     {
         let size = size_for(&self.namespaces, channel);
         self.quiet_until = quiet_after_use(self.quiet_until, now, UNUSED_SECONDS);
@@ -351,48 +333,6 @@ pub(crate) fn seconds_for(namespaces: &Namespaces, channel: &str) -> u64
     match namespaces.find(channel) {
         None => 0,
         Some(settings) => settings.seconds,
-    }
-}
-
-/// Publishes to the channel's stream, or to a new one.
-#[tactic(auto, using(std::proofs::lemmas::Map::Text::text_keys))]
-fn publish_in<E: Epochs>(
-    map: &mut BTreeMap<String, Stream>,
-    epochs: &mut E,
-    alloc: Global,
-    size: usize,
-    channel: &str,
-    body: String,
-    key: String,
-    info: Option<Info>,
-    now: u64,
-) -> Result<Published, StreamRefusal>
-    requires { (1 ≤ size) × (size ≤ LARGEST_SIZE) }
-    ensures ok { IfOk result (λ p. SetsAt map.old map.new channel.now
-        (Some (given (stood_or (get_by_text map.old channel.now) p.position.epoch size) (string_bytes key)
-        (datum_of body info) now))) }
-    ensures answer { IfOk result (λ p. p
-        ≡ answer_to (stood_or (get_by_text map.old channel.now) p.position.epoch size) (string_bytes key)) }
-    ensures repeat { (p : Position)
-        → repeat_at (get_by_text map.old channel.now) (string_bytes key) ≡ Some p
-        → result ≡ Ok (record { position = p; repeated = true }) }
-    ensures newest { IfOk result (λ p. p.repeated ≡ false → newest_of
-        (given (stood_or (get_by_text map.old channel.now) p.position.epoch size) (string_bytes key)
-        (datum_of body info) now)
-        ≡ Some (record { offset = p.position.offset; datum = datum_of body info })) }
-    ensures drawn { IfOk result (λ p.
-        Draws E.draws (get_by_text map.old channel.now) p.position.epoch epochs.old epochs.new) }
-    ensures last { IsErrOf result StreamRefusal.AtLastOffset
-        ↔ IsAtLast (get_by_text map.old channel.now) (string_bytes key) }
-    ensures no_epoch { IsErrOf result StreamRefusal.NoEpoch
-        → LacksEpoch E.draws (get_by_text map.old channel.now) epochs.old epochs.new }
-    ensures refusals { IfErr result (λ e. e ≢ StreamRefusal.WrongEpoch
-        × (e ≢ StreamRefusal.NoEpoch → epochs.new ≡ epochs.old)) }
-    ensures err { OnErr result ((q : List ℕ) → get_by_text map.new q ≡ get_by_text map.old q) }
-{
-    match map.get_mut(channel) {
-        Some(stream) => stream.publish(body, key, info, now),
-        None => publish_new(map, epochs, alloc, size, channel, body, key, info, now),
     }
 }
 

@@ -19,7 +19,7 @@ returns-clause-answer g c =
     let listed = ListsAt c.self.inside.streams c.args.channel.now c.args.since in
     let same = to_z-of_z w32 c.args.limit c.ranges.limit in
     rw (← c.self.view_is)
-    (subst (λ (limit : ℤ). listed limit h.position h.publications.items) same c.in_ok-history.ensures.list_answer)
+    (subst (λ (limit : ℤ). listed limit h.position h.publications.items) same c.in_ok-history.ensures.lists.answer)
 
 pub returns-clause-by_log : goal.returns-clause-by_log
 returns-clause-by_log g c =
@@ -28,5 +28,5 @@ returns-clause-by_log g c =
     let same = to_z-of_z w32 c.args.limit c.ranges.limit in
     let owner = noted _ _ _ _ _ c.follow.ensures.owner c.note_opening.ensures.owner (opening_stood c.self.inside.streams c.args.channel.now _ _ _ _ c.position.ensures.position c.top_of-stood.ensures) in
     history_by_log _ _ _ _ _ _ _ _ _ _ _ c.self.invariant
-    (subst (λ (limit : ℤ). listed limit h.position h.publications.items) same c.in_ok-history.ensures.list_answer)
+    (subst (λ (limit : ℤ). listed limit h.position h.publications.items) same c.in_ok-history.ensures.lists.answer)
     c.follow.ensures.seen.0 (c.note_opening.ensures.whole.0 ∙ owner.1)

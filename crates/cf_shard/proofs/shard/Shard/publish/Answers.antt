@@ -46,8 +46,8 @@ returns-clause-answer g c =
     let key = string_bytes c.args.key in
     let d = datum_of c.args.body c.args.info in
     let stands : p.repeated ≡ false → StandsAt c.publish-2.new.self channel (Some p.position) =
-    λ fresh. subst (λ s. StandsAt s channel (Some p.position)) (sym c.in_ok-published.ensures.ok) (stands_after k channel key d c.args.now p c.in_ok-published.ensures.answer fresh) in
-    rw (← c.self.view_is) (record { is = c.in_ok-published.ensures.list_answer; stands = stands })
+    λ fresh. subst (λ s. StandsAt s channel (Some p.position)) (sym c.in_ok-published.ensures.makes) (stands_after k channel key d c.args.now p c.in_ok-published.ensures.answer fresh) in
+    rw (← c.self.view_is) (record { is = c.in_ok-published.ensures.lists.answer; stands = stands })
 
 pub returns-clause-by_log : goal.returns-clause-by_log
 returns-clause-by_log g c =
@@ -60,8 +60,8 @@ returns-clause-by_log g c =
     publish_noted k _ _ _ channel _ key d _ _ p c.follow.ensures.owner (λ fresh. c.note_publish.ensures.owner _ (c.in_ok-published.ensures.newest fresh))
     c.position.ensures.position c.top_of-stood.ensures c.in_ok-published.ensures.answer (search rules) (search rules) in
     let stands : p.repeated ≡ false → StandsAt c.publish-2.new.self channel (Some p.position) =
-    λ fresh. subst (λ s. StandsAt s channel (Some p.position)) (sym c.in_ok-published.ensures.ok) (stands_after k channel key d c.args.now p c.in_ok-published.ensures.answer fresh) in
-    published_by_log _ _ _ _ _ _ _ _ _ _ _ _ c.self.invariant (invariant_of-self-2 g c) c.in_ok-published.ensures.list_answer stands c.follow.ensures.seen.0 made.2 c.note_publish.ensures.whole.0
+    λ fresh. subst (λ s. StandsAt s channel (Some p.position)) (sym c.in_ok-published.ensures.makes) (stands_after k channel key d c.args.now p c.in_ok-published.ensures.answer fresh) in
+    published_by_log _ _ _ _ _ _ _ _ _ _ _ _ c.self.invariant (invariant_of-self-2 g c) c.in_ok-published.ensures.lists.answer stands c.follow.ensures.seen.0 made.2 c.note_publish.ensures.whole.0
 
 pub returns-clause-own : goal.returns-clause-own
 returns-clause-own g c =

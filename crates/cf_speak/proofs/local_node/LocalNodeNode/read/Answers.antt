@@ -17,8 +17,8 @@ returns-in-Ok-clause-does c = record {
       reads_at _ c.in-Some.number c.args.channel.now c.args.since _ _ _ c.in-Some.is (record {
         found = c.in-Ok.recovery;
         recovery = c.in-Ok.ensures.answer;
-        drawn = c.in-Ok.ensures.drawn;
-        streams = c.in-Ok.ensures.ok;
+        drawn = c.in-Ok.ensures.epochs.drawn;
+        streams = c.in-Ok.ensures.makes;
         hub = c.read_done.ensures.sessions;
         answer = refl;
         rest = refl;

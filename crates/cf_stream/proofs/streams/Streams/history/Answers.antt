@@ -1,6 +1,6 @@
 use Rattle.std.proofs.Common.{w32}
 use Rattle.std.proofs.lemmas.Int.{to_z-of_z}
-use Rattle.std.proofs.lemmas.Result.{IfOk-weaker, on_err_weaker}
+use Rattle.std.proofs.lemmas.Result.{IfErr-weaker, IfOk-weaker, on_err_weaker}
 use Rattle.cf_stream.specs.declared.answer.History.{History}
 use Rattle.std.specs.BTreeMap.{get_by_text}
 use Rattle.cf_stream.specs.Stream.{used_at, unused_seconds}
@@ -8,11 +8,11 @@ use Rattle.cf_stream.specs.Streams.{stood_or}
 use Rattle.cf_stream.proofs.Quieting.{not_over, used_quiet, quiet_by}
 use Rattle.cf_stream.proofs.Channels.{get-by_channel, kept_by, kept_same}
 use Rattle.cf_stream.proofs.LogSteps.{Adds-read}
-use Rattle.cf_stream.proofs.ChannelChanges.{ChangesAt-read, ListsAt-from}
+use Rattle.cf_stream.proofs.ChannelChanges.{ChangesAt-read, IfOk-both, ListsAt-from}
 use Rattle.cf_stream.proofs.streams.Streams.history.Goals as goal
 
-pub returns-clause-ok : goal.returns-clause-ok
-returns-clause-ok g c =
+pub returns-clause-makes : goal.returns-clause-makes
+returns-clause-makes g c =
     rw (← c.self.view_is, get-by_channel, ← c.size_for-size.ensures.size)
     (IfOk-weaker c.history_in.result _ _ (λ (r : History) h. kept_by c.self.inside.namespaces c.self.inside.map c.history_in.new.map c.args.channel.now _ h) c.history_in.ensures.ok)
 
@@ -25,23 +25,29 @@ pub returns-clause-answer : goal.returns-clause-answer
 returns-clause-answer g c =
     rw (← c.self.view_is, get-by_channel, ← c.size_for-size.ensures.size) (rw (to_z-of_z w32 c.args.limit c.ranges.limit) at c.history_in.ensures.answer)
 
-pub returns-clause-drawn : goal.returns-clause-drawn
-returns-clause-drawn g c = rw (← c.self.view_is, get-by_channel) c.history_in.ensures.drawn
+pub returns-clause-epochs : goal.returns-clause-epochs
+returns-clause-epochs g c = rw (← c.self.view_is, get-by_channel) (record {
+  drawn = c.history_in.ensures.drawn;
+  no_epoch = c.history_in.ensures.no_epoch;
+  undrawn = IfErr-weaker c.history_in.result _ _ (λ e h. h.1) c.history_in.ensures.refusals;
+})
 
-pub returns-clause-wrong_epoch : goal.returns-clause-wrong_epoch
-returns-clause-wrong_epoch g c = rw (← c.self.view_is, get-by_channel) c.history_in.ensures.wrong_epoch
-
-pub returns-clause-no_epoch : goal.returns-clause-no_epoch
-returns-clause-no_epoch g c = rw (← c.self.view_is, get-by_channel) c.history_in.ensures.no_epoch
+pub returns-clause-refusals : goal.returns-clause-refusals
+returns-clause-refusals g c = rw (← c.self.view_is, get-by_channel) (record {
+  wrong_epoch = c.history_in.ensures.wrong_epoch;
+  never = IfErr-weaker c.history_in.result _ _ (λ e h. h.0) c.history_in.ensures.refusals;
+})
 
 pub returns-clause-log : goal.returns-clause-log
-returns-clause-log g c = IfOk-weaker c.history_in.result _ _ (λ (r : History) h. rw h (Adds-read c.args.self.now c.args.channel.now r.position.epoch c.args.now)) (returns-clause-ok g c)
-
-pub returns-clause-list_answer : goal.returns-clause-list_answer
-returns-clause-list_answer g c = IfOk-weaker c.history_in.result _ _ (λ (r : History) h. ListsAt-from c.args.self.now c.args.channel.now _ _ _ _ h) (returns-clause-answer g c)
+returns-clause-log g c = IfOk-weaker c.history_in.result _ _ (λ (r : History) h. rw h (Adds-read c.args.self.now c.args.channel.now r.position.epoch c.args.now)) (returns-clause-makes g c)
 
 pub returns-clause-lists : goal.returns-clause-lists
-returns-clause-lists g c = IfOk-weaker c.history_in.result _ _ (λ (r : History) h. rw h (ChangesAt-read c.args.self.now c.args.channel.now r.position.epoch c.args.now)) (returns-clause-ok g c)
+returns-clause-lists g c =
+    IfOk-both c.history_in.result _ _ _ (λ (r : History) h a. record {
+      answer = ListsAt-from c.args.self.now c.args.channel.now _ _ _ _ a;
+      changes = rw h (ChangesAt-read c.args.self.now c.args.channel.now r.position.epoch c.args.now);
+    })
+    (returns-clause-makes g c) (returns-clause-answer g c)
 
 pub invariant_of-self : goal.invariant_of-self
 invariant_of-self g c =

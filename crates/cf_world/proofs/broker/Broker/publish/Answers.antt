@@ -1,4 +1,4 @@
-use Rattle.std.proofs.Common.{◌≡◌, ◌∙◌, ℕ, List, Ok, rules, refl, sym, subst}
+use Rattle.std.proofs.Common.{◌≡◌, ◌∙◌, ap, ℕ, List, Ok, rules, refl, sym, subst}
 use Rattle.std.specs.String.{string_bytes}
 use Rattle.std.specs.Result.{IsErrOf}
 use Rattle.cf_protocol.specs.Datum.{Datum}
@@ -30,10 +30,10 @@ returns-then-published c = λ table m fresh is-datum h.
     let old : StreamMap = c.args.self.now.streams in
     let under : string_bytes c.in_ok-under.under ≡ key = c.in_ok-under.ensures.ok in
     let sent : string_bytes c.in_ok-sent.sent ≡ c.args.body.now = c.in_ok-sent.ensures.ok in
-    let changes = changes_by old c.publish.new.self channel _ key _ c.args.body.now (λ bs. record { body = bs; info = c.args.info }) p.position.epoch under sent c.in-Ok.ensures.lists in
+    let changes = changes_by old c.publish.new.self channel _ key _ c.args.body.now (λ bs. record { body = bs; info = c.args.info }) p.position.epoch under sent c.in-Ok.ensures.lists.changes in
     let answer = subst (λ (ks : List ℕ). p ≡ answer_to (stood_or_opened old channel p.position.epoch) ks) under c.in-Ok.ensures.answer in
     repeated_shows table m c.args.self.now _ channel key p.position.epoch d p fresh h (c.is_set_up.ensures.0 (search rules))
-    c.in-Ok.ensures.drawn c.in-Ok.ensures.namespaces changes answer c.if-published.true refl
+    c.in-Ok.ensures.epochs.drawn (ap (λ (k : StreamMap). k.namespaces) c.in-Ok.ensures.makes) changes answer c.if-published.true refl
 
 pub returns-in-Ok : goal.returns-in-Ok
 returns-in-Ok c = λ table m fresh is-datum h.
@@ -46,11 +46,11 @@ returns-in-Ok c = λ table m fresh is-datum h.
     let made = c.in_ok-accepted-in-Ok.ensures in
     let under : string_bytes c.in_ok-under.under ≡ key = c.in_ok-under.ensures.ok in
     let sent : string_bytes c.in_ok-sent.sent ≡ c.args.body.now = c.in_ok-sent.ensures.ok in
-    let changes = changes_by old c.publish.new.self channel _ key _ c.args.body.now (λ bs. record { body = bs; info = c.args.info }) p.position.epoch under sent c.in-Ok.ensures.lists in
+    let changes = changes_by old c.publish.new.self channel _ key _ c.args.body.now (λ bs. record { body = bs; info = c.args.info }) p.position.epoch under sent c.in-Ok.ensures.lists.changes in
     let answer = subst (λ (ks : List ℕ). p ≡ answer_to (stood_or_opened old channel p.position.epoch) ks) under c.in-Ok.ensures.answer in
     published_shows table m c.args.self.now _ channel key p.position.epoch d p fresh h (c.is_set_up.ensures.0 (search rules))
-    c.in-Ok.ensures.drawn c.in-Ok.ensures.namespaces changes answer c.if-published.false a
-    (λ last. not_refused p StreamRefusal.AtLastOffset (c.in-Ok.ensures.last.1 (subst (IsAtLast (stream_of old channel)) (sym under) last)))
+    c.in-Ok.ensures.epochs.drawn (ap (λ (k : StreamMap). k.namespaces) c.in-Ok.ensures.makes) changes answer c.if-published.false a
+    (λ last. not_refused p StreamRefusal.AtLastOffset (c.in-Ok.ensures.refusals.last.1 (subst (IsAtLast (stream_of old channel)) (sym under) last)))
     c.in_ok-push-in-Ok.ensures.items made.channel made.epoch
     (made.publication ∙ search rules)
     is-datum.0 is-datum.1
@@ -58,6 +58,6 @@ returns-in-Ok c = λ table m fresh is-datum h.
 pub returns-in-Err-NoEpoch : goal.returns-in-Err-NoEpoch
 returns-in-Err-NoEpoch c = λ table m fresh is-datum h.
     let is : IsErrOf c.publish.result StreamRefusal.NoEpoch = search rules in
-    let none = c.publish.ensures.no_epoch is in
+    let none = c.publish.ensures.epochs.no_epoch is in
     let n = no_epoch_shows table c.args.self.now _ m c.args.channel.now h fresh none.0 none.1 c.in-Err-NoEpoch.ensures.err refl in
     (n.none, n.shows)
