@@ -1,10 +1,12 @@
--- What an application gets from its client. (Centrifugo's client protocol: subscribed, publication, unsubscribed and error events; ping.)
+-- What an application gets from its client. (Centrifugo's client protocol: subscribed, publication, unsubscribed and
+-- error events; ping.)
 use Rattle.std.specs.Prelude.{ℕ, Bool, List}
 use Rattle.cf_protocol.specs.Position.{Position}
 use Rattle.cf_protocol.specs.Datum.{Placed}
 
 pub data AppItem : Type 0 where
-  -- a subscription stands at this position; whether its client asked from a position, and whether the stream held all between
+  -- a subscription stands at this position; whether its client asked from a position, and whether the stream held all
+  -- between
   Subscribed : (channel : List ℕ) → (was_recovering : Bool) → (recovered : Bool) → (position : Position) → AppItem
   -- a publication, at its place
   Published : (channel : List ℕ) → (position : Position) → (body : List ℕ) → AppItem

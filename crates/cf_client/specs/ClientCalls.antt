@@ -1,12 +1,16 @@
 -- What the calls of a client make of it, and what its application gets, in the words of what a client knows.
 -- (Centrifugo's client protocol: subscription states, positions, codes of unsubscribe pushes.)
-use Rattle.std.specs.Prelude.{◌≡◌, ℕ, ◌==◌, nat_le, not, Bool, true, false, if◌then◌else◌, Option, Some, None, option_to_list, Result, Err, IfErr, List, [], ◌∷◌, ◌++◌, map, filter, length, ◌⊎◌}
+use Rattle.std.specs.Prelude.{◌≡◌, ℕ, ◌==◌, nat_le, not, Bool, true, false, if◌then◌else◌, Option, Some, None}
+use Rattle.std.specs.Prelude.{option_to_list, Result, Err, IfErr, List, [], ◌∷◌, ◌++◌, map, filter, length, ◌⊎◌}
 use Rattle.cf_protocol.specs.Names.{with}
 use Rattle.cf_protocol.specs.Position.{Position}
 use Rattle.cf_protocol.specs.Datum.{Placed}
 use Rattle.cf_protocol.specs.Fields.{max_u32}
-use Rattle.cf_protocol.specs.Outgoing.{Outcome, Connected, Subscribed, Unsubscribed, Published, Present, Counted, Past, Pinged, Failed, Pushed, Publication, Unsubscribe, Outgoing, Ping, Answer, Push}
-use Rattle.cf_client.specs.ClientState.{Client, Mode, Idle, Asking, Live, idle, is_idle, new_client, asks, leaves, calls_for, reconnects, without}
+use Rattle.cf_protocol.specs.Outgoing.{Outcome, Connected, Subscribed, Unsubscribed, Published, Present, Counted}
+use Rattle.cf_protocol.specs.Outgoing.{Past, Pinged, Failed, Pushed, Publication, Unsubscribe, Outgoing, Ping, Answer}
+use Rattle.cf_protocol.specs.Outgoing.{Push}
+use Rattle.cf_client.specs.ClientState.{Client, Mode, Idle, Asking, Live, idle, is_idle, new_client, asks, leaves}
+use Rattle.cf_client.specs.ClientState.{calls_for, reconnects, without}
 use Rattle.cf_client.specs.AppItem as item
 use Rattle.cf_client.specs.AppItem.{AppItem, published}
 use Rattle.cf_client.specs.declared.fault.ClientFault.{ClientFault}
@@ -85,14 +89,18 @@ moves c m s = record s { client = record s.client { modes = with s.client.modes 
 
 -- the call of this id is no longer out
 abbrev pub answered : ℕ → State → State
-answered id s = record s { client = record s.client { calls = without id s.client.calls }; out = filter (λ k. not (k.id == id)) s.out }
+answered id s = record s {
+  client = record s.client { calls = without id s.client.calls };
+  out = filter (λ k. not (k.id == id)) s.out;
+}
 
 -- nothing comes of it
 abbrev pub PassesOver : State → State → List AppItem → Type 0
 PassesOver old new told = (new ≡ old) × (told ≡ [])
 
 -- what the answer makes of the channel that asks under its id, and of what its application is told
-pub record AnswersAsk (id : ℕ) (becomes : Mode → Mode) (items : List ℕ → List AppItem) (old new : State) (told : List AppItem) : Type 0 where
+pub record AnswersAsk (id : ℕ) (becomes : Mode → Mode) (items : List ℕ → List AppItem) (old new : State)
+    (told : List AppItem) : Type 0 where
   pub channel : List ℕ
   pub asks : asks_under id (old.client.modes channel) ≡ true
   pub moves : new ≡ moves channel (becomes (old.client.modes channel)) old
@@ -104,7 +112,8 @@ NoAsk id s = (c : List ℕ) → asks_under id (s.client.modes c) ≡ false
 
 -- a call is answered where it is out, and nothing else changes
 abbrev pub AnswersCall : ℕ → (List ℕ → AppItem) → State → State → List AppItem → Type 0
-AnswersCall id tells old new told = (new ≡ answered id old) × (told ≡ map tells (option_to_list (channel_under id old.out)))
+AnswersCall id tells old new told =
+    (new ≡ answered id old) × (told ≡ map tells (option_to_list (channel_under id old.out)))
 
 abbrev pub TakesAnswer : ℕ → Outcome → State → State → List AppItem → Type 0
 TakesAnswer id (Subscribed at ps recovered was) old new told =
@@ -152,4 +161,5 @@ Takes (Push c push) old new told = TakesPush c push old new told
 abbrev pub TakesAll : List Outgoing → State → State → List AppItem → Type 0
 TakesAll [] old new told = PassesOver old new told
 TakesAll (o ∷ os) old new told =
-    (mid : State) × (first : List AppItem) × (rest : List AppItem) × Takes o old mid first × TakesAll os mid new rest × (told ≡ first ++ rest)
+    (mid : State) × (first : List AppItem) × (rest : List AppItem) × Takes o old mid first × TakesAll os mid new rest
+    × (told ≡ first ++ rest)

@@ -1,6 +1,7 @@
--- What a client knows, and what a note that it takes makes of it. (Centrifugo's client protocol: subscription states, positions.)
--- The client looks for no gap and no repeat: it believes what it is sent.
-use Rattle.std.specs.Prelude.{ℕ, suc, ◌==◌, ◌&&◌, ◌||◌, Bool, true, false, if◌then◌else◌, Option, Some, None, List, [], ◌∷◌}
+-- What a client knows, and what a note that it takes makes of it. (Centrifugo's client protocol: subscription states,
+-- positions.) The client looks for no gap and no repeat: it believes what it is sent.
+use Rattle.std.specs.Prelude.{ℕ, suc, ◌==◌, ◌&&◌, ◌||◌, Bool, true, false, if◌then◌else◌, Option, Some, None, List}
+use Rattle.std.specs.Prelude.{[], ◌∷◌}
 use Rattle.std.specs.Str.{bytes_eq}
 use Rattle.cf_protocol.specs.Names.{with}
 use Rattle.cf_protocol.specs.Position.{Position}
@@ -73,10 +74,12 @@ reconnects x = record { fresh = first_id; modes = λ c. idle (x.modes c); calls 
 abbrev pub moved_on : Position → Position → Position
 moved_on p q = record { epoch = p.epoch; offset = q.offset }
 
--- What a note makes of channel c. A reply counts where it answers the ask that is out, a push while the channel is live.
+-- What a note makes of channel c. A reply counts where it answers the ask that is out, a push while the channel is
+-- live.
 abbrev pub takes : List ℕ → Mode → Note → Mode
 takes c (Idle last) n = Idle last
-takes c (Asking id from last) (Reply d k was r) = if bytes_eq d c && (k == id) then Live (read_to r) else Asking id from last
+takes c (Asking id from last) (Reply d k was r) =
+    if bytes_eq d c && (k == id) then Live (read_to r) else Asking id from last
 takes c (Asking id from last) (Fails d k code) = if bytes_eq d c && (k == id) then Idle last else Asking id from last
 takes c (Asking id from last) (Close code) = Idle last
 takes c (Asking id from last) n = Asking id from last

@@ -1,4 +1,5 @@
--- What contracts see of a client: what it knows of its channels, by lists, and the same in the words of what a client knows.
+-- What contracts see of a client: what it knows of its channels, by lists, and the same in the words of what a client
+-- knows.
 use Rattle.std.specs.Prelude.{ℕ, suc, Bool, None, List, [], ◌∷◌, map, reverse, if◌then◌else◌}
 use Rattle.std.specs.Str.{bytes_eq}
 use Rattle.cf_client.specs.ClientState.{Mode, Idle}

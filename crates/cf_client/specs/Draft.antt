@@ -33,10 +33,15 @@ drafted_calls (id ∷ ids) ks = drafted_calls ids (filter (λ k. not (k.id == id
 abbrev pub drafted : CodeKnown → CodeDraft → State
 drafted k d = record {
   connected = k.is_connected;
-  client = record { fresh = suc k.last_id; modes = drafted_mode k.channels d.changed; calls = ids_of (drafted_calls d.answered.items (calls_of k.calls.items)) };
+  client = record {
+    fresh = suc k.last_id;
+    modes = drafted_mode k.channels d.changed;
+    calls = ids_of (drafted_calls d.answered.items (calls_of k.calls.items));
+  };
   out = drafted_calls d.answered.items (calls_of k.calls.items);
 }
 
 -- a draft takes this step, and the application is told what the step says
-abbrev pub Drafts : CodeKnown → (State → State → List AppItem → Type 0) → CodeDraft → CodeDraft → List AppEvent → List AppEvent → Type 0
+abbrev pub Drafts : CodeKnown → (State → State → List AppItem → Type 0) → CodeDraft → CodeDraft → List AppEvent
+    → List AppEvent → Type 0
 Drafts k step old new before after = TellsAlso (step (drafted k old) (drafted k new)) before after

@@ -1,4 +1,5 @@
--- Each ask that is out has an id of its own, so an answer counts for one channel alone, and what a text makes of a client is one thing.
+-- Each ask that is out has an id of its own, so an answer counts for one channel alone, and what a text makes of a
+-- client is one thing.
 use Rattle.std.specs.Prelude.{◌≡◌, ℕ, ◌<◌, true, false, List}
 use Rattle.cf_protocol.specs.Outgoing.{Outgoing}
 use Rattle.cf_client.specs.ClientState.{Client, is_out}
@@ -16,7 +17,9 @@ abbrev pub Keeps : (State → State) → Type 0
 Keeps f = (s : State) → AreApart s.client → AreApart (f s).client
 
 abbrev pub TextsKeep : Type 0
-TextsKeep = (os : List Outgoing) (s t : State) (told : List AppItem) → AreApart s.client → TakesAll os s t told → AreApart t.client
+TextsKeep =
+    (os : List Outgoing) (s t : State) (told : List AppItem) → AreApart s.client → TakesAll os s t told
+    → AreApart t.client
 
 abbrev pub OneOutcome : Type 0
 OneOutcome =

@@ -1,8 +1,10 @@
--- What a note makes of a client is what the text that is written for it makes of it: the machine's words and the wire's say one thing.
--- A text names no channel in an answer, and no epoch in a push: the client has both of itself.
-use Rattle.std.specs.Prelude.{◌≡◌, ℕ, ◌-◌, ◌==◌, ◌||◌, Bool, true, if◌then◌else◌, Some, option_to_list, List, [], ◌∷◌, map, length}
+-- What a note makes of a client is what the text that is written for it makes of it: the machine's words and the
+-- wire's say one thing. A text names no channel in an answer, and no epoch in a push: the client has both of itself.
+use Rattle.std.specs.Prelude.{◌≡◌, ℕ, ◌-◌, ◌==◌, ◌||◌, Bool, true, if◌then◌else◌, Some, option_to_list, List, [], ◌∷◌}
+use Rattle.std.specs.Prelude.{map, length}
 use Rattle.cf_protocol.specs.Position.{Position}
-use Rattle.cf_protocol.specs.Note.{Lists, Reading, Note, Reply, Pub, End, Fails, Put, Left, Listed as Listing, PingDue, Close, placed_from, placed_at, outgoing_of, insufficient}
+use Rattle.cf_protocol.specs.Note.{Lists, Reading, Note, Reply, Pub, End, Fails, Put, Left, Listed as Listing}
+use Rattle.cf_protocol.specs.Note.{PingDue, Close, placed_from, placed_at, outgoing_of, insufficient}
 use Rattle.cf_protocol.specs.Outgoing.{Outgoing}
 use Rattle.cf_client.specs.ClientState.{Client, Mode, Idle, Asking, Live, read_to, is_out, hears}
 use Rattle.cf_client.specs.ClientCalls.{State, asks_under, channel_under, Takes}
@@ -15,7 +17,8 @@ use Rattle.cf_client.specs.OneAnswer.{AreApart}
 abbrev pub reply_items : Lists → List ℕ → ℕ → Bool → Reading → Mode → List AppItem
 reply_items lists c id was r (Idle last) = []
 reply_items lists c id was r (Asking k from last) =
-    if id == k then Subscribed c was r.recovered (read_to r) ∷ map (published c r.epoch) (placed_from (lists c r.epoch) r.low (r.top - r.low)) else []
+    if id == k then Subscribed c was r.recovered (read_to r)
+    ∷ map (published c r.epoch) (placed_from (lists c r.epoch) r.low (r.top - r.low)) else []
 reply_items lists c id was r (Live p) = []
 
 abbrev pub pub_items : Lists → List ℕ → Position → Mode → List AppItem
@@ -35,7 +38,8 @@ items_of lists x (End c) = end_items c (x.modes c)
 items_of lists x (Fails c id code) = if asks_under id (x.modes c) || is_out id x.calls then Refused c code ∷ [] else []
 items_of lists x (Put id) = []
 items_of lists x (Left id) = []
-items_of lists x (Listing c id at low count) = if is_out id x.calls then Listed c at (length (placed_from (lists c at.epoch) low count)) ∷ [] else []
+items_of lists x (Listing c id at low count) =
+    if is_out id x.calls then Listed c at (length (placed_from (lists c at.epoch) low count)) ∷ [] else []
 items_of lists x PingDue = PongDue ∷ []
 items_of lists x (Close code) = []
 

@@ -22,7 +22,8 @@ use Rattle.cf_client.specs.declared.fault.ClientFault.{ClientFault}
 use Rattle.cf_client.specs.declared.fault.ClientFault.TheVariants.{Bad, NotNow, AtLastId, Memory}
 
 abbrev pub shown_item : AppEvent → AppItem
-shown_item (event.Subscribed channel was_recovering recovered position) = item.Subscribed (string_bytes channel) was_recovering recovered position
+shown_item (event.Subscribed channel was_recovering recovered position) =
+    item.Subscribed (string_bytes channel) was_recovering recovered position
 shown_item (event.Published channel position body) = item.Published (string_bytes channel) position (string_bytes body)
 shown_item (event.Resubscribing channel code) = item.Resubscribing (string_bytes channel) code
 shown_item (event.Refused channel code) = item.Refused (string_bytes channel) code
@@ -57,7 +58,12 @@ calls_of = map shown_call
 
 -- what it knows, as contracts see it
 abbrev pub view_of : CodeKnown → ClientView
-view_of k = record { connected = k.is_connected; last_id = k.last_id; channels = named k.channels; calls = calls_of k.calls.items }
+view_of k = record {
+  connected = k.is_connected;
+  last_id = k.last_id;
+  channels = named k.channels;
+  calls = calls_of k.calls.items;
+}
 
 abbrev pub known_state : CodeKnown → State
 known_state k = state_of (view_of k)

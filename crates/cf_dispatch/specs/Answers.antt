@@ -1,4 +1,5 @@
--- What a session is told of the broker's answers, and what becomes of a subscription after a check. (This project's own profile.)
+-- What a session is told of the broker's answers, and what becomes of a subscription after a check. (This project's
+-- own profile.)
 use Rattle.std.specs.Prelude.{ℕ, Bool, true, false, Option, Some, None, List}
 use Rattle.cf_protocol.specs.Checks.{Refusal, AtLastOffset, OtherEpoch, NoEpoch, NoMemory, AtLastCount}
 use Rattle.cf_protocol.specs.Settings.{NamespaceTable, settings_of}

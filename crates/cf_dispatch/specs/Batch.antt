@@ -1,5 +1,6 @@
 -- What is taken from a node's hub for the sessions that it names, one after another. (This project's own profile.)
-use Rattle.std.specs.Prelude.{◌≡◌, ◌↔◌, ◌≤◌, ◌<◌, ◌==◌, ◌⊎◌, ℕ, ◌+◌, Bool, IsFalse, Some, None, Option, List, [], ◌∷◌, length}
+use Rattle.std.specs.Prelude.{◌≡◌, ◌↔◌, ◌≤◌, ◌<◌, ◌==◌, ◌⊎◌, ℕ, ◌+◌, Bool, IsFalse, Some, None, Option, List, [], ◌∷◌}
+use Rattle.std.specs.Prelude.{length}
 use Rattle.std.specs.List.{count_by}
 use Rattle.cf_queue.specs.declared.queue.Out.{Out}
 use Rattle.cf_hub.specs.Hub.{IsNextTurn, Node, attached_at}
@@ -20,8 +21,10 @@ pub record Names (k : Option ℕ) (old new : Node) : Type 0 where
   pub turn : IsNextTurn (attached_at old) old.turns new.turns k
   pub same : new ≡ record old { turns = new.turns }
 
-module _ {S : Type 0} (frees : S → ℕ → Bool → Type 0) (lends : S → ℕ → List Out → S → Type 0) (gets : S → ℕ → List Out → Bool → S → Type 0) where
-  -- session k has its turn: what waits for its client is taken, unless its wire isn't free, and it gets that, and hears whether more may wait
+module _ {S : Type 0} (frees : S → ℕ → Bool → Type 0) (lends : S → ℕ → List Out → S → Type 0)
+    (gets : S → ℕ → List Out → Bool → S → Type 0) where
+  -- session k has its turn: what waits for its client is taken, unless its wire isn't free, and it gets that, and
+  -- hears whether more may wait
   pub record TakesAt (k : ℕ) (old new : Node) (p q : S) : Type 0 where
     pub is_free : Bool
     pub why : Taken
@@ -41,7 +44,8 @@ module _ {S : Type 0} (frees : S → ℕ → Bool → Type 0) (lends : S → ℕ
   abbrev pub HadTurns : List ℕ → Node → Node → S → S → Type 0
   HadTurns [] old new p q = (new ≡ old) × (q ≡ p)
   HadTurns (k ∷ before) old new p q =
-      (mid : Node) × (named : Node) × (s : S) × HadTurns before old mid p s × Names (Some k) mid named × TakesAt k named new s q
+      (mid : Node) × (named : Node) × (s : S) × HadTurns before old mid p s × Names (Some k) mid named
+      × TakesAt k named new s q
 
   -- so many had their turns: each as often at most as it stood in the hub's list, in which it stands once
   pub record TakesFor (count : ℕ) (old new : Node) (p q : S) : Type 0 where

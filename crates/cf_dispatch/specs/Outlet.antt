@@ -1,5 +1,6 @@
 -- What is taken from a node's hub for a client. (This project's own profile.)
-use Rattle.std.specs.Prelude.{◌≡◌, ◌≤◌, ◌+◌, ◌⊎◌, ℕ, Bool, true, false, ◌++◌, List, length, map, option_map, string_len, sum_by}
+use Rattle.std.specs.Prelude.{◌≡◌, ◌≤◌, ◌+◌, ◌⊎◌, ℕ, Bool, true, false, ◌++◌, List, length, map, option_map}
+use Rattle.std.specs.Prelude.{string_len, sum_by}
 use Rattle.cf_queue.specs.Meaning.{meaning}
 use Rattle.cf_queue.specs.OutQueue.{Item}
 use Rattle.cf_queue.specs.declared.queue.Out.{Out}
@@ -17,7 +18,8 @@ waits_at h k = waits_in (attached_at h k)
 abbrev pub left_with : List Item → Attached → Attached
 left_with items = moves (λ s. record s { notes = items })
 
--- Some of what waits for session k was taken, the first first, and stands behind what was taken before. All else is as it was.
+-- Some of what waits for session k was taken, the first first, and stands behind what was taken before. All else is
+-- as it was.
 pub record Takes (k : ℕ) (old new : Node) (had has : List Out) : Type 0 where
   pub taken : List Out
   pub gained : has ≡ had ++ taken

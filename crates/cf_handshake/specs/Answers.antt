@@ -1,4 +1,5 @@
--- The texts that answer the head of a request. (RFC 6455, 4.2.2 and 4.4; RFC 9110, 7.6.1, 8.6, 15.5.1, 15.5.22 and 15.6.4.)
+-- The texts that answer the head of a request. (RFC 6455, 4.2.2 and 4.4; RFC 9110, 7.6.1, 8.6, 15.5.1, 15.5.22 and
+-- 15.6.4.)
 use Rattle.std.specs.Prelude.{ℕ, Bool, true, false, List, [], ◌++◌, length, codes}
 use Rattle.std.specs.Fmt.{decimal}
 use Rattle.websocket.specs.Headers.{crlf, field_line}

@@ -1,5 +1,6 @@
 -- What the head of a request asks for. (RFC 6455, 4.2.1 and 4.4; RFC 9110, 7.8; RFC 9112, 3.2.)
-use Rattle.std.specs.Prelude.{◌≡◌, ◌≤◌, ℕ, Bool, false, cond, not, ◌&&◌, ◌||◌, ◌==◌, List, [], map, length, codes, bytes_eq, is_some, Option, None, Some}
+use Rattle.std.specs.Prelude.{◌≡◌, ◌≤◌, ℕ, Bool, false, cond, not, ◌&&◌, ◌||◌, ◌==◌, List, [], map, length, codes}
+use Rattle.std.specs.Prelude.{bytes_eq, is_some, Option, None, Some}
 use Rattle.std.specs.List.{starts_with}
 use Rattle.httparse.specs.Grammar.{RequestHead, ReadsRequest}
 use Rattle.httparse.specs.Spans.{name_and_value}
@@ -11,7 +12,8 @@ use Rattle.cf_handshake.specs.declared.answer.Refusal.TheVariants.{BadRequest, U
 use Rattle.cf_handshake.specs.declared.asked.Asked.{Asked}
 use Rattle.cf_handshake.specs.declared.asked.Asked.TheVariants.{Socket, Health, Refused}
 
--- a request's parts: of its version the minor number, of each line the name and the value without the white space around it
+-- a request's parts: of its version the minor number, of each line the name and the value without the white space
+-- around it
 pub record Request : Type 0 where
   pub method : List ℕ
   pub target : List ℕ
@@ -52,7 +54,8 @@ asked_plainly target = cond (is_health target) Health (Refused UpgradeRequired)
 -- the protocols asked for have `websocket`, and the options of the connection `upgrade`
 abbrev pub is_upgrade : Fields → Bool
 is_upgrade lines =
-    lists Ignored (codes "websocket") lines (codes "Upgrade") && lists Ignored (codes "upgrade") lines (codes "Connection")
+    lists Ignored (codes "websocket") lines (codes "Upgrade")
+    && lists Ignored (codes "upgrade") lines (codes "Connection")
 
 abbrev pub is_text : List ℕ → Option (List ℕ) → Bool
 is_text text None = false
@@ -78,8 +81,8 @@ AsksWithKey (Some key) json (Refused refusal) = ¬ (IsValidKey key) × (refusal 
 abbrev pub AsksByKey : Fields → Asked → Type 0
 AsksByKey lines asked = AsksWithKey (only_value lines (codes "Sec-WebSocket-Key")) (offers_json lines) asked
 
--- the first rule that is broken decides: 1. `GET`, and one host; 2. where no line asks for an upgrade, the path; 3. HTTP/1.1, and
--- an upgrade to `websocket`; 4. version 13; 5. one key, the base64 of sixteen bytes
+-- the first rule that is broken decides: 1. `GET`, and one host; 2. where no line asks for an upgrade, the path; 3.
+-- HTTP/1.1, and an upgrade to `websocket`; 4. version 13; 5. one key, the base64 of sixteen bytes
 abbrev pub Asks : Request → Asked → Type 0
 Asks r asked =
     cond (not (bytes_eq r.method (codes "GET")) || not (has_host r.minor r.lines)) (asked ≡ Refused BadRequest)

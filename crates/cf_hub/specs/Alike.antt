@@ -1,6 +1,6 @@
--- Two sessions are alike that are at the same places: their subscriptions are the same but for what is kept before a reply,
--- and what waits for the one client is said in other words to the other. R relates what is kept, by channel, by the id of
--- the ask and by the reading, where the stream was read; S relates notes.
+-- Two sessions are alike that are at the same places: their subscriptions are the same but for what is kept before a
+-- reply, and what waits for the one client is said in other words to the other. R relates what is kept, by channel,
+-- by the id of the ask and by the reading, where the stream was read; S relates notes.
 use Rattle.std.specs.Prelude.{◌≡◌, ⊤, ℕ, Option, Some, None, List}
 use Rattle.std.specs.List.{AllZip}
 use Rattle.cf_protocol.specs.Note.{Reading}
@@ -13,7 +13,8 @@ AlikeSub R (Ready id was r b) (Ready id' was' r' b') = (id ≡ id') × (was ≡ 
 AlikeSub R (On p mark) (On p' mark') = (p ≡ p') × (mark ≡ mark')
 AlikeSub R s s' = ⊥
 
-pub record Alike {B C N M : Type 0} (R : List ℕ → ℕ → Option Reading → B → C → Type 0) (S : N → M → Type 0) (a : SessionState B N) (b : SessionState C M) : Type 0 where
+pub record Alike {B C N M : Type 0} (R : List ℕ → ℕ → Option Reading → B → C → Type 0) (S : N → M → Type 0)
+    (a : SessionState B N) (b : SessionState C M) : Type 0 where
   pub subs : (c : List ℕ) → AlikeSub (R c) (a.subs c) (b.subs c)
   pub notes : AllZip S a.notes b.notes
   pub closed : a.closed ≡ b.closed

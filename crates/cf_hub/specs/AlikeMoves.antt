@@ -9,7 +9,8 @@ use Rattle.cf_queue.specs.OutQueue.{Item, Close}
 use Rattle.cf_hub.specs.Finish.{FinishesAt}
 use Rattle.cf_hub.specs.Hub.{Delivers, Meets, Node, One, Opens, OthersStay, attached_at, sub_at}
 use Rattle.cf_hub.specs.InNotes.{AreMissed, IsListed, SaysAt, SaysNote, SaysSession}
-use Rattle.cf_hub.specs.SessionState.{SessionState, begins, checks, closes_now, comes, finishes, leaves, opens, push, reads, takes_front}
+use Rattle.cf_hub.specs.SessionState.{SessionState, begins, checks, closes_now, comes, finishes, leaves, opens, push}
+use Rattle.cf_hub.specs.SessionState.{reads, takes_front}
 use Rattle.cf_hub.specs.Spoken.{spoken}
 use Rattle.cf_hub.specs.WantOfMemory.{OrCloses}
 use Rattle.cf_hub.specs.Wordings.{Held, at_offset, delivering, plain, reading}
@@ -26,11 +27,15 @@ AreAlike lists f g = (a : Texts) (b : Notes) → SaysSession lists a b → SaysS
 
 pub record MovesAreAlike (lists : Lists) : Type 0 where
   pub opens : SaysSession lists opens opens
-  pub begins : (c : List ℕ) (id : ℕ) (since : Option Position) → IsCode id → AreAlike lists (begins plain c id since) (begins (spoken lists) c id since)
+  pub begins : (c : List ℕ) (id : ℕ) (since : Option Position) → IsCode id
+      → AreAlike lists (begins plain c id since) (begins (spoken lists) c id since)
   pub leaves : (c : List ℕ) → AreAlike lists (leaves c) (leaves c)
-  pub reads : (c : List ℕ) (r : Reading) (missed : List Placed) → AreMissed lists c r missed → AreAlike lists (reads (reading missed) c r) (reads (spoken lists) c r)
-  pub comes : (c e : List ℕ) (p : Placed) → IsListed lists c e p → AreAlike lists (comes (delivering p) c (at_offset e p)) (comes (spoken lists) c (at_offset e p))
-  pub finishes : (c : List ℕ) (a new : Texts) (b : Notes) → SaysSession lists a b → FinishesAt false c (a.subs c) a new → SaysSession lists new (finishes (spoken lists) c b)
+  pub reads : (c : List ℕ) (r : Reading) (missed : List Placed) → AreMissed lists c r missed
+      → AreAlike lists (reads (reading missed) c r) (reads (spoken lists) c r)
+  pub comes : (c e : List ℕ) (p : Placed) → IsListed lists c e p
+      → AreAlike lists (comes (delivering p) c (at_offset e p)) (comes (spoken lists) c (at_offset e p))
+  pub finishes : (c : List ℕ) (a new : Texts) (b : Notes) → SaysSession lists a b
+      → FinishesAt false c (a.subs c) a new → SaysSession lists new (finishes (spoken lists) c b)
   pub checks : (c : List ℕ) (top : Option Position) → AreAlike lists (checks plain c top) (checks (spoken lists) c top)
   pub says : (i : Item) (n : Note) → SaysNote lists i n → AreAlike lists (push plain i) (push (spoken lists) n)
   pub closes : (code : ℕ) → AreAlike lists (closes_now (Close code)) (closes_now (note.Close code))
@@ -43,11 +48,15 @@ abbrev pub GoesOn : Lists → ℕ → (Notes → Notes) → Node → Node → Ty
 GoesOn lists k g old new = (b : Notes) → SaysAt lists (attached_at old k) b → SaysAt lists (attached_at new k) (g b)
 
 pub record CallsAreAlike (lists : Lists) : Type 0 where
-  pub attaches : (k now : ℕ) (user : List ℕ) (old new : Node) → Opens k user now old new → SaysAt lists (attached_at new k) opens
-  pub one : (k : ℕ) (f : Texts → Texts) (g : Notes → Notes) (old new : Node) → AreAlike lists f g → One k f old new → GoesOn lists k g old new
-  pub delivers : (c e : List ℕ) (p : Placed) (old new : Node) → IsListed lists c e p → Delivers c e p old new → new.refused ≡ 0
+  pub attaches : (k now : ℕ) (user : List ℕ) (old new : Node) → Opens k user now old new
+      → SaysAt lists (attached_at new k) opens
+  pub one : (k : ℕ) (f : Texts → Texts) (g : Notes → Notes) (old new : Node) → AreAlike lists f g → One k f old new
+      → GoesOn lists k g old new
+  pub delivers : (c e : List ℕ) (p : Placed) (old new : Node) → IsListed lists c e p → Delivers c e p old new
+      → new.refused ≡ 0
       → (k : ℕ) → GoesOn lists k (comes (spoken lists) c (at_offset e p)) old new
-  pub finishes : (k : ℕ) (c : List ℕ) (old new : Node) → Meets k (λ hit. FinishesAt hit c (sub_at old k c)) old new → new.refused ≡ 0
+  pub finishes : (k : ℕ) (c : List ℕ) (old new : Node) → Meets k (λ hit. FinishesAt hit c (sub_at old k c)) old new
+      → new.refused ≡ 0
       → GoesOn lists k (finishes (spoken lists) c) old new
   pub meets : (k : ℕ) (f : Texts → Texts) (g : Notes → Notes) (old new : Node) → AreAlike lists f g
       → Meets k (λ hit. OrCloses hit plain f) old new → new.refused ≡ 0 → GoesOn lists k g old new

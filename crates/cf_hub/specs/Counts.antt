@@ -1,6 +1,7 @@
--- How many subscriptions a session has, and how many all sessions of a node have: by the channels that were asked for, and by
--- the numbers of the sessions that there are.
-use Rattle.std.specs.Prelude.{◌≡◌, ◌↔◌, ◌<◌, ◌≤◌, ℕ, suc, true, false, if◌then◌else◌, is_some, List, [], ◌∷◌, length, sum_by}
+-- How many subscriptions a session has, and how many all sessions of a node have: by the channels that were asked
+-- for, and by the numbers of the sessions that there are.
+use Rattle.std.specs.Prelude.{◌≡◌, ◌↔◌, ◌<◌, ◌≤◌, ℕ, suc, true, false, if◌then◌else◌, is_some, List, [], ◌∷◌, length}
+use Rattle.std.specs.Prelude.{sum_by}
 use Rattle.cf_protocol.specs.Names.{is_among}
 use Rattle.cf_protocol.specs.Position.{Position}
 use Rattle.cf_subscribers.specs.Follows.{AreFollows, channels_of, follows}

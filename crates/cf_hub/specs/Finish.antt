@@ -4,7 +4,8 @@ use Rattle.cf_protocol.specs.Datum.{Placed}
 use Rattle.cf_protocol.specs.Note.{Reading}
 use Rattle.cf_queue.specs.OutQueue.{Item}
 use Rattle.cf_recovery.specs.ArrivalBuffer.{IsRun}
-use Rattle.cf_hub.specs.SessionState.{Subscription, Off, Asked, Ready, On, SessionState, finish_notes, finished, put_sub}
+use Rattle.cf_hub.specs.SessionState.{Subscription, Off, Asked, Ready, On, SessionState, finish_notes, finished}
+use Rattle.cf_hub.specs.SessionState.{put_sub}
 use Rattle.cf_hub.specs.declared.fate.Fate.{Fate}
 use Rattle.cf_hub.specs.declared.fate.Fate.TheVariants.{Passed}
 use Rattle.cf_hub.specs.declared.step.Step.{Step}
@@ -12,10 +13,12 @@ use Rattle.cf_hub.specs.WantOfMemory.{SaysAll}
 use Rattle.cf_hub.specs.Wordings.{Held, releasing}
 
 -- The run is what was kept behind the reply's position. Where no memory is refused b is `finishes (releasing run) c a`.
-pub record Finishes (refused : Bool) (c : List ℕ) (id : ℕ) (was : Bool) (r : Reading) (h : Held) (a b : SessionState Held Item) : Type 0 where
+pub record Finishes (refused : Bool) (c : List ℕ) (id : ℕ) (was : Bool) (r : Reading) (h : Held)
+    (a b : SessionState Held Item) : Type 0 where
   pub run : List Placed
   pub is_run : IsRun h.kept (record { epoch = r.epoch; offset = r.top }) run
-  pub said : SaysAll refused (releasing run) (finish_notes (releasing run) c id was r h) (put_sub c (finished (releasing run) r h) a) b
+  pub said : SaysAll refused (releasing run) (finish_notes (releasing run) c id was r h)
+      (put_sub c (finished (releasing run) r h) a) b
 
 -- nothing changes where there is nothing to finish
 abbrev pub FinishesAt : Bool → List ℕ → Subscription Held → SessionState Held Item → SessionState Held Item → Type 0

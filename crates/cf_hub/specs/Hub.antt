@@ -1,6 +1,7 @@
 -- A node's sessions by number, and which session follows which channel.
 pub use Rattle.cf_hub.specs.Turns.{is_in}
-use Rattle.std.specs.Prelude.{◌≡◌, ◌≢◌, ◌≤◌, ◌<◌, ◌⊎◌, ℕ, ◌+◌, min, not, Bool, true, false, if◌then◌else◌, Option, Some, None, option_map, is_some, List, [], length, ◌++◌, ◌∷◌}
+use Rattle.std.specs.Prelude.{◌≡◌, ◌≢◌, ◌≤◌, ◌<◌, ◌⊎◌, ℕ, ◌+◌, min, not, Bool, true, false, if◌then◌else◌, Option}
+use Rattle.std.specs.Prelude.{Some, None, option_map, is_some, List, [], length, ◌++◌, ◌∷◌}
 use Rattle.std.specs.BTreeMap.{is_at}
 use Rattle.std.specs.Fmt.{decimal}
 use Rattle.std.specs.Map.{lookup}
@@ -23,9 +24,9 @@ use Rattle.cf_hub.specs.declared.refusal.HubRefusal.TheVariants as refusal
 use Rattle.cf_hub.specs.declared.queued.Queued.{Queued}
 use Rattle.cf_hub.specs.declared.queued.Queued.TheVariants as queued
 
--- what contracts see of a hub: its node, its boot number, and how many client ids it has used; its sessions by number; which
--- session follows which channel; how many requests for memory were refused, up to the largest number of 64 bits; and which
--- sessions have got something to send
+-- what contracts see of a hub: its node, its boot number, and how many client ids it has used; its sessions by
+-- number; which session follows which channel; how many requests for memory were refused, up to the largest number of
+-- 64 bits; and which sessions have got something to send
 pub record Node : Type 0 where
   pub node : ℕ
   pub boot : ℕ
@@ -127,8 +128,8 @@ one_if b = if b then 1 else 0
 abbrev pub Brings : Bool → List ℕ → List ℕ → Placed → Attached → Attached → Type 0
 Brings refused c e p = InState (Serves refused (delivering p) c (comes (delivering p) c (at_offset e p)))
 
--- A delivery meets each session: the ones that are hit, for which memory was refused, follow the channel and are as many as the
--- refused requests at most, and all others go to what the machine makes of them.
+-- A delivery meets each session: the ones that are hit, for which memory was refused, follow the channel and are as
+-- many as the refused requests at most, and all others go to what the machine makes of them.
 pub record Delivers (c e : List ℕ) (p : Placed) (old new : Node) : Type 0 where
   pub hit : List ℕ
   pub hit_follow : (k : ℕ) → is_in k hit ≡ true → is_off (sub_at old k c) ≡ false
@@ -139,7 +140,8 @@ pub record Delivers (c e : List ℕ) (p : Placed) (old new : Node) : Type 0 wher
 
 -- how many sessions it met by what it did with them, each follower once
 abbrev pub tallied : List ℕ → List ℕ → Placed → Node → Node → Delivered
-tallied c e p old new = tally (λ k. fate_at c (at_offset e p) (attached_at old k) (attached_at new k)) (sessions_of old.rows c) none
+tallied c e p old new =
+    tally (λ k. fate_at c (at_offset e p) (attached_at old k) (attached_at new k)) (sessions_of old.rows c) none
 
 -- each follower gets its turn, in order
 abbrev pub EachGetsTurn : List ℕ → Node → Node → Type 0
@@ -163,7 +165,8 @@ pub record SameRest (old new : Node) : Type 0 where
   pub refused : new.refused ≡ old.refused
 
 -- Session k meets a call that may want memory: R says what became of its state, where memory was refused for it or not.
-pub record Meets (k : ℕ) (R : Bool → SessionState Held Item → SessionState Held Item → Type 0) (old new : Node) : Type 0 where
+pub record Meets (k : ℕ) (R : Bool → SessionState Held Item → SessionState Held Item → Type 0)
+    (old new : Node) : Type 0 where
   pub hit : Bool
   pub here : Both (InState (R hit)) (attached_at old k) (attached_at new k)
   pub others : OthersStay k old new
@@ -175,8 +178,8 @@ abbrev pub queued_in : Option Attached → Queued
 queued_in None = queued.Gone
 queued_in (Some a) = if a.state.closed then queued.Closed else queued.Kept
 
--- The tick meets each session: those that are hit, for which memory was refused, are as many as the refused requests at most,
--- and all others go to what it makes of them. Each gets its turn.
+-- The tick meets each session: those that are hit, for which memory was refused, are as many as the refused requests
+-- at most, and all others go to what it makes of them. Each gets its turn.
 abbrev pub Pings : Bool → ℕ → Attached → Attached → Type 0
 Pings hit now a b = OrCloses hit plain (ticks plain now a.badge) a.state b.state × (b.badge ≡ ticked now a.badge)
 
@@ -204,7 +207,10 @@ client_id node boot count = decimal node ++ (45 ∷ (decimal boot ++ (45 ∷ dec
 
 -- a session that was just attached
 abbrev pub fresh : List ℕ → List ℕ → ℕ → Attached
-fresh client user now = record { badge = record { client = client; user = user; pinged = now; awaits_pong = false }; state = opens }
+fresh client user now = record {
+  badge = record { client = client; user = user; pinged = now; awaits_pong = false };
+  state = opens;
+}
 
 -- session k is new, under the next client id, and the others stay
 pub record Opens (k : ℕ) (user : List ℕ) (now : ℕ) (old new : Node) : Type 0 where

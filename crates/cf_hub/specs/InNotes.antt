@@ -1,6 +1,6 @@
--- When a session of texts and publications, as the code has it, says and keeps what a session of notes and positions does:
--- each text is that of its note with the data of the publication lists, and each publication that is kept is the one that is
--- listed at its place. What is said of lists stays when they grow.
+-- When a session of texts and publications, as the code has it, says and keeps what a session of notes and positions
+-- does: each text is that of its note with the data of the publication lists, and each publication that is kept is
+-- the one that is listed at its place. What is said of lists stays when they grow.
 use Rattle.std.specs.Prelude.{◌≡◌, ⊤, ◌-◌, ◌++◌, ℕ, false, Option, Some, None, List}
 use Rattle.std.specs.List.{All}
 use Rattle.cf_protocol.specs.Datum.{Datum, Placed}
@@ -55,7 +55,8 @@ abbrev pub placed_of : Arrival → Placed
 placed_of a = record { offset = a.at.offset; datum = a.datum }
 
 -- What is kept stands for the positions that arrived, and no memory was refused for it.
-pub record IsKept (lists : Lists) (c : List ℕ) (id : ℕ) (read : Option Reading) (h : Held) (arrived : List Position) : Type 0 where
+pub record IsKept (lists : Lists) (c : List ℕ) (id : ℕ) (read : Option Reading) (h : Held)
+    (arrived : List Position) : Type 0 where
   pub is_code : IsCode id
   pub within : IsWithin h.kept
   pub stands : StandsFor h.kept arrived

@@ -1,5 +1,6 @@
 -- A subscription from its read to its reply, as the code has it.
-use Rattle.std.specs.Prelude.{◌≡◌, ◌+◌, ◌||◌, ◌∷◌, ◌++◌, [], if◌then◌else◌, ℕ, is_some, length, map, List, Option, Some, None}
+use Rattle.std.specs.Prelude.{◌≡◌, ◌+◌, ◌||◌, ◌∷◌, ◌++◌, [], if◌then◌else◌, ℕ, is_some, length, map, List, Option}
+use Rattle.std.specs.Prelude.{Some, None}
 use Rattle.cf_queue.specs.OutQueue.{Item, Text}
 use Rattle.cf_recovery.specs.ArrivalBuffer.{ArrivalBuffer, IsRun, ended_at, places}
 use Rattle.cf_recovery.specs.Release.{falls_short}
@@ -19,14 +20,18 @@ was_read r (code.On at mark) = code.On at mark
 
 -- where the subscription stands after its reply and what follows it
 abbrev pub stands : Answered → Progress
-stands a = code.On (record { epoch = a.recovery.position.epoch; offset = a.recovery.position.offset + length a.released.run.items }) None
+stands a =
+    code.On
+    (record
+    { epoch = a.recovery.position.epoch; offset = a.recovery.position.offset + length a.released.run.items }) None
 
 -- the reply of a subscription that was ready, and what follows it
 pub record Answers (a : Answered) (old : Progress) : Type 0 where
   pub kept : ArrivalBuffer
   pub was : old ≡ code.Ready a.id a.was_recovering a.recovery kept
   pub is_run : IsRun kept a.recovery.position a.released.run.items
-  pub short : a.released.insufficient ≡ (kept.overflow || falls_short (places kept.arrived) (ended_at a.recovery.position))
+  pub short : a.released.insufficient
+      ≡ (kept.overflow || falls_short (places kept.arrived) (ended_at a.recovery.position))
 
 abbrev pub AnswersIn : Answered → Option Progress → Type 0
 AnswersIn a None = ⊥
@@ -38,12 +43,15 @@ pub record IsAnswered (a : Answered) (c : List ℕ) (old new : SessionState Held
   pub was : old.subs c ≡ Ready a.id a.was_recovering (reading_of a.recovery) (held kept a.recovery.publications.items)
   pub is_run : IsRun kept a.recovery.position a.released.run.items
   pub ends : a.released.insufficient ≡ (kept.overflow || falls_short (places kept.arrived) (reading_of a.recovery))
-  pub put : new ≡ put_sub c (finished (releasing a.released.run.items) (reading_of a.recovery) (held kept a.recovery.publications.items)) old
+  pub put : new
+      ≡ put_sub c (finished (releasing a.released.run.items) (reading_of a.recovery)
+      (held kept a.recovery.publications.items)) old
 
 -- the reply, and the pushes of the run
 abbrev pub answer_notes : List ℕ → Answered → List Item
 answer_notes c a =
-    Text (reply_text a.id a.was_recovering (reading_of a.recovery) a.recovery.publications.items) ∷ map (λ x. Text (push_text c x)) a.released.run.items
+    Text (reply_text a.id a.was_recovering (reading_of a.recovery) a.recovery.publications.items)
+    ∷ map (λ x. Text (push_text c x)) a.released.run.items
 
 -- and the unsubscribe push where something is missing then
 abbrev pub finish_texts : List ℕ → Answered → List Item

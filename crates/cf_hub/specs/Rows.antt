@@ -38,7 +38,8 @@ WentOff f c k o rows = (d : List ℕ) → is_off (sub_in o d) ≡ off_after f c 
 -- the rows are those from before a call that met the followers of channel c and no other session
 pub record AgreedBefore (c : List ℕ) (sessions : ℕ → Option Attached) (rows : List Follow) : Type 0 where
   pub met : (k : ℕ) → follows rows c k ≡ true → (f : Fate) × WentOff f c k (sessions k) rows
-  pub others : (k : ℕ) → follows rows c k ≡ false → (d : List ℕ) → follows rows d k ≡ not (is_off (sub_in (sessions k) d))
+  pub others : (k : ℕ) → follows rows c k ≡ false → (d : List ℕ)
+      → follows rows d k ≡ not (is_off (sub_in (sessions k) d))
 
 -- whatever a call at channel c did with a session for which that channel was on, this fate does the same
 abbrev pub TellsFate : Fate → List ℕ → Option Attached → Type 0

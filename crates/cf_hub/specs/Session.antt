@@ -11,7 +11,8 @@ use Rattle.cf_hub.specs.Wordings.{Held}
 use Rattle.cf_hub.specs.declared.session.Session.{Session}
 use Rattle.cf_hub.specs.declared.subscription.Progress.{Progress}
 
--- the client's id and user; the moment of the last ping, or of the attach, in seconds; and whether that ping has no answer yet
+-- the client's id and user; the moment of the last ping, or of the attach, in seconds; and whether that ping has no
+-- answer yet
 pub record Badge : Type 0 where
   pub client : List ℕ
   pub user : List ℕ
@@ -24,7 +25,12 @@ pub record Shown : Type 0 where
   pub badge : Badge
 
 abbrev pub badge_of : Session → Badge
-badge_of s = record { client = string_bytes s.client; user = string_bytes s.user; pinged = s.pinged; awaits_pong = s.awaits_pong }
+badge_of s = record {
+  client = string_bytes s.client;
+  user = string_bytes s.user;
+  pinged = s.pinged;
+  awaits_pong = s.awaits_pong;
+}
 
 abbrev pub shown : Session → Shown
 shown s = record { subs = s.subscriptions.entries; queue = s.queue; badge = badge_of s }
@@ -65,10 +71,12 @@ abbrev pub is_ping_due : ℕ → Badge → Bool
 is_ping_due now b = nat_le 25 (now - b.pinged)
 
 abbrev pub ticks : {B N : Type 0} → Wording B N → ℕ → Badge → SessionState B N → SessionState B N
-ticks w now b s = if is_unanswered now b then closes_now (w.close no_pong) s else if is_ping_due now b then push w w.ping s else s
+ticks w now b s =
+    if is_unanswered now b then closes_now (w.close no_pong) s else if is_ping_due now b then push w w.ping s else s
 
 abbrev pub ticked : ℕ → Badge → Badge
-ticked now b = if is_unanswered now b then b else if is_ping_due now b then record b { pinged = now; awaits_pong = true } else b
+ticked now b =
+    if is_unanswered now b then b else if is_ping_due now b then record b { pinged = now; awaits_pong = true } else b
 
 abbrev pub ponged : Badge → Badge
 ponged b = record b { awaits_pong = false }

@@ -1,8 +1,9 @@
--- One session on its node: how far it is with each channel, and what waits for its client. Generic in what a note is (N) and
--- in how the publications are kept that come before a reply (B), so that the same words speak of notes and positions and of
--- the texts and publications that the code has. (Centrifugo's client protocol, history and recovery; the limits, and that a
--- session that is closed still gives what waits, are this project's own profile.)
-use Rattle.std.specs.Prelude.{ℕ, ◌+◌, nat_le, Bool, true, false, if◌then◌else◌, is_some, Option, Some, None, List, [], ◌∷◌, ◌++◌, sum_by, drop}
+-- One session on its node: how far it is with each channel, and what waits for its client. Generic in what a note is
+-- (N) and in how the publications are kept that come before a reply (B), so that the same words speak of notes and
+-- positions and of the texts and publications that the code has. (Centrifugo's client protocol, history and recovery;
+-- the limits, and that a session that is closed still gives what waits, are this project's own profile.)
+use Rattle.std.specs.Prelude.{ℕ, ◌+◌, nat_le, Bool, true, false, if◌then◌else◌, is_some, Option, Some, None, List, []}
+use Rattle.std.specs.Prelude.{◌∷◌, ◌++◌, sum_by, drop}
 use Rattle.cf_protocol.specs.Names.{with}
 use Rattle.cf_protocol.specs.Note.{Reading}
 use Rattle.cf_protocol.specs.Position.{Position}
@@ -31,7 +32,8 @@ pub record SessionState (B N : Type 0) : Type 0 where
 pub record Wording (B N : Type 0) : Type 0 where
   -- the reply to a subscribe
   pub reply : (channel : List ℕ) → (id : ℕ) → (was_recovering : Bool) → (reading : Reading) → (buffer : B) → N
-  -- what follows it: the pushes of what came meanwhile, how many offsets they go on, and whether something is missing then
+  -- what follows it: the pushes of what came meanwhile, how many offsets they go on, and whether something is missing
+  -- then
   pub run : (channel : List ℕ) → (reading : Reading) → (buffer : B) → List N
   pub reach : (reading : Reading) → (buffer : B) → ℕ
   pub falls_short : (reading : Reading) → (buffer : B) → Bool
@@ -109,7 +111,8 @@ abbrev pub leaves : {B N : Type 0} → List ℕ → SessionState B N → Session
 leaves c s = put_sub c Off s
 
 -- the stream was read for it
-abbrev pub read_at : {B N : Type 0} → Wording B N → List ℕ → Reading → Subscription B → SessionState B N → SessionState B N
+abbrev pub read_at : {B N : Type 0} → Wording B N → List ℕ → Reading → Subscription B → SessionState B N
+    → SessionState B N
 read_at w c r Off s = s
 read_at w c r (Asked id since b) s = put_sub c (Ready id (is_some since) r (w.with_read b)) s
 read_at w c r (Ready id was r' b) s = s
@@ -118,14 +121,16 @@ read_at w c r (On p mark) s = s
 abbrev pub reads : {B N : Type 0} → Wording B N → List ℕ → Reading → SessionState B N → SessionState B N
 reads w c r s = read_at w c r (s.subs c) s
 
--- A publication is delivered: it is kept before the reply; after it, it is dropped where it is known, passed on where it is
--- the next one, and else the subscription ends.
-abbrev pub by_verdict : {B N : Type 0} → Wording B N → List ℕ → Position → Option ℕ → Verdict → SessionState B N → SessionState B N
+-- A publication is delivered: it is kept before the reply; after it, it is dropped where it is known, passed on where
+-- it is the next one, and else the subscription ends.
+abbrev pub by_verdict : {B N : Type 0} → Wording B N → List ℕ → Position → Option ℕ → Verdict → SessionState B N
+    → SessionState B N
 by_verdict w c q mark Drop s = s
 by_verdict w c q mark Pass s = push w (w.place c q) (put_sub c (On q mark) s)
 by_verdict w c q mark Insufficient s = push w (w.end c) (put_sub c Off s)
 
-abbrev pub come_at : {B N : Type 0} → Wording B N → List ℕ → Position → Subscription B → SessionState B N → SessionState B N
+abbrev pub come_at : {B N : Type 0} → Wording B N → List ℕ → Position → Subscription B → SessionState B N
+    → SessionState B N
 come_at w c q Off s = s
 come_at w c q (Asked id since b) s = put_sub c (Asked id since (w.with_one q b)) s
 come_at w c q (Ready id was r b) s = put_sub c (Ready id was r (w.with_one q b)) s
@@ -156,7 +161,8 @@ by_check w c p Fine s = put_sub c (On p None) s
 by_check w c p Behind s = put_sub c (On p (Some p.offset)) s
 by_check w c p Ended s = push w (w.end c) (put_sub c Off s)
 
-abbrev pub check_at : {B N : Type 0} → Wording B N → List ℕ → Option Position → Subscription B → SessionState B N → SessionState B N
+abbrev pub check_at : {B N : Type 0} → Wording B N → List ℕ → Option Position → Subscription B → SessionState B N
+    → SessionState B N
 check_at w c top Off s = s
 check_at w c top (Asked id since b) s = s
 check_at w c top (Ready id was r b) s = s

@@ -1,5 +1,6 @@
 -- What a call makes of one of a node's sessions: of the session itself, and of all of them by number.
-use Rattle.std.specs.Prelude.{◌≡◌, ◌≢◌, ◌&&◌, ℕ, not, Bool, false, if◌then◌else◌, Option, MatchOption, IfSome, List, map, option_map, string_bytes}
+use Rattle.std.specs.Prelude.{◌≡◌, ◌≢◌, ◌&&◌, ℕ, not, Bool, false, if◌then◌else◌, Option, MatchOption, IfSome, List}
+use Rattle.std.specs.Prelude.{map, option_map, string_bytes}
 use Rattle.std.specs.declared.alloc.Global.{Global}
 use Rattle.std.specs.declared.string.String.{String}
 use Rattle.cf_protocol.specs.Datum.{Placed}
@@ -71,7 +72,8 @@ Tells refused notes old new = SaysAll refused plain notes (state_of old) (state_
 
 -- it met a delivery
 abbrev pub IsBrought : Bool → List ℕ → List ℕ → Placed → Session → Session → Type 0
-IsBrought refused c e p old new = Serves refused (delivering p) c (comes (delivering p) c (at_offset e p)) (state_of old) (state_of new)
+IsBrought refused c e p old new =
+    Serves refused (delivering p) c (comes (delivering p) c (at_offset e p)) (state_of old) (state_of new)
 
 abbrev pub fate_brought : List ℕ → List ℕ → Placed → Session → Session → Fate
 fate_brought c e p old new = fate_of c (at_offset e p) (state_of old) (state_of new)
@@ -95,7 +97,8 @@ FinishesSession refused c old new = FinishesAt refused c ((state_of old).subs c)
 -- the channel's subscription is answered where it is ready, and else nothing changes
 abbrev pub AnswersTo : Option Answered → List ℕ → Session → Session → Type 0
 AnswersTo answered c old new =
-    MatchOption answered ((state_of new ≡ state_of old) × (is_ready ((state_of old).subs c) ≡ false)) (λ a. IsAnswered a c (state_of old) (state_of new))
+    MatchOption answered ((state_of new ≡ state_of old) × (is_ready ((state_of old).subs c) ≡ false))
+    (λ a. IsAnswered a c (state_of old) (state_of new))
 
 -- ---- the session of a number
 
@@ -125,4 +128,5 @@ FinishesIn k step c old new = MeetsIn k (InState (FinishesAt step.refused c (sub
 
 -- its channels are off after as this fate at channel c says
 abbrev pub EndsIn : ℕ → Fate → List ℕ → Places → Places → Type 0
-EndsIn k f c old new = (d : List ℕ) → is_off (sub_in (attached_in new k) d) ≡ off_after f c d (is_off (sub_in (attached_in old k) d))
+EndsIn k f c old new =
+    (d : List ℕ) → is_off (sub_in (attached_in new k) d) ≡ off_after f c d (is_off (sub_in (attached_in old k) d))

@@ -1,5 +1,6 @@
--- How a session speaks in notes: what it says stands in positions, with no data, and of what came before a reply it keeps the
--- positions alone. A note weighs as much as its one written text, by the publication lists; a close has no weight.
+-- How a session speaks in notes: what it says stands in positions, with no data, and of what came before a reply it
+-- keeps the positions alone. A note weighs as much as its one written text, by the publication lists; a close has no
+-- weight.
 use Rattle.std.specs.Prelude.{ℕ, zero, suc, List, [], ◌∷◌, length}
 use Rattle.cf_protocol.specs.Note.{Lists, Note, Reply, Pub, End, PingDue, Close}
 use Rattle.cf_protocol.specs.Position.{Position}

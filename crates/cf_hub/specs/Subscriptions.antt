@@ -1,5 +1,6 @@
 -- A session's subscriptions as the code has them, and as the definitions have them.
-use Rattle.std.specs.Prelude.{◌≡◌, ◌⊎◌, ◌-◌, ℕ, List, [], length, true, Option, Some, None, option_map, map, string_bytes, Box}
+use Rattle.std.specs.Prelude.{◌≡◌, ◌⊎◌, ◌-◌, ℕ, List, [], length, true, Option, Some, None, option_map, map}
+use Rattle.std.specs.Prelude.{string_bytes, Box}
 use Rattle.indexmap.specs.IndexMap.{IndexMap, get_by_text, keys}
 use Rattle.std.specs.Map.{update}
 use Rattle.std.specs.Str.{bytes_eq}
@@ -41,12 +42,18 @@ progress_at m c = in_box (get_by_text m c)
 -- what a read of the stream found
 abbrev pub reading_of : Recovery → Reading
 reading_of r =
-    record { epoch = r.position.epoch; low = r.position.offset - length r.publications.items; top = r.position.offset; recovered = r.recovered }
+    record {
+      epoch = r.position.epoch;
+      low = r.position.offset - length r.publications.items;
+      top = r.position.offset;
+      recovered = r.recovered;
+    }
 
 abbrev pub sub_of : Option Progress → Subscription Held
 sub_of None = Off
 sub_of (Some (code.Asked id since waiting)) = Asked id since (held waiting [])
-sub_of (Some (code.Ready id was recovery waiting)) = Ready id was (reading_of recovery) (held waiting recovery.publications.items)
+sub_of (Some (code.Ready id was recovery waiting)) =
+    Ready id was (reading_of recovery) (held waiting recovery.publications.items)
 sub_of (Some (code.On at mark)) = On at mark
 
 -- new has w at the channel, and elsewhere what old has

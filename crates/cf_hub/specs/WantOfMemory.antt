@@ -1,6 +1,7 @@
 -- What a call makes of a session for which memory was refused.
 use Rattle.std.specs.Prelude.{◌≡◌, ◌⊎◌, ⊤, Bool, true, false, Option, Some, None, List, ◌++◌, ℕ}
-use Rattle.cf_hub.specs.SessionState.{Subscription, Off, Asked, Ready, On, SessionState, Wording, closes, says, put_sub, is_unfinished, no_memory}
+use Rattle.cf_hub.specs.SessionState.{Subscription, Off, Asked, Ready, On, SessionState, Wording, closes, says}
+use Rattle.cf_hub.specs.SessionState.{put_sub, is_unfinished, no_memory}
 
 -- the session was open, and is closed with this note
 pub record ClosesWith {B N : Type 0} (n : N) (a b : SessionState B N) : Type 0 where
@@ -18,13 +19,16 @@ pub record GivesUp {B N : Type 0} (w : Wording B N) (c : List ℕ) (a b : Sessio
   pub waits : is_unfinished (a.subs c) ≡ true
   pub given_up : b ≡ put_sub c (without_buffer w (a.subs c)) a
 
--- b is what the move makes of a; or memory was refused for this session, and in place of the move it is closed for want of it,
--- or what came for the channel is given up
-abbrev pub Serves : {B N : Type 0} → Bool → Wording B N → List ℕ → (SessionState B N → SessionState B N) → SessionState B N → SessionState B N → Type 0
+-- b is what the move makes of a; or memory was refused for this session, and in place of the move it is closed for
+-- want of it, or what came for the channel is given up
+abbrev pub Serves : {B N : Type 0} → Bool → Wording B N → List ℕ → (SessionState B N → SessionState B N)
+    → SessionState B N → SessionState B N → Type 0
 Serves refused w c move a b = (b ≡ move a) ⊎ ((refused ≡ true) × (ClosesWith (w.close no_memory) a b ⊎ GivesUp w c a b))
 
--- b is what the move makes of a; or memory was refused for this session, and in place of the move it is closed for want of it
-abbrev pub OrCloses : {B N : Type 0} → Bool → Wording B N → (SessionState B N → SessionState B N) → SessionState B N → SessionState B N → Type 0
+-- b is what the move makes of a; or memory was refused for this session, and in place of the move it is closed for
+-- want of it
+abbrev pub OrCloses : {B N : Type 0} → Bool → Wording B N → (SessionState B N → SessionState B N) → SessionState B N
+    → SessionState B N → Type 0
 OrCloses refused w move a b = (b ≡ move a) ⊎ ((refused ≡ true) × ClosesWith (w.close no_memory) a b)
 
 -- the first of these notes were said, and then the session was closed for want of memory

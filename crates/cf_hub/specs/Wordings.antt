@@ -23,7 +23,8 @@ held k ps = record { kept = k; missed = ps }
 -- ---- texts
 
 abbrev pub reply_text : ℕ → Bool → Reading → List Placed → List ℕ
-reply_text id was r ps = outgoing_text (Answer id (Subscribed (record { epoch = r.epoch; offset = r.top }) ps r.recovered was))
+reply_text id was r ps =
+    outgoing_text (Answer id (Subscribed (record { epoch = r.epoch; offset = r.top }) ps r.recovered was))
 
 abbrev pub push_text : List ℕ → Placed → List ℕ
 push_text c p = outgoing_text (Push c (Publication p))

@@ -22,7 +22,9 @@ Apart (object ps) r = ⊤
 -- these values up to the end, and where they stand
 abbrev pub Values : List Tree → List Place → List ℕ → Type 0
 Values [] places s = (places ≡ []) × Space s []
-Values (t ∷ ts) places s = (s1 s2 : List ℕ) × (others : List Place) × Space s s1 × Value t s1 s2 × Apart t s2 × Values ts others s2 × (places ≡ (length s1, length s2) ∷ others)
+Values (t ∷ ts) places s =
+    (s1 s2 : List ℕ) × (others : List Place) × Space s s1 × Value t s1 s2 × Apart t s2 × Values ts others s2
+    × (places ≡ (length s1, length s2) ∷ others)
 
 -- the text is a frame of these values
 abbrev pub IsFrame : List ℕ → List Tree → Type 0
@@ -35,7 +37,9 @@ frame_depth (t ∷ ts) = max (depth t) (frame_depth ts)
 
 -- a text that a frame begins with, but no frame whose values nest no deeper than is read
 abbrev pub OnlyDeepFrame : List ℕ → Type 0
-OnlyDeepFrame start = ((rest : List ℕ) × (ts : List Tree) × IsFrame (start ++ rest) ts) × ((rest : List ℕ) (ts : List Tree) → IsFrame (start ++ rest) ts → max_depth < frame_depth ts)
+OnlyDeepFrame start =
+    ((rest : List ℕ) × (ts : List Tree) × IsFrame (start ++ rest) ts)
+    × ((rest : List ℕ) (ts : List Tree) → IsFrame (start ++ rest) ts → max_depth < frame_depth ts)
 
 -- some beginning of the text is one
 abbrev pub BeginsTooDeepFrame : List ℕ → Type 0
@@ -44,5 +48,6 @@ BeginsTooDeepFrame s = (n : ℕ) × OnlyDeepFrame (take n s)
 -- what each fault says of a text that is read as a frame
 abbrev pub RefusesFrame : List ℕ → Fault → Type 0
 RefusesFrame s (NotJson p) = (p ≤ length s) × ((ts : List Tree) → IsFrame s ts → ⊥) × (BeginsTooDeepFrame s → ⊥)
-RefusesFrame s (TooDeep p) = (p ≤ length s) × ((ts : List Tree) → IsFrame s ts → max_depth < frame_depth ts) × BeginsTooDeepFrame s
+RefusesFrame s (TooDeep p) =
+    (p ≤ length s) × ((ts : List Tree) → IsFrame s ts → max_depth < frame_depth ts) × BeginsTooDeepFrame s
 RefusesFrame s Memory = ⊤

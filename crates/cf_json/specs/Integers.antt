@@ -1,5 +1,6 @@
 -- Whole numbers, by their spelling.
-use Rattle.std.specs.Prelude.{◌^◌, ◌==◌, ℕ, ℤ, pos, negsuc, neg_ℤ, nat_lt, List, [], ◌∷◌, Bool, if◌then◌else◌, Option, Some, None, option_map, decimal}
+use Rattle.std.specs.Prelude.{◌^◌, ◌==◌, ℕ, ℤ, pos, negsuc, neg_ℤ, nat_lt, List, [], ◌∷◌, Bool, if◌then◌else◌, Option}
+use Rattle.std.specs.Prelude.{Some, None, option_map, decimal}
 use Rattle.std.specs.Str.{bytes_eq}
 use Rattle.std.specs.Str.Parse.{digits_value}
 

@@ -3,8 +3,8 @@ use Rattle.std.specs.Prelude.{◌≡◌, ◌+◌, ◌≤◌, ℕ, List, ◌++◌
 use mathlib.Core.List.{IsPrefix}
 use Rattle.atomic_table.specs.Seated.{TableId}
 
--- what a clause sees of an end: the link, its capacity, what this end has sent or received, and what it was told of the other
--- end: the receiver how that which was sent begins, the sender how that which was received begins
+-- what a clause sees of an end: the link, its capacity, what this end has sent or received, and what it was told of
+-- the other end: the receiver how that which was sent begins, the sender how that which was received begins
 pub record End (T : Type 0) : Type 0 where
   pub link : TableId
   pub capacity : ℕ

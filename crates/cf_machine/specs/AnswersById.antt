@@ -1,4 +1,5 @@
--- A reply's text has an id and no channel. It needs none: an answer under the id of an ask that is out is for the channel that asks.
+-- A reply's text has an id and no channel. It needs none: an answer under the id of an ask that is out is for the
+-- channel that asks.
 use Rattle.std.specs.Prelude.{◌≡◌, ℕ, List, [], ◌∷◌}
 use Rattle.cf_protocol.specs.Note.{Note, Reply, Fails}
 use Rattle.cf_client.specs.ClientState.{Mode, Asking}

@@ -18,7 +18,8 @@ abbrev pub if_same : Bool → Type 0 → Type 0 → Type 0
 if_same true A B = A
 if_same false A B = B
 
--- The publications of c that are coming follow p one by one, up to where the node's side stands, or to an end or a close.
+-- The publications of c that are coming follow p one by one, up to where the node's side stands, or to an end or a
+-- close.
 abbrev pub Lead : List ℕ → Position → List Note → Sub → Type 0
 Lead c p [] (On q mark) = p ≡ q
 Lead c p [] s = ⊥

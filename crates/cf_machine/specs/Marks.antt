@@ -10,7 +10,8 @@ use Rattle.cf_machine.specs.PublicationList.{opened}
 use Rattle.cf_machine.specs.Session.{Sub}
 use Rattle.cf_machine.specs.World.{World, on_node}
 use Rattle.cf_machine.specs.LooseRun.{Happening, Scheduled, SendAsk, SendAskFrom, SendLeave, loosely_allows, befalls}
-use Rattle.cf_machine.specs.Trace.{Item, Subscribed as ToldSubscribed, Published as ToldPublished, Resubscribing, Refused, Listed, Closed, Entry}
+use Rattle.cf_machine.specs.Trace.{Item, Subscribed as ToldSubscribed, Published as ToldPublished, Resubscribing}
+use Rattle.cf_machine.specs.Trace.{Refused, Listed, Closed, Entry}
 
 pub data Mark : Type 0 where
   -- it asks: from its last position, or from none
@@ -53,7 +54,8 @@ read_marks t s = []
 abbrev pub event_marks : List ℕ → List ℕ → World → Event → List Mark
 event_marks x c w (Ask y d) = only x y (only c d (Asks false ∷ []))
 event_marks x c w (AskFrom y d) = only x y (only c d (Asks true ∷ []))
-event_marks x c w (Read y d) = only x y (only c d (read_marks ((w.links y).session.subs d) ((opened d w.broker).streams d)))
+event_marks x c w (Read y d) =
+    only x y (only c d (read_marks ((w.links y).session.subs d) ((opened d w.broker).streams d)))
 event_marks x c w (Break y) = only x y (Stops ∷ [])
 event_marks x c w (Leave y d) = only x y (only c d (Stops ∷ []))
 event_marks x c w (Restart n) = if on_node n (w.links x).node then Stops ∷ [] else []

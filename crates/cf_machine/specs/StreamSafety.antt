@@ -1,8 +1,9 @@
 -- STREAM SAFETY: what a trace may say, beside the happenings that it is of.
--- A reader has to believe the machine in four things, which are not in the trace: whether the condition of an event held, which
--- node a client is on, whether its subscription was asked for there, and the stream as its node read it (see Marks). All else is
--- read off the events themselves and the trace.
-use Rattle.std.specs.Prelude.{◌≡◌, ℕ, zero, suc, ◌-◌, ◌≤◌, ◌<◌, min, ◌↔◌, IsTrue, Bool, true, false, if◌then◌else◌, Option, Some, None, List, [], ◌∷◌, ◌++◌, ◌⊎◌, length, take}
+-- A reader has to believe the machine in four things, which are not in the trace: whether the condition of an event
+-- held, which node a client is on, whether its subscription was asked for there, and the stream as its node read it
+-- (see Marks). All else is read off the events themselves and the trace.
+use Rattle.std.specs.Prelude.{◌≡◌, ℕ, zero, suc, ◌-◌, ◌≤◌, ◌<◌, min, ◌↔◌, IsTrue, Bool, true, false, if◌then◌else◌}
+use Rattle.std.specs.Prelude.{Option, Some, None, List, [], ◌∷◌, ◌++◌, ◌⊎◌, length, take}
 use Rattle.cf_protocol.specs.Position.{Position}
 use Rattle.cf_protocol.specs.Note.{Lists}
 use Rattle.cf_stream.specs.StreamState.{StreamState, position_of}
@@ -26,7 +27,8 @@ AreNumbered low high (e ∷ es) = (low ≤ e.at) × (e.at ≤ high) × AreNumber
 
 -- An entry that tells a publication has the body that stands at its place, which is one that exists.
 abbrev pub IsTrueTo : Lists → Item → Type 0
-IsTrueTo lists (ToldPublished c p body) = (0 < p.offset) × (p.offset ≤ length (lists c p.epoch)) × (body ≡ body_at lists c p)
+IsTrueTo lists (ToldPublished c p body) =
+    (0 < p.offset) × (p.offset ≤ length (lists c p.epoch)) × (body ≡ body_at lists c p)
 IsTrueTo lists i = Unit {0}
 
 -- each entry, by what stood in the lists at its number
@@ -92,8 +94,9 @@ sets_out true (Some p) at = record { epoch = at.epoch; offset = p.offset }
 sets_out true None at = at
 sets_out false old at = at
 
--- The place after which the next Published has to come: that of the Published before it, or where the subscription set out.
--- None before the first Subscribed, after the client asks, and after it was told of an end or a close, left, broke or was restarted.
+-- The place after which the next Published has to come: that of the Published before it, or where the subscription
+-- set out. None before the first Subscribed, after the client asks, and after it was told of an end or a close, left,
+-- broke or was restarted.
 abbrev pub run_of : List Mark → Option Position
 run_of [] = None
 run_of (Published at ∷ ms) = Some at
@@ -120,7 +123,8 @@ Follows (Some p) at = at ≡ next p
 -- UNBROKEN: wherever a Published stands, it comes right after the place before it.
 abbrev pub Unbroken : List (List Mark) → Type 0
 Unbroken history =
-    (past after : List Mark) (at : Position) → all_of history ≡ onto past (Published at ∷ after) → Follows (run_of past) at
+    (past after : List Mark) (at : Position) → all_of history ≡ onto past (Published at ∷ after)
+    → Follows (run_of past) at
 
 -- n places that follow one
 abbrev pub places : Position → ℕ → List Mark
@@ -132,7 +136,8 @@ abbrev pub all_places : Option Position → Position → List Mark
 all_places None at = []
 all_places (Some p) at = places p (at.offset - p.offset)
 
--- RECOVERED RUN: a recovered Subscribed is followed, in the same event, by exactly the places from the old position to its own.
+-- RECOVERED RUN: a recovered Subscribed is followed, in the same event, by exactly the places from the old position
+-- to its own.
 abbrev pub RecoveredRun : List (List Mark) → Type 0
 RecoveredRun history =
     (before after : List (List Mark)) (ms past more : List Mark) (at : Position)
@@ -142,8 +147,8 @@ RecoveredRun history =
     → more ≡ all_places (old_position past) at
 
 -- The stream is of the old position's epoch and held everything after it, within the limit of one reply.
--- Nothing here keeps the old offset from being above the top: `-` stops at 0, and this then holds of a full stream. A machine
--- that says recovered only where the old offset is not above the top so has to prove that it never is.
+-- Nothing here keeps the old offset from being above the top: `-` stops at 0, and this then holds of a full stream. A
+-- machine that says recovered only where the old offset is not above the top so has to prove that it never is.
 abbrev pub StillHeld : Option Position → StreamState → Type 0
 StillHeld None s = ⊥
 StillHeld (Some p) s = (p.epoch ≡ s.epoch) × (s.top - p.offset ≤ min s.held most_in_reply)
@@ -153,8 +158,9 @@ abbrev pub IsHonest : Option Position → Option StreamState → Bool → Positi
 IsHonest old None recovered at = ⊥
 IsHonest old (Some found) recovered at = (IsTrue recovered ↔ StillHeld old found) × (at ≡ position_of found)
 
--- HONEST RECOVERY: a Subscribed stands behind a read made for the ask that it answers, and says recovered exactly where the
--- stream then still held everything since the old position; and it gives the position at which that read found the stream.
+-- HONEST RECOVERY: a Subscribed stands behind a read made for the ask that it answers, and says recovered exactly
+-- where the stream then still held everything since the old position; and it gives the position at which that read
+-- found the stream.
 abbrev pub HonestRecovery : List (List Mark) → Type 0
 HonestRecovery history =
     (past after : List Mark) (recovered : Bool) (at : Position)

@@ -1,8 +1,10 @@
 -- What waits at a node to be told: readings of streams as they stand over the publication lists.
 use Rattle.std.specs.Prelude.{◌≡◌, ℕ, ◌+◌, ◌≤◌, false, List, length}
-use Rattle.cf_protocol.specs.Note.{Lists, Reading, Note, Reply, Pub, End, Fails, Put as Accepted, Left, Listed, PingDue, Close}
+use Rattle.cf_protocol.specs.Note.{Lists, Reading, Note, Reply, Pub, End, Fails, Put as Accepted, Left, Listed}
+use Rattle.cf_protocol.specs.Note.{PingDue, Close}
 
--- It ends within the list of its epoch, it begins no later than it ends, and where it didn't recover it begins where it ends.
+-- It ends within the list of its epoch, it begins no later than it ends, and where it didn't recover it begins where
+-- it ends.
 abbrev pub IsReadingOf : Lists → List ℕ → Reading → Type 0
 IsReadingOf lists c r = (r.low ≤ r.top) × (r.top ≤ length (lists c r.epoch)) × (r.recovered ≡ false → r.low ≡ r.top)
 

@@ -1,8 +1,9 @@
--- What an application is told when a note reaches its client, and so the trace of a run. A body is the datum that stands at
--- the publication's place at that moment.
+-- What an application is told when a note reaches its client, and so the trace of a run. A body is the datum that
+-- stands at the publication's place at that moment.
 use Rattle.std.specs.Prelude.{ℕ, zero, suc, ◌-◌, ◌==◌, ◌||◌, Bool, false, if◌then◌else◌, List, [], ◌∷◌, ◌++◌}
 use Rattle.cf_protocol.specs.Position.{Position}
-use Rattle.cf_protocol.specs.Note.{Lists, Reading, Note, Reply, Pub, End, Fails, Put as Accepted, Left, Listed as Listing, PingDue, Close, insufficient}
+use Rattle.cf_protocol.specs.Note.{Lists, Reading, Note, Reply, Pub, End, Fails, Put as Accepted, Left}
+use Rattle.cf_protocol.specs.Note.{Listed as Listing, PingDue, Close, insufficient}
 use Rattle.cf_recovery.specs.Verdict.{next}
 use Rattle.cf_client.specs.ClientState.{Client, Mode, Idle, Asking, Live, moved_on, read_to, is_out}
 use Rattle.cf_machine.specs.Config.{Config}

@@ -1,9 +1,11 @@
--- What the clients' applications got in a run. (Centrifugo's client protocol: subscribed, publication, unsubscribed and error events.)
+-- What the clients' applications got in a run. (Centrifugo's client protocol: subscribed, publication, unsubscribed
+-- and error events.)
 use Rattle.std.specs.Prelude.{ℕ, Bool, List}
 use Rattle.cf_protocol.specs.declared.position.Position.{Position}
 
 pub data Item : Type 0 where
-  -- a subscription stands at this position; whether its client asked from a position, and whether the stream held all between
+  -- a subscription stands at this position; whether its client asked from a position, and whether the stream held all
+  -- between
   Subscribed : (channel : List ℕ) → (was_recovering : Bool) → (recovered : Bool) → (position : Position) → Item
   -- a publication, at its place
   Published : (channel : List ℕ) → (position : Position) → (body : List ℕ) → Item

@@ -11,10 +11,12 @@ spaced (w ∷ v ∷ ws) = w ++ 32 ∷ spaced (v ∷ ws)
 
 -- how a subscription stands to what its client had
 abbrev pub answer_word : Bool → Bool → List ℕ
-answer_word was_recovering recovered = if was_recovering then (if recovered then codes "recovered" else codes "lost") else codes "fresh"
+answer_word was_recovering recovered =
+    if was_recovering then (if recovered then codes "recovered" else codes "lost") else codes "fresh"
 
 abbrev pub item_words : Item → List (List ℕ)
-item_words (Subscribed c was recovered p) = c ∷ codes "sub" ∷ p.epoch ∷ decimal p.offset ∷ answer_word was recovered ∷ []
+item_words (Subscribed c was recovered p) =
+    c ∷ codes "sub" ∷ p.epoch ∷ decimal p.offset ∷ answer_word was recovered ∷ []
 item_words (Published c p body) = c ∷ codes "pub" ∷ p.epoch ∷ decimal p.offset ∷ body ∷ []
 item_words (Resubscribing c code) = c ∷ codes "again" ∷ decimal code ∷ []
 item_words (Refused c code) = c ∷ codes "refused" ∷ decimal code ∷ []

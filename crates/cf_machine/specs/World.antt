@@ -1,5 +1,6 @@
 -- The broker, the nodes and all clients.
-use Rattle.std.specs.Prelude.{ℕ, suc, ◌+◌, ◌==◌, ◌&&◌, ◌||◌, not, Bool, false, if◌then◌else◌, is_some, Option, Some, None, List, [], ◌∷◌}
+use Rattle.std.specs.Prelude.{ℕ, suc, ◌+◌, ◌==◌, ◌&&◌, ◌||◌, not, Bool, false, if◌then◌else◌, is_some, Option, Some}
+use Rattle.std.specs.Prelude.{None, List, [], ◌∷◌}
 use Rattle.cf_protocol.specs.Names.{with}
 use Rattle.cf_hub.specs.SessionState.{is_off, is_unfinished}
 use Rattle.cf_machine.specs.PublicationList.{Broker, new_broker}
@@ -68,6 +69,7 @@ abbrev pub any_unfinished : (List ℕ → Sub) → List (List ℕ) → Bool
 any_unfinished subs [] = false
 any_unfinished subs (c ∷ cs) = is_unfinished (subs c) || any_unfinished subs cs
 
--- A client is ready where it is connected and its session has no unfinished subscription: commands are carried out in order.
+-- A client is ready where it is connected and its session has no unfinished subscription: commands are carried out in
+-- order.
 abbrev pub is_ready : ClientLink → Bool
 is_ready l = is_some l.node && not (any_unfinished l.session.subs l.channels)

@@ -1,4 +1,5 @@
--- The rule of a shard's word: what holds of the word and of all views between any two steps. (This project's own profile.)
+-- The rule of a shard's word: what holds of the word and of all views between any two steps. (This project's own
+-- profile.)
 use Rattle.std.specs.Prelude.{◌≡◌, ℕ, ◌+◌, true, List, [], ◌∷◌, length}
 use mathlib.Core.Option.{some}
 use mathlib.Core.List.{IsPrefix}
@@ -12,8 +13,8 @@ abbrev pub shares : List View → ℕ
 shares [] = 0
 shares (v ∷ vs) = v.share + shares vs
 
--- what one view has to do with the log: only the owner's seat owns, and has it whole; what a view has seen is a beginning
--- of what it was told of, and that is one of the log
+-- what one view has to do with the log: only the owner's seat owns, and has it whole; what a view has seen is a
+-- beginning of what it was told of, and that is one of the log
 pub record Fits (seat : ℕ) (log : List Entry) (id : ℕ) (v : View) : Type 0 where
   pub owns : v.owns ≡ true → (id ≡ seat) × (v.log ≡ log)
   pub seen : IsPrefix v.log v.found

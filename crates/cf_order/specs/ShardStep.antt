@@ -23,7 +23,12 @@ with_share v n = record v { share = n }
 
 -- a join: a pass takes in another
 abbrev pub joined : View → View → View
-joined v w = record v { log = longer v.log w.log; met = shorter v.found w.found; found = longer v.found w.found; share = v.share + w.share }
+joined v w = record v {
+  log = longer v.log w.log;
+  met = shorter v.found w.found;
+  found = longer v.found w.found;
+  share = v.share + w.share;
+}
 
 -- a join: the owner takes in a pass, and compares what that was told of with its own log
 abbrev pub compared : View → View → View

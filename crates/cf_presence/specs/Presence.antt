@@ -1,6 +1,7 @@
 -- Who is there: for each channel, a map from client id to the client's user and the moment of its last enter.
 -- Source: Centrifugo, presence; that an entry goes after 60 seconds is this project's own profile.
-use Rattle.std.specs.Prelude.{◌≡◌, IsSomeAnd, ℕ, ◌+◌, ◌==◌, List, map, filter, Bool, not, nat_le, refl, if◌then◌else◌, unwrap_or}
+use Rattle.std.specs.Prelude.{◌≡◌, IsSomeAnd, ℕ, ◌+◌, ◌==◌, List, map, filter, Bool, not, nat_le, refl, if◌then◌else◌}
+use Rattle.std.specs.Prelude.{unwrap_or}
 use Rattle.std.specs.Coded.{Coded, code_by, coded×, coded_list, coded_ℕ}
 use Rattle.std.specs.Ordering.{nat_cmp}
 use Rattle.std.specs.Cmp.Lexicographic.{slice_cmp}
@@ -22,7 +23,9 @@ abbrev pub Channels : Type 0
 Channels = fin.FinMap (slice_cmp nat_cmp) Clients
 
 abbrev pub coded_seen : Coded Seen
-coded_seen = code_by (List ℕ × ℕ) (coded× (coded_list coded_ℕ) coded_ℕ) (λ s. (s.user, s.at)) (λ p. record { user = p.0; at = p.1 }) (λ _. refl)
+coded_seen =
+    code_by (List ℕ × ℕ) (coded× (coded_list coded_ℕ) coded_ℕ) (λ s. (s.user, s.at))
+    (λ p. record { user = p.0; at = p.1 }) (λ _. refl)
 
 abbrev pub coded_clients : Coded Clients
 coded_clients = fin.code (coded_list coded_ℕ) coded_seen

@@ -1,7 +1,9 @@
 -- What is looked at before a command is carried out, in this order, and the error code of each refusal.
 -- (Centrifugo's client protocol: error codes. The order and the limits are this project's own profile.)
-use Rattle.std.specs.Prelude.{ℕ, ◌==◌, nat_lt, ◌||◌, not, Bool, true, false, if◌then◌else◌, Option, Some, None, List, [], ◌∷◌, length, is_some}
-use Rattle.cf_protocol.specs.Request.{Data, Absent, TooDeep, Body, Request, Pong, Connect, Subscribe, Unsubscribe, Publish, Presence, PresenceStats, History, Ping, Send, Other}
+use Rattle.std.specs.Prelude.{ℕ, ◌==◌, nat_lt, ◌||◌, not, Bool, true, false, if◌then◌else◌, Option, Some, None, List}
+use Rattle.std.specs.Prelude.{[], ◌∷◌, length, is_some}
+use Rattle.cf_protocol.specs.Request.{Data, Absent, TooDeep, Body, Request, Pong, Connect, Subscribe, Unsubscribe}
+use Rattle.cf_protocol.specs.Request.{Publish, Presence, PresenceStats, History, Ping, Send, Other}
 use Rattle.cf_protocol.specs.Settings.{NamespaceTable, settings_of}
 use Rattle.cf_protocol.specs.declared.settings.Settings.{Settings}
 use Rattle.cf_protocol.specs.declared.codes.ErrorCode.{ErrorCode}
@@ -70,7 +72,8 @@ module _ (t : NamespaceTable) where
   abbrev pub checks : Request → List Check
   checks (Subscribe c since) = well_named c ∷ set_up c ∷ []
   checks (Unsubscribe c) = well_named c ∷ []
-  checks (Publish c key d) = well_named c ∷ (is_bad_key key || is_bad_data d, error.BadRequest) ∷ set_up c ∷ may_publish c ∷ []
+  checks (Publish c key d) =
+      well_named c ∷ (is_bad_key key || is_bad_data d, error.BadRequest) ∷ set_up c ∷ may_publish c ∷ []
   checks (Presence c) = well_named c ∷ set_up c ∷ keeps_presence c ∷ []
   checks (PresenceStats c) = well_named c ∷ set_up c ∷ keeps_presence c ∷ []
   checks (History c limit since reverse) = well_named c ∷ set_up c ∷ may_list c ∷ (reverse, error.NotAvailable) ∷ []

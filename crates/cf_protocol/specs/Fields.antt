@@ -1,6 +1,7 @@
 -- Reading the members of an object by their keys.
 -- (RFC 8259, section 4. What an absent member counts as, and the ranges, are this project's own profile.)
-use Rattle.std.specs.Prelude.{ℕ, nat_le, ℤ, pos, negsuc, int_le, List, [], ◌∷◌, ◌++◌, Bool, false, ◌&&◌, if◌then◌else◌, Option, Some, None, option_map, option_to_list, option_and_then, codes}
+use Rattle.std.specs.Prelude.{ℕ, nat_le, ℤ, pos, negsuc, int_le, List, [], ◌∷◌, ◌++◌, Bool, false, ◌&&◌}
+use Rattle.std.specs.Prelude.{if◌then◌else◌, Option, Some, None, option_map, option_to_list, option_and_then, codes}
 use Rattle.std.specs.Str.{bytes_eq}
 use Prim.Native.String.{String as Name}
 use Rattle.cf_json.specs.Grammar.{Tree, null, boolean, number, text as string, array, object}
@@ -113,7 +114,9 @@ object_or_none f r k = read_or None (λ t. option_map Some (object_as f t)) (pre
 
 -- what is no epoch is read as the empty one
 abbrev pub position : Fields → Option Position
-position r = text r "epoch" >>= λ epoch. whole max_u64 r "offset" >>= λ offset. Some (record { epoch = epoch_of epoch; offset = offset })
+position r =
+    text r "epoch" >>= λ epoch. whole max_u64 r "offset" >>= λ offset. Some
+    (record { epoch = epoch_of epoch; offset = offset })
 
 -- ---- one of several keys
 

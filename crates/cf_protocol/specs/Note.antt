@@ -2,10 +2,11 @@
 use Rattle.std.specs.Prelude.{ℕ, zero, suc, ◌-◌, List, Bool, Option, Some, None, option_map, slice_get, take, drop}
 use Rattle.cf_protocol.specs.Position.{Position}
 use Rattle.cf_protocol.specs.Datum.{Datum, Placed, numbered}
-use Rattle.cf_protocol.specs.Outgoing.{Outgoing, Ping, Answer, Push, Subscribed, Unsubscribed, Published, Past, Failed, Publication, Unsubscribe}
+use Rattle.cf_protocol.specs.Outgoing.{Outgoing, Ping, Answer, Push, Subscribed, Unsubscribed, Published, Past}
+use Rattle.cf_protocol.specs.Outgoing.{Failed, Publication, Unsubscribe}
 
--- What a read of a stream answers: its epoch and top, and where it was recovered the offset from which it was, else its top.
--- (Centrifugo, history and recovery; the exact rule is this project's own profile.)
+-- What a read of a stream answers: its epoch and top, and where it was recovered the offset from which it was, else
+-- its top. (Centrifugo, history and recovery; the exact rule is this project's own profile.)
 pub record Reading : Type 0 where
   pub epoch : List ℕ
   pub low : ℕ
@@ -51,7 +52,10 @@ insufficient = 2500
 -- What the note says with the data filled in; None for a close, which is no text, and for a place that is not listed.
 abbrev pub outgoing_of : Lists → Note → Option Outgoing
 outgoing_of lists (Reply c id was r) =
-    Some (Answer id (Subscribed (record { epoch = r.epoch; offset = r.top }) (placed_from (lists c r.epoch) r.low (r.top - r.low)) r.recovered was))
+    Some
+    (Answer id
+    (Subscribed (record { epoch = r.epoch; offset = r.top }) (placed_from (lists c r.epoch) r.low
+    (r.top - r.low)) r.recovered was))
 outgoing_of lists (Pub c p) = option_map (λ d. Push c (Publication d)) (placed_at (lists c p.epoch) p.offset)
 outgoing_of lists (End c) = Some (Push c (Unsubscribe insufficient))
 outgoing_of lists (Fails c id code) = Some (Answer id (Failed code))

@@ -12,7 +12,8 @@ Users = FinMap (slice_cmp nat_cmp) (List ℕ)
 -- the result of a command
 pub data Outcome : Type 0 where
   Connected : (client : List ℕ) → Outcome
-  Subscribed : (position : Position) → (publications : List Placed) → (recovered : Bool) → (was_recovering : Bool) → Outcome
+  Subscribed : (position : Position) → (publications : List Placed) → (recovered : Bool) → (was_recovering : Bool)
+      → Outcome
   Unsubscribed : Outcome
   Published : Outcome
   -- the user of each client, by the client's id

@@ -1,5 +1,6 @@
 -- Commands and replies that their texts say again: read, the text of each gives it back.
--- The numbers are within what the protocol carries, and each body is the compact text of a value. `P` is what is said of the bodies.
+-- The numbers are within what the protocol carries, and each body is the compact text of a value. `P` is what is said
+-- of the bodies.
 use Rattle.std.specs.Prelude.{◌≡◌, ◌≤◌, ℕ, IsTrue, List, [], length, Option, Some, None, ⊤}
 use Rattle.std.specs.List.{AllByRecursion}
 use Rattle.cf_json.specs.Grammar.{Tree, Value, depth}
@@ -9,7 +10,9 @@ use Rattle.cf_protocol.specs.Position.{Position}
 use Rattle.cf_protocol.specs.Datum.{Who, Placed}
 use Rattle.cf_protocol.specs.Request as request
 use Rattle.cf_protocol.specs.Request.{Data, Absent, TooDeep, Body, Request, Command}
-use Rattle.cf_protocol.specs.Outgoing.{Outcome, Connected, Subscribed, Unsubscribed, Published, Present, Counted, Past, Pinged, Failed, Pushed, Publication, Unsubscribe, Outgoing, Ping, Answer, Push}
+use Rattle.cf_protocol.specs.Outgoing.{Outcome, Connected, Subscribed, Unsubscribed, Published, Present, Counted}
+use Rattle.cf_protocol.specs.Outgoing.{Past, Pinged, Failed, Pushed, Publication, Unsubscribe, Outgoing, Ping, Answer}
+use Rattle.cf_protocol.specs.Outgoing.{Push}
 use Rattle.cf_protocol.specs.Fields.{is_limit, max_u32, max_u64}
 use Rattle.cf_protocol.specs.Command.{max_data_depth}
 
@@ -69,7 +72,8 @@ IsRegularRequest P id (request.Unsubscribe channel) = IsCode id
 IsRegularRequest P id (request.Publish channel key body) = IsCode id × IsData P body
 IsRegularRequest P id (request.Presence channel) = IsCode id
 IsRegularRequest P id (request.PresenceStats channel) = IsCode id
-IsRegularRequest P id (request.History channel limit since reverse) = IsCode id × IsTrue (is_limit limit) × IsSince since
+IsRegularRequest P id (request.History channel limit since reverse) =
+    IsCode id × IsTrue (is_limit limit) × IsSince since
 IsRegularRequest P id request.Ping = IsCode id
 IsRegularRequest P id request.Send = id ≤ max_u32
 IsRegularRequest P id request.Other = IsCode id

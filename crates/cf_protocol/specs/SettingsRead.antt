@@ -1,5 +1,6 @@
 -- What the readers of a settings text answer, part by part.
-use Rattle.std.specs.Prelude.{◌≡◌, ◌≢◌, ℕ, ◌≤◌, ◌==◌, List, [], ◌∷◌, ◌++◌, count_by, ⊤, Option, Some, None, Result, Ok, Err}
+use Rattle.std.specs.Prelude.{◌≡◌, ◌≢◌, ℕ, ◌≤◌, ◌==◌, List, [], ◌∷◌, ◌++◌, count_by, ⊤, Option, Some, None, Result}
+use Rattle.std.specs.Prelude.{Ok, Err}
 use Rattle.std.specs.List.Sorted.{IsPermutation}
 use Rattle.std.specs.Fmt.{decimal}
 use Rattle.cf_protocol.specs.Settings.{entry_at}
@@ -52,7 +53,9 @@ HasMost b old = (s : Settings) → times b (letters_of s) ≤ times b (letters_o
 -- ---- entries
 
 -- a table has one entry more, which the text spells; Bad where each that it spells has a name that stands already
-abbrev pub Adds : {V : Type 0} → (List ℕ → List ℕ × V → Type 0) → List ℕ → List (List ℕ × V) → Result Unit ReadFault → List (List ℕ × V) → Type 0
-Adds {V} IsEntry text old (Ok done) new = (e : List ℕ × V) × IsEntry text e × (entry_at old e.0 ≡ None) × (new ≡ old ++ e ∷ [])
+abbrev pub Adds : {V : Type 0} → (List ℕ → List ℕ × V → Type 0) → List ℕ → List (List ℕ × V) → Result Unit ReadFault
+    → List (List ℕ × V) → Type 0
+Adds {V} IsEntry text old (Ok done) new =
+    (e : List ℕ × V) × IsEntry text e × (entry_at old e.0 ≡ None) × (new ≡ old ++ e ∷ [])
 Adds {V} IsEntry text old (Err Bad) new = (e : List ℕ × V) → IsEntry text e → entry_at old e.0 ≢ None
 Adds {V} IsEntry text old (Err Memory) new = ⊤

@@ -1,5 +1,6 @@
 -- The texts that set up namespaces and tokens. (This project's own format.)
-use Rattle.std.specs.Prelude.{◌≡◌, ◌≢◌, ℕ, Bool, ◌||◌, ◌&&◌, ◌==◌, nat_le, if◌then◌else◌, IsTrue, List, [], ◌++◌, map, length, codes, ⊤, Result, Ok, Err}
+use Rattle.std.specs.Prelude.{◌≡◌, ◌≢◌, ℕ, Bool, ◌||◌, ◌&&◌, ◌==◌, nat_le, if◌then◌else◌, IsTrue, List, [], ◌++◌, map}
+use Rattle.std.specs.Prelude.{length, codes, ⊤, Result, Ok, Err}
 use Rattle.std.specs.Char.{is_ascii_alphanumeric}
 use Rattle.std.specs.List.{AllZip, AllPairs, list_all, join_with_byte}
 use Rattle.std.specs.List.Sorted.{IsPermutation}
@@ -25,7 +26,8 @@ IsWord most s = IsTrue (is_word most s)
 -- ---- tables
 
 -- A table is spelled by entries parted by semicolons, in its order. No name stands in it twice.
-pub record IsTable {V : Type 0} (IsEntry : List ℕ → List ℕ × V → Type 0) (text : List ℕ) (table : List (List ℕ × V)) : Type 0 where
+pub record IsTable {V : Type 0} (IsEntry : List ℕ → List ℕ × V → Type 0) (text : List ℕ)
+    (table : List (List ℕ × V)) : Type 0 where
   pub entries : List (List ℕ)
   pub whole : text ≡ join_with_byte 59 entries
   pub each : AllZip IsEntry entries table
@@ -35,7 +37,9 @@ pub record IsTable {V : Type 0} (IsEntry : List ℕ → List ℕ × V → Type 0
 
 -- the letters of what is allowed: to publish, to ask for the history, to ask who is there
 abbrev pub letters_of : Settings → List ℕ
-letters_of s = (if s.publish then codes "p" else []) ++ (if s.history then codes "h" else []) ++ (if s.presence then codes "s" else [])
+letters_of s =
+    (if s.publish then codes "p" else []) ++ (if s.history then codes "h" else [])
+    ++ (if s.presence then codes "s" else [])
 
 -- SIZE,SECONDS,FLAGS, where the flags are these letters in any order. A number is written without leading zeros.
 abbrev pub IsSettings : List ℕ → Settings → Type 0
@@ -47,7 +51,8 @@ IsSettings text s =
 
 -- NAME=SETTINGS, where the name may be empty
 abbrev pub IsNamespace : List ℕ → List ℕ × Settings → Type 0
-IsNamespace text e = IsWord 32 e.0 × (settings : List ℕ) × IsSettings settings e.1 × (text ≡ e.0 ++ codes "=" ++ settings)
+IsNamespace text e =
+    IsWord 32 e.0 × (settings : List ℕ) × IsSettings settings e.1 × (text ≡ e.0 ++ codes "=" ++ settings)
 
 -- the text sets up this table of namespaces, of which there is at least one
 abbrev pub IsNamespaces : List ℕ → NamespaceTable → Type 0

@@ -29,10 +29,12 @@ shown_request code_request.Pong = request.Pong
 shown_request (code_request.Connect token) = request.Connect (string_bytes token)
 shown_request (code_request.Subscribe channel since) = request.Subscribe (string_bytes channel) since
 shown_request (code_request.Unsubscribe channel) = request.Unsubscribe (string_bytes channel)
-shown_request (code_request.Publish channel key body) = request.Publish (string_bytes channel) (string_bytes key) (shown_data body)
+shown_request (code_request.Publish channel key body) =
+    request.Publish (string_bytes channel) (string_bytes key) (shown_data body)
 shown_request (code_request.Presence channel) = request.Presence (string_bytes channel)
 shown_request (code_request.PresenceStats channel) = request.PresenceStats (string_bytes channel)
-shown_request (code_request.History channel limit since reverse) = request.History (string_bytes channel) limit since reverse
+shown_request (code_request.History channel limit since reverse) =
+    request.History (string_bytes channel) limit since reverse
 shown_request code_request.Ping = request.Ping
 shown_request code_request.Send = request.Send
 shown_request code_request.Other = request.Other
@@ -46,7 +48,8 @@ shown_users users = from_entries (map (λ e. (string_bytes e.0, string_bytes e.1
 
 abbrev pub shown_outcome : CodeOutcome → outgoing.Outcome
 shown_outcome (code_outcome.Connected client) = outgoing.Connected (string_bytes client)
-shown_outcome (code_outcome.Subscribed position publications recovered was) = outgoing.Subscribed position publications.items recovered was
+shown_outcome (code_outcome.Subscribed position publications recovered was) =
+    outgoing.Subscribed position publications.items recovered was
 shown_outcome code_outcome.Unsubscribed = outgoing.Unsubscribed
 shown_outcome code_outcome.Published = outgoing.Published
 shown_outcome (code_outcome.Present users) = outgoing.Present (shown_users users)

@@ -1,5 +1,6 @@
 -- A text that is being written, and what each step adds to it.
-use Rattle.std.specs.Prelude.{◌≡◌, ℕ, ◌==◌, ◌&&◌, nat_le, not, List, [], ◌∷◌, ◌++◌, Bool, true, false, Option, Some, None, map, String, string_bytes}
+use Rattle.std.specs.Prelude.{◌≡◌, ℕ, ◌==◌, ◌&&◌, nat_le, not, List, [], ◌∷◌, ◌++◌, Bool, true, false, Option, Some}
+use Rattle.std.specs.Prelude.{None, map, String, string_bytes}
 use Rattle.std.specs.declared.alloc.Global.{Global}
 use Rattle.cf_json.specs.Grammar.{Tree}
 use Rattle.cf_json.specs.Compact.{key_text, first_text, more_text}

@@ -1,7 +1,9 @@
 -- The one text of a command, and of what goes out. (Centrifugo's client protocol, JSON form.)
 -- It is compact, its members stand in byte order of their keys, and those that say nothing are left out.
--- A body stands in it as it is, since a body is a compact text: here it is a leaf of the tree, and `body` is the leaf or tree of each.
-use Rattle.std.specs.Prelude.{ℕ, ◌==◌, ℤ, pos, negsuc, List, [], ◌∷◌, ◌++◌, map, Bool, true, if◌then◌else◌, Option, Some, None, codes, decimal}
+-- A body stands in it as it is, since a body is a compact text: here it is a leaf of the tree, and `body` is the leaf
+-- or tree of each.
+use Rattle.std.specs.Prelude.{ℕ, ◌==◌, ℤ, pos, negsuc, List, [], ◌∷◌, ◌++◌, map, Bool, true, if◌then◌else◌, Option}
+use Rattle.std.specs.Prelude.{Some, None, codes, decimal}
 use Rattle.std.specs.Fmt.{signed_decimal}
 use Rattle.std.specs.FinMap.{entries}
 use Prim.Native.String.{String as Name}
@@ -12,7 +14,9 @@ use Rattle.cf_protocol.specs.Position.{Position}
 use Rattle.cf_protocol.specs.Datum.{Who, Placed}
 use Rattle.cf_protocol.specs.Request as request
 use Rattle.cf_protocol.specs.Request.{Data, Absent, TooDeep, Body, Request, Command}
-use Rattle.cf_protocol.specs.Outgoing.{Users, Outcome, Connected, Subscribed, Unsubscribed, Published, Present, Counted, Past, Pinged, Failed, Pushed, Publication, Unsubscribe, Outgoing, Ping, Answer, Push}
+use Rattle.cf_protocol.specs.Outgoing.{Users, Outcome, Connected, Subscribed, Unsubscribed, Published, Present}
+use Rattle.cf_protocol.specs.Outgoing.{Counted, Past, Pinged, Failed, Pushed, Publication, Unsubscribe, Outgoing}
+use Rattle.cf_protocol.specs.Outgoing.{Ping, Answer, Push}
 use Rattle.cf_protocol.specs.Note.{Note, Lists, outgoing_of, insufficient}
 
 -- ---- members
@@ -79,7 +83,9 @@ info_or_none None = None
 info_or_none (Some w) = inner (info w)
 
 abbrev pub publication : (List ℕ → Tree) → Placed → Tree
-publication body p = object_of (("data" ⇒ Some (body p.datum.body)) ∷ ("info" ⇒ info_or_none p.datum.info) ∷ ("offset" ⇒ whole p.offset) ∷ [])
+publication body p =
+    object_of
+    (("data" ⇒ Some (body p.datum.body)) ∷ ("info" ⇒ info_or_none p.datum.info) ∷ ("offset" ⇒ whole p.offset) ∷ [])
 
 abbrev pub publications : (List ℕ → Tree) → List Placed → Option Tree
 publications body ps = list (map (publication body) ps)
@@ -105,14 +111,22 @@ channel_alone channel = object_of (("channel" ⇒ text channel) ∷ [])
 -- the request object stands also where it is empty
 abbrev pub command : (List ℕ → Tree) → ℕ → Request → List Member
 command body id request.Pong = []
-command body id (request.Connect token) = ("connect" ⇒ Some (object_of (("token" ⇒ text token) ∷ []))) ∷ ("id" ⇒ whole id) ∷ []
-command body id (request.Subscribe channel p) = ("id" ⇒ whole id) ∷ ("subscribe" ⇒ Some (object_of (("channel" ⇒ text channel) ∷ from p))) ∷ []
+command body id (request.Connect token) =
+    ("connect" ⇒ Some (object_of (("token" ⇒ text token) ∷ []))) ∷ ("id" ⇒ whole id) ∷ []
+command body id (request.Subscribe channel p) =
+    ("id" ⇒ whole id) ∷ ("subscribe" ⇒ Some (object_of (("channel" ⇒ text channel) ∷ from p))) ∷ []
 command body id (request.Unsubscribe channel) = ("id" ⇒ whole id) ∷ ("unsubscribe" ⇒ Some (channel_alone channel)) ∷ []
-command body id (request.Publish channel key d) = ("id" ⇒ whole id) ∷ ("publish" ⇒ Some (object_of (("channel" ⇒ text channel) ∷ ("data" ⇒ body_of body d) ∷ ("key" ⇒ text key) ∷ []))) ∷ []
+command body id (request.Publish channel key d) =
+    ("id" ⇒ whole id)
+    ∷ ("publish" ⇒ Some
+    (object_of (("channel" ⇒ text channel) ∷ ("data" ⇒ body_of body d) ∷ ("key" ⇒ text key) ∷ []))) ∷ []
 command body id (request.Presence channel) = ("id" ⇒ whole id) ∷ ("presence" ⇒ Some (channel_alone channel)) ∷ []
-command body id (request.PresenceStats channel) = ("id" ⇒ whole id) ∷ ("presence_stats" ⇒ Some (channel_alone channel)) ∷ []
+command body id (request.PresenceStats channel) =
+    ("id" ⇒ whole id) ∷ ("presence_stats" ⇒ Some (channel_alone channel)) ∷ []
 command body id (request.History channel limit p reverse) =
-    ("history" ⇒ Some (object_of (("channel" ⇒ text channel) ∷ ("limit" ⇒ signed limit) ∷ ("reverse" ⇒ flag reverse) ∷ ("since" ⇒ since p) ∷ []))) ∷ ("id" ⇒ whole id) ∷ []
+    ("history" ⇒ Some
+    (object_of (("channel" ⇒ text channel) ∷ ("limit" ⇒ signed limit) ∷ ("reverse" ⇒ flag reverse)
+    ∷ ("since" ⇒ since p) ∷ []))) ∷ ("id" ⇒ whole id) ∷ []
 command body id request.Ping = ("id" ⇒ whole id) ∷ ("ping" ⇒ Some (object_of [])) ∷ []
 command body id request.Send = ("id" ⇒ whole id) ∷ ("send" ⇒ Some (object_of [])) ∷ []
 command body id request.Other = ("id" ⇒ whole id) ∷ ("rpc" ⇒ Some (object_of [])) ∷ []
@@ -122,8 +136,10 @@ command body id request.Other = ("id" ⇒ whole id) ∷ ("rpc" ⇒ Some (object_
 -- the message of each error code
 abbrev pub message_of : ℕ → List ℕ
 message_of code =
-    if code == 100 then codes "internal server error" else if code == 102 then codes "unknown channel" else if code == 103 then codes "permission denied"
-    else if code == 105 then codes "already subscribed" else if code == 106 then codes "limit exceeded" else if code == 107 then codes "bad request"
+    if code == 100 then codes "internal server error" else if code == 102 then codes "unknown channel"
+    else if code == 103 then codes "permission denied"
+    else if code == 105 then codes "already subscribed" else if code == 106 then codes "limit exceeded"
+    else if code == 107 then codes "bad request"
     else if code == 108 then codes "not available" else if code == 112 then codes "unrecoverable position" else []
 
 -- the reason of each unsubscribe code
@@ -138,11 +154,13 @@ abbrev pub presence : Users → List Member
 presence users = ("presence" ⇒ inner (map client (entries users))) ∷ []
 
 abbrev pub connected : List ℕ → List Member
-connected id = ("client" ⇒ text id) ∷ ("ping" ⇒ whole 25) ∷ ("pong" ⇒ flag true) ∷ ("version" ⇒ text (codes "1.0.0")) ∷ []
+connected id =
+    ("client" ⇒ text id) ∷ ("ping" ⇒ whole 25) ∷ ("pong" ⇒ flag true) ∷ ("version" ⇒ text (codes "1.0.0")) ∷ []
 
 abbrev pub subscribed : (List ℕ → Tree) → Position → List Placed → Bool → Bool → List Member
 subscribed body p ps recovered was =
-    ("epoch" ⇒ text p.epoch) ∷ ("offset" ⇒ whole p.offset) ∷ ("positioned" ⇒ flag true) ∷ ("publications" ⇒ publications body ps)
+    ("epoch" ⇒ text p.epoch) ∷ ("offset" ⇒ whole p.offset) ∷ ("positioned" ⇒ flag true)
+    ∷ ("publications" ⇒ publications body ps)
     ∷ ("recoverable" ⇒ flag true) ∷ ("recovered" ⇒ flag recovered) ∷ ("was_recovering" ⇒ flag was) ∷ []
 
 abbrev pub counted : ℕ → ℕ → List Member
@@ -157,11 +175,13 @@ error code = ("code" ⇒ whole code) ∷ ("message" ⇒ text (message_of code)) 
 -- the result object stands also where it is empty
 abbrev pub reply : (List ℕ → Tree) → ℕ → Outcome → List Member
 reply body id (Connected client) = ("connect" ⇒ Some (object_of (connected client))) ∷ ("id" ⇒ whole id) ∷ []
-reply body id (Subscribed p ps recovered was) = ("id" ⇒ whole id) ∷ ("subscribe" ⇒ Some (object_of (subscribed body p ps recovered was))) ∷ []
+reply body id (Subscribed p ps recovered was) =
+    ("id" ⇒ whole id) ∷ ("subscribe" ⇒ Some (object_of (subscribed body p ps recovered was))) ∷ []
 reply body id Unsubscribed = ("id" ⇒ whole id) ∷ ("unsubscribe" ⇒ Some (object_of [])) ∷ []
 reply body id Published = ("id" ⇒ whole id) ∷ ("publish" ⇒ Some (object_of [])) ∷ []
 reply body id (Present users) = ("id" ⇒ whole id) ∷ ("presence" ⇒ Some (object_of (presence users))) ∷ []
-reply body id (Counted clients users) = ("id" ⇒ whole id) ∷ ("presence_stats" ⇒ Some (object_of (counted clients users))) ∷ []
+reply body id (Counted clients users) =
+    ("id" ⇒ whole id) ∷ ("presence_stats" ⇒ Some (object_of (counted clients users))) ∷ []
 reply body id (Past p ps) = ("history" ⇒ Some (object_of (past body p ps))) ∷ ("id" ⇒ whole id) ∷ []
 reply body id Pinged = ("id" ⇒ whole id) ∷ ("ping" ⇒ Some (object_of [])) ∷ []
 reply body id (Failed code) = ("error" ⇒ inner (error code)) ∷ ("id" ⇒ whole id) ∷ []

@@ -1,5 +1,6 @@
 -- What contracts see of the publications that wait for the reply to a subscribe, and what the calls do and answer.
--- (Centrifugo buffers them between subscribing and the reply; the limit, and that it gives them all up, are this project's own profile.)
+-- (Centrifugo buffers them between subscribing and the reply; the limit, and that it gives them all up, are this
+-- project's own profile.)
 use Rattle.std.specs.Prelude.{◌≡◌, ℕ, ◌||◌, Bool, true, false, if◌then◌else◌, List, [], ◌∷◌, length, map}
 use Rattle.std.specs.List.{All, Contains}
 use Rattle.cf_protocol.specs.Datum.{Datum, Placed, numbered}
@@ -33,7 +34,8 @@ nothing_kept = record { arrived = []; overflow = false; short = false }
 abbrev pub given_up : Bool → ArrivalBuffer
 given_up short = record { arrived = []; overflow = true; short = short }
 
--- After a publication came, where no memory is refused. What stands already stays as first kept; with one too many all is given up.
+-- After a publication came, where no memory is refused. What stands already stays as first kept; with one too many
+-- all is given up.
 abbrev pub with_arrival : Arrival → ArrivalBuffer → ArrivalBuffer
 with_arrival a k =
     if k.overflow || has (places k.arrived) a.at.epoch a.at.offset then k

@@ -1,4 +1,5 @@
--- What a subscription that stands at a position does with a publication that is delivered. (Centrifugo: insufficient state.)
+-- What a subscription that stands at a position does with a publication that is delivered. (Centrifugo: insufficient
+-- state.)
 use Rattle.std.specs.Prelude.{◌+◌, ◌==◌, nat_le, ◌&&◌, if◌then◌else◌}
 use Rattle.std.specs.Str.{bytes_eq}
 use Rattle.cf_protocol.specs.Position.{Position}

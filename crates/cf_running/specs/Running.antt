@@ -16,11 +16,14 @@ abbrev pub stripped : List Entry → List Told
 stripped [] = []
 stripped (e ∷ es) = record { client = e.client; item = e.item } ∷ stripped es
 
--- A run of sections is a loose run of the machine: their applications are told the same, the same is published, and that is safe.
+-- A run of sections is a loose run of the machine: their applications are told the same, the same is published, and
+-- that is safe.
 pub record IsLooseRun (site : Site) (sections : List Section) : Type 0 where
   pub happenings : List Happening
   pub same : told site start sections ≡ stripped (loose_trace site.config 1 machine.start happenings)
-  pub lists : (channel epoch : List ℕ) → lists_of site (ran site start sections) channel epoch ≡ (loose_run site.config machine.start happenings).broker.lists channel epoch
+  pub lists : (channel epoch : List ℕ)
+      → lists_of site (ran site start sections) channel epoch ≡ (loose_run site.config machine.start
+      happenings).broker.lists channel epoch
   pub safe : Safe site.config happenings (loose_trace site.config 1 machine.start happenings)
 
 -- Whatever is told of a publication is the datum that the log of its channel's shard has at that place.

@@ -1,9 +1,11 @@
--- THE RUNNING SERVER, SECTION BY SECTION. Each section is what one thread does in one go: under a shard's lock, under a hub's lock, at
--- a link, or at its own end of a connection. Threads take them in any order. What a section makes of what it finds there is what the
--- contract of its call says; here in notes, as cf_hub's laws say that a session of texts may be seen.
--- Where a section has two entries for a shard's log, as an opening and a publication, or a tick's, they are two steps here.
--- (This project's own profile.)
-use Rattle.std.specs.Prelude.{ℕ, ℤ, zero, suc, ◌+◌, ◌==◌, nat_le, nat_lt, ◌&&◌, ◌||◌, not, Bool, true, false, if◌then◌else◌, is_some, is_none, Option, Some, None, option_map, List, [], ◌∷◌, ◌++◌, length, slice_get, fold}
+-- THE RUNNING SERVER, SECTION BY SECTION. Each section is what one thread does in one go: under a shard's lock, under
+-- a hub's lock, at a link, or at its own end of a connection. Threads take them in any order. What a section makes of
+-- what it finds there is what the contract of its call says; here in notes, as cf_hub's laws say that a session of
+-- texts may be seen. Where a section has two entries for a shard's log, as an opening and a publication, or a tick's,
+-- they are two steps here. (This project's own profile.)
+use Rattle.std.specs.Prelude.{ℕ, ℤ, zero, suc, ◌+◌, ◌==◌, nat_le, nat_lt, ◌&&◌, ◌||◌, not, Bool, true, false}
+use Rattle.std.specs.Prelude.{if◌then◌else◌, is_some, is_none, Option, Some, None, option_map, List, [], ◌∷◌, ◌++◌}
+use Rattle.std.specs.Prelude.{length, slice_get, fold}
 use Rattle.std.specs.Str.{bytes_eq}
 use Rattle.cf_protocol.specs.Names.{with, is_among}
 use Rattle.cf_protocol.specs.Datum.{Datum, Who}
@@ -18,11 +20,13 @@ use Rattle.cf_stream.specs.LogState.{life_in}
 use Rattle.cf_stream.specs.PublicationList.{Life, state_of}
 use Rattle.cf_stream.specs.StreamState.{last_offset}
 use Rattle.cf_stream.specs.StreamAnswer.{read_of, listed_above}
-use Rattle.cf_hub.specs.SessionState.{opens, begins, leaves, reads, comes, finishes, checks, closes_now, push, takes_front, is_off}
+use Rattle.cf_hub.specs.SessionState.{opens, begins, leaves, reads, comes, finishes, checks, closes_now, push}
+use Rattle.cf_hub.specs.SessionState.{takes_front, is_off}
 use Rattle.cf_client.specs.ClientState.{Client, new_client, last_of, is_idle, hears, reconnects}
 use Rattle.cf_client.specs.ClientCalls.{last_id}
 use Rattle.cf_machine.specs.ClientLink.{client_sends, finishes_over, finishes_amid}
-use Rattle.cf_machine.specs.ClientRequest.{ClientRequest, SentCommand, Subscribe, Unsubscribe, Publish as PublishRequest, History}
+use Rattle.cf_machine.specs.ClientRequest.{ClientRequest, SentCommand, Subscribe, Unsubscribe}
+use Rattle.cf_machine.specs.ClientRequest.{Publish as PublishRequest, History}
 use Rattle.cf_machine.specs.Config.{Config}
 use Rattle.cf_machine.specs.PublicationList.{Place}
 use Rattle.cf_machine.specs.Session.{Session, Words}
@@ -36,7 +40,8 @@ use Rattle.cf_running.specs.ShardLogs.{epochs_in}
 -- what a worker has in hand for a connection, between two sections
 pub data Work : Type 0 where
   Free : Work
-  -- a subscription began, and the stream is to be read; it was read, and the answer is on its way to the hub; the hub has it
+  -- a subscription began, and the stream is to be read; it was read, and the answer is on its way to the hub; the hub
+  -- has it
   Began : (channel : List ℕ) → (id : ℕ) → (since : Option Position) → Work
   HasRead : (channel : List ℕ) → (reading : Reading) → Work
   ToFinish : (channel : List ℕ) → Work
@@ -84,7 +89,16 @@ abbrev pub nowhere : Connection
 nowhere = record { client = []; node = 0; session = opens; attached = false; work = Free; up = []; way = [] }
 
 abbrev pub start : Server
-start = record { logs = λ n. []; accepted = []; links = λ n. []; lookups = []; connections = λ k. nowhere; count = 0; clients = λ x. new_client; seats = λ x. None }
+start = record {
+  logs = λ n. [];
+  accepted = [];
+  links = λ n. [];
+  lookups = [];
+  connections = λ k. nowhere;
+  count = 0;
+  clients = λ x. new_client;
+  seats = λ x. None;
+}
 
 -- ---- what is read off the logs
 
@@ -132,9 +146,12 @@ repeats key None = false
 repeats key (Some l) = is_some (repeat_of key l.keys)
 
 abbrev pub may_gain : Config → List Entry → Entry → Bool
-may_gain cfg log (Open c e) = is_none (life_in cfg.namespaces log c) && (not (length e == 0) && not (is_among e (epochs_in log c)))
+may_gain cfg log (Open c e) =
+    is_none (life_in cfg.namespaces log c) && (not (length e == 0) && not (is_among e (epochs_in log c)))
 may_gain cfg log (Publish c key d) =
-    let life = life_in cfg.namespaces log c in is_some (settings_of cfg.namespaces c) && (is_below life && not (repeats key life))
+    let life =
+    life_in cfg.namespaces log c in is_some (settings_of cfg.namespaces c)
+    && (is_below life && not (repeats key life))
 may_gain cfg log (Trim c n) = is_some (life_in cfg.namespaces log c)
 may_gain cfg log (Forget c) = is_some (life_in cfg.namespaces log c)
 may_gain cfg log (Size name n) = true
@@ -183,14 +200,15 @@ publishes site k (ToPublish c id key d) s =
     else s
 publishes site k other s = s
 
--- What was accepted under a number is put on a node's link, whenever, however often and in whatever order. A full link loses it, and
--- then this doesn't happen.
+-- What was accepted under a number is put on a node's link, whenever, however often and in whatever order. A full
+-- link loses it, and then this doesn't happen.
 abbrev pub place_of : ℕ → List Place → Option Place
 place_of zero ps = None
 place_of (suc i) ps = slice_get ps i
 
 abbrev pub offers : ℕ → ℕ → Server → Server
-offers i n s = if is_some (place_of i s.accepted) then record s { links = at_number s.links n (s.links n ++ i ∷ []) } else s
+offers i n s =
+    if is_some (place_of i s.accepted) then record s { links = at_number s.links n (s.links n ++ i ∷ []) } else s
 
 -- a read, and a history, of a stream that stands
 abbrev pub reading_by : List ℕ → Option Position → Option Life → Connection → Connection
@@ -200,7 +218,9 @@ reading_by c since (Some l) x = record x { work = HasRead c (read_of since (stat
 abbrev pub listing_by : List ℕ → ℕ → ℤ → Option Life → Connection → Connection
 listing_by c id limit None x = x
 listing_by c id limit (Some l) x =
-    let found = listed_above 0 limit (state_of l) in record x { work = ToSay c (Listed c id found.at found.low found.count) }
+    let found = listed_above 0 limit (state_of l) in record x {
+      work = ToSay c (Listed c id found.at found.low found.count);
+    }
 
 abbrev pub asks_shard : Site → Server → Work → Connection → Connection
 asks_shard site s (Began c id since) x = reading_by c since (life_of site s c) x
@@ -221,7 +241,8 @@ is_free Free = true
 is_free other = false
 
 -- the worker of a connection takes the first command
-abbrev pub first_command : (SentCommand → List SentCommand → Connection → Connection) → List SentCommand → Connection → Connection
+abbrev pub first_command : (SentCommand → List SentCommand → Connection → Connection) → List SentCommand → Connection
+    → Connection
 first_command f [] x = x
 first_command f (k ∷ rest) x = f k rest x
 
@@ -242,13 +263,17 @@ leaves_by id other rest x = x
 
 -- it is to publish, under this name, or to list
 abbrev pub calls_by : Option Who → ℕ → ClientRequest → List SentCommand → Connection → Connection
-calls_by info id (PublishRequest c key body) rest x = record x { up = rest; work = ToPublish c id key (record { body = body; info = info }) }
+calls_by info id (PublishRequest c key body) rest x = record x {
+  up = rest;
+  work = ToPublish c id key (record { body = body; info = info });
+}
 calls_by info id (History c limit) rest x = record x { up = rest; work = ToList c id limit }
 calls_by info id other rest x = x
 
 -- it refuses a subscribe, a publish or a history, or an unsubscribe from a channel that the session hasn't got
 abbrev pub refuses_by : ℕ → ℕ → ClientRequest → List SentCommand → Connection → Connection
-refuses_by code id (Unsubscribe c) rest x = if is_off (x.session.subs c) then record x { up = rest; work = ToSay c (Fails c id code) } else x
+refuses_by code id (Unsubscribe c) rest x =
+    if is_off (x.session.subs c) then record x { up = rest; work = ToSay c (Fails c id code) } else x
 refuses_by code id (Subscribe c since) rest x = record x { up = rest; work = ToSay c (Fails c id code) }
 refuses_by code id (PublishRequest c key body) rest x = record x { up = rest; work = ToSay c (Fails c id code) }
 refuses_by code id (History c limit) rest x = record x { up = rest; work = ToSay c (Fails c id code) }
@@ -262,8 +287,8 @@ abbrev pub finishes_by : (List ℕ → Session → Session) → Work → Connect
 finishes_by f (ToFinish c) x = record x { session = f c x.session; work = Free }
 finishes_by f other x = x
 
--- Where it is broken off, the session was open: the first notes are said, and then it is closed, for want of memory, or as too slow,
--- where what waits for its client besides notes leaves no room for more.
+-- Where it is broken off, the session was open: the first notes are said, and then it is closed, for want of memory,
+-- or as too slow, where what waits for its client besides notes leaves no room for more.
 abbrev pub breaks_off : Words → (count code : ℕ) → Work → Connection → Connection
 breaks_off w count code h x = if x.session.closed then x else finishes_by (λ c. finishes_amid w c count code) h x
 
@@ -305,17 +330,22 @@ takes x = if x.attached then takes_first x.session.notes x else x
 
 -- a connection whose worker is free is detached; what then happens at it counts for nothing
 abbrev pub detaches : ℕ → Connection → Connection
-detaches code x = if is_free x.work then record x { session = closes_now (Close code) x.session; attached = false } else x
+detaches code x =
+    if is_free x.work then record x { session = closes_now (Close code) x.session; attached = false } else x
 
 -- what came over a link is delivered to all sessions of the node
 abbrev pub comes_by : Words → ℕ → Option Place → (ℕ → Connection) → ℕ → Connection
 comes_by w n None xs k = xs k
-comes_by w n (Some p) xs k = let x = xs k in if x.node == n then record x { session = comes w p.channel p.at x.session } else x
+comes_by w n (Some p) xs k =
+    let x = xs k in if x.node == n then record x { session = comes w p.channel p.at x.session } else x
 
 abbrev pub delivers_first : Site → ℕ → List ℕ → Server → Server
 delivers_first site n [] s = s
 delivers_first site n (i ∷ rest) s =
-    record s { links = at_number s.links n rest; connections = comes_by (words_of site s) n (place_of i s.accepted) s.connections }
+    record s {
+      links = at_number s.links n rest;
+      connections = comes_by (words_of site s) n (place_of i s.accepted) s.connections;
+    }
 
 -- a client comes to a node
 abbrev pub comes_to : Site → List ℕ → ℕ → Option ℕ → Server → Server
@@ -327,12 +357,15 @@ comes_to site x n None s =
       seats = with s.seats x (Some s.count);
     } else s
 
--- somebody comes who is none of the clients, or a client whose connection is gone by then; and on a connection that no client has
--- anything may be sent
+-- somebody comes who is none of the clients, or a client whose connection is gone by then; and on a connection that
+-- no client has anything may be sent
 abbrev pub wanders : Site → ℕ → Server → Server
 wanders site n s =
     if nat_lt n site.config.nodes
-    then record s { connections = at_number s.connections s.count (record nowhere { node = n; attached = true }); count = s.count + 1 }
+    then record s {
+      connections = at_number s.connections s.count (record nowhere { node = n; attached = true });
+      count = s.count + 1;
+    }
     else s
 
 abbrev pub is_seat : ℕ → Option ℕ → Bool
@@ -340,11 +373,14 @@ is_seat k None = false
 is_seat k (Some j) = j == k
 
 abbrev pub strays : ℕ → SentCommand → Server → Server
-strays k e s = if is_seat k (s.seats (s.connections k).client) then s else change k (λ x. record x { up = x.up ++ e ∷ [] }) s
+strays k e s =
+    if is_seat k (s.seats (s.connections k).client) then s else change k (λ x. record x { up = x.up ++ e ∷ [] }) s
 
 -- a position that was looked up is on its way
 abbrev pub looks_up : Site → ℕ → List ℕ → Server → Server
-looks_up site k c s = record s { lookups = record { connection = k; channel = c; top = option_map stands_at (life_of site s c) } ∷ s.lookups }
+looks_up site k c s = record s {
+  lookups = record { connection = k; channel = c; top = option_map stands_at (life_of site s c) } ∷ s.lookups;
+}
 
 -- one of those that are on their way reaches the hub; that it may do so again does no harm
 abbrev pub checks_by : Words → Option Lookup → Server → Server
@@ -380,7 +416,8 @@ sends_by x e None s = s
 sends_by x e (Some k) s =
     let client = s.clients x in
     if nat_le client.fresh last_id && may_send client e
-    then record (change k (λ l. record l { up = l.up ++ record { id = client.fresh; request = request_by client e } ∷ [] }) s) {
+    then record
+    (change k (λ l. record l { up = l.up ++ record { id = client.fresh; request = request_by client e } ∷ [] }) s) {
       clients = with s.clients x (client_sends (request_by client e) client);
     }
     else s
@@ -409,8 +446,8 @@ receives_by x (Some k) s = receives_first x k (s.connections k).way s
 -- ---- THE SECTIONS
 
 pub data Section : Type 0 where
-  -- at a shard: an opening, a trim or a forget; another size for a namespace; a publish; a publication, by its number, on one node's
-  -- link; a read or a history; a position; a refusal
+  -- at a shard: an opening, a trim or a forget; another size for a namespace; a publish; a publication, by its
+  -- number, on one node's link; a read or a history; a position; a refusal
   Gains : (entry : Entry) → Section
   Sizes : (shard : ℕ) → (name : List ℕ) → (count : ℕ) → Section
   Publishes : (connection : ℕ) → Section

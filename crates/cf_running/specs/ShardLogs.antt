@@ -1,7 +1,8 @@
--- The log of a shard beside the machine's broker: the two have the same streams, over the same lists and keys, at each channel of the
--- shard, and the same sizes.
+-- The log of a shard beside the machine's broker: the two have the same streams, over the same lists and keys, at
+-- each channel of the shard, and the same sizes.
 -- (This project's own profile.)
-use Rattle.std.specs.Prelude.{◌≡◌, ◌≢◌, ◌<◌, ◌-◌, ◌&&◌, ℕ, ℤ, Bool, true, false, if◌then◌else◌, IsSome, IsSomeAnd, Option, Some, None, List, [], length}
+use Rattle.std.specs.Prelude.{◌≡◌, ◌≢◌, ◌<◌, ◌-◌, ◌&&◌, ℕ, ℤ, Bool, true, false, if◌then◌else◌, IsSome, IsSomeAnd}
+use Rattle.std.specs.Prelude.{Option, Some, None, List, [], length}
 use Rattle.std.specs.List.{filter_map}
 use Rattle.std.specs.Str.{bytes_eq}
 use Rattle.cf_protocol.specs.Names.{is_among}
@@ -21,7 +22,8 @@ use Rattle.cf_machine.specs.Config.{Config}
 use Rattle.cf_machine.specs.Event.{Trim as TrimEvent, Forget as ForgetEvent}
 use Rattle.cf_machine.specs.IntervalMachine.{size_by}
 use Rattle.cf_machine.specs.Lives.{life_at}
-use Rattle.cf_machine.specs.LooseRun.{Happening, Scheduled, PublishAny, OpenIn, SizeAmong, loosely_allows, befalls, loose_run}
+use Rattle.cf_machine.specs.LooseRun.{Happening, Scheduled, PublishAny, OpenIn, SizeAmong, loosely_allows, befalls}
+use Rattle.cf_machine.specs.LooseRun.{loose_run}
 use Rattle.cf_machine.specs.World.{World, start}
 use Rattle.cf_machine.specs.PublicationList.{Broker}
 
@@ -36,8 +38,8 @@ opening_of q (Size name n) = None
 abbrev pub epochs_in : List Entry → List ℕ → List (List ℕ)
 epochs_in log q = filter_map (opening_of q) log
 
--- At each channel of the shard the broker has the stream and the size that the log leaves, which begins with these sizes; and nothing
--- is listed in an epoch in which the channel was never opened.
+-- At each channel of the shard the broker has the stream and the size that the log leaves, which begins with these
+-- sizes; and nothing is listed in an epoch in which the channel was never opened.
 pub record IsLogOf (mine : List ℕ → Bool) (sizes : NamespaceTable) (log : List Entry) (b : Broker) : Type 0 where
   pub life : (c : List ℕ) → mine c ≡ true → life_at b c ≡ life_in sizes log c
   pub size : (c : List ℕ) → mine c ≡ true → size_by (b.sizes c) (settings_of sizes c) ≡ size_at (sizes_in sizes log) c
@@ -45,7 +47,8 @@ pub record IsLogOf (mine : List ℕ → Bool) (sizes : NamespaceTable) (log : Li
 
 -- ---- what the log may gain, and what happens to the machine then
 
--- whether an entry in the log of the shard with these channels is about this one: another size is about all that are of its namespace
+-- whether an entry in the log of the shard with these channels is about this one: another size is about all that are
+-- of its namespace
 abbrev pub is_about : (its : List ℕ → Bool) → Entry → List ℕ → Bool
 is_about its (Open c e) q = bytes_eq c q
 is_about its (Publish c key d) q = bytes_eq c q
@@ -60,9 +63,9 @@ IsIn its x = (q : List ℕ) → is_about its x q ≡ true → its q ≡ true
 abbrev pub IsApart : (mine its : List ℕ → Bool) → Entry → Type 0
 IsApart mine its x = (q : List ℕ) → is_about its x q ≡ true → mine q ≡ false
 
--- An opening where no stream stands, in an epoch that isn't empty and was never the channel's; a publication where a stream stands,
--- of a namespace that is set up, that repeats none of the stream, which is not at the last offset; a trim or a forget where a stream
--- stands; another size at any time.
+-- An opening where no stream stands, in an epoch that isn't empty and was never the channel's; a publication where a
+-- stream stands, of a namespace that is set up, that repeats none of the stream, which is not at the last offset; a
+-- trim or a forget where a stream stands; another size at any time.
 abbrev pub MayGain : Config → List Entry → Entry → Type 0
 MayGain cfg log (Open c e) = (life_in cfg.namespaces log c ≡ None) × (e ≢ []) × (is_among e (epochs_in log c) ≡ false)
 MayGain cfg log (Publish c key d) =
@@ -104,15 +107,18 @@ pub record IsStream (b : Broker) (c : List ℕ) (l : Life) : Type 0 where
   pub keys : b.keys c l.epoch ≡ l.keys
 
 -- the answer to a read is the machine's reading, with the data of its lists
-pub record ReadsAs (b : Broker) (c : List ℕ) (since : Option Position) (position : Position) (recovered : Bool) (publications : List Placed) : Type 0 where
+pub record ReadsAs (b : Broker) (c : List ℕ) (since : Option Position) (position : Position) (recovered : Bool)
+    (publications : List Placed) : Type 0 where
   pub state : StreamState
   pub stands : b.streams c ≡ Some state
   pub at : position ≡ position_of state
   pub exact : recovered ≡ (read_of since state).recovered
-  pub run : publications ≡ placed_from (b.lists c state.epoch) (read_of since state).low (state.top - (read_of since state).low)
+  pub run : publications
+      ≡ placed_from (b.lists c state.epoch) (read_of since state).low (state.top - (read_of since state).low)
 
 -- and that to a history the machine's listing
-pub record ListsAs (b : Broker) (c : List ℕ) (since : Option Position) (limit : ℤ) (position : Position) (publications : List Placed) : Type 0 where
+pub record ListsAs (b : Broker) (c : List ℕ) (since : Option Position) (limit : ℤ) (position : Position)
+    (publications : List Placed) : Type 0 where
   pub state : StreamState
   pub listing : Listing
   pub stands : b.streams c ≡ Some state

@@ -1,10 +1,12 @@
--- What the commands of a text bring. (Centrifugo's client protocol: commands and their ids; the data is this project's own profile.)
+-- What the commands of a text bring. (Centrifugo's client protocol: commands and their ids; the data is this
+-- project's own profile.)
 use Rattle.std.specs.Prelude.{⊤, ℕ, List}
 use Rattle.std.specs.List.{AllByRecursion}
 use Rattle.cf_protocol.specs.Note.{Fails, Left, Lists, Put}
 use Rattle.cf_protocol.specs.Outgoing.{Answer, Failed, Published, Unsubscribed}
 use Rattle.cf_protocol.specs.Regular.{IsBody, IsCode}
-use Rattle.cf_protocol.specs.Request.{Body, Command, Data, Absent, TooDeep, Request, Pong, Connect, Subscribe, Unsubscribe, Publish, Presence, PresenceStats, History, Ping, Send, Other}
+use Rattle.cf_protocol.specs.Request.{Body, Command, Data, Absent, TooDeep, Request, Pong, Connect, Subscribe}
+use Rattle.cf_protocol.specs.Request.{Unsubscribe, Publish, Presence, PresenceStats, History, Ping, Send, Other}
 use Rattle.cf_protocol.specs.Written.{outgoing_text}
 use Rattle.cf_hub.specs.InNotes.{IsSaid}
 

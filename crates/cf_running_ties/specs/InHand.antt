@@ -12,20 +12,24 @@ use Rattle.cf_session.specs.Calls.{Answer, Finish, History as ListCall, Leave, P
 use Rattle.cf_session.specs.CommandScripts.{after_finish, after_lost, after_read, replies}
 use Rattle.cf_session.specs.Script.{Ask, Say, Script}
 use Rattle.cf_machine.specs.ClientRequest.{ClientRequest, SentCommand, Subscribe, Unsubscribe, Publish, History}
-use Rattle.cf_running.specs.Server.{Began, Connection, Free, HasRead, Server, Site, ToFinish, ToGiveUp, ToList, ToPublish, ToSay, Work, can_gain, life_of, lists_of, repeats}
+use Rattle.cf_running.specs.Server.{Began, Connection, Free, HasRead, Server, Site, ToFinish, ToGiveUp, ToList}
+use Rattle.cf_running.specs.Server.{ToPublish, ToSay, Work, can_gain, life_of, lists_of, repeats}
 use Rattle.cf_running_ties.specs.Reads.{SaysLater}
 
--- The script goes on with what the worker has in hand; `after` is what it does behind the command. What was read is in hand amid a call,
--- before it is answered.
+-- The script goes on with what the worker has in hand; `after` is what it does behind the command. What was read is
+-- in hand amid a call, before it is answered.
 abbrev pub InHand : Lists → Who → (after : Script) → Work → Script → Type 0
 InHand lists who after Free script = script ≡ after
 InHand lists who after (Began c id since) script = script ≡ Ask (Read c since) (after_read id c after)
 InHand lists who after (HasRead c r) script = ⊥
 InHand lists who after (ToFinish c) script = script ≡ Ask (Finish c) (after_finish after)
-InHand lists who after (ToGiveUp c id code) script = (e : ErrorCode) × (code ≡ code_of e) × (script ≡ Ask (Leave c) (after_lost id e after))
-InHand lists who after (ToPublish c id key d) script = (d.info ≡ Some who) × (script ≡ Ask (PublishCall c key d.body who) (replies id after))
+InHand lists who after (ToGiveUp c id code) script =
+    (e : ErrorCode) × (code ≡ code_of e) × (script ≡ Ask (Leave c) (after_lost id e after))
+InHand lists who after (ToPublish c id key d) script =
+    (d.info ≡ Some who) × (script ≡ Ask (PublishCall c key d.body who) (replies id after))
 InHand lists who after (ToList c id limit) script = script ≡ Ask (ListCall c limit None) (replies id after)
-InHand lists who after (ToSay c n) script = (id : ℕ) × (outcome : Outcome) × SaysLater lists n (Reply id outcome) × (script ≡ Say id outcome after)
+InHand lists who after (ToSay c n) script =
+    (id : ℕ) × (outcome : Outcome) × SaysLater lists n (Reply id outcome) × (script ≡ Say id outcome after)
 
 abbrev pub HasInHand : Site → Server → ℕ → Who → (after : Script) → Script → Type 0
 HasInHand site s k who after script = InHand (lists_of site s) who after (s.connections k).work script

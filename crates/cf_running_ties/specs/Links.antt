@@ -10,7 +10,8 @@ use Rattle.cf_hub.specs.InNotes.{IsListed}
 use Rattle.cf_machine.specs.PublicationList.{Place}
 use Rattle.cf_shard.specs.Delivery.{Carried}
 use Rattle.cf_shard.specs.LogAnswer.{IsPublished}
-use Rattle.cf_running.specs.Server.{Delivers, Offers, Section, Server, Site, ToPublish, at_number, can_gain, lists_of, log_of, place_of}
+use Rattle.cf_running.specs.Server.{Delivers, Offers, Section, Server, Site, ToPublish, at_number, can_gain, lists_of}
+use Rattle.cf_running.specs.Server.{log_of, place_of}
 use Rattle.cf_running_ties.specs.Reads.{IsDatum}
 
 -- where a publication on its way stands
@@ -28,7 +29,8 @@ pub record IsAnswered (site : Site) (s : Server) (k : ℕ) (c key : List ℕ) (d
   pub seen : List Entry
   pub work : (s.connections k).work ≡ ToPublish c id key d
   pub may : p.repeated ≡ false → can_gain site (site.shard_of c) (Publish c key d) s ≡ true
-  pub answer : IsPublished site.config.namespaces seen (if p.repeated then log_of site s c else log_of site s c ++ Publish c key d ∷ []) c key d p
+  pub answer : IsPublished site.config.namespaces seen
+      (if p.repeated then log_of site s c else log_of site s c ++ Publish c key d ∷ []) c key d p
   pub regular : IsDatum d
 
 -- no log gains anything, nothing is accepted, and nothing is put on a link

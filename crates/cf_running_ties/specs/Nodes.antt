@@ -25,9 +25,10 @@ ConnectedBy is_aside site s n None (Some k) = ⊥
 ConnectedBy is_aside site s n (Some a) None = ⊥
 ConnectedBy is_aside site s n (Some a) (Some k) = IsConnected is_aside site s n k a
 
--- Each session of the hub, by its number there, has a connection, by its number in the server; no two have one; and each connection that
--- is attached at the node has a session.
-pub record IsHubOf (is_aside : List ℕ → Bool) (site : Site) (s : Server) (n : ℕ) (numbers : ℕ → Option ℕ) (hub : Node) : Type 0 where
+-- Each session of the hub, by its number there, has a connection, by its number in the server; no two have one; and
+-- each connection that is attached at the node has a session.
+pub record IsHubOf (is_aside : List ℕ → Bool) (site : Site) (s : Server) (n : ℕ) (numbers : ℕ → Option ℕ)
+    (hub : Node) : Type 0 where
   pub each : (j : ℕ) → ConnectedBy is_aside site s n (attached_at hub j) (numbers j)
   pub apart : (i j k : ℕ) → numbers i ≡ Some k → numbers j ≡ Some k → i ≡ j
   pub all : (k : ℕ) → (s.connections k).node ≡ n → (s.connections k).attached ≡ true → (j : ℕ) × (numbers j ≡ Some k)
@@ -44,13 +45,15 @@ IsCloseOrPing (Pings k) = ⊤
 IsCloseOrPing other = ⊥
 
 -- after some closes, and then this section, the hub is the node's
-pub record ClosesAnd (is_aside : List ℕ → Bool) (site : Site) (s : Server) (n : ℕ) (numbers : ℕ → Option ℕ) (section : Section) (hub : Node) : Type 0 where
+pub record ClosesAnd (is_aside : List ℕ → Bool) (site : Site) (s : Server) (n : ℕ) (numbers : ℕ → Option ℕ)
+    (section : Section) (hub : Node) : Type 0 where
   pub closes : List Section
   pub are : AllByRecursion IsClose closes
   pub is : IsHubOf is_aside site (ran site s (closes ++ section ∷ [])) n numbers hub
 
 -- and after some closes and pings
-pub record ClosesAndPings (is_aside : List ℕ → Bool) (site : Site) (s : Server) (n : ℕ) (numbers : ℕ → Option ℕ) (hub : Node) : Type 0 where
+pub record ClosesAndPings (is_aside : List ℕ → Bool) (site : Site) (s : Server) (n : ℕ) (numbers : ℕ → Option ℕ)
+    (hub : Node) : Type 0 where
   pub sections : List Section
   pub are : AllByRecursion IsCloseOrPing sections
   pub is : IsHubOf is_aside site (ran site s sections) n numbers hub
@@ -70,7 +73,8 @@ pub record Moves (g : Notes → Notes) (t : Connection → Connection) : Type 0 
   pub session : (y : Connection) → y.attached ≡ true → (t y).session ≡ g y.session
 
 -- connection k makes it, perhaps after it was closed, and the hub is the node's
-pub record MovesBehindClose (is_aside : List ℕ → Bool) (site : Site) (s : Server) (n k : ℕ) (numbers : ℕ → Option ℕ) (t : Connection → Connection) (hub : Node) : Type 0 where
+pub record MovesBehindClose (is_aside : List ℕ → Bool) (site : Site) (s : Server) (n k : ℕ) (numbers : ℕ → Option ℕ)
+    (t : Connection → Connection) (hub : Node) : Type 0 where
   pub closes : List Section
   pub are : AllByRecursion IsClose closes
   pub is : IsHubOf is_aside site (change k t (ran site s closes)) n numbers hub

@@ -1,9 +1,11 @@
--- What a client makes of texts that say no note: nothing. (Centrifugo's client protocol: replies to a connect, presence, and errors.)
+-- What a client makes of texts that say no note: nothing. (Centrifugo's client protocol: replies to a connect,
+-- presence, and errors.)
 use Rattle.std.specs.Prelude.{◌≡◌, ⊤, ℕ, false, None, List, [], ◌∷◌, ◌++◌}
 use Rattle.std.specs.List.{AllZip}
 use Rattle.cf_protocol.specs.Frame.{IsReplies}
 use Rattle.cf_protocol.specs.Note.{Lists, Note}
-use Rattle.cf_protocol.specs.Outgoing.{Outcome, Connected, Subscribed, Unsubscribed, Published, Present, Counted, Past, Pinged, Failed, Outgoing, Ping, Answer, Push}
+use Rattle.cf_protocol.specs.Outgoing.{Outcome, Connected, Subscribed, Unsubscribed, Published, Present, Counted}
+use Rattle.cf_protocol.specs.Outgoing.{Past, Pinged, Failed, Outgoing, Ping, Answer, Push}
 use Rattle.cf_protocol.specs.Regular.{IsRegular}
 use Rattle.cf_protocol.specs.Written.{outgoing_text}
 use Rattle.cf_queue.specs.OutQueue.{Item, Text, Close}
@@ -54,7 +56,8 @@ TakesText t old new told = (os : List Outgoing) → IsReplies t os → TakesAll 
 abbrev pub TakesItems : List Item → State → State → List AppItem → Type 0
 TakesItems [] old new told = PassesOver old new told
 TakesItems (Text t ∷ is) old new told =
-    (mid : State) × (first : List AppItem) × (rest : List AppItem) × TakesText t old mid first × TakesItems is mid new rest × (told ≡ first ++ rest)
+    (mid : State) × (first : List AppItem) × (rest : List AppItem) × TakesText t old mid first
+    × TakesItems is mid new rest × (told ≡ first ++ rest)
 TakesItems (Close code ∷ is) old new told = (new ≡ reconnected old) × (told ≡ [])
 
 -- the items that say the notes, without those between, make the same of the client

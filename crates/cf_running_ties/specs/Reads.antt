@@ -29,7 +29,8 @@ pub record AllReadBack (site : Site) (s : Server) : Type 0 where
   pub each : (c e : List ℕ) → AllByRecursion IsDatum (lists_of site s c e)
 
 -- the answer to a read is the reading that the worker has in hand then, and brings what is listed there
-pub record IsReading (site : Site) (s : Server) (c : List ℕ) (since : Option Position) (p : Position) (recovered : Bool) (items : List Placed) : Type 0 where
+pub record IsReading (site : Site) (s : Server) (c : List ℕ) (since : Option Position) (p : Position)
+    (recovered : Bool) (items : List Placed) : Type 0 where
   pub life : Life
   pub stands : life_of site s c ≡ Some life
   pub same : answered p recovered items ≡ read_of since (state_of life)
@@ -40,9 +41,12 @@ abbrev pub SaysLater : Lists → Note → Outgoing → Type 0
 SaysLater lists n o = (later : Lists) → Grown lists later → outgoing_of later n ≡ Some o
 
 -- the reply to a history says the note that the worker has in hand then, and can be read back
-pub record IsListing (site : Site) (s : Server) (c : List ℕ) (limit : ℤ) (p : Position) (items : List Placed) : Type 0 where
+pub record IsListing (site : Site) (s : Server) (c : List ℕ) (limit : ℤ) (p : Position)
+    (items : List Placed) : Type 0 where
   pub life : Life
   pub stands : life_of site s c ≡ Some life
   pub says : (id : ℕ)
-      → SaysLater (lists_of site s) (let found = listed_above 0 limit (state_of life) in Listed c id found.at found.low found.count) (Answer id (Past p items))
+      → SaysLater (lists_of site s)
+      (let found = listed_above 0 limit (state_of life) in Listed c id found.at found.low found.count)
+      (Answer id (Past p items))
   pub regular : (id : ℕ) → IsCode id → IsRegular (Answer id (Past p items))

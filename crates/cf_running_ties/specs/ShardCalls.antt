@@ -29,4 +29,9 @@ IsNotLast stream key = IsAtLast stream key → ⊥
 
 -- what a read answers, in positions, as it reaches the hub
 abbrev pub answered : Position → Bool → List Placed → Reading
-answered p recovered items = record { epoch = p.epoch; low = p.offset - length items; top = p.offset; recovered = recovered }
+answered p recovered items = record {
+  epoch = p.epoch;
+  low = p.offset - length items;
+  top = p.offset;
+  recovered = recovered;
+}

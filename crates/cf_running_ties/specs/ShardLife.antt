@@ -1,5 +1,5 @@
--- A shard's calls from its start, one after another, as their contracts have them, where its epochs come from a source of cf_epochs.
--- (This project's own profile.)
+-- A shard's calls from its start, one after another, as their contracts have them, where its epochs come from a
+-- source of cf_epochs. (This project's own profile.)
 use Rattle.std.specs.Prelude.{◌≡◌, ⊤, ℕ, IsSome, List, [], ◌∷◌, ◌++◌}
 use Rattle.cf_protocol.specs.Datum.{Datum}
 use Rattle.cf_protocol.specs.LogEntry.{Entry}
@@ -10,7 +10,8 @@ use Rattle.cf_stream.specs.declared.answer.Published.{Published as Answer}
 use Rattle.cf_stream.specs.Streams.{StreamMap, stream_of}
 use Rattle.cf_epochs.specs.Source.{IsSource, Source, draws_next}
 use Rattle.cf_shard.specs.Shard.{DrawsFor, IsStateOf, Lent}
-use Rattle.cf_shard.specs.ShardLog.{entries_of_forget, entries_of_publish, entries_of_size, entries_of_tick, entries_of_trim, entries_of_use}
+use Rattle.cf_shard.specs.ShardLog.{entries_of_forget, entries_of_publish, entries_of_size, entries_of_tick}
+use Rattle.cf_shard.specs.ShardLog.{entries_of_trim, entries_of_use}
 use Rattle.cf_running_ties.specs.ShardCalls.{IsNotLast}
 
 -- a call that was carried out, the first two with their answer, or with its epoch; one that found no epoch; any other
@@ -44,10 +45,11 @@ DrawsBy (Used c e) old new = DrawsFor draws_next c e old new
 DrawsBy FoundNoEpoch old new = DrawsNone draws_next old.epochs new.epochs
 DrawsBy other old new = new.epochs ≡ old.epochs
 
--- a publish that is carried out is of a namespace that is set up, is none that is refused at the last offset, and is answered off the
--- stream's list
+-- a publish that is carried out is of a namespace that is set up, is none that is refused at the last offset, and is
+-- answered off the stream's list
 abbrev pub IsAllowed : NamespaceTable → Call → StreamMap → Type 0
-IsAllowed t (Published c key d p) k = IsSome (settings_of t c) × IsNotLast (stream_of k c) key × PublishesAt k c key p.position p.repeated
+IsAllowed t (Published c key d p) k =
+    IsSome (settings_of t c) × IsNotLast (stream_of k c) key × PublishesAt k c key p.position p.repeated
 IsAllowed t other k = ⊤
 
 -- what its contract says, and the types of shard and source keep

@@ -1,7 +1,9 @@
 -- The program's configuration and events, as the definitions have them.
 use Rattle.std.specs.Prelude.{ℕ, List, [], Option, Some, None}
 use Rattle.cf_machine.specs.Config.{Config}
-use Rattle.cf_machine.specs.Event.{Event, Epoch, Connect, Ask, AskFrom, Read, Finish, Publish, PublishBy, Deliver, Take, Break, Leave, Trim, Forget, BrokerRestart, SetSize, Restart, Check, ListHistory}
+use Rattle.cf_machine.specs.Event.{Event, Epoch, Connect, Ask, AskFrom, Read, Finish, Publish, PublishBy, Deliver}
+use Rattle.cf_machine.specs.Event.{Take, Break, Leave, Trim, Forget, BrokerRestart, SetSize, Restart, Check}
+use Rattle.cf_machine.specs.Event.{ListHistory}
 use Rattle.cf_schedule.specs.declared.config.Config.{Config as CodeConfig}
 use Rattle.cf_schedule.specs.declared.event.Event as declared
 use Rattle.cf_schedule.specs.declared.event.Event.TheVariants as variant

@@ -1,10 +1,12 @@
 -- What a session does for each command, and for a frame of them: the scripts of its commands, one behind another.
--- (Centrifugo's client protocol: commands, replies, error codes and closes. The order of checks is that of cf_protocol's Checks.)
+-- (Centrifugo's client protocol: commands, replies, error codes and closes. The order of checks is that of
+-- cf_protocol's Checks.)
 use Rattle.std.specs.Prelude.{◌≡◌, ◌≤◌, ◌<◌, ◌⊎◌, ℕ, Option, Some, None, List, [], ◌∷◌, length}
 use Rattle.cf_protocol.specs.Position.{Position}
 use Rattle.cf_protocol.specs.Datum.{Who}
 use Rattle.cf_protocol.specs.Request as request
-use Rattle.cf_protocol.specs.Request.{Data, Absent, TooDeep, Body, Request, Connect, Subscribe, Unsubscribe, PresenceStats, Ping, Send, Other, Command}
+use Rattle.cf_protocol.specs.Request.{Data, Absent, TooDeep, Body, Request, Connect, Subscribe, Unsubscribe}
+use Rattle.cf_protocol.specs.Request.{PresenceStats, Ping, Send, Other, Command}
 use Rattle.cf_protocol.specs.Outgoing.{Connected, Unsubscribed, Pinged, Failed}
 use Rattle.cf_protocol.specs.Frame.{IsCommands}
 use Rattle.cf_protocol.specs.Codes.{code_of}
@@ -12,7 +14,8 @@ use Rattle.cf_protocol.specs.Checks.{first_failed, checks, longest_text}
 use Rattle.cf_protocol.specs.Settings.{NamespaceTable, TokenTable, user_of}
 use Rattle.cf_protocol.specs.declared.codes.ErrorCode.{ErrorCode}
 use Rattle.cf_protocol.specs.declared.codes.CloseCode.TheVariants as close
-use Rattle.cf_session.specs.Calls.{Answer, Refused, Done, Found, Attached, Attach, Begin, Read, Finish, Leave, Publish, History, Presence, Stats}
+use Rattle.cf_session.specs.Calls.{Answer, Refused, Done, Found, Attached, Attach, Begin, Read, Finish, Leave}
+use Rattle.cf_session.specs.Calls.{Publish, History, Presence, Stats}
 use Rattle.cf_session.specs.Script.{Script, Served, Close, Say, Pong, Ask}
 
 -- what the server is set up with
@@ -93,7 +96,8 @@ unless_failed None id after script = script
 unless_failed (Some e) id after script = refuses id e after
 
 abbrev pub command_script : Tables → Who → Command → Script → Script
-command_script t who k after = unless_failed (first_failed (checks t.namespaces k.request)) k.id after (granted who k.id k.request after)
+command_script t who k after =
+    unless_failed (first_failed (checks t.namespaces k.request)) k.id after (granted who k.id k.request after)
 
 -- the connect: a token that isn't known closes the session
 abbrev pub connect_script : Option (List ℕ) → ℕ → (Who → Script) → Script

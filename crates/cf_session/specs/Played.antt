@@ -1,11 +1,13 @@
--- A session's script played on a node, and a whole conversation. (Centrifugo's client protocol: commands are carried out in order.)
+-- A session's script played on a node, and a whole conversation. (Centrifugo's client protocol: commands are carried
+-- out in order.)
 use Rattle.std.specs.Prelude.{◌≡◌, ◌⊎◌, List, ℕ, [], ◌∷◌, Option, Some, None, Bool, true, false}
 use Rattle.cf_session.specs.Calls.{Answer, Call, kind_of}
 use Rattle.cf_session.specs.Script.{Script, Served, Over, Close, Say, Pong, Ask}
 use Rattle.cf_session.specs.CommandScripts.{Tables}
 use Rattle.cf_protocol.specs.Settings.{NamespaceTable}
 use Rattle.cf_session.specs.Asking.{AllAsk, HasStream}
-use Rattle.cf_session.specs.SessionMachine.{Act, Calls, Says, PassesPong, Closes, Progress, Todo, Out, reply_text, HearsAt, HearsText}
+use Rattle.cf_session.specs.SessionMachine.{Act, Calls, Says, PassesPong, Closes, Progress, Todo, Out, reply_text}
+use Rattle.cf_session.specs.SessionMachine.{HearsAt, HearsText}
 use Rattle.cf_session.specs.Shown.{shown_answer}
 use Rattle.cf_session.specs.declared.action.Answer.{Answer as CodeAnswer}
 use Rattle.cf_session.specs.declared.kind.Kind.{Kind}
@@ -46,11 +48,13 @@ module _ {N : Type 0} (closed : N → Bool) (does : N → Act → Option Answer 
   Plays Over n m end = (m ≡ n) × (end ≡ Over)
   Plays (Close code) n m end = does n (Closes code) None m × (end ≡ Over)
   Plays (Say id o after) n m end =
-      (mid : N) × does n (Says (reply_text id o)) None mid × (((closed mid ≡ false) × Plays after mid m end) ⊎ Stops after mid m end)
+      (mid : N) × does n (Says (reply_text id o)) None mid
+      × (((closed mid ≡ false) × Plays after mid m end) ⊎ Stops after mid m end)
   Plays (Pong after) n m end =
       (mid : N) × does n PassesPong None mid × (((closed mid ≡ false) × Plays after mid m end) ⊎ Stops after mid m end)
   Plays (Ask call after) n m end =
-      (mid : N) × (a : Answer) × does n (Calls call) (Some a) mid × (((closed mid ≡ false) × Plays (after a) mid m end) ⊎ Stops (after a) mid m end)
+      (mid : N) × (a : Answer) × does n (Calls call) (Some a) mid
+      × (((closed mid ≡ false) × Plays (after a) mid m end) ⊎ Stops (after a) mid m end)
 
   abbrev pub PlaysOn : Progress → N → N → Script → Type 0
   PlaysOn (Todo s) n m end = Plays s n m end
@@ -92,4 +96,6 @@ module _ {N : Type 0} (closed : N → Bool) (does : N → Act → Option Answer 
   Talks t p n [] m q = (m ≡ n) × (q ≡ p)
   Talks t p n (text ∷ texts) m q =
       ((closed n ≡ true) × (m ≡ n) × (q ≡ p))
-      ⊎ ((closed n ≡ false) × ((mid : N) × (between : Progress) × Serves t p n text mid between × Talks t between mid texts m q))
+      ⊎
+      ((closed n ≡ false)
+      × ((mid : N) × (between : Progress) × Serves t p n text mid between × Talks t between mid texts m q))

@@ -72,21 +72,26 @@ is_connected other = false
 
 -- the command at hand, which is no connect, at its start or at its reply, and what comes after it
 pub data AtHand (t : Tables) : ℕ → Script → Script → Type 0 where
-  at_start : (who : Who) (k : Command) (ks : List Command) → AtHand t k.id (frame_script t (k ∷ ks) (Some who)) (frame_script t ks (Some who))
-  at_reply : (id : ℕ) (o : outgoing.Outcome) (after : Script) → is_connected o ≡ false → AtHand t id (Say id o after) after
+  at_start : (who : Who) (k : Command) (ks : List Command)
+      → AtHand t k.id (frame_script t (k ∷ ks) (Some who)) (frame_script t ks (Some who))
+  at_reply : (id : ℕ) (o : outgoing.Outcome) (after : Script) → is_connected o ≡ false
+      → AtHand t id (Say id o after) after
 
 -- the connect is at hand: its attach is next, or its reply
 pub data Connects : Script → Type 0 where
   at_attach : (user : List ℕ) (after : Answer → Script) → Connects (Ask (Attach user) after)
   at_connected : (id : ℕ) (client : List ℕ) (after : Script) → Connects (Say id (outgoing.Connected client) after)
 
--- What is done instead, by how many requests for memory were refused. After the first the command at hand is answered as one that
--- failed within. Where that text finds no memory either, the session is closed. A connect's first closes it.
--- (This project's own profile: error 100 and close 3004.)
+-- What is done instead, by how many requests for memory were refused. After the first the command at hand is answered
+-- as one that failed within. Where that text finds no memory either, the session is closed. A connect's first closes
+-- it. (This project's own profile: error 100 and close 3004.)
 pub data GivesUp (t : Tables) : Progress → Option Act → Progress → (refused : ℕ) → Type 0 where
-  fails : (id : ℕ) (script after : Script) → AtHand t id script after → GivesUp t (Todo script) (Some (Says (failed_text id))) (Todo after) 1
-  falls_silent : (id : ℕ) (script after : Script) → AtHand t id script after → GivesUp t (Todo script) (Some (Closes close.InternalError)) (Todo Over) 2
-  stays_out : (script : Script) → Connects script → GivesUp t (Todo script) (Some (Closes close.InternalError)) (Todo Over) 1
+  fails : (id : ℕ) (script after : Script) → AtHand t id script after
+      → GivesUp t (Todo script) (Some (Says (failed_text id))) (Todo after) 1
+  falls_silent : (id : ℕ) (script after : Script) → AtHand t id script after
+      → GivesUp t (Todo script) (Some (Closes close.InternalError)) (Todo Over) 2
+  stays_out : (script : Script) → Connects script
+      → GivesUp t (Todo script) (Some (Closes close.InternalError)) (Todo Over) 1
 
 -- what is next where no memory was refused
 abbrev pub Acts : Tables → Progress → Option Act → Progress → (refused : ℕ) → Type 0

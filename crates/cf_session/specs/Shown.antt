@@ -19,7 +19,8 @@ shown_action (action.Begin c id since) = Calls (call.Begin (string_bytes c) id s
 shown_action (action.Read c since) = Calls (call.Read (string_bytes c) since)
 shown_action (action.Finish c) = Calls (call.Finish (string_bytes c))
 shown_action (action.Leave c) = Calls (call.Leave (string_bytes c))
-shown_action (action.Publish c key body info) = Calls (call.Publish (string_bytes c) (string_bytes key) (string_bytes body) info)
+shown_action (action.Publish c key body info) =
+    Calls (call.Publish (string_bytes c) (string_bytes key) (string_bytes body) info)
 shown_action (action.History c limit since) = Calls (call.History (string_bytes c) limit since)
 shown_action (action.Presence c) = Calls (call.Presence (string_bytes c))
 shown_action (action.Stats c) = Calls (call.Stats (string_bytes c))

@@ -1,5 +1,6 @@
 -- Where a session of the code stands on its script.
-use Rattle.std.specs.Prelude.{◌≡◌, ◌⊎◌, ℕ, ◌+◌, ◌*◌, Bool, true, false, not, ◌||◌, ◌==◌, Option, Some, None, option_map, MatchOption, List, [], ◌∷◌, map, length}
+use Rattle.std.specs.Prelude.{◌≡◌, ◌⊎◌, ℕ, ◌+◌, ◌*◌, Bool, true, false, not, ◌||◌, ◌==◌, Option, Some, None}
+use Rattle.std.specs.Prelude.{option_map, MatchOption, List, [], ◌∷◌, map, length}
 use Rattle.std.specs.String.{string_bytes}
 use Rattle.cf_protocol.specs.Datum.{Who}
 use Rattle.cf_protocol.specs.Request as request
@@ -11,7 +12,8 @@ use Rattle.cf_protocol.specs.declared.codes.CloseCode.TheVariants as close
 use Rattle.cf_session.specs.Calls as call
 use Rattle.cf_session.specs.Calls.{Answer, Refused, Done, Found, Attached}
 use Rattle.cf_session.specs.Script.{Script, Over, Close, Say, Ask}
-use Rattle.cf_session.specs.CommandScripts.{Tables, frame_script, first_script, replies, after_attach, after_begin, after_read, after_finish, after_leave, after_lost}
+use Rattle.cf_session.specs.CommandScripts.{Tables, frame_script, first_script, replies, after_attach, after_begin}
+use Rattle.cf_session.specs.CommandScripts.{after_read, after_finish, after_leave, after_lost}
 use Rattle.cf_session.specs.SessionMachine.{Act, Says, Closes, Progress, Todo, Out, Acts, GoesOn, Hears, failed_text}
 use Rattle.cf_session.specs.Shown.{shown_action, shown_answer}
 use Rattle.cf_session.specs.declared.kind.Kind.TheVariants as kind
@@ -24,13 +26,18 @@ use Rattle.cf_session.specs.declared.session.Session.{Session}
 -- where a session stands, by its stage, the commands that are left and its client
 abbrev pub progress_at : Tables → List Command → Option Who → Stage → Progress
 progress_at t ks who stage.Ready = Todo (frame_script t ks who)
-progress_at t ks who (stage.Attaching id user) = Out kind.Attach (after_attach id (string_bytes user) (λ w. frame_script t ks (Some w)))
-progress_at t ks who (stage.Beginning id read c since) = Out kind.Begin (after_begin id (string_bytes read) (string_bytes c) since (frame_script t ks who))
-progress_at t ks who (stage.Reads id read c since) = Todo (Ask (call.Read (string_bytes read) since) (after_read id (string_bytes c) (frame_script t ks who)))
+progress_at t ks who (stage.Attaching id user) =
+    Out kind.Attach (after_attach id (string_bytes user) (λ w. frame_script t ks (Some w)))
+progress_at t ks who (stage.Beginning id read c since) =
+    Out kind.Begin (after_begin id (string_bytes read) (string_bytes c) since (frame_script t ks who))
+progress_at t ks who (stage.Reads id read c since) =
+    Todo (Ask (call.Read (string_bytes read) since) (after_read id (string_bytes c) (frame_script t ks who)))
 progress_at t ks who (stage.Reading id c) = Out kind.Read (after_read id (string_bytes c) (frame_script t ks who))
-progress_at t ks who (stage.Finishes c) = Todo (Ask (call.Finish (string_bytes c)) (after_finish (frame_script t ks who)))
+progress_at t ks who (stage.Finishes c) =
+    Todo (Ask (call.Finish (string_bytes c)) (after_finish (frame_script t ks who)))
 progress_at t ks who stage.Finishing = Out kind.Finish (after_finish (frame_script t ks who))
-progress_at t ks who (stage.Loses id c e) = Todo (Ask (call.Leave (string_bytes c)) (after_lost id e (frame_script t ks who)))
+progress_at t ks who (stage.Loses id c e) =
+    Todo (Ask (call.Leave (string_bytes c)) (after_lost id e (frame_script t ks who)))
 progress_at t ks who (stage.Losing id e) = Out kind.Leave (after_lost id e (frame_script t ks who))
 progress_at t ks who (stage.Leaving id) = Out kind.Leave (after_leave id (frame_script t ks who))
 progress_at t ks who (stage.Calling id k) = Out k (replies id (frame_script t ks who))
@@ -102,7 +109,8 @@ abbrev pub HearsFrame : Session → List ℕ → Session → Type 0
 HearsFrame old text new = Hears (tables_of old) (progress_of old) text (progress_of new) (refusals new)
 
 abbrev pub ActsNext : Session → Option Action → Session → Type 0
-ActsNext old action new = Acts (tables_of old) (progress_of old) (option_map shown_action action) (progress_of new) (refusals new)
+ActsNext old action new =
+    Acts (tables_of old) (progress_of old) (option_map shown_action action) (progress_of new) (refusals new)
 
 abbrev pub TakesAnswer : Session → CodeAnswer → Session → Type 0
 TakesAnswer old answer new = GoesOn (shown_answer answer) (progress_of old) (progress_of new) (refusals new)
@@ -111,7 +119,8 @@ TakesAnswer old answer new = GoesOn (shown_answer answer) (progress_of old) (pro
 
 -- it goes on from this script
 abbrev pub ActsOn : Session → Script → Option Action → Session → Type 0
-ActsOn old script action new = Acts (tables_of old) (Todo script) (option_map shown_action action) (progress_of new) (refusals new)
+ActsOn old script action new =
+    Acts (tables_of old) (Todo script) (option_map shown_action action) (progress_of new) (refusals new)
 
 -- the next command is at hand, and no request was refused so far
 abbrev pub IsReady : Session → Type 0
@@ -119,7 +128,8 @@ IsReady s = (s.stage ≡ stage.Ready) × (refusals s ≡ 0)
 
 -- a command is begun: there is nothing to do for it, and the next is at hand; or this is done
 abbrev pub Begins : Session → Script → Option Action → Session → Type 0
-Begins old script action new = MatchOption action ((progress_of new ≡ Todo script) × IsReady new) (λ a. ActsOn old script (Some a) new)
+Begins old script action new =
+    MatchOption action ((progress_of new ≡ Todo script) × IsReady new) (λ a. ActsOn old script (Some a) new)
 
 -- the script of this command and of those that are left
 abbrev pub script_from : Session → Command → Script
@@ -153,4 +163,6 @@ found_by (Attached client) = None
 
 -- after an answer the reply is next, whatever else is left to do
 abbrev pub RepliesAt : ℕ → CodeAnswer → Stage → Type 0
-RepliesAt id a s = (t : Tables) (ks : List Command) (who : Option Who) → progress_at t ks who s ≡ Todo (replies id (frame_script t ks who) (shown_answer a))
+RepliesAt id a s =
+    (t : Tables) (ks : List Command) (who : Option Who)
+    → progress_at t ks who s ≡ Todo (replies id (frame_script t ks who) (shown_answer a))

@@ -8,7 +8,8 @@ use Rattle.cf_session.specs.declared.session.Session.{Session}
 use Rattle.cf_session.specs.Played.{AskStreams}
 use Rattle.cf_session.specs.declared.budget.Budget.{Budget}
 
--- A session can be carried on: no call of it is out, and it asks for streams only where their namespace is set up. An idle one can.
+-- A session can be carried on: no call of it is out, and it asks for streams only where their namespace is set up. An
+-- idle one can.
 pub record CanGoOn (s : Session) : Type 0 where
   pub awaits : awaits (progress_of s) ≡ None
   pub asks : AskStreams (tables_of s).namespaces (progress_of s)
@@ -36,9 +37,11 @@ pub record DoesAct {N : Type 0} (does : N → Act → Option Answer → N → Ty
   pub answer : Option Answer
   pub done : does n a answer m
 
--- From a node and units left to another and what is left then, by acts alone. Before each the session isn't closed and a unit
--- is left; the last may cost more than is left.
-pub data Spends {N : Type 0} (closed : N → Bool) (does : N → Act → Option Answer → N → Type 0) (n : N) (units : ℕ) : N → ℕ → Type 0 where
+-- From a node and units left to another and what is left then, by acts alone. Before each the session isn't closed
+-- and a unit is left; the last may cost more than is left.
+pub data Spends {N : Type 0} (closed : N → Bool) (does : N → Act → Option Answer → N → Type 0) (n : N) (units : ℕ) : N
+    → ℕ → Type 0 where
   rests : Spends closed does n units n units
   acts : (mid m : N) (left : ℕ) (a : Act)
-      → Spends closed does n units mid left → closed mid ≡ false → left ≢ 0 → DoesAct does mid a m → Spends closed does n units m (left - cost a)
+      → Spends closed does n units mid left → closed mid ≡ false → left ≢ 0 → DoesAct does mid a m
+      → Spends closed does n units m (left - cost a)

@@ -1,5 +1,6 @@
 -- What calls make of a lent shard, why they are refused, and what stays as it was. (This project's own profile.)
-use Rattle.std.specs.Prelude.{◌≡◌, ◌≢◌, ◌↔◌, ◌++◌, ℕ, true, false, List, [], Option, Some, None, Result, Ok, IfErr, IsErrOf}
+use Rattle.std.specs.Prelude.{◌≡◌, ◌≢◌, ◌↔◌, ◌++◌, ℕ, true, false, List, [], Option, Some, None, Result, Ok, IfErr}
+use Rattle.std.specs.Prelude.{IsErrOf}
 use Rattle.std.specs.FinMap as fin
 use Rattle.std.specs.Option.{option_map}
 use Rattle.cf_protocol.specs.declared.position.Position.{Position}
@@ -11,9 +12,11 @@ use Rattle.cf_stream.specs.declared.answer.Published.{Published}
 use Rattle.cf_stream.specs.ChannelLists.{PublishesAt, StandsAt}
 use Rattle.cf_stream.specs.Stream.{IsAtLast, trimmed}
 use Rattle.cf_stream.specs.Streams.{IsOfAnother, after_tick, put_at, repeat_at, seconds_at, stream_of}
-use Rattle.cf_shard.specs.Shard.{Draw, DrawsFor, FindsNoEpoch, IsFull, IsResized, IsStateOf, Lent, after_publish, after_use}
+use Rattle.cf_shard.specs.Shard.{Draw, DrawsFor, FindsNoEpoch, IsFull, IsResized, IsStateOf, Lent, after_publish}
+use Rattle.cf_shard.specs.Shard.{after_use}
 use Rattle.cf_shard.specs.LogAnswer.{Follows}
-use Rattle.cf_shard.specs.ShardLog.{entries_of_forget, entries_of_publish, entries_of_size, entries_of_tick, entries_of_trim, entries_of_use}
+use Rattle.cf_shard.specs.ShardLog.{entries_of_forget, entries_of_publish, entries_of_size, entries_of_tick}
+use Rattle.cf_shard.specs.ShardLog.{entries_of_trim, entries_of_use}
 use Rattle.cf_shard.specs.declared.refusal.Refused.{Refused}
 use Rattle.cf_shard.specs.declared.refusal.Refused.TheVariants.{AtLastOffset, WrongEpoch, NoEpoch, AtLastCount}
 

@@ -1,6 +1,7 @@
--- What calls of the broker make of a shard's log, and what they answer: what one thread's broker does at some point of the log,
--- which begins with all that the caller's pass had seen. (This project's own profile.)
-use Rattle.std.specs.Prelude.{◌≡◌, ◌≢◌, ◌↔◌, ℕ, ◌+◌, ℤ, Bool, false, List, [], ◌∷◌, ◌++◌, length, Option, Some, None, IsSomeAnd}
+-- What calls of the broker make of a shard's log, and what they answer: what one thread's broker does at some point
+-- of the log, which begins with all that the caller's pass had seen. (This project's own profile.)
+use Rattle.std.specs.Prelude.{◌≡◌, ◌≢◌, ◌↔◌, ℕ, ◌+◌, ℤ, Bool, false, List, [], ◌∷◌, ◌++◌, length, Option, Some, None}
+use Rattle.std.specs.Prelude.{IsSomeAnd}
 use Rattle.std.specs.Option.{option_map, option_and_then}
 use mathlib.Core.List.{IsPrefix}
 use Rattle.cf_protocol.specs.declared.position.Position.{Position}
@@ -27,9 +28,10 @@ pub record Follows (old new : PassState) (own : ℕ) : Type 0 where
   pub looks : new.looks ≡ old.looks
   pub share : new.share ≡ old.share + own
 
--- a call at some point of the log: all that was seen stands before it, the log after it has the call's entries more, and this holds
--- of its answer
-pub record IsCall (seen after : List Entry) (entries : List Entry → List Entry) (answer : List Entry → Type 0) : Type 0 where
+-- a call at some point of the log: all that was seen stands before it, the log after it has the call's entries more,
+-- and this holds of its answer
+pub record IsCall (seen after : List Entry) (entries : List Entry → List Entry)
+    (answer : List Entry → Type 0) : Type 0 where
   pub before : List Entry
   pub begins : IsPrefix seen before
   pub gained : after ≡ before ++ entries before
@@ -39,25 +41,33 @@ pub record IsCall (seen after : List Entry) (entries : List Entry → List Entry
 abbrev pub IsPosition : NamespaceTable → (log : List Entry) → (channel : List ℕ) → Option Position → Type 0
 IsPosition t log c position = position ≡ option_map stands_at (life_in t log c)
 
--- the answer to a publish between two logs: that of the channel's list as it was, and but for a repeat where the stream stands then
-pub record AnswersPublish (t : NamespaceTable) (before after : List Entry) (channel key : List ℕ) (p : Published) : Type 0 where
+-- the answer to a publish between two logs: that of the channel's list as it was, and but for a repeat where the
+-- stream stands then
+pub record AnswersPublish (t : NamespaceTable) (before after : List Entry) (channel key : List ℕ)
+    (p : Published) : Type 0 where
   pub is : IsPublishedIn (life_or (life_in t before channel) p.position.epoch) key p.position p.repeated
   pub stands : p.repeated ≡ false → IsPosition t after channel (Some p.position)
 
 -- an accepted publish: the log ends with its one entry, after the opening where the stream opened; a repeat has none
-abbrev pub IsPublished : NamespaceTable → (seen after : List Entry) → (channel key : List ℕ) → Datum → Published → Type 0
+abbrev pub IsPublished : NamespaceTable → (seen after : List Entry) → (channel key : List ℕ) → Datum → Published
+    → Type 0
 IsPublished t seen after c key d p =
-    IsCall seen after (λ log. publishing p.repeated (life_in t log c) c p.position.epoch key d) (λ log. AnswersPublish t log after c key p)
+    IsCall seen after (λ log. publishing p.repeated (life_in t log c) c p.position.epoch key d)
+    (λ log. AnswersPublish t log after c key p)
 
 -- a read
-abbrev pub IsReadAnswer : NamespaceTable → (seen after : List Entry) → (channel : List ℕ) → (since : Option Position) → Position → (recovered : Bool) → List Placed → Type 0
+abbrev pub IsReadAnswer : NamespaceTable → (seen after : List Entry) → (channel : List ℕ) → (since : Option Position)
+    → Position → (recovered : Bool) → List Placed → Type 0
 IsReadAnswer t seen after c since p recovered items =
-    IsCall seen after (λ log. opening (life_in t log c) c p.epoch []) (λ log. IsRead (life_or (life_in t log c) p.epoch) since p recovered items)
+    IsCall seen after (λ log. opening (life_in t log c) c p.epoch [])
+    (λ log. IsRead (life_or (life_in t log c) p.epoch) since p recovered items)
 
 -- a history
-abbrev pub IsHistoryAnswer : NamespaceTable → (seen after : List Entry) → (channel : List ℕ) → (since : Option Position) → (limit : ℤ) → Position → List Placed → Type 0
+abbrev pub IsHistoryAnswer : NamespaceTable → (seen after : List Entry) → (channel : List ℕ)
+    → (since : Option Position) → (limit : ℤ) → Position → List Placed → Type 0
 IsHistoryAnswer t seen after c since limit p items =
-    IsCall seen after (λ log. opening (life_in t log c) c p.epoch []) (λ log. IsListed (life_or (life_in t log c) p.epoch) since limit p items)
+    IsCall seen after (λ log. opening (life_in t log c) c p.epoch [])
+    (λ log. IsListed (life_or (life_in t log c) p.epoch) since limit p items)
 
 -- a trim and a forget: one entry where the channel has a stream
 abbrev pub IsTrimmed : NamespaceTable → (seen after : List Entry) → (channel : List ℕ) → (count : ℕ) → Type 0
@@ -99,7 +109,8 @@ abbrev pub HasNoRoom : NamespaceTable → (log : List Entry) → (channel : List
 HasNoRoom t log c entries = IsFull log (opening (life_in t log c) c [] entries)
 
 -- no repeat is refused
-pub record RefusesPublish (t : NamespaceTable) (log : List Entry) (c key : List ℕ) (d : Datum) (e : Refused) : Type 0 where
+pub record RefusesPublish (t : NamespaceTable) (log : List Entry) (c key : List ℕ) (d : Datum)
+    (e : Refused) : Type 0 where
   pub is_new : IsNew t log c key
   pub last : (e ≡ AtLastOffset) ↔ IsAtLast t log c
   pub epoch : e ≡ NoEpoch → HasNone t log c
@@ -111,7 +122,8 @@ pub record RefusesRead (t : NamespaceTable) (log : List Entry) (c : List ℕ) (e
   pub count : e ≡ AtLastCount → HasNoRoom t log c []
   pub others : (e ≢ AtLastOffset) × (e ≢ WrongEpoch)
 
-pub record RefusesHistory (t : NamespaceTable) (log : List Entry) (c : List ℕ) (since : Option Position) (e : Refused) : Type 0 where
+pub record RefusesHistory (t : NamespaceTable) (log : List Entry) (c : List ℕ) (since : Option Position)
+    (e : Refused) : Type 0 where
   pub outside : (e ≡ WrongEpoch) ↔ IsOutside (life_in t log c) since
   pub epoch : e ≡ NoEpoch → HasNone t log c
   pub count : e ≡ AtLastCount → HasNoRoom t log c []

@@ -17,7 +17,9 @@ use Rattle.cf_stream.specs.LogState.{IsState}
 use Rattle.cf_stream.specs.Stream.{given, used_at}
 use Rattle.cf_stream.specs.Streams.{StreamMap, coded_kept, put_at, resized_in, stood_or_opened, stream_of}
 use Rattle.cf_shard.specs.declared.refusal.Refused.{Refused}
-use Rattle.cf_shard.specs.declared.refusal.Refused.TheVariants.{AtLastOffset as LastOffset, WrongEpoch as OtherEpoch, NoEpoch as NoneDrawn, Memory as NoMemory, AtLastCount as LastCount}
+use Rattle.cf_shard.specs.declared.refusal.Refused.TheVariants.{AtLastOffset as LastOffset, WrongEpoch as OtherEpoch}
+use Rattle.cf_shard.specs.declared.refusal.Refused.TheVariants.{NoEpoch as NoneDrawn, Memory as NoMemory}
+use Rattle.cf_shard.specs.declared.refusal.Refused.TheVariants.{AtLastCount as LastCount}
 
 -- the streams, who is there, where the epochs of new streams come from, and the log that made the streams
 pub record Lent (E : Type 0) : Type 0 where
@@ -29,14 +31,16 @@ pub record Lent (E : Type 0) : Type 0 where
 abbrev pub lent_code : {E : Type 0} → Coded E → Coded (Lent E)
 lent_code {E} e =
     code_by (StreamMap × (Channels × (E × List Entry))) (coded× coded_kept (coded× coded_channels (coded× e coded_log)))
-    (λ s. (s.streams, (s.presence, (s.epochs, s.log)))) (λ p. record { streams = p.0; presence = p.1.0; epochs = p.1.1.0; log = p.1.1.1 }) (λ _. refl)
+    (λ s. (s.streams, (s.presence, (s.epochs, s.log))))
+    (λ p. record { streams = p.0; presence = p.1.0; epochs = p.1.1.0; log = p.1.1.1 }) (λ _. refl)
 
 -- no streams, over these namespaces
 abbrev pub no_streams : NamespaceTable → StreamMap
 no_streams t = record { namespaces = t; streams = fin.empty }
 
 -- the owner is of this word, and the streams are what its log leaves, which begins with these namespaces
-pub record IsShard (namespaces : NamespaceTable) (word : TableId) (streams : StreamMap) (owner : OwnerState) : Type 0 where
+pub record IsShard (namespaces : NamespaceTable) (word : TableId) (streams : StreamMap)
+    (owner : OwnerState) : Type 0 where
   pub named : owner.word ≡ word
   pub state : IsState namespaces streams owner.log
 
@@ -60,8 +64,8 @@ LacksRoom entries e old new = (e ≡ LastCount) × (new ≡ old) × IsFull old.l
 
 -- ---- what a call makes of streams and epochs
 
--- the streams after a publish under this key, and after a read or a history, at a moment: the channel's stream opens in this epoch
--- where there is none
+-- the streams after a publish under this key, and after a read or a history, at a moment: the channel's stream opens
+-- in this epoch where there is none
 abbrev pub after_publish : StreamMap → (channel epoch key : List ℕ) → Datum → (now : ℕ) → StreamMap
 after_publish k c e key d now = put_at k c (Some (given (stood_or_opened k c e) key d now))
 

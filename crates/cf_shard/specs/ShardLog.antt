@@ -27,7 +27,8 @@ entries_of_forget k c = if_stands (stream_of k c) (Forget c)
 abbrev pub entries_of_size : (name : List ℕ) → (size : ℕ) → List Entry
 entries_of_size name n = Size name n ∷ []
 
--- a tick: a forget for each stream that ends, and a trim to none for each other one that is emptied while it holds something
+-- a tick: a forget for each stream that ends, and a trim to none for each other one that is emptied while it holds
+-- something
 abbrev pub entries_of_tick : StreamMap → (now : ℕ) → List Entry
 entries_of_tick k now = due_entries (due_channels now k.namespaces (fin.entries k.streams))
 

@@ -40,7 +40,8 @@ line_at s done = slice_get s.lines.items done
 -- why line n, behind these, was refused
 abbrev pub RefusesLine : ℕ → List ℕ → ℕ → List (Option Event) → SimulateFault → Type 0
 RefusesLine nodes line n given (Unreadable m) = (m ≡ n) × IsUnreadable nodes line
-RefusesLine nodes line n given (UsedTwice m e) = (m ≡ n) × Says nodes line (Epoch e) × (is_among e (epochs_of given) ≡ true)
+RefusesLine nodes line n given (UsedTwice m e) =
+    (m ≡ n) × Says nodes line (Epoch e) × (is_among e (epochs_of given) ≡ true)
 RefusesLine nodes line n given Memory = Unit {0}
 RefusesLine nodes line n given f = ⊥
 
@@ -51,7 +52,8 @@ Epochs = BTreeSet (String Global)
 
 -- the epoch that the event brings, if any, didn't come before and has come now
 abbrev pub NotesEpoch : Epochs → Event → Epochs → Type 0
-NotesEpoch old (Epoch e) new = (contains_text old e ≡ false) × ((q : List ℕ) → contains_text new q ≡ (bytes_eq e q || contains_text old q))
+NotesEpoch old (Epoch e) new =
+    (contains_text old e ≡ false) × ((q : List ℕ) → contains_text new q ≡ (bytes_eq e q || contains_text old q))
 NotesEpoch old event new = (q : List ℕ) → contains_text new q ≡ contains_text old q
 
 -- the epoch that the event brings came before

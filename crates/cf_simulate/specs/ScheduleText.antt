@@ -1,5 +1,6 @@
 -- What a schedule's text says, line by line, and the first line that can't be used. (This project's own format.)
-use Rattle.std.specs.Prelude.{◌≡◌, ℕ, ◌+◌, ◌==◌, true, Option, Some, None, List, [], ◌∷◌, ◌++◌, length, flat_map, option_to_list}
+use Rattle.std.specs.Prelude.{◌≡◌, ℕ, ◌+◌, ◌==◌, true, Option, Some, None, List, [], ◌∷◌, ◌++◌, length, flat_map}
+use Rattle.std.specs.Prelude.{option_to_list}
 use Rattle.std.specs.List.{slice_split, AllZip}
 use Rattle.cf_protocol.specs.Names.{is_among}
 use Rattle.cf_machine.specs.Event.{Event, Epoch}
@@ -58,4 +59,5 @@ IsUnreadableAt nodes text n = IsFirstFault nodes text n (λ line given. IsUnread
 
 -- an earlier line brought the epoch that this one brings
 abbrev pub IsRepeatedAt : ℕ → List ℕ → ℕ → List ℕ → Type 0
-IsRepeatedAt nodes text n e = IsFirstFault nodes text n (λ line given. Says nodes line (Epoch e) × (is_among e (epochs_of given) ≡ true))
+IsRepeatedAt nodes text n e =
+    IsFirstFault nodes text n (λ line given. Says nodes line (Epoch e) × (is_among e (epochs_of given) ≡ true))

@@ -1,4 +1,5 @@
--- What `simulate` writes, and when each fault comes. Where the writer's bytes are known, this says what is added to them.
+-- What `simulate` writes, and when each fault comes. Where the writer's bytes are known, this says what is added to
+-- them.
 use Rattle.std.specs.Prelude.{◌≡◌, ◌⊎◌, ℕ, suc, ◌+◌, ◌≤◌, Bool, true, false, Option, List, [], ◌∷◌, ◌++◌, length, take}
 use Rattle.std.specs.Str.{IsUtf8}
 use Rattle.std.specs.Io.KnownBytes.{Keeps, Appends}
@@ -14,7 +15,8 @@ use Rattle.cf_explain.specs.Remarks.{AreRemarks, BeginsWith, IsOneLine, heading}
 use Rattle.cf_simulate.specs.ScheduleText.{IsSchedule, IsUnreadableAt, IsRepeatedAt}
 use Rattle.cf_simulate.specs.declared.schedule.Line.{Line}
 use Rattle.cf_simulate.specs.declared.fault.SimulateFault.{SimulateFault}
-use Rattle.cf_simulate.specs.declared.fault.SimulateFault.TheVariants.{Unreadable, UsedTwice, NotUtf8, Memory, InputOutput}
+use Rattle.cf_simulate.specs.declared.fault.SimulateFault.TheVariants.{Unreadable, UsedTwice, NotUtf8, Memory}
+use Rattle.cf_simulate.specs.declared.fault.SimulateFault.TheVariants.{InputOutput}
 
 -- ---- what is written of a run
 
@@ -39,7 +41,8 @@ pub record HasRemarksFirst (lines : List ℕ) (Rest : List ℕ → Type 0) (byte
 -- event by event: remarks on it, and then the lines that the machine prints in it
 abbrev pub AreExplained : Config → ℕ → World → List Event → List ℕ → Type 0
 AreExplained cfg n m [] bytes = bytes ≡ []
-AreExplained cfg n m (e ∷ es) bytes = HasRemarksFirst (printed (writes cfg n m e)) (AreExplained cfg (suc n) (happens cfg m e) es) bytes
+AreExplained cfg n m (e ∷ es) bytes =
+    HasRemarksFirst (printed (writes cfg n m e)) (AreExplained cfg (suc n) (happens cfg m e) es) bytes
 
 -- how the run of these events is shown, bare or explained
 abbrev pub AreShown : Bool → Config → List Event → List ℕ → Type 0
@@ -120,7 +123,8 @@ pub record Prints (explains : Bool) (cfg : Config) (input : List ℕ) (old new :
   pub writes : WritesAll explains cfg events old new
 
 -- the input is a schedule, and its run ends so
-pub record Stops (explains : Bool) (cfg : Config) (input : List ℕ) (old new : Option (List ℕ)) (f : SimulateFault) : Type 0 where
+pub record Stops (explains : Bool) (cfg : Config) (input : List ℕ) (old new : Option (List ℕ))
+    (f : SimulateFault) : Type 0 where
   pub text : IsUtf8 input
   pub events : List Event
   pub schedule : IsSchedule cfg.nodes input events

@@ -1,7 +1,8 @@
 -- How the program ends where a simulation doesn't succeed (this project's own profile).
 use Rattle.std.specs.Prelude.{ℕ}
 use Rattle.cf_simulate.specs.declared.fault.SimulateFault.{SimulateFault}
-use Rattle.cf_simulate.specs.declared.fault.SimulateFault.TheVariants.{Unreadable, UsedTwice, NotUtf8, Memory, InputOutput}
+use Rattle.cf_simulate.specs.declared.fault.SimulateFault.TheVariants.{Unreadable, UsedTwice, NotUtf8, Memory}
+use Rattle.cf_simulate.specs.declared.fault.SimulateFault.TheVariants.{InputOutput}
 
 -- 2: the input can't be used; 3: no memory was left; 4: a read or a write failed
 abbrev pub status_of : SimulateFault → ℕ

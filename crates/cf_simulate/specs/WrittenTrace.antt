@@ -27,14 +27,16 @@ AreLinesOf false entries bytes = bytes ≡ printed entries
 AreLinesOf true entries bytes = HasRemarksAmong entries bytes
 
 -- the bytes are the lines of the trace of these events, of which this holds
-pub record ShowsTrace (explains : Bool) (cfg : Config) (events : List Event) (Holds : List Event → List Entry → Type 0) (bytes : List ℕ) : Type 0 where
+pub record ShowsTrace (explains : Bool) (cfg : Config) (events : List Event)
+    (Holds : List Event → List Entry → Type 0) (bytes : List ℕ) : Type 0 where
   pub entries : List Entry
   pub told : entries ≡ trace cfg 1 start events
   pub holds : Holds events entries
   pub lines : AreLinesOf explains entries bytes
 
 -- the input is a schedule, and the lines of its trace are added, of which this holds
-pub record WritesTrace (explains : Bool) (cfg : Config) (input : List ℕ) (old new : Option (List ℕ)) (Holds : List Event → List Entry → Type 0) : Type 0 where
+pub record WritesTrace (explains : Bool) (cfg : Config) (input : List ℕ) (old new : Option (List ℕ))
+    (Holds : List Event → List Entry → Type 0) : Type 0 where
   pub events : List Event
   pub schedule : IsSchedule cfg.nodes input events
   pub bytes : List ℕ
@@ -42,7 +44,8 @@ pub record WritesTrace (explains : Bool) (cfg : Config) (input : List ℕ) (old 
   pub adds : Appends old new bytes
 
 -- the same of some first events, of whose lines the front is added
-pub record WritesFront (explains : Bool) (cfg : Config) (input : List ℕ) (old new : Option (List ℕ)) (Holds : List Event → List Entry → Type 0) : Type 0 where
+pub record WritesFront (explains : Bool) (cfg : Config) (input : List ℕ) (old new : Option (List ℕ))
+    (Holds : List Event → List Entry → Type 0) : Type 0 where
   pub events : List Event
   pub schedule : IsSchedule cfg.nodes input events
   pub done : ℕ
@@ -52,5 +55,6 @@ pub record WritesFront (explains : Bool) (cfg : Config) (input : List ℕ) (old 
   pub adds : AddsPart old new bytes
 
 -- that, or nothing is added
-abbrev pub WritesFrontAtMost : Bool → Config → List ℕ → Option (List ℕ) → Option (List ℕ) → (List Event → List Entry → Type 0) → Type 0
+abbrev pub WritesFrontAtMost : Bool → Config → List ℕ → Option (List ℕ) → Option (List ℕ)
+    → (List Event → List Entry → Type 0) → Type 0
 WritesFrontAtMost explains cfg input old new Holds = Keeps old new ⊎ WritesFront explains cfg input old new Holds

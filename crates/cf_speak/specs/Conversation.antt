@@ -1,5 +1,5 @@
--- A conversation with one client over the lines of an input, and what is written. (The form of a line that tells of a close is
--- this project's own.)
+-- A conversation with one client over the lines of an input, and what is written. (The form of a line that tells of a
+-- close is this project's own.)
 use Rattle.std.specs.Prelude.{◌≡◌, ◌≢◌, ◌⊎◌, ℕ, true, false, Option, None, Some, List, [], ◌∷◌, ◌++◌, flat_map, codes}
 use Rattle.std.specs.Fmt.{decimal}
 use Rattle.std.specs.Io.BufRead.{first_piece, drop_through}
@@ -19,7 +19,8 @@ use Rattle.cf_speak.specs.Steps.{Step}
 
 -- ---- the input
 
--- The input begins with these lines, each up to a line feed or the input's end, and each of them UTF-8; the rest is not read.
+-- The input begins with these lines, each up to a line feed or the input's end, and each of them UTF-8; the rest is
+-- not read.
 abbrev pub Begins : List ℕ → List (List ℕ) → List ℕ → Type 0
 Begins input [] rest = rest ≡ input
 Begins input (line ∷ lines) rest =
@@ -41,7 +42,8 @@ lines_of items = flat_map line_of items
 abbrev pub left_at : Option ℕ → List Item → Node → Node → Type 0
 left_at None items old new = new ≡ old
 left_at (Some k) items old new =
-    (attached_at new k ≡ option_map (moves (λ a. record a { notes = items })) (attached_at old k)) × OthersStay k old new
+    (attached_at new k ≡ option_map (moves (λ a. record a { notes = items })) (attached_at old k))
+    × OthersStay k old new
 
 pub record Leaves (items : List Item) (s m : Scene) : Type 0 where
   pub hub : left_at s.number items s.hub m.hub
@@ -57,7 +59,8 @@ pub record Takes (s m : Scene) : Type 0 where
   pub rest : m ≡ record s { hub = m.hub }
 
 -- A line of the client is served by its script, and then all that waits is given out.
-pub record Turn (t : Tables) (p : Progress) (s : Scene) (line : List ℕ) (given : List Item) (m : Scene) (q : Progress) : Type 0 where
+pub record Turn (t : Tables) (p : Progress) (s : Scene) (line : List ℕ) (given : List Item) (m : Scene)
+    (q : Progress) : Type 0 where
   pub heard : Scene
   pub serves : Serves is_over Step t p s line heard q
   pub gives : given ≡ waits heard
@@ -75,7 +78,8 @@ abbrev pub IsNoText : List ℕ → Type 0
 IsNoText line = IsUtf8 line → ⊥
 
 -- one line is answered
-pub record AnswersLine (t : Tables) (p : Progress) (s : Scene) (line : List ℕ) (m : Scene) (q : Progress) (old new : Option (List ℕ)) : Type 0 where
+pub record AnswersLine (t : Tables) (p : Progress) (s : Scene) (line : List ℕ) (m : Scene) (q : Progress)
+    (old new : Option (List ℕ)) : Type 0 where
   pub text : IsUtf8 line
   pub given : List Item
   pub turn : Turn t p s line given m q
@@ -90,9 +94,10 @@ ReadsLine (Some input) new (Some line) =
 
 -- ---- the whole
 
--- The input's lines are served from here on up to its end or a close, and what that gives is written, a line for each text or
--- close.
-pub record SpeaksFrom (t : Tables) (p : Progress) (s : Scene) (input : List ℕ) (old new : Option (List ℕ)) : Type 0 where
+-- The input's lines are served from here on up to its end or a close, and what that gives is written, a line for each
+-- text or close.
+pub record SpeaksFrom (t : Tables) (p : Progress) (s : Scene) (input : List ℕ)
+    (old new : Option (List ℕ)) : Type 0 where
   pub lines : List (List ℕ)
   pub rest : List ℕ
   pub given : List Item
@@ -107,9 +112,10 @@ pub record SpeaksFrom (t : Tables) (p : Progress) (s : Scene) (input : List ℕ)
 abbrev pub Speaks : Tables → List (List ℕ) → List ℕ → Option (List ℕ) → Option (List ℕ) → Type 0
 Speaks t epochs input old new = SpeaksFrom t (Todo (Served None)) (opening t.namespaces epochs) input old new
 
--- The input's lines are served from here on up to one that is not UTF-8, no earlier one closed the session, and what they gave
--- is written.
-pub record BreaksOffFrom (t : Tables) (p : Progress) (s : Scene) (input : List ℕ) (old new : Option (List ℕ)) : Type 0 where
+-- The input's lines are served from here on up to one that is not UTF-8, no earlier one closed the session, and what
+-- they gave is written.
+pub record BreaksOffFrom (t : Tables) (p : Progress) (s : Scene) (input : List ℕ)
+    (old new : Option (List ℕ)) : Type 0 where
   pub lines : List (List ℕ)
   pub rest : List ℕ
   pub given : List Item

@@ -1,6 +1,7 @@
--- What each act of a session does to its node, by the definitions of hub, streams and presence: the node's answers, and where
--- it is then. All happens at moment 0. (Centrifugo's client protocol, history and recovery, presence.)
-use Rattle.std.specs.Prelude.{◌≡◌, ◌⊎◌, ℕ, ◌+◌, ℤ, Bool, true, false, if◌then◌else◌, Option, Some, None, option_map, is_some, IsSomeAnd, List, []}
+-- What each act of a session does to its node, by the definitions of hub, streams and presence: the node's answers,
+-- and where it is then. All happens at moment 0. (Centrifugo's client protocol, history and recovery, presence.)
+use Rattle.std.specs.Prelude.{◌≡◌, ◌⊎◌, ℕ, ◌+◌, ℤ, Bool, true, false, if◌then◌else◌, Option, Some, None, option_map}
+use Rattle.std.specs.Prelude.{is_some, IsSomeAnd, List, []}
 use Rattle.std.specs.FinMap as fin
 use Rattle.cf_protocol.specs.Checks.{AtLastOffset, OtherEpoch, refusal_code}
 use Rattle.cf_protocol.specs.Codes.{close_code_of}
@@ -18,7 +19,8 @@ use Rattle.cf_presence.specs.Presence.{Channels, clients_of, entered, left, user
 use Rattle.cf_queue.specs.OutQueue.{Item, Text, Close}
 use Rattle.cf_hub.specs.Checked.{stand_of}
 use Rattle.cf_hub.specs.Finish.{FinishesAt}
-use Rattle.cf_hub.specs.Hub.{Node, attached_at, Begins, InState, IsFull, IsLeastFree, IsOpenWith, IsRefused, NoRoom, One, Opens, OthersStay, client_id, is_open, sub_at}
+use Rattle.cf_hub.specs.Hub.{Node, attached_at, Begins, InState, IsFull, IsLeastFree, IsOpenWith, IsRefused, NoRoom}
+use Rattle.cf_hub.specs.Hub.{One, Opens, OthersStay, client_id, is_open, sub_at}
 use Rattle.cf_hub.specs.Rows.{Agrees, sub_in}
 use Rattle.cf_hub.specs.Session.{Attached, badge_ponged}
 use Rattle.cf_hub.specs.SessionState.{SessionState, closes_now, comes, leaves, push, reads}
@@ -107,7 +109,8 @@ used s c e = stood_or_opened s.streams c e
 
 pub record Reads (k : ℕ) (c : List ℕ) (since : Option Position) (s m : Scene) (a : Answer) : Type 0 where
   pub found : Recovery
-  pub recovery : IsRecovery (used s c found.position.epoch) since found.position found.recovered found.publications.items
+  pub recovery : IsRecovery
+      (used s c found.position.epoch) since found.position found.recovered found.publications.items
   pub drawn : Draws draws_front (stream_of s.streams c) found.position.epoch s.epochs m.epochs
   pub streams : m.streams ≡ put_at s.streams c (Some (used_at (used s c found.position.epoch) 0))
   pub hub : One k (reads (reading found.publications.items) c (reading_of found)) s.hub m.hub
@@ -161,7 +164,11 @@ pub record Publishes (c key : List ℕ) (d : Datum) (s m : Scene) (a : Answer) :
   pub drawn : Draws draws_front (stream_of s.streams c) epoch s.epochs m.epochs
   pub streams : m.streams ≡ put_at s.streams c (Some (given (used s c epoch) key d 0))
   pub answer : a ≡ Found outgoing.Published
-  pub rest : m ≡ record s { streams = m.streams; epochs = m.epochs; due = due_after (is_some (repeated_by (used s c epoch) key)) c s.due }
+  pub rest : m ≡ record s {
+    streams = m.streams;
+    epochs = m.epochs;
+    due = due_after (is_some (repeated_by (used s c epoch) key)) c s.due;
+  }
 
 pub record IsAtLast (c key : List ℕ) (s m : Scene) (a : Answer) : Type 0 where
   pub last : IsSomeAnd (stream_of s.streams c) (λ x. IsStuck x key)
@@ -208,7 +215,8 @@ said_at (Some k) text old new = Moves k (λ a b. b ≡ push plain (Text text) a)
 
 -- a publication of this epoch is brought to the hub's sessions
 pub record Delivers (c e : List ℕ) (p : Placed) (old new : Node) : Type 0 where
-  pub each : (k : ℕ) → Both (InState (λ a b. b ≡ comes (delivering p) c (at_offset e p) a)) (attached_at old k) (attached_at new k)
+  pub each : (k : ℕ)
+      → Both (InState (λ a b. b ≡ comes (delivering p) c (at_offset e p) a)) (attached_at old k) (attached_at new k)
   pub agrees : Agrees (attached_at new) new.rows
 
 abbrev pub brings : List ℕ → List ℕ → Option Placed → Node → Node → Type 0
@@ -233,7 +241,8 @@ pub record SaysAndBrings (text : List ℕ) (s m : Scene) : Type 0 where
 
 abbrev pub pong_at : Option ℕ → Scene → Scene → Type 0
 pong_at None s m = m ≡ s
-pong_at (Some k) s m = OnHub (λ old new. (attached_at new k ≡ option_map badge_ponged (attached_at old k)) × OthersStay k old new) s m
+pong_at (Some k) s m =
+    OnHub (λ old new. (attached_at new k ≡ option_map badge_ponged (attached_at old k)) × OthersStay k old new) s m
 
 abbrev pub close_at : Option ℕ → CloseCode → Scene → Scene → Type 0
 close_at None code s m = m ≡ record s { turned_away = Some code }

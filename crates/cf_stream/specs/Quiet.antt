@@ -10,4 +10,5 @@ IsQuiet until seconds s = (now : ℕ) → now < until → due_of now seconds s �
 
 -- nor to any stream
 abbrev pub AreQuiet : ℕ → NamespaceTable → (List ℕ → Option Shown) → Type 0
-AreQuiet until table streams = (now : ℕ) → now < until → (q : List ℕ) → due_at now (seconds_at table q) (streams q) ≡ None
+AreQuiet until table streams =
+    (now : ℕ) → now < until → (q : List ℕ) → due_at now (seconds_at table q) (streams q) ≡ None

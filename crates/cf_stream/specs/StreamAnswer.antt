@@ -1,6 +1,7 @@
 -- What a stream answers to a read and to a history, in offsets.
 -- (Centrifugo, history and recovery; that at most 300 are recovered or listed is this project's own profile.)
-use Rattle.std.specs.Prelude.{ℕ, ℤ, pos, negsuc, ◌-◌, min, max, nat_le, ◌&&◌, Bool, true, false, if◌then◌else◌, Option, Some, None}
+use Rattle.std.specs.Prelude.{ℕ, ℤ, pos, negsuc, ◌-◌, min, max, nat_le, ◌&&◌, Bool, true, false, if◌then◌else◌}
+use Rattle.std.specs.Prelude.{Option, Some, None}
 use Rattle.std.specs.Str.{bytes_eq}
 use Rattle.cf_protocol.specs.declared.position.Position.{Position}
 use Rattle.cf_protocol.specs.Note.{Reading}
@@ -13,9 +14,11 @@ most_in_reply = 300
 -- Whether the stream still holds everything after this position, and can bring it in one reply:
 -- the position is of its epoch, not above its top, and at most held and at most 300 below it.
 abbrev pub still_held : Position → StreamState → Bool
-still_held p s = bytes_eq p.epoch s.epoch && (nat_le p.offset s.top && nat_le (s.top - p.offset) (min s.held most_in_reply))
+still_held p s =
+    bytes_eq p.epoch s.epoch && (nat_le p.offset s.top && nat_le (s.top - p.offset) (min s.held most_in_reply))
 
--- What a read for recovery finds: from that position on where all that follows it is still held, and else the top alone.
+-- What a read for recovery finds: from that position on where all that follows it is still held, and else the top
+-- alone.
 abbrev pub read_of : Option Position → StreamState → Reading
 read_of None s = record { epoch = s.epoch; low = s.top; top = s.top; recovered = false }
 read_of (Some p) s =

@@ -1,5 +1,7 @@
--- Which session of a node follows which channel: a list of rows in order of adding. (Order and limit are this project's own profile.)
-use Rattle.std.specs.Prelude.{◌≡◌, ◌≢◌, ℕ, ◌≤◌, ◌==◌, ◌&&◌, ◌||◌, not, Bool, false, if◌then◌else◌, Option, None, List, [], ◌∷◌, ◌++◌, length, map, filter, slice_get}
+-- Which session of a node follows which channel: a list of rows in order of adding. (Order and limit are this
+-- project's own profile.)
+use Rattle.std.specs.Prelude.{◌≡◌, ◌≢◌, ℕ, ◌≤◌, ◌==◌, ◌&&◌, ◌||◌, not, Bool, false, if◌then◌else◌, Option, None, List}
+use Rattle.std.specs.Prelude.{[], ◌∷◌, ◌++◌, length, map, filter, slice_get}
 use Rattle.std.specs.List.{list_any}
 use Rattle.cf_subs.specs.declared.table.Row.{Row}
 

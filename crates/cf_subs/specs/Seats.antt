@@ -42,7 +42,8 @@ after_in_session o s = record s { after_in_session = o }
 
 -- of each number the first block and the last one lie at the same places
 abbrev pub SameEnds : (Seat → ℕ) → List (Held Seat) → List (Held Seat) → Type 0
-SameEnds key hs ws = (k : ℕ) → (first_of key k hs ≡ first_of key k ws) × (last_of key nowhere hs k ≡ last_of key nowhere ws k)
+SameEnds key hs ws =
+    (k : ℕ) → (first_of key k hs ≡ first_of key k ws) × (last_of key nowhere hs k ≡ last_of key nowhere ws k)
 
 -- the rows are the same, and so are the ends of each list
 pub record SameLists (hs ws : List (Held Seat)) : Type 0 where

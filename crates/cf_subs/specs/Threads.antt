@@ -1,4 +1,5 @@
--- Lists that run through the held blocks: of each number, the blocks that have it as their key, in the order in which they are held.
+-- Lists that run through the held blocks: of each number, the blocks that have it as their key, in the order in which
+-- they are held.
 use Rattle.std.specs.Prelude.{◌≡◌, ℕ, ◌==◌, Bool, false, cond, List, [], ◌∷◌, map, Option, Some, None, IsSome}
 use denote.RawPtr.{Ptr}
 use Rattle.lru.specs.Linked.{same_ptr}
@@ -47,4 +48,6 @@ module _ {T : Type 0} where
       -- each block leads to the one before it and the one after it of its number
       abbrev pub AreThreaded : (ℕ → Option At) → List (Held T) → Type 0
       AreThreaded f [] = Unit {0}
-      AreThreaded f (h ∷ hs) = (before h.value ≡ f (key h.value)) × (after h.value ≡ first_of (key h.value) hs) × AreThreaded (noted f h) hs
+      AreThreaded f (h ∷ hs) =
+          (before h.value ≡ f (key h.value)) × (after h.value ≡ first_of (key h.value) hs)
+          × AreThreaded (noted f h) hs

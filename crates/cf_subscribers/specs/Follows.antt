@@ -1,6 +1,7 @@
--- Which session of a node follows which channel: a list of rows in order of adding. A channel is its name, a session its number.
--- (Order and limit are this project's own profile.)
-use Rattle.std.specs.Prelude.{◌≡◌, ℕ, ◌≤◌, ◌==◌, ◌&&◌, not, Bool, false, if◌then◌else◌, Option, None, List, [], ◌∷◌, ◌++◌, length, map, filter, slice_get}
+-- Which session of a node follows which channel: a list of rows in order of adding. A channel is its name, a session
+-- its number. (Order and limit are this project's own profile.)
+use Rattle.std.specs.Prelude.{◌≡◌, ℕ, ◌≤◌, ◌==◌, ◌&&◌, not, Bool, false, if◌then◌else◌, Option, None, List, [], ◌∷◌}
+use Rattle.std.specs.Prelude.{◌++◌, length, map, filter, slice_get}
 use Rattle.std.specs.List.{list_any}
 use Rattle.std.specs.Str.{bytes_eq}
 

@@ -1,5 +1,6 @@
 -- The channels' names, each under a number of its own, and the rows by their channels' names.
-use Rattle.std.specs.Prelude.{◌≡◌, ℕ, ◌==◌, if◌then◌else◌, Option, Some, None, List, [], map, option_map, unwrap_or, is_some, string_bytes}
+use Rattle.std.specs.Prelude.{◌≡◌, ℕ, ◌==◌, if◌then◌else◌, Option, Some, None, List, [], map, option_map, unwrap_or}
+use Rattle.std.specs.Prelude.{is_some, string_bytes}
 use Rattle.std.specs.BTreeMap.{get_by_text}
 use Rattle.slab.specs.Slab.{get}
 use Rattle.cf_subs.specs.declared.table.Row.{Row}

@@ -1,4 +1,5 @@
--- Which answer is written to a client when. (RFC 6455, 4.2; what a head asks for and the texts are those of `cf_handshake`.)
+-- Which answer is written to a client when. (RFC 6455, 4.2; what a head asks for and the texts are those of
+-- `cf_handshake`.)
 use Rattle.std.specs.Prelude.{◌≡◌, ◌⊎◌, ℕ, Bool, true, false, List, take, drop, ⊤, Option, None, Some}
 use Rattle.std.specs.Io.KnownBytes.{Appends}
 use Rattle.httparse.specs.Grammar.{RequestHead}
@@ -42,7 +43,8 @@ module _ {S : Type 0} (contents : S → Option (List ℕ)) where
 
   -- why a head opens none: it is refused, and told so; or it asks for the health, and nothing is written
   abbrev pub RefusesFor : WireFault → S → List ℕ → Refused S → Type 0
-  RefusesFor Handshake old head refused = (refusal : Refusal) × HeadAsks head (asked.Refused refusal) × Tells old refusal refused
+  RefusesFor Handshake old head refused =
+      (refusal : Refusal) × HeadAsks head (asked.Refused refusal) × Tells old refusal refused
   RefusesFor Health old head refused = HeadAsks head asked.Health × (refused.stream ≡ old)
   RefusesFor StreamFault old head refused = ⊤
   RefusesFor Memory old head refused = ⊤
@@ -72,7 +74,8 @@ module _ {S : Type 0} (contents : S → Option (List ℕ)) where
       pub bytes : List ℕ
       pub comes : Comes remaining old refused.stream bytes None
 
-    -- why there is no wire: a head is too long, or refused; or it asks for the health; or the stream failed, or memory was refused
+    -- why there is no wire: a head is too long, or refused; or it asks for the health; or the stream failed, or
+    -- memory was refused
     abbrev pub RefusesAt : WireFault → S → Refused S → Type 0
     RefusesAt Handshake old refused = IsTooLong old refused ⊎ RefusesHead old refused
     RefusesAt Health old refused = RefusesHead old refused

@@ -1,5 +1,7 @@
--- The head of a request on a stream: all up to its first blank line. (RFC 9112, 2.1; the limit is this project's own profile.)
-use Rattle.std.specs.Prelude.{◌≡◌, ◌≤◌, ◌<◌, ℕ, ◌+◌, ◌-◌, Bool, true, false, ◌&&◌, nat_le, List, length, codes, bytes_eq, slice_range, Option, None, Some}
+-- The head of a request on a stream: all up to its first blank line. (RFC 9112, 2.1; the limit is this project's own
+-- profile.)
+use Rattle.std.specs.Prelude.{◌≡◌, ◌≤◌, ◌<◌, ℕ, ◌+◌, ◌-◌, Bool, true, false, ◌&&◌, nat_le, List, length, codes}
+use Rattle.std.specs.Prelude.{bytes_eq, slice_range, Option, None, Some}
 use Rattle.std.specs.Io.KnownBytes.{Consumes}
 
 -- a head has at most so many bytes

@@ -1,5 +1,5 @@
--- Why there is no wire, by the error of the stream. This project's own profile: refused memory is told as memory; any other
--- fault of the stream, and its end, as a failure of the stream.
+-- Why there is no wire, by the error of the stream. This project's own profile: refused memory is told as memory; any
+-- other fault of the stream, and its end, as a failure of the stream.
 use Rattle.std.specs.Prelude.{⊤}
 use Rattle.std.specs.IoError.{error_kind}
 use Rattle.std.specs.declared.io.Error.{Error}

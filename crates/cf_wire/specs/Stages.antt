@@ -35,8 +35,8 @@ is_unflushed Open = false
 is_unflushed (Unflushed close) = true
 is_unflushed (Over end) = false
 
--- This project's own profile: a fault of the stream that says "would block" waits, refused memory is told as memory, and any
--- other fault as a failure of the stream.
+-- This project's own profile: a fault of the stream that says "would block" waits, refused memory is told as memory,
+-- and any other fault as a failure of the stream.
 abbrev pub waits_by_kind : ErrorKind → Bool
 waits_by_kind kind.WouldBlock = true
 waits_by_kind _ = false

@@ -1,6 +1,7 @@
 -- What a turn of a wire did, event by event, each by what `tungstenite` promises of the call behind it.
 -- (RFC 6455: the messages of a WebSocket, its pings, pongs and close.)
-use Rattle.std.specs.Prelude.{◌≡◌, ◌≤◌, ◌<◌, ◌⊎◌, ℕ, ◌+◌, ◌-◌, List, [], ◌∷◌, length, Bool, true, false, Option, None, Some, Result, Ok, Err, string_bytes, ⊤}
+use Rattle.std.specs.Prelude.{◌≡◌, ◌≤◌, ◌<◌, ◌⊎◌, ℕ, ◌+◌, ◌-◌, List, [], ◌∷◌, length, Bool, true, false, Option, None}
+use Rattle.std.specs.Prelude.{Some, Result, Ok, Err, string_bytes, ⊤}
 use Rattle.websocket.specs.Connection.{Connection, Effect}
 use Rattle.websocket.specs.declared.error.Error.{Error as FrameError}
 use Rattle.tungstenite.specs.CloseCode.{close_code_number}
@@ -175,7 +176,8 @@ module _ {S : Type 0} where
   abbrev pub Lands : (S → Option (List ℕ)) → Socket S → Out → Socket S → Stage → Type 0
   Lands contents old out new stage = Puts contents old out new × (new.output ≡ []) × (stage ≡ settled (close_in out))
 
-  -- it answered this error: where the stream failed the frame waits, and refused memory, or an output that a text found full, changed nothing
+  -- it answered this error: where the stream failed the frame waits, and refused memory, or an output that a text
+  -- found full, changed nothing
   abbrev pub Fails : (S → Option (List ℕ)) → Socket S → Out → Socket S → Error → Type 0
   Fails contents old out new e =
       WriteFails (step_of old.conn out) e × (IsIo e → Puts contents old out new)
@@ -189,7 +191,9 @@ module _ {S : Type 0} where
   Unwraps old out new stage = (close_in out ≡ None) × (new ≡ old) × (stage ≡ Over wire.Memory)
 
   abbrev pub Settles : (S → Option (List ℕ)) → Socket S → Out → Socket S → Stage → Type 0
-  Settles contents old out new stage = Lands contents old out new stage ⊎ ((e : Error) × Refuses contents old out new e stage) ⊎ Unwraps old out new stage
+  Settles contents old out new stage =
+      Lands contents old out new stage ⊎ ((e : Error) × Refuses contents old out new e stage)
+      ⊎ Unwraps old out new stage
 
   -- after a flush: all that waited is on the stream, or the stream failed
   abbrev pub FlushLeaves : Option ℕ → Socket S → Stage → Type 0
@@ -205,7 +209,8 @@ module _ {D S : Type 0} where
   abbrev pub place : D → WireState S → Place D S
   place d w = record { desk = d; wire = w }
 
-  module _ (hears : D → List ℕ → D → Type 0) (gives : D → Option Out → D → Type 0) (ready : D → Bool) (remaining contents : S → Option (List ℕ)) where
+  module _ (hears : D → List ℕ → D → Type 0) (gives : D → Option Out → D → Type 0) (ready : D → Bool)
+      (remaining contents : S → Option (List ℕ)) where
     -- The desk and what one event needs of it: something is read only while it is ready.
     abbrev pub DeskDoes : Event → D → D → Type 0
     DeskDoes (heard t) d e = (ready d ≡ true) × hears d t e
@@ -222,28 +227,38 @@ module _ {D S : Type 0} where
 
     -- Where a message waits only `flushed` and `tried` happen, and where the wire is spent nothing does.
     abbrev pub WireDoes : Event → WireState S → WireState S → Type 0
-    WireDoes (heard t) v w = (v.stage ≡ Open) × (w.stage ≡ Open) × ((m : Message) × Reads remaining v.socket w.socket (Ok m) × (content_of m ≡ text t))
-    WireDoes passed v w = (v.stage ≡ Open) × (w.stage ≡ Open) × ((m : Message) × Reads remaining v.socket w.socket (Ok m) × (is_signal (content_of m) ≡ true))
+    WireDoes (heard t) v w =
+        (v.stage ≡ Open) × (w.stage ≡ Open)
+        × ((m : Message) × Reads remaining v.socket w.socket (Ok m) × (content_of m ≡ text t))
+    WireDoes passed v w =
+        (v.stage ≡ Open) × (w.stage ≡ Open)
+        × ((m : Message) × Reads remaining v.socket w.socket (Ok m) × (is_signal (content_of m) ≡ true))
     WireDoes (ended code) v w =
-        (v.stage ≡ Open) × (w.stage ≡ Unflushed (Some code)) × ((m : Message) × Reads remaining v.socket w.socket (Ok m) × (code_in (content_of m) ≡ Some code))
+        (v.stage ≡ Open) × (w.stage ≡ Unflushed (Some code))
+        × ((m : Message) × Reads remaining v.socket w.socket (Ok m) × (code_in (content_of m) ≡ Some code))
     WireDoes rejected v w =
-        (v.stage ≡ Open) × ((r : Result Message Error) × (mid : Socket S) × is_bad r × Reads remaining v.socket mid r × Settles contents mid (Close bad_message) w.socket w.stage)
+        (v.stage ≡ Open)
+        × ((r : Result Message Error) × (mid : Socket S) × is_bad r × Reads remaining v.socket mid r
+        × Settles contents mid (Close bad_message) w.socket w.stage)
     WireDoes (failed e) v w = (v.stage ≡ Open) × Reads remaining v.socket w.socket (Err e) × (w.stage ≡ after e Open)
     WireDoes none v w = (v.stage ≡ Open) × (w ≡ v)
     WireDoes (sent o) v w = (v.stage ≡ Open) × Lands contents v.socket o w.socket w.stage
     WireDoes (refused o e) v w = (v.stage ≡ Open) × Refuses contents v.socket o w.socket e w.stage
     WireDoes (unwrapped o) v w = (v.stage ≡ Open) × Unwraps v.socket o w.socket w.stage
     WireDoes flushed v w =
-        (close : Option ℕ) × (v.stage ≡ Unflushed close) × Flushed contents v.socket w.socket × (w.socket.output ≡ []) × (w.stage ≡ settled close)
+        (close : Option ℕ) × (v.stage ≡ Unflushed close) × Flushed contents v.socket w.socket × (w.socket.output ≡ [])
+        × (w.stage ≡ settled close)
     WireDoes (tried e) v w =
-        (close : Option ℕ) × (v.stage ≡ Unflushed close) × Flushed contents v.socket w.socket × IsIo e × (w.stage ≡ after e (Unflushed close))
+        (close : Option ℕ) × (v.stage ≡ Unflushed close) × Flushed contents v.socket w.socket × IsIo e
+        × (w.stage ≡ after e (Unflushed close))
 
     -- what a list of events does, the newest first
     abbrev pub Did : List Event → Place D S → Place D S → Type 0
     Did [] p q = q ≡ p
     Did (e ∷ es) p q = (mid : Place D S) × Did es p mid × DeskDoes e mid.desk q.desk × WireDoes e mid.wire q.wire
 
-    -- a part of a turn: at least `low` messages were read or sent, and at most `high` read; of `left` bytes `rest` are left
+    -- a part of a turn: at least `low` messages were read or sent, and at most `high` read; of `left` bytes `rest`
+    -- are left
     pub record Part (low high left rest : ℕ) (mark : Mark) (p q : Place D S) : Type 0 where
       pub events : List Event
       pub did : Did events p q

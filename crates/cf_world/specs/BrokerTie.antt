@@ -27,8 +27,12 @@ use Rattle.cf_world.specs.declared.broker.Broker.{Broker as Code}
 
 -- A publication stands at its place, now and when the lists have grown, and its text can be read back.
 pub record IsAccepted (lists : Lists) (a : Accepted) (p : Place) : Type 0 where
-  pub place : p ≡ record { channel = string_bytes a.channel; at = record { epoch = a.epoch; offset = a.publication.offset } }
-  pub stands : (later : Lists) → Grown lists later → placed_at (later p.channel p.at.epoch) p.at.offset ≡ Some a.publication
+  pub place : p ≡ record {
+    channel = string_bytes a.channel;
+    at = record { epoch = a.epoch; offset = a.publication.offset };
+  }
+  pub stands : (later : Lists) → Grown lists later
+      → placed_at (later p.channel p.at.epoch) p.at.offset ≡ Some a.publication
   pub regular : IsPlaced IsBody a.publication
 
 -- a stream's top is the length of its list
@@ -41,8 +45,8 @@ pub record IsStanding (lists : Lists) (c : List ℕ) (s : StreamState) : Type 0 
 abbrev pub IsDatum : Datum → Type 0
 IsDatum d = IsBody d.body × IsInfo d.info
 
--- The settings that streams have now, where they began with the table: the same names are set up, and each channel's size is the
--- one that was set for it last.
+-- The settings that streams have now, where they began with the table: the same names are set up, and each channel's
+-- size is the one that was set for it last.
 pub record AreSized (table now : NamespaceTable) (sizes : List ℕ → Option ℕ) : Type 0 where
   pub names : (name : List ℕ) → is_some (entry_at now name) ≡ is_some (entry_at table name)
   pub size : (c : List ℕ) → size_at now c ≡ size_by (sizes c) (settings_of table c)
@@ -65,10 +69,12 @@ pub record ShowsBroker (table : NamespaceTable) (b : Code) (m : Broker) : Type 0
 pub record Brings (lists : Lists) (c : List ℕ) (since : Option Position) (s : StreamState) (r : Recovery) : Type 0 where
   pub at : r.position ≡ position_of s
   pub recovered : r.recovered ≡ (read_of since s).recovered
-  pub publications : r.publications.items ≡ placed_from (lists c s.epoch) (read_of since s).low (s.top - (read_of since s).low)
+  pub publications : r.publications.items
+      ≡ placed_from (lists c s.epoch) (read_of since s).low (s.top - (read_of since s).low)
 
 -- a read finds the stream, which it opens where none stands; or finds none, and none can be opened
-pub record Finds (table : NamespaceTable) (m : Broker) (c : List ℕ) (since : Option Position) (new : Code) (r : Recovery) : Type 0 where
+pub record Finds (table : NamespaceTable) (m : Broker) (c : List ℕ) (since : Option Position) (new : Code)
+    (r : Recovery) : Type 0 where
   pub state : StreamState
   pub stands : (opened c m).streams c ≡ Some state
   pub brings : Brings m.lists c since state r
@@ -83,11 +89,13 @@ Reads table m c since new (Some r) = Finds table m c since new r
 Reads table m c since new None = FindsNone table m c new
 
 -- a history finds the stream, which it opens where none stands; or finds none, and none can be opened
-pub record FindsPast (table : NamespaceTable) (m : Broker) (c : List ℕ) (limit : ℤ) (new : Code) (h : History) : Type 0 where
+pub record FindsPast (table : NamespaceTable) (m : Broker) (c : List ℕ) (limit : ℤ) (new : Code)
+    (h : History) : Type 0 where
   pub state : StreamState
   pub stands : (opened c m).streams c ≡ Some state
   pub at : h.position ≡ position_of state
-  pub publications : h.publications.items ≡ placed_from (m.lists c state.epoch) (listed_above 0 limit state).low (listed_above 0 limit state).count
+  pub publications : h.publications.items
+      ≡ placed_from (m.lists c state.epoch) (listed_above 0 limit state).low (listed_above 0 limit state).count
   pub shows : ShowsBroker table new (opened c m)
 
 abbrev pub Histories : NamespaceTable → Broker → List ℕ → ℤ → Code → Option History → Type 0
@@ -98,14 +106,17 @@ Histories table m c limit new None = FindsNone table m c new
 abbrev pub size_in : NamespaceTable → Broker → List ℕ → ℕ
 size_in table m c = size_by (m.sizes c) (settings_of table c)
 
--- what a publish under a key comes to: it is accepted; or it is a repeat, or the stream is at its last offset, or would open while
--- no epoch waits, or the channel's namespace isn't set up, and then nothing changes
+-- what a publish under a key comes to: it is accepted; or it is a repeat, or the stream is at its last offset, or
+-- would open while no epoch waits, or the channel's namespace isn't set up, and then nothing changes
 abbrev pub Publishes : NamespaceTable → Broker → (channel key : List ℕ) → Datum → Code → Published → Type 0
 Publishes table m c key d new outcome.Accepted =
-    (is_some (settings_of table c) ≡ true) × (can_open c m ≡ true) × (is_repeat c key m ≡ false) × (at_last_offset c m ≡ false) × ShowsBroker table new (publish (size_in table m c) c key d m)
+    (is_some (settings_of table c) ≡ true) × (can_open c m ≡ true) × (is_repeat c key m ≡ false)
+    × (at_last_offset c m ≡ false) × ShowsBroker table new (publish (size_in table m c) c key d m)
 Publishes table m c key d new outcome.Repeated =
-    (is_some (settings_of table c) ≡ true) × (can_open c m ≡ true) × (is_repeat c key m ≡ true) × ShowsBroker table new m
-Publishes table m c key d new outcome.AtLastOffset = (can_open c m ≡ true) × (is_repeat c key m ≡ false) × (at_last_offset c m ≡ true) × ShowsBroker table new m
+    (is_some (settings_of table c) ≡ true) × (can_open c m ≡ true) × (is_repeat c key m ≡ true)
+    × ShowsBroker table new m
+Publishes table m c key d new outcome.AtLastOffset =
+    (can_open c m ≡ true) × (is_repeat c key m ≡ false) × (at_last_offset c m ≡ true) × ShowsBroker table new m
 Publishes table m c key d new outcome.NoEpoch = (can_open c m ≡ false) × ShowsBroker table new m
 Publishes table m c key d new outcome.NotSetUp = (settings_of table c ≡ None) × ShowsBroker table new m
 

@@ -11,7 +11,8 @@ use Rattle.cf_protocol.specs.Outgoing.{Outgoing}
 use Rattle.cf_protocol.specs.Regular.{IsFrom}
 use Rattle.cf_protocol.specs.Written.{command_text}
 use Rattle.cf_client.specs.AppItem.{AppItem}
-use Rattle.cf_client.specs.ClientCalls.{State, connected, new_state, TakesAll, asked, ask_fault, call_fault, called, left, leave_fault, reconnected}
+use Rattle.cf_client.specs.ClientCalls.{State, connected, new_state, TakesAll, asked, ask_fault, call_fault, called}
+use Rattle.cf_client.specs.ClientCalls.{left, leave_fault, reconnected}
 use Rattle.cf_client.specs.ClientState.{Client, last_of, new_client}
 use Rattle.cf_client.specs.ClientView.{ClientView, state_of}
 use Rattle.cf_client.specs.OneAnswer.{AreApart}
@@ -124,7 +125,9 @@ pub record Joins (x : List ℕ) (s : Seat) (was : State) (old new : List ℕ →
 
 pub record Sent (e : ClientCommand) (x text : List ℕ) (p : Peer) (old new : List ℕ → Option Peer) : Type 0 where
   pub allowed : send_fault e (state_of p.client) ≡ None
-  pub said : text ≡ command_text (command_of (record { id = (state_of p.client).client.fresh; request = request_by e (state_of p.client).client }))
+  pub said : text
+      ≡ command_text (command_of
+      (record { id = (state_of p.client).client.fresh; request = request_by e (state_of p.client).client }))
   pub becomes : Becomes x p (sent_state (request_by e (state_of p.client).client) (state_of p.client)) old new
   pub apart : AreApart (state_of p.client).client
   pub since : AsksFrom (request_by e (state_of p.client).client)
@@ -134,7 +137,8 @@ pub record NotSent (e : ClientCommand) (x : List ℕ) (p : Peer) (old new : List
   pub refused : send_fault e (state_of p.client) ≢ None
   pub becomes : Becomes x p (state_of p.client) old new
 
-abbrev pub Sends : ClientCommand → List ℕ → Peer → (List ℕ → Option Peer) → (List ℕ → Option Peer) → Option (String Global) → Type 0
+abbrev pub Sends : ClientCommand → List ℕ → Peer → (List ℕ → Option Peer) → (List ℕ → Option Peer)
+    → Option (String Global) → Type 0
 Sends e x p old new None = NotSent e x p old new
 Sends e x p old new (Some text) = Sent e x (string_bytes text) p old new
 

@@ -1,5 +1,6 @@
 -- What becomes of a command that a client sends: at the broker, and at the session that sent it.
-use Rattle.std.specs.Prelude.{◌≡◌, ℕ, ℤ, nat_lt, ◌&&◌, not, is_some, Bool, true, false, Option, Some, None, List, length}
+use Rattle.std.specs.Prelude.{◌≡◌, ℕ, ℤ, nat_lt, ◌&&◌, not, is_some, Bool, true, false, Option, Some, None, List}
+use Rattle.std.specs.Prelude.{length}
 use Rattle.cf_protocol.specs.Checks.{checks, first_failed, longest_text}
 use Rattle.cf_protocol.specs.Codes.{code_of}
 use Rattle.cf_protocol.specs.Outgoing.{Failed, Past, Published as PutDone}
@@ -11,7 +12,8 @@ use Rattle.cf_client.specs.ClientView.{state_of}
 use Rattle.cf_client.specs.OneAnswer.{AreApart}
 use Rattle.cf_hub.specs.SessionState.{is_unfinished}
 use Rattle.cf_stream.specs.declared.answer.History.{History}
-use Rattle.cf_machine.specs.ClientRequest.{ClientRequest, SentCommand, Subscribe, Unsubscribe, Publish, History as ListHistory, command_of, request_of}
+use Rattle.cf_machine.specs.ClientRequest.{ClientRequest, SentCommand, Subscribe, Unsubscribe, Publish}
+use Rattle.cf_machine.specs.ClientRequest.{History as ListHistory, command_of, request_of}
 use Rattle.cf_machine.specs.Config.{Config}
 use Rattle.cf_machine.specs.IntervalMachine.{command_by, id_left}
 use Rattle.cf_machine.specs.PublicationList.{Broker, can_open}
@@ -36,7 +38,8 @@ sent_by e p = record { id = (state_of p.client).client.fresh; request = request_
 
 -- its text is not too long, and no check of it fails
 abbrev pub passes : NamespaceTable → Command → Bool
-passes table k = not (is_some (first_failed (checks table k.request))) && not (nat_lt longest_text (length (command_text k)))
+passes table k =
+    not (is_some (first_failed (checks table k.request))) && not (nat_lt longest_text (length (command_text k)))
 
 -- it asks for a stream that neither stands nor can be opened
 abbrev pub asks_too_much : ClientRequest → Broker → Bool
@@ -48,7 +51,8 @@ asks_too_much (ListHistory c limit) b = not (can_open c b)
 abbrev pub lacks_by : NamespaceTable → SentCommand → Broker → Bool
 lacks_by table k b = asks_too_much k.request b && passes table (command_of k)
 
--- A client's command was sent where the client could send one and waited for no reply to a subscribe, and passed its checks.
+-- A client's command was sent where the client could send one and waited for no reply to a subscribe, and passed its
+-- checks.
 pub record IsGranted (cfg : Config) (m : World) (x : List ℕ) (p : Peer) (e : ClientRequest) : Type 0 where
   pub left : id_left (m.links x) ≡ true
   pub apart : AreApart (state_of p.client).client
@@ -68,7 +72,8 @@ PutAnswered outcome.NoEpoch s id old new = AreSame old new
 PutAnswered outcome.NotSetUp s id old new = AreSame old new
 
 -- a client's datum, which names it, is published under a key, and the client is answered
-pub record Puts (table : NamespaceTable) (m : Broker) (s : Seat) (c key body : List ℕ) (id : ℕ) (new : Code) (hubs hubs' : Hubs) : Type 0 where
+pub record Puts (table : NamespaceTable) (m : Broker) (s : Seat) (c key body : List ℕ) (id : ℕ) (new : Code)
+    (hubs hubs' : Hubs) : Type 0 where
   pub result : Published
   pub publishes : Publishes table m c key (record { body = body; info = who_in (seated hubs s) }) new result
   pub answered : PutAnswered result s id hubs hubs'
@@ -78,7 +83,8 @@ abbrev pub ListAnswered : Option History → Seat → ℕ → Hubs → Hubs → 
 ListAnswered (Some h) s id old new = Answered s id (Past h.position h.publications.items) old new
 ListAnswered None s id old new = AreSame old new
 
-pub record Lists (table : NamespaceTable) (m : Broker) (s : Seat) (c : List ℕ) (limit : ℤ) (id : ℕ) (new : Code) (hubs hubs' : Hubs) : Type 0 where
+pub record Lists (table : NamespaceTable) (m : Broker) (s : Seat) (c : List ℕ) (limit : ℤ) (id : ℕ) (new : Code)
+    (hubs hubs' : Hubs) : Type 0 where
   pub result : Option History
   pub finds : Histories table m c limit new result
   pub answered : ListAnswered result s id hubs hubs'

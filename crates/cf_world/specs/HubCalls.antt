@@ -1,5 +1,6 @@
 -- What the calls of one node's hub make of all nodes.
-use Rattle.std.specs.Prelude.{◌≡◌, ◌≢◌, ◌⊎◌, ◌+◌, ℕ, suc, true, false, Option, Some, List, [], ◌∷◌, Vec, option_and_then, slice_get}
+use Rattle.std.specs.Prelude.{◌≡◌, ◌≢◌, ◌⊎◌, ◌+◌, ℕ, suc, true, false, Option, Some, List, [], ◌∷◌, Vec}
+use Rattle.std.specs.Prelude.{option_and_then, slice_get}
 use Rattle.std.specs.declared.alloc.Global.{Global}
 use Rattle.cf_protocol.specs.Codes.{code_of}
 use Rattle.cf_protocol.specs.Datum.{Placed}
@@ -10,7 +11,8 @@ use Rattle.cf_protocol.specs.declared.codes.ErrorCode.{ErrorCode}
 use Rattle.cf_protocol.specs.declared.codes.ErrorCode.TheVariants as error
 use Rattle.cf_queue.specs.OutQueue.{Item, Close, Text}
 use Rattle.cf_hub.specs.Finish.{FinishesAt}
-use Rattle.cf_hub.specs.Hub.{Begins, Delivers, Meets, Node, One, OthersStay, SameNode, SameRest, attached_at, empty, is_open, sub_at, IsBounded, IsFull, NoRoom, Opens}
+use Rattle.cf_hub.specs.Hub.{Begins, Delivers, Meets, Node, One, OthersStay, SameNode, SameRest, attached_at, empty}
+use Rattle.cf_hub.specs.Hub.{is_open, sub_at, IsBounded, IsFull, NoRoom, Opens}
 use Rattle.cf_subscribers.specs.Follows.{AreFollows}
 use Rattle.cf_hub.specs.Rows.{Agrees, sub_in}
 use Rattle.cf_hub.specs.Session.{Attached}
@@ -151,7 +153,8 @@ pub record LeftTold (k : ℕ) (c : List ℕ) (id : ℕ) (h g : Node) : Type 0 wh
   pub left : Left k c h mid
   pub told : Told k (reply_text id Unsubscribed) mid g
 
--- an open session asks for a channel: it isn't subscribed, and there is room; it is subscribed, or asking; or there is no room
+-- an open session asks for a channel: it isn't subscribed, and there is room; it is subscribed, or asking; or there
+-- is no room
 pub record Began (k : ℕ) (c : List ℕ) (id : ℕ) (since : Option Position) (h g : Node) : Type 0 where
   pub off : is_off (sub_at h k c) ≡ true
   pub room : IsFull k h → ⊥
@@ -168,7 +171,8 @@ pub record AskedTooMuch (k : ℕ) (c : List ℕ) (id : ℕ) (h g : Node) : Type 
 
 pub record Asks (k : ℕ) (c : List ℕ) (id : ℕ) (since : Option Position) (h g : Node) : Type 0 where
   pub sound : IsSound h
-  pub one : is_open (attached_at h k) ≡ true → Began k c id since h g ⊎ (AskedTwice k c id h g ⊎ AskedTooMuch k c id h g)
+  pub one : is_open (attached_at h k) ≡ true
+      → Began k c id since h g ⊎ (AskedTwice k c id h g ⊎ AskedTooMuch k c id h g)
 
 -- who a session's client is: all clients connect as the empty user
 abbrev pub who_in : Option Attached → Option Who

@@ -1,5 +1,6 @@
 -- The nodes, and where clients sit at them, beside what the machine has for them.
-use Rattle.std.specs.Prelude.{◌≡◌, ◌≤◌, ℕ, nat_lt, true, false, is_some, Option, Some, None, option_map, List, [], length}
+use Rattle.std.specs.Prelude.{◌≡◌, ◌≤◌, ℕ, nat_lt, true, false, is_some, Option, Some, None, option_map, List, []}
+use Rattle.std.specs.Prelude.{length}
 use Rattle.cf_protocol.specs.Checks.{checks, first_failed}
 use Rattle.cf_protocol.specs.Names.{is_among}
 use Rattle.cf_protocol.specs.Note.{Lists}
@@ -43,8 +44,10 @@ pub record IsAway (l : ClientLink) : Type 0 where
   pub way : l.way ≡ []
   pub up : l.up ≡ []
 
--- a client that is connected has the session of its seat, and an id there; its channels pass the checks, and are listed once
-pub record IsSeated (table : NamespaceTable) (lists : Lists) (o : Option Attached) (node : ℕ) (l : ClientLink) : Type 0 where
+-- a client that is connected has the session of its seat, and an id there; its channels pass the checks, and are
+-- listed once
+pub record IsSeated (table : NamespaceTable) (lists : Lists) (o : Option Attached) (node : ℕ)
+    (l : ClientLink) : Type 0 where
   pub at : l.node ≡ Some node
   pub name : name_of o ≡ Some l.name
   pub named : 1 ≤ length l.name
@@ -74,6 +77,7 @@ pub record ShowsNodes (cfg : Config) (hubs : ℕ → Option Node) (seats : List 
   pub links : (x : List ℕ) → ShowsLink cfg.namespaces m.broker.lists hubs (seats x) (m.links x)
   -- each session is one client's, and each client is known
   pub apart : (x y : List ℕ) (s : Seat) → seats x ≡ Some s → seats y ≡ Some s → x ≡ y
-  pub onto : (n k : ℕ) → is_some (session_in (hubs n) k) ≡ true → (x : List ℕ) × (seats x ≡ Some (record { node = n; session = k }))
+  pub onto : (n k : ℕ) → is_some (session_in (hubs n) k) ≡ true
+      → (x : List ℕ) × (seats x ≡ Some (record { node = n; session = k }))
   pub among : (x : List ℕ) (s : Seat) → seats x ≡ Some s → is_among x m.clients ≡ true
   pub distinct : AreDistinct m.clients

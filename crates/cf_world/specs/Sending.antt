@@ -46,13 +46,15 @@ pub record Hears (table : NamespaceTable) (s : Seat) (text : List ℕ) (old new 
 
 -- ---- what is sent
 
-module _ (cfg : Config) (m : World) (x : List ℕ) (e : ClientCommand) (hubs hubs' : Hubs) (peers peers' : List ℕ → Option Peer) where
+module _ (cfg : Config) (m : World) (x : List ℕ) (e : ClientCommand) (hubs hubs' : Hubs)
+    (peers peers' : List ℕ → Option Peer) where
   -- The client sent its command, which passed its checks, and hub and broker are to be asked.
   pub record IsSent (g : Granted) : Type 0 where
     pub peer : Peer
     pub found : peers x ≡ Some peer
     pub sits : peer.seat ≡ Some g.seat
-    pub becomes : Becomes x peer (sent_state (request_by e (state_of peer.client).client) (state_of peer.client)) peers peers'
+    pub becomes : Becomes x peer
+        (sent_state (request_by e (state_of peer.client).client) (state_of peer.client)) peers peers'
     pub same : AreSame hubs hubs'
     pub granted : IsGranted cfg m x peer (request_by e (state_of peer.client).client)
     pub opens : asks_too_much (request_by e (state_of peer.client).client) m.broker ≡ false
@@ -73,4 +75,5 @@ pub record Keeps (old new : Whole) : Type 0 where
 
 abbrev pub WorldSends : Config → World → List ℕ → ClientCommand → Whole → Whole → Option Granted → Type 0
 WorldSends cfg m x e old new g =
-    SendsAs cfg m x e (slice_get old.hubs.items) (slice_get new.hubs.items) (get_by_text old.clients) (get_by_text new.clients) new.namespaces new.broker g
+    SendsAs cfg m x e (slice_get old.hubs.items) (slice_get new.hubs.items) (get_by_text old.clients)
+    (get_by_text new.clients) new.namespaces new.broker g

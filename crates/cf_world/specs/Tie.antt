@@ -24,7 +24,8 @@ use Rattle.cf_world.specs.declared.world.World.{World as Code}
 abbrev pub seats_of : (List ℕ → Option Peer) → List ℕ → Option Seat
 seats_of peers x = option_and_then (λ p. p.seat) (peers x)
 
-pub record AreTied (cfg : Config) (table : NamespaceTable) (b : Broker) (hubs : ℕ → Option Node) (peers : List ℕ → Option Peer) (m : World) : Type 0 where
+pub record AreTied (cfg : Config) (table : NamespaceTable) (b : Broker) (hubs : ℕ → Option Node)
+    (peers : List ℕ → Option Peer) (m : World) : Type 0 where
   pub namespaces : table ≡ cfg.namespaces
   pub broker : ShowsBroker cfg.namespaces b m.broker
   pub nodes : ShowsNodes cfg hubs (seats_of peers) m
@@ -35,11 +36,15 @@ Tied cfg w m = AreTied cfg w.namespaces w.broker (slice_get w.hubs.items) (get_b
 
 -- the world goes on with the machine, whatever events led to it
 abbrev pub GoesOn : Event → Code → Code → Type 0
-GoesOn e old new = (cfg : Config) (past : List Event) → Tied cfg old (run cfg start past) → Tied cfg new (happens cfg (run cfg start past) e)
+GoesOn e old new =
+    (cfg : Config) (past : List Event) → Tied cfg old (run cfg start past)
+    → Tied cfg new (happens cfg (run cfg start past) e)
 
 -- these entries are those of event number n
 abbrev pub Writes : ℕ → Event → Code → List Entry → Type 0
-Writes n e old es = (cfg : Config) (past : List Event) → Tied cfg old (run cfg start past) → map shown_entry es ≡ writes cfg n (run cfg start past) e
+Writes n e old es =
+    (cfg : Config) (past : List Event) → Tied cfg old (run cfg start past)
+    → map shown_entry es ≡ writes cfg n (run cfg start past) e
 
 -- ---- its parts
 
