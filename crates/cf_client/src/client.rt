@@ -127,7 +127,8 @@ impl Client {
     /// `NotNow` while not connected, and where the channel isn't idle; `AtLastId` where no id is left; `Memory`.
     pub fn ask_from(&mut self, channel: &str) -> Result<String, ClientFault>
         ensures text { IfOk result
-            (IsNextCommand self.old (request.Subscribe channel.now (last_at self.old channel.now))) }
+            (IsNextCommand self.old
+            (request.Subscribe channel.now (last_at self.old channel.now))) }
         ensures regular { IsFrom (last_at self.old channel.now) }
         ensures ok { OnOk result
             (state_of self.new

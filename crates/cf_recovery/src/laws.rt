@@ -37,7 +37,8 @@ pub fn run_ends_at_the_greatest()
 /// many, and falls short where they do.
 pub fn what_is_kept_stands()
     ensures within { (a : Arrival) (k : ArrivalBuffer) → IsWithin k → IsWithin (with_arrival a k) }
-    ensures arrival { (a : Arrival) (k : ArrivalBuffer) (arrived : List Position) → StandsFor k arrived
+    ensures arrival { (a : Arrival) (k : ArrivalBuffer) (arrived : List Position)
+        → StandsFor k arrived
         → StandsFor (with_arrival a k) (arrives a.at arrived) }
     ensures run { (k : ArrivalBuffer) (arrived : List Position) (r : Reading) → IsWithin k
         → StandsFor k arrived → k.short ≡ false

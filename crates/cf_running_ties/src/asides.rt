@@ -18,7 +18,8 @@ pub fn asides_are_passed_over()
     ensures frame { (os : List Outgoing) (old new : State) (told : List AppItem)
         → AllPassed os → TakesAll os old new told → PassesOver old new told }
     ensures error { (id code : ℕ) (old new : State) (told : List AppItem)
-        → IsUnasked id old → Takes (Answer id (Failed code)) old new told → PassesOver old new told }
+        → IsUnasked id old → Takes (Answer id (Failed code)) old new told
+        → PassesOver old new told }
     ensures no_note { (lists : Lists) (note : Note) (o : Outgoing)
         → IsPassedOver o → outgoing_of lists note ≢ Some o }
     ensures text { (text : List ℕ) (old new : State) (told : List AppItem)

@@ -58,7 +58,8 @@ pub fn shard_calls_are_sections()
         → IsSome (settings_of config.namespaces channel)
         → MayAll config log
         (entries_of_publish repeated streams channel position.epoch key datum) }
-    ensures uses { (config : Config) (streams : StreamMap) (log : List Entry) (channel epoch : List ℕ)
+    ensures uses { (config : Config) (streams : StreamMap) (log : List Entry)
+        (channel epoch : List ℕ)
         → IsState config.namespaces streams log
         → IsDrawn (stream_of streams channel) log channel epoch
         → MayAll config log (entries_of_use streams channel epoch) }

@@ -75,7 +75,8 @@ pub fn work_goes_as_the_script()
         (channel : List ℕ) (answer : Answer)
         → (server.connections k).work ≡ ToFinish channel
         → HasInHand site (after site (Finishes k) server) k who next (after_finish next answer)
-        × HasInHand site (after site (FinishesOver k) server) k who next (after_finish next answer) }
+        × HasInHand site (after site (FinishesOver k) server) k who next
+        (after_finish next answer) }
     ensures fails { (site : Site) (server : Server) (k : ℕ) (who : Who) (next : Script)
         (channel : List ℕ) (n : Note) (id : ℕ) (e : ErrorCode)
         → (server.connections k).work ≡ ToSay channel n → id_of n ≡ Some id

@@ -21,7 +21,8 @@ pub fn speak<R: BufRead, W: Write>(
         (W.contents writer.old) (W.contents writer.new))) }
     // What isn't UTF-8 is met at its line, after what the earlier lines gave.
     ensures not_utf8 { IsErrOf result Fault.NotUtf8 → IfSome (R.remaining reader.old) (λ input.
-        BreaksOff (record { namespaces = setup.namespaces; tokens = setup.tokens }) setup.epochs input
+        BreaksOff (record { namespaces = setup.namespaces; tokens = setup.tokens })
+        setup.epochs input
         (W.contents writer.old) (W.contents writer.new)) }
 {
     match converse(alloc, reader, writer, setup) {

@@ -222,7 +222,8 @@ impl Stream {
         now: u64,
     ) -> Result<Position, AllocError>
         requires { self.old.top < LAST_OFFSET }
-        ensures ok { OnOk result (self.new ≡ pushed self.old (string_bytes key) (datum_of body info) now) }
+        ensures ok { OnOk result
+            (self.new ≡ pushed self.old (string_bytes key) (datum_of body info) now) }
         ensures position { IfOk result (λ p. p ≡ position_of self.new) }
         ensures err { OnErr result (self.new ≡ self.old) }
         ensures newest { OnOk result (newest_of self.new
@@ -373,7 +374,8 @@ impl Stream {
     /// Empties the history where `seconds` have passed since the last publication, and says whether the stream is to be forgotten,
     /// since it wasn't used for 2,592,000 seconds. A moment earlier than the last one does nothing. It takes no memory.
     pub fn tick(&mut self, now: u64, seconds: u64) -> TickOutcome
-        ensures outcome { (result ≡ TickOutcome.Forgotten) ↔ (self.old.used + UNUSED_SECONDS ≤ now) }
+        ensures outcome { (result ≡ TickOutcome.Forgotten)
+            ↔ (self.old.used + UNUSED_SECONDS ≤ now) }
         ensures ticked { self.new ≡ ticked now seconds self.old }
         ensures list { GoesOn self.old self.new
             (if is_over self.old.published seconds now then kept_newest 0 else same) }

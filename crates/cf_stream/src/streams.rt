@@ -109,9 +109,11 @@ impl Streams {
     ) -> Result<Published, StreamRefusal>
         requires { IsSetUp self.old channel.now }
         ensures makes { IfOk result (λ p. self.new
-            ≡ with_given self.old channel.now p.position.epoch (string_bytes key) (datum_of body info) now) }
+            ≡ with_given self.old channel.now p.position.epoch
+            (string_bytes key) (datum_of body info) now) }
         ensures answer { IfOk result (λ p. p
-            ≡ answer_to (stood_or_opened self.old channel.now p.position.epoch) (string_bytes key)) }
+            ≡ answer_to (stood_or_opened self.old channel.now p.position.epoch)
+            (string_bytes key)) }
         ensures newest { IfOk result (λ p. p.repeated ≡ false → newest_at self.new channel.now
             ≡ Some (record { offset = p.position.offset; datum = datum_of body info })) }
         ensures epochs { DrawsToOpen E.draws (stream_of self.old channel.now)
@@ -463,7 +465,10 @@ fn resize_in(streams: &mut BTreeMap<String, Stream>, name: &str, size: usize)
     requires { (1 ≤ size) × (size ≤ LARGEST_SIZE) }
     ensures ordered { IsOrdered string_cmp streams.old }
     ensures entries { streams.new.entries
-        ≡ map (λ e. (e.0, if in_namespace name.now (string_bytes e.0) then resized size e.1 else e.1))
+        ≡ map (λ e. (
+          e.0,
+          if in_namespace name.now (string_bytes e.0) then resized size e.1 else e.1,
+        ))
         streams.old.entries }
 {
     streams.retain(|channel, stream| {

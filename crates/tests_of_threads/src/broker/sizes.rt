@@ -55,11 +55,13 @@ fn sets_beside<N: Naming + Send + Sync, R: Threads + Wait + Sync>(
     thread::join(
         rt,
         || -> Pass
-            requires { (namespaces.now ≡ N.namespaces) × (one.word ≡ N.words (number_of published.now)) }
+            requires { (namespaces.now ≡ N.namespaces)
+                × (one.word ≡ N.words (number_of published.now)) }
             ensures { result.word ≡ N.words (number_of published.entry.now) }
         { publish_often(rt, alloc, broker, namespaces, one, published, 100) },
         || -> (Pass, bool)
-            requires { (namespaces.now ≡ N.namespaces) × (two.word ≡ N.words (number_of sized.now)) }
+            requires { (namespaces.now ≡ N.namespaces)
+                × (two.word ≡ N.words (number_of sized.now)) }
             ensures { result.0.word ≡ N.words (number_of sized.entry.now) }
         { set_to_three(rt, broker, namespaces, two, sized) },
     )

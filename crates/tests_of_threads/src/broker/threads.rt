@@ -152,7 +152,8 @@ fn publish_elsewhere<N: Naming + Send + Sync, R: Threads + Wait + Sync>(
     let (theirs, ()) = thread::join(
         rt,
         || -> Pass
-            requires { (namespaces.now ≡ N.namespaces) × (lent.word ≡ N.words (number_of channel.now)) }
+            requires { (namespaces.now ≡ N.namespaces)
+                × (lent.word ≡ N.words (number_of channel.now)) }
             ensures { result.word ≡ N.words (number_of channel.entry.now) }
         { publish_often(rt, alloc, broker, namespaces, lent, channel, 1) },
         || (),
@@ -233,11 +234,13 @@ fn publish_beside<N: Naming + Send + Sync, R: Threads + Wait + Sync>(
     thread::join(
         rt,
         || -> Pass
-            requires { (namespaces.now ≡ N.namespaces) × (one.word ≡ N.words (number_of channel.now)) }
+            requires { (namespaces.now ≡ N.namespaces)
+                × (one.word ≡ N.words (number_of channel.now)) }
             ensures { result.word ≡ N.words (number_of channel.entry.now) }
         { publish_often(rt, alloc, broker, namespaces, one, channel, 100) },
         || -> Pass
-            requires { (namespaces.now ≡ N.namespaces) × (two.word ≡ N.words (number_of channel.now)) }
+            requires { (namespaces.now ≡ N.namespaces)
+                × (two.word ≡ N.words (number_of channel.now)) }
             ensures { result.word ≡ N.words (number_of channel.entry.now) }
         { publish_often(rt, alloc, broker, namespaces, two, channel, 100) },
     )
