@@ -1,6 +1,6 @@
 //! Times `cf_protocol`'s reading and writing of texts, for `bench/texts`.
 //!
-//! Each line of the input is a call, how often it is made, and a text, parted by spaces: `commands` and `replies` read the text;
+//! Each line of the input is a call, how often it is made, and a text, separated by spaces: `commands` and `replies` read the text;
 //! `write` writes the first reply or push of the text. For each line the nanoseconds of one call are printed.
 #![tactic(auto)]
 

@@ -25,7 +25,7 @@ IsWord most s = IsTrue (is_word most s)
 
 -- ---- tables
 
--- A table is spelled by entries parted by semicolons, in its order. No name stands in it twice.
+-- A table is spelled by entries separated by semicolons, in its order. No name stands in it twice.
 pub record IsTable {V : Type 0} (IsEntry : List ℕ → List ℕ × V → Type 0) (text : List ℕ)
     (table : List (List ℕ × V)) : Type 0 where
   pub entries : List (List ℕ)

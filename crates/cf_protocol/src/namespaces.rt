@@ -168,7 +168,7 @@ fn add(entries: &mut Vec<(String, Settings)>, alloc: Global, text: &str) -> Resu
     Ok(())
 }
 
-/// The namespaces that a text sets up: entries parted by `;`, each `NAME=SIZE,SECONDS,FLAGS`. A name is at most 32 ASCII
+/// The namespaces that a text sets up: entries separated by `;`, each `NAME=SIZE,SECONDS,FLAGS`. A name is at most 32 ASCII
 /// letters, digits, `-` or `_`, and none stands twice; SIZE is 1 to 10,000 and SECONDS 1 to 2,592,000, without leading zeros;
 /// FLAGS has each of `p` (clients may publish), `h` (they may ask for the history) and `s` (presence is kept) at most once.
 /// `Bad` is any other text, the empty one among them.

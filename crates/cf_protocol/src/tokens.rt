@@ -82,7 +82,7 @@ fn add(entries: &mut Vec<(String, String)>, alloc: Global, text: &str) -> Result
     Ok(())
 }
 
-/// The tokens that a text sets up: entries parted by `;`, each `TOKEN=USER`, both 1 to 64 ASCII letters, digits, `-` or `_`,
+/// The tokens that a text sets up: entries separated by `;`, each `TOKEN=USER`, both 1 to 64 ASCII letters, digits, `-` or `_`,
 /// no token twice. The empty text has no entry. `Bad` is any other text.
 pub fn read_tokens(alloc: Global, text: &str) -> Result<Tokens, ReadFault>
     // What is read is what the text spells.

@@ -13,7 +13,7 @@ use Rattle.cf_machine.specs.Event.{ListHistory}
 
 -- ---- words
 
--- words parted by one space
+-- words separated by one space
 abbrev pub spaced : List (List ℕ) → List ℕ
 spaced [] = []
 spaced (w ∷ []) = w

@@ -81,7 +81,8 @@ const PROGRAM_NOTES: &str = "With no command it is `simulate`.
 
 Exit status: 0 done, 2 unusable words or input, 3 out of memory, 4 input or output failed.";
 
-const SCHEDULE_NOTES: &str = "A schedule has a line for each event, its words parted by one space:
+const SCHEDULE_NOTES: &str =
+    "A schedule has a line for each event, its words separated by one space:
   epoch E         an epoch waits, behind the others, for the next stream that opens
   connect X N     client X connects to node N, counted from 0
   ask X C         X sends the subscribe command for channel C, and its node reads it
@@ -175,7 +176,7 @@ fn nodes_option<'a>(alloc: Global) -> Arg<'a> {
 }
 
 fn namespaces_option<'a>(alloc: Global) -> Arg<'a> {
-    let help = "The namespaces that are set up, as NAME=SIZE,SECONDS,FLAGS parted by `;`";
+    let help = "The namespaces that are set up, as NAME=SIZE,SECONDS,FLAGS separated by `;`";
     value_option(alloc, "ns", "SPEC", help).default_value(DEFAULT_NAMESPACES)
 }
 
@@ -194,12 +195,12 @@ fn version_option<'a>(alloc: Global) -> Arg<'a> {
 }
 
 fn tokens_option<'a>(alloc: Global) -> Arg<'a> {
-    let help = "Who connects by which token, as TOKEN=USER parted by `;`";
+    let help = "Who connects by which token, as TOKEN=USER separated by `;`";
     value_option(alloc, "tokens", "SPEC", help).default_value("")
 }
 
 fn epochs_option<'a>(alloc: Global) -> Arg<'a> {
-    let help = "The epochs of the streams that open, in order, parted by `,`";
+    let help = "The epochs of the streams that open, in order, separated by `,`";
     value_option(alloc, "epochs", "E1,E2,..", help).default_value(DEFAULT_EPOCHS)
 }
 

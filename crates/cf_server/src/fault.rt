@@ -14,9 +14,9 @@ use thiserror::Error;
 pub enum Setting {
     #[error("--nodes is not 1 to 8")]
     Nodes,
-    #[error("--ns is not NAME=SIZE,SECONDS,FLAGS parted by `;`, each in its limits and each name once")]
+    #[error("--ns is not NAME=SIZE,SECONDS,FLAGS separated by `;`, each in its limits and each name once")]
     Namespaces,
-    #[error("--tokens is not TOKEN=USER parted by `;`, each in its limits and each token once")]
+    #[error("--tokens is not TOKEN=USER separated by `;`, each in its limits and each token once")]
     Tokens,
     #[error("--epochs is not E1,E2,.. of 1 to 32 letters or digits each, and each once")]
     Epochs,

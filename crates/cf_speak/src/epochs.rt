@@ -35,7 +35,7 @@ impl Epochs for GivenEpochs {
 }
 
 impl GivenEpochs {
-    /// Reads epochs parted by `,`: 1 to 32 ASCII letters or digits each, none twice.
+    /// Reads epochs separated by `,`: 1 to 32 ASCII letters or digits each, none twice.
     ///
     /// # Errors
     ///

@@ -15,7 +15,7 @@ const BAD_REQUEST: &str =
 const UPGRADE_REQUIRED: &str =
     "HTTP/1.1 426 Upgrade Required\r\nUpgrade: websocket\r\nSec-WebSocket-Version: 13\r\nContent-Type: text/plain\r\nContent-Length: 17\r\nConnection: close, Upgrade\r\n\r\nupgrade required\n";
 
-/// How heads are answered: the lines of each stand behind the answer, parted by `;`. A line of one letter stands for one of the
+/// How heads are answered: the lines of each stand behind the answer, separated by `;`. A line of one letter stands for one of the
 /// example of RFC 6455, section 1.3.
 const ROWS: &str = "\
 open GET /chat HTTP/1.1;H;U;C;K;V

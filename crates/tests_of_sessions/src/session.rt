@@ -167,7 +167,7 @@ fn add(alloc: Global, done: &mut String, action: &Action) -> Option<()> {
     done.push_str(words.as_str()).ok()
 }
 
-/// Serves a text, and gives what the session did, in words parted by ` / `.
+/// Serves a text, and gives what the session did, in words separated by ` / `.
 fn serve(alloc: Global, session: &mut Session<'_>, text: &str) -> Option<String> {
     let mut done = String::new(alloc);
     if session.is_idle() {
@@ -320,7 +320,7 @@ const FRAME: &str = r#"{"id":1,"connect":{"name":"js","version":"5","data":{}}}
 const DONE: &str =
     r#"attach  / {"connect":{"client":"0-1-1","ping":25,"pong":true,"version":"1.0.0"},"id":1} / {"error":{"code":107,"message":"bad request"},"id":2} / begin 3 / {"error":{"code":106,"message":"limit exceeded"},"id":3} / {"id":4,"ping":{}} / pong / begin 5 / read / leave / {"error":{"code":100,"message":"internal server error","temporary":true},"id":5} / close 3501 bad request"#;
 
-/// Commands of usual clients, several in a frame and parted by line feeds, with members that are
+/// Commands of usual clients, several in a frame and separated by line feeds, with members that are
 /// passed over.
 #[test]
 fn frames_of_commands(rt: HostRuntime) {

@@ -39,7 +39,7 @@ fn is_so(alloc: Global, options: Options<'_>, row: &str) -> bool {
     }
 }
 
-/// The rows, parted by empty lines, are so.
+/// The rows, separated by empty lines, are so.
 fn are_so<R: Abort>(rt: &R, alloc: Global, options: Options<'_>, rows: &str) {
     for row in rows.split("\n\n") {
         assert!(rt; is_so(alloc, options, row), "{row}");

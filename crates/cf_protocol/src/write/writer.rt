@@ -16,7 +16,7 @@ fn is_plain(text: &str) -> bool
         .all(|byte| byte >= 32 && byte != b'"' && byte != b'\\')
 }
 
-/// A compact text that is being written. Members and items that follow one another are parted by commas.
+/// A compact text that is being written. Members and items that follow one another are separated by commas.
 #[derive(Drop)]
 pub struct Writer {
     text: String,

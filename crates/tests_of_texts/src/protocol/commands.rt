@@ -115,7 +115,7 @@ const REWRITTEN: &str = r#"// what clients send, with keys and white space as th
 {"id":1,"ping":null,"send":"x"} => {"id":1,"send":{}}
 // several commands in a frame"#;
 
-/// The same, parted by bars.
+/// The same, separated by bars.
 const REWRITTEN_LINES: &str =
     "\r\n{\"id\":1,\"ping\":{}}{}\t{\"send\":{}}  => {\"id\":1,\"ping\":{}}{}{\"send\":{}}|{ \"id\":\n1,\"ping\":{} }\n{} => {\"id\":1,\"ping\":{}}{}";
 
@@ -232,7 +232,7 @@ null
 {"id":1,"connect":{},}
 {id:1,"connect":{}}"#;
 
-/// The same, parted by bars.
+/// The same, separated by bars.
 const REFUSED_LINES: &str = "| \n\t|\u{feff}{}|{\"id\":1,\"connect\":{\"token\":\"\n\"}}";
 
 #[test]

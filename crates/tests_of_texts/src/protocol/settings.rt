@@ -21,7 +21,7 @@ const LONGEST: Settings = Settings {
 
 const NAMESPACES: &str = "=100,300,phs;chat=10000,2592000,;a-_9=1,1,sp";
 
-/// Texts that set up no namespaces, parted by bars.
+/// Texts that set up no namespaces, separated by bars.
 const NO_NAMESPACES: &str =
     "|=100,300,phs;|=0,300,|=10001,300,|=0100,300,|=+1,300,|=1,2592001,|=1,300|=1,300,x|=1,300,pp|=1,300,;=2,300,|a b=1,300,|abcdefghijabcdefghijabcdefghijabc=1,300,";
 
@@ -58,7 +58,7 @@ fn settings(rt: HostRuntime) {
     set_up_none(&rt, rt.alloc(), NO_NAMESPACES);
 }
 
-/// Texts that set up no tokens, parted by bars.
+/// Texts that set up no tokens, separated by bars.
 const NO_TOKENS: &str = ";|a|=ann|a=|a=b;a=c|a=b;|a=b c|a=b=c";
 
 fn has_user(alloc: Global, tokens: &str, token: &str, user: Option<&str>) -> bool {
