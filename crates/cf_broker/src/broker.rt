@@ -11,8 +11,7 @@ ghost use Rattle.cf_broker.specs.Shards.{number_of, names, first_passes};
 
 use crate::links::NodeLink;
 use crate::parts::parts_of;
-use crate::places::Places;
-use crate::quarter::{Quarter, at_one, last_quarter};
+use crate::quarter::{Quarter, last_quarter};
 use crate::words::{Passes, Words};
 use cf_link::Sender;
 use cf_order::{Pass, ShardWord};
@@ -49,6 +48,30 @@ pub struct Broker<N: Naming, E: Epochs> {
     third: Quarter<N, E, 8, 9, 10, 11>,
     fourth: Quarter<N, E, 12, 13, 14, 15>,
     links: Vec<NodeLink>,
+}
+
+/// A call of the place of a shard's number.
+macro_rules! at_place {
+    ($broker:expr, $shard:expr => $call:ident($($with:expr),*)) => {
+        match $shard {
+            0 => $broker.first.first.$call($($with),*),
+            1 => $broker.first.second.$call($($with),*),
+            2 => $broker.first.third.$call($($with),*),
+            3 => $broker.first.fourth.$call($($with),*),
+            4 => $broker.second.first.$call($($with),*),
+            5 => $broker.second.second.$call($($with),*),
+            6 => $broker.second.third.$call($($with),*),
+            7 => $broker.second.fourth.$call($($with),*),
+            8 => $broker.third.first.$call($($with),*),
+            9 => $broker.third.second.$call($($with),*),
+            10 => $broker.third.third.$call($($with),*),
+            11 => $broker.third.fourth.$call($($with),*),
+            12 => $broker.fourth.first.$call($($with),*),
+            13 => $broker.fourth.second.$call($($with),*),
+            14 => $broker.fourth.third.$call($($with),*),
+            _ => $broker.fourth.fourth.$call($($with),*),
+        }
+    };
 }
 
 impl<N: Naming, E: Epochs + Drop> Broker<N, E> {
@@ -112,7 +135,7 @@ impl<N: Naming, E: Epochs + Drop> Broker<N, E> {
         requires { shard < SHARDS }
         ensures { result.now ≡ N.words shard }
     {
-        at_one!(self, shard, 4, 8, 12, quarter => quarter.word(shard))
+        at_place!(self, shard => word())
     }
 
     /// Publishes to a channel at a moment in seconds, offers the publication to each node, and answers its position. The
@@ -141,8 +164,8 @@ impl<N: Naming, E: Epochs + Drop> Broker<N, E> {
         ensures seen { OnErr result (Follows pass.old pass.new 0) }
     {
         let links = self.links.as_slice();
-        let number = shard_of(channel);
-        at_one!(self, number, 4, 8, 12, quarter => quarter.publish(rt, number, pass, links, channel, body, key, info, now))
+        let shard = shard_of(channel);
+        at_place!(self, shard => publish(rt, pass, links, channel, body, key, info, now))
     }
 
     /// The publications of a channel after a position, where all are held, at a moment in seconds, and the length of the
@@ -164,8 +187,7 @@ impl<N: Naming, E: Epochs + Drop> Broker<N, E> {
         ensures refusals { IfErr result (RefusesRead N.namespaces pass.new.log channel.now) }
         ensures seen { Follows pass.old pass.new 0 }
     {
-        let number = shard_of(channel);
-        at_one!(self, number, 4, 8, 12, quarter => quarter.read(rt, number, pass, channel, since, now))
+        at_place!(self, shard_of(channel) => read(rt, pass, channel, since, now))
     }
 
     /// The first publications of a channel that are held after a position, up to a limit. Without a position its stream opens
@@ -188,8 +210,7 @@ impl<N: Naming, E: Epochs + Drop> Broker<N, E> {
             (RefusesHistory N.namespaces pass.new.log channel.now since) }
         ensures seen { Follows pass.old pass.new 0 }
     {
-        let number = shard_of(channel);
-        at_one!(self, number, 4, 8, 12, quarter => quarter.history(rt, number, pass, channel, since, limit, now))
+        at_place!(self, shard_of(channel) => history(rt, pass, channel, since, limit, now))
     }
 
     /// Where a channel's stream stands, if it has one, and the length of the shard's log. It takes no memory and opens nothing.
@@ -204,8 +225,7 @@ impl<N: Naming, E: Epochs + Drop> Broker<N, E> {
         ensures mark { result.1 ≡ length pass.new.log }
         ensures seen { Follows pass.old pass.new 0 }
     {
-        let number = shard_of(channel);
-        at_one!(self, number, 4, 8, 12, quarter => quarter.position(rt, number, pass, channel))
+        at_place!(self, shard_of(channel) => position(rt, pass, channel))
     }
 
     /// Keeps at most the newest publications of a channel. It takes no memory. `AtLastCount` where the log has no room.
@@ -223,8 +243,7 @@ impl<N: Naming, E: Epochs + Drop> Broker<N, E> {
             (RefusesEntry N.namespaces pass.new.log channel.now (Trim channel.now count)) }
         ensures seen { Follows pass.old pass.new 0 }
     {
-        let number = shard_of(channel);
-        at_one!(self, number, 4, 8, 12, quarter => quarter.trim(rt, number, pass, channel, count))
+        at_place!(self, shard_of(channel) => trim(rt, pass, channel, count))
     }
 
     /// Ends a channel's stream. It takes no memory. `AtLastCount` where the log has no room.
@@ -236,8 +255,7 @@ impl<N: Naming, E: Epochs + Drop> Broker<N, E> {
             (RefusesEntry N.namespaces pass.new.log channel.now (Forget channel.now)) }
         ensures seen { Follows pass.old pass.new 0 }
     {
-        let number = shard_of(channel);
-        at_one!(self, number, 4, 8, 12, quarter => quarter.forget(rt, number, pass, channel))
+        at_place!(self, shard_of(channel) => forget(rt, pass, channel))
     }
 
     /// Sets how many publications the streams of a namespace may hold, in one shard. Of those that hold more the newest stay. It
@@ -258,7 +276,7 @@ impl<N: Naming, E: Epochs + Drop> Broker<N, E> {
         ensures refusals { IfErr result (RefusesSize pass.new.log name.now size) }
         ensures seen { Follows pass.old pass.new 0 }
     {
-        at_one!(self, shard, 4, 8, 12, quarter => quarter.set_size(rt, shard, pass, name, size))
+        at_place!(self, shard => set_size(rt, pass, name, size))
     }
 
     /// Empties the histories of one shard whose time is over at a moment in seconds, ends the streams that were not used for
@@ -277,7 +295,7 @@ impl<N: Naming, E: Epochs + Drop> Broker<N, E> {
         ensures refusals { IfErr result (λ e. e ≡ Refused.AtLastCount) }
         ensures seen { Follows pass.old pass.new 0 }
     {
-        at_one!(self, shard, 4, 8, 12, quarter => quarter.tick(rt, shard, pass, now))
+        at_place!(self, shard => tick(rt, pass, now))
     }
 
     /// Whether the log of a channel's shard has no more entries than a mark, by one load: it waits for nobody and takes no
@@ -307,28 +325,24 @@ impl<N: Naming, E: Epochs + Drop> Broker<N, E> {
     ) -> Result<(), Refused>
         ensures { IfErr result (λ e. e ≡ Refused.Memory) }
     {
-        let number = shard_of(channel);
-        at_one!(self, number, 4, 8, 12, quarter => quarter.enter(rt, number, channel, client, user, now))
+        at_place!(self, shard_of(channel) => enter(rt, channel, client, user, now))
     }
 
     /// A client leaves a channel. Where it isn't there nothing changes. It takes no memory.
     pub fn leave<R: Wait>(&self, rt: &R, channel: &str, client: &str) {
-        let number = shard_of(channel);
-        at_one!(self, number, 4, 8, 12, quarter => quarter.leave(rt, number, channel, client));
+        at_place!(self, shard_of(channel) => leave(rt, channel, client));
     }
 
     /// The user of each client that is there in a channel, by the client's id. `Memory` where a growth was refused.
     pub fn list<R: Wait>(&self, rt: &R, channel: &str) -> Result<BTreeMap<String, String>, Refused>
         ensures { IfErr result (λ e. e ≡ Refused.Memory) }
     {
-        let number = shard_of(channel);
-        at_one!(self, number, 4, 8, 12, quarter => quarter.list(rt, number, channel))
+        at_place!(self, shard_of(channel) => list(rt, channel))
     }
 
     /// How many clients are there in a channel, and how many different users. It takes no memory.
     pub fn stats<R: Wait>(&self, rt: &R, channel: &str) -> Stats {
-        let number = shard_of(channel);
-        at_one!(self, number, 4, 8, 12, quarter => quarter.stats(rt, number, channel))
+        at_place!(self, shard_of(channel) => stats(rt, channel))
     }
 }
 

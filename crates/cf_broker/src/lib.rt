@@ -10,7 +10,6 @@ mod broker;
 mod links;
 mod parts;
 mod place;
-mod places;
 mod quarter;
 mod words;
 

@@ -1,19 +1,22 @@
 //! One shard under its lock, beside its word.
-ghost use Rattle.std.specs.Prelude.{◌≡◌, []};
-ghost use Rattle.cf_shard.specs.Shard.{no_streams};
+ghost use Rattle.std.specs.Prelude.{◌≡◌, ◌≤◌, [], length, if◌then◌else◌, IfOk, IfErr, OnOk, OnErr, IsSome};
+ghost use Rattle.std.specs.String.{string_bytes};
+ghost use Rattle.cf_protocol.specs.Settings.{settings_of, entry_at};
+ghost use Rattle.cf_protocol.specs.LogEntry.Entry.{Trim, Forget};
+ghost use Rattle.cf_shard.specs.LogAnswer.{Follows, IsPosition, IsPublished, IsReadAnswer, IsHistoryAnswer, IsTrimmed, IsForgotten, IsSized, IsTicked, RefusesPublish, RefusesRead, RefusesHistory, RefusesEntry, RefusesSize};
+ghost use Rattle.cf_shard.specs.Shard.{datum_of, no_streams};
 
 use crate::links::{NodeLink, NodeLinks};
-use crate::places::Places;
 use cf_order::{Owner, Pass, ShardWord};
 use cf_presence::Stats;
 use cf_protocol::{Info, Position};
 use cf_shard::{Naming, ReadAnswer, Refused, Shard};
-use cf_stream::{Epochs, History, Published, Streams};
+use cf_stream::{Epochs, History, LARGEST_SIZE, Published, Streams};
 use std::alloc::Global;
 use std::collections::BTreeMap;
 use std::sync::{Mutex, Wait};
 
-/// A shard under its lock.
+/// A shard under its lock. Each call is that of the same name of the shard, while its lock is held.
 #[derive(Drop)]
 pub(crate) struct Place<N: Naming, E: Epochs, const I: usize> {
     word: ShardWord,
@@ -36,21 +39,17 @@ impl<N: Naming, E: Epochs, const I: usize> Place<N, E, I> {
         let lock = Mutex::new(Shard::new(alloc, streams, epochs, owner));
         Place { word, lock }
     }
-}
 
-impl<N: Naming, E: Epochs, const I: usize> Places<N> for Place<N, E, I> {
-    ghost use Rattle.std.specs.Prelude.{◌≡◌};
-
-    ghost has = { λ n. n ≡ I };
-
-    fn word(&self, _number: usize) -> &ShardWord {
+    /// The word, by which passes are lent, met and joined, and at which they look.
+    pub(crate) fn word(&self) -> &ShardWord
+        ensures { result.now ≡ N.words I }
+    {
         &self.word
     }
 
-    fn publish<R: Wait>(
+    pub(crate) fn publish<R: Wait>(
         &self,
         rt: &R,
-        _number: usize,
         pass: &mut Pass,
         links: &[NodeLink],
         channel: &str,
@@ -58,119 +57,166 @@ impl<N: Naming, E: Epochs, const I: usize> Places<N> for Place<N, E, I> {
         key: String,
         info: Option<Info>,
         now: u64,
-    ) -> Result<Published, Refused> {
+    ) -> Result<Published, Refused>
+        requires pass { pass.old.word ≡ N.words I }
+        requires set_up { IsSome (settings_of N.namespaces channel.now) }
+        ensures answer { IfOk result (λ p. IsPublished N.namespaces
+            pass.old.log pass.new.log channel.now (string_bytes key) (datum_of body info) p) }
+        ensures own { IfOk result (λ p. Follows pass.old pass.new (if p.repeated then 0 else 1)) }
+        ensures refusals { IfErr result (RefusesPublish N.namespaces
+            pass.new.log channel.now (string_bytes key) (datum_of body info)) }
+        ensures seen { OnErr result (Follows pass.old pass.new 0) }
+    {
         let mut shard = self.lock.lock(rt);
         let mut lent = NodeLinks { rt, links };
         shard.publish(&self.word, pass, &mut lent, channel, body, key, info, now)
     }
 
-    fn read<R: Wait>(
+    pub(crate) fn read<R: Wait>(
         &self,
         rt: &R,
-        _number: usize,
         pass: &mut Pass,
         channel: &str,
         since: Option<Position>,
         now: u64,
-    ) -> Result<ReadAnswer, Refused> {
+    ) -> Result<ReadAnswer, Refused>
+        requires pass { pass.old.word ≡ N.words I }
+        requires set_up { IsSome (settings_of N.namespaces channel.now) }
+        ensures answer { IfOk result (λ r. IsReadAnswer N.namespaces
+            pass.old.log pass.new.log channel.now since
+            r.recovery.position r.recovery.recovered r.recovery.publications.items) }
+        ensures mark { IfOk result (λ r. r.mark ≡ length pass.new.log) }
+        ensures refusals { IfErr result (RefusesRead N.namespaces pass.new.log channel.now) }
+        ensures seen { Follows pass.old pass.new 0 }
+    {
         self.lock
             .lock(rt)
             .read(&self.word, pass, channel, since, now)
     }
 
-    fn history<R: Wait>(
+    pub(crate) fn history<R: Wait>(
         &self,
         rt: &R,
-        _number: usize,
         pass: &mut Pass,
         channel: &str,
         since: Option<Position>,
         limit: i32,
         now: u64,
-    ) -> Result<History, Refused> {
+    ) -> Result<History, Refused>
+        requires pass { pass.old.word ≡ N.words I }
+        requires set_up { IsSome (settings_of N.namespaces channel.now) }
+        ensures answer { IfOk result (λ h. IsHistoryAnswer N.namespaces
+            pass.old.log pass.new.log channel.now since limit h.position h.publications.items) }
+        ensures refusals { IfErr result
+            (RefusesHistory N.namespaces pass.new.log channel.now since) }
+        ensures seen { Follows pass.old pass.new 0 }
+    {
         self.lock
             .lock(rt)
             .history(&self.word, pass, channel, since, limit, now)
     }
 
-    fn position<R: Wait>(
+    pub(crate) fn position<R: Wait>(
         &self,
         rt: &R,
-        _number: usize,
         pass: &mut Pass,
         channel: &str,
-    ) -> (Option<Position>, u64) {
+    ) -> (Option<Position>, u64)
+        requires pass { pass.old.word ≡ N.words I }
+        ensures answer { IsPosition N.namespaces pass.new.log channel.now result.0 }
+        ensures mark { result.1 ≡ length pass.new.log }
+        ensures seen { Follows pass.old pass.new 0 }
+    {
         self.lock.lock(rt).position(&self.word, pass, channel)
     }
 
-    fn trim<R: Wait>(
+    pub(crate) fn trim<R: Wait>(
         &self,
         rt: &R,
-        _number: usize,
         pass: &mut Pass,
         channel: &str,
         count: usize,
-    ) -> Result<(), Refused> {
+    ) -> Result<(), Refused>
+        requires pass { pass.old.word ≡ N.words I }
+        ensures done { OnOk result
+            (IsTrimmed N.namespaces pass.old.log pass.new.log channel.now count) }
+        ensures refusals { IfErr result
+            (RefusesEntry N.namespaces pass.new.log channel.now (Trim channel.now count)) }
+        ensures seen { Follows pass.old pass.new 0 }
+    {
         self.lock.lock(rt).trim(&self.word, pass, channel, count)
     }
 
-    fn forget<R: Wait>(
+    pub(crate) fn forget<R: Wait>(
         &self,
         rt: &R,
-        _number: usize,
         pass: &mut Pass,
         channel: &str,
-    ) -> Result<(), Refused> {
+    ) -> Result<(), Refused>
+        requires pass { pass.old.word ≡ N.words I }
+        ensures done { OnOk result
+            (IsForgotten N.namespaces pass.old.log pass.new.log channel.now) }
+        ensures refusals { IfErr result
+            (RefusesEntry N.namespaces pass.new.log channel.now (Forget channel.now)) }
+        ensures seen { Follows pass.old pass.new 0 }
+    {
         self.lock.lock(rt).forget(&self.word, pass, channel)
     }
 
-    fn set_size<R: Wait>(
+    pub(crate) fn set_size<R: Wait>(
         &self,
         rt: &R,
-        _number: usize,
         pass: &mut Pass,
         name: &str,
         size: usize,
-    ) -> Result<(), Refused> {
+    ) -> Result<(), Refused>
+        requires pass { pass.old.word ≡ N.words I }
+        requires set_up { IsSome (entry_at N.namespaces name.now) }
+        requires sized { (1 ≤ size) × (size ≤ LARGEST_SIZE) }
+        ensures done { OnOk result (IsSized pass.old.log pass.new.log name.now size) }
+        ensures refusals { IfErr result (RefusesSize pass.new.log name.now size) }
+        ensures seen { Follows pass.old pass.new 0 }
+    {
         self.lock.lock(rt).set_size(&self.word, pass, name, size)
     }
 
-    fn tick<R: Wait>(
-        &self,
-        rt: &R,
-        _number: usize,
-        pass: &mut Pass,
-        now: u64,
-    ) -> Result<(), Refused> {
+    pub(crate) fn tick<R: Wait>(&self, rt: &R, pass: &mut Pass, now: u64) -> Result<(), Refused>
+        requires pass { pass.old.word ≡ N.words I }
+        ensures done { OnOk result (IsTicked pass.old.log pass.new.log) }
+        ensures refusals { IfErr result (λ e. e ≡ Refused.AtLastCount) }
+        ensures seen { Follows pass.old pass.new 0 }
+    {
         self.lock.lock(rt).tick(&self.word, pass, now)
     }
 
-    fn enter<R: Wait>(
+    pub(crate) fn enter<R: Wait>(
         &self,
         rt: &R,
-        _number: usize,
         channel: &str,
         client: &str,
         user: &str,
         now: u64,
-    ) -> Result<(), Refused> {
+    ) -> Result<(), Refused>
+        ensures { IfErr result (λ e. e ≡ Refused.Memory) }
+    {
         self.lock.lock(rt).enter(channel, client, user, now)
     }
 
-    fn leave<R: Wait>(&self, rt: &R, _number: usize, channel: &str, client: &str) {
+    pub(crate) fn leave<R: Wait>(&self, rt: &R, channel: &str, client: &str) {
         self.lock.lock(rt).leave(channel, client);
     }
 
-    fn list<R: Wait>(
+    pub(crate) fn list<R: Wait>(
         &self,
         rt: &R,
-        _number: usize,
         channel: &str,
-    ) -> Result<BTreeMap<String, String>, Refused> {
+    ) -> Result<BTreeMap<String, String>, Refused>
+        ensures { IfErr result (λ e. e ≡ Refused.Memory) }
+    {
         self.lock.lock(rt).list(channel)
     }
 
-    fn stats<R: Wait>(&self, rt: &R, _number: usize, channel: &str) -> Stats {
+    pub(crate) fn stats<R: Wait>(&self, rt: &R, channel: &str) -> Stats {
         self.lock.lock(rt).stats(channel)
     }
 }

@@ -1,4 +1,4 @@
 use Rattle.cf_broker.proofs.broker.Broker.enter.Goals as goal
 
-pub returns-then-number-lt4 : goal.returns-then-number-lt4
-returns-then-number-lt4 g c = c.enter.ensures
+pub returns-in-0 : goal.returns-in-0
+returns-in-0 g c = c.enter.ensures

@@ -1,4 +1,4 @@
 use Rattle.cf_broker.proofs.broker.Broker.forget.Goals as goal
 
-pub returns-then-number-lt4-clause-done : goal.returns-then-number-lt4-clause-done
-returns-then-number-lt4-clause-done g c = c.forget.ensures.done
+pub returns-in-0-clause-done : goal.returns-in-0-clause-done
+returns-in-0-clause-done g c = c.forget.ensures.done

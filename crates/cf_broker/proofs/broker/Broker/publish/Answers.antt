@@ -1,4 +1,4 @@
 use Rattle.cf_broker.proofs.broker.Broker.publish.Goals as goal
 
-pub returns-then-number-lt4-clause-answer : goal.returns-then-number-lt4-clause-answer
-returns-then-number-lt4-clause-answer g c = c.publish.ensures.answer
+pub returns-in-0-clause-answer : goal.returns-in-0-clause-answer
+returns-in-0-clause-answer g c = c.publish.ensures.answer

@@ -1,4 +1,4 @@
 use Rattle.cf_broker.proofs.broker.Broker.read.Goals as goal
 
-pub returns-then-number-lt4-clause-refusals : goal.returns-then-number-lt4-clause-refusals
-returns-then-number-lt4-clause-refusals g c = c.read.ensures.refusals
+pub returns-in-0-clause-refusals : goal.returns-in-0-clause-refusals
+returns-in-0-clause-refusals g c = c.read.ensures.refusals

@@ -1,4 +1,4 @@
 use Rattle.cf_broker.proofs.broker.Broker.tick.Goals as goal
 
-pub returns-then-shard-lt4-clause-refusals : goal.returns-then-shard-lt4-clause-refusals
-returns-then-shard-lt4-clause-refusals g c = c.tick.ensures.refusals
+pub returns-in-0-clause-refusals : goal.returns-in-0-clause-refusals
+returns-in-0-clause-refusals g c = c.tick.ensures.refusals

@@ -1,5 +1,5 @@
 use Rattle.cf_broker.proofs.Refusals.{entry_by_log}
-use Rattle.cf_broker.proofs.place.PlacePlaces.forget.Goals as goal
+use Rattle.cf_broker.proofs.place.Place.forget.Goals as goal
 
 pub returns-clause-refusals : goal.returns-clause-refusals
 returns-clause-refusals g c =
