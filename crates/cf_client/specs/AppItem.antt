@@ -7,7 +7,8 @@ use Rattle.cf_protocol.specs.Datum.{Placed}
 pub data AppItem : Type 0 where
   -- a subscription stands at this position; whether its client asked from a position, and whether the stream held all
   -- between
-  Subscribed : (channel : List ℕ) → (was_recovering : Bool) → (recovered : Bool) → (position : Position) → AppItem
+  Subscribed : (channel : List ℕ) → (was_recovering : Bool) → (recovered : Bool) → (position : Position)
+      → AppItem
   -- a publication, at its place
   Published : (channel : List ℕ) → (position : Position) → (body : List ℕ) → AppItem
   -- the subscription ended, and its client has to ask again

@@ -117,7 +117,8 @@ AnswersCall id tells old new told =
 
 abbrev pub TakesAnswer : ℕ → Outcome → State → State → List AppItem → Type 0
 TakesAnswer id (Subscribed at ps recovered was) old new told =
-    AnswersAsk id (λ _. Live at) (λ c. item.Subscribed c was recovered at ∷ map (published c at.epoch) ps) old new told
+    AnswersAsk id (λ _. Live at)
+    (λ c. item.Subscribed c was recovered at ∷ map (published c at.epoch) ps) old new told
     ⊎ (NoAsk id old × PassesOver old new told)
 TakesAnswer id (Failed code) old new told =
     AnswersAsk id idle (λ c. item.Refused c code ∷ []) old new told
@@ -135,7 +136,8 @@ abbrev pub TakesPublication : List ℕ → Placed → Mode → State → State �
 TakesPublication c q (Idle last) old new told = PassesOver old new told
 TakesPublication c q (Asking id from last) old new told = PassesOver old new told
 TakesPublication c q (Live p) old new told =
-    (new ≡ moves c (Live (record { epoch = p.epoch; offset = q.offset })) old) × (told ≡ published c p.epoch q ∷ [])
+    (new ≡ moves c (Live (record { epoch = p.epoch; offset = q.offset })) old)
+    × (told ≡ published c p.epoch q ∷ [])
 
 -- after these codes a client asks again
 abbrev pub asks_again : ℕ → Bool
@@ -146,7 +148,8 @@ abbrev pub TakesEnd : List ℕ → ℕ → Mode → State → State → List App
 TakesEnd c code (Idle last) old new told = PassesOver old new told
 TakesEnd c code (Asking id from last) old new told = PassesOver old new told
 TakesEnd c code (Live p) old new told =
-    (new ≡ moves c (Idle (Some p)) old) × (told ≡ (if asks_again code then item.Resubscribing c code ∷ [] else []))
+    (new ≡ moves c (Idle (Some p)) old)
+    × (told ≡ (if asks_again code then item.Resubscribing c code ∷ [] else []))
 
 abbrev pub TakesPush : List ℕ → Pushed → State → State → List AppItem → Type 0
 TakesPush c (Publication q) old new told = TakesPublication c q (old.client.modes c) old new told
@@ -161,5 +164,6 @@ Takes (Push c push) old new told = TakesPush c push old new told
 abbrev pub TakesAll : List Outgoing → State → State → List AppItem → Type 0
 TakesAll [] old new told = PassesOver old new told
 TakesAll (o ∷ os) old new told =
-    (mid : State) × (first : List AppItem) × (rest : List AppItem) × Takes o old mid first × TakesAll os mid new rest
+    (mid : State) × (first : List AppItem) × (rest : List AppItem) × Takes o old mid first
+    × TakesAll os mid new rest
     × (told ≡ first ++ rest)

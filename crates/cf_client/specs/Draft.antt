@@ -42,6 +42,7 @@ drafted k d = record {
 }
 
 -- a draft takes this step, and the application is told what the step says
-abbrev pub Drafts : CodeKnown → (State → State → List AppItem → Type 0) → CodeDraft → CodeDraft → List AppEvent
+abbrev pub Drafts : CodeKnown → (State → State → List AppItem → Type 0) → CodeDraft → CodeDraft
+    → List AppEvent
     → List AppEvent → Type 0
 Drafts k step old new before after = TellsAlso (step (drafted k old) (drafted k new)) before after

@@ -9,7 +9,8 @@ use Rattle.cf_client.specs.AppItem.{AppItem}
 -- the ids that are out are older than the next id, no two channels ask under one, and no ask has that of a call
 pub record AreApart (x : Client) : Type 0 where
   pub older : (c : List ℕ) (id : ℕ) → asks_under id (x.modes c) ≡ true → id < x.fresh
-  pub apart : (c d : List ℕ) (id : ℕ) → asks_under id (x.modes c) ≡ true → asks_under id (x.modes d) ≡ true → c ≡ d
+  pub apart : (c d : List ℕ) (id : ℕ) → asks_under id (x.modes c) ≡ true → asks_under id (x.modes d) ≡ true
+      → c ≡ d
   pub calls_older : (id : ℕ) → is_out id x.calls ≡ true → id < x.fresh
   pub calls_apart : (c : List ℕ) (id : ℕ) → asks_under id (x.modes c) ≡ true → is_out id x.calls ≡ false
 

@@ -35,7 +35,8 @@ abbrev pub items_of : Lists → Client → Note → List AppItem
 items_of lists x (Reply c id was r) = reply_items lists c id was r (x.modes c)
 items_of lists x (Pub c q) = pub_items lists c q (x.modes c)
 items_of lists x (End c) = end_items c (x.modes c)
-items_of lists x (Fails c id code) = if asks_under id (x.modes c) || is_out id x.calls then Refused c code ∷ [] else []
+items_of lists x (Fails c id code) =
+    if asks_under id (x.modes c) || is_out id x.calls then Refused c code ∷ [] else []
 items_of lists x (Put id) = []
 items_of lists x (Left id) = []
 items_of lists x (Listing c id at low count) =

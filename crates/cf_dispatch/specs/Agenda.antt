@@ -68,4 +68,5 @@ HasOneTurnAtMost =
 
 -- Nobody waits twice.
 abbrev pub IsListedOnce : Type 0
-IsListedOnce = (steps : List Step) (old new : List ℕ) → AreNumbersOnce old → Stepped steps old new → AreNumbersOnce new
+IsListedOnce =
+    (steps : List Step) (old new : List ℕ) → AreNumbersOnce old → Stepped steps old new → AreNumbersOnce new

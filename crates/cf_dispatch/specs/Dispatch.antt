@@ -7,7 +7,8 @@ use Rattle.cf_hub.specs.declared.delivered.Delivered.{Delivered}
 abbrev pub stirs : Delivered → Bool
 stirs d = not (d.passed + d.ended + d.closed == 0)
 
-module _ {P : Type 0} (receives : P → Option Carried → P → Type 0) (brings : P → Carried → Delivered → P → Type 0)
+module _ {P : Type 0} (receives : P → Option Carried → P → Type 0)
+    (brings : P → Carried → Delivered → P → Type 0)
     (wakes : P → P → Type 0) where
   -- it is woken, if so
   abbrev pub WakesIf : Bool → P → P → Type 0

@@ -39,7 +39,8 @@ most_taken = 65536
 
 -- so much was taken
 abbrev pub IsAtLimit : List Out → List Out → Type 0
-IsAtLimit had has = (sum_by bytes_in had + most_taken ≤ sum_by bytes_in has) ⊎ (length had + most_taken ≤ length has)
+IsAtLimit had has =
+    (sum_by bytes_in had + most_taken ≤ sum_by bytes_in has) ⊎ (length had + most_taken ≤ length has)
 
 -- more may wait where a taking ended so
 abbrev pub leaves_more : Taken → Bool

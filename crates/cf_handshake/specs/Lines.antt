@@ -10,7 +10,8 @@ use Rattle.cf_handshake.specs.declared.lines.Case.TheVariants.{Matters, Ignored}
 -- the values of the lines with this name, in order; the case of a name doesn't matter
 abbrev pub values_of : Fields → List ℕ → List (List ℕ)
 values_of [] name = []
-values_of (line ∷ lines) name = cond (eq_ignore_case line.0 name) (line.1 ∷ values_of lines name) (values_of lines name)
+values_of (line ∷ lines) name =
+    cond (eq_ignore_case line.0 name) (line.1 ∷ values_of lines name) (values_of lines name)
 
 abbrev pub has_any : List (List ℕ) → Bool
 has_any [] = false

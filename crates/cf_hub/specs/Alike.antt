@@ -6,14 +6,17 @@ use Rattle.std.specs.List.{AllZip}
 use Rattle.cf_protocol.specs.Note.{Reading}
 use Rattle.cf_hub.specs.SessionState.{Subscription, Off, Asked, Ready, On, SessionState}
 
-abbrev pub AlikeSub : {B C : Type 0} → (ℕ → Option Reading → B → C → Type 0) → Subscription B → Subscription C → Type 0
+abbrev pub AlikeSub : {B C : Type 0} → (ℕ → Option Reading → B → C → Type 0) → Subscription B
+    → Subscription C → Type 0
 AlikeSub R Off Off = ⊤
 AlikeSub R (Asked id since b) (Asked id' since' b') = (id ≡ id') × (since ≡ since') × R id None b b'
-AlikeSub R (Ready id was r b) (Ready id' was' r' b') = (id ≡ id') × (was ≡ was') × (r ≡ r') × R id (Some r) b b'
+AlikeSub R (Ready id was r b) (Ready id' was' r' b') =
+    (id ≡ id') × (was ≡ was') × (r ≡ r') × R id (Some r) b b'
 AlikeSub R (On p mark) (On p' mark') = (p ≡ p') × (mark ≡ mark')
 AlikeSub R s s' = ⊥
 
-pub record Alike {B C N M : Type 0} (R : List ℕ → ℕ → Option Reading → B → C → Type 0) (S : N → M → Type 0)
+pub record Alike {B C N M : Type 0} (R : List ℕ → ℕ → Option Reading → B → C → Type 0)
+    (S : N → M → Type 0)
     (a : SessionState B N) (b : SessionState C M) : Type 0 where
   pub subs : (c : List ℕ) → AlikeSub (R c) (a.subs c) (b.subs c)
   pub notes : AllZip S a.notes b.notes

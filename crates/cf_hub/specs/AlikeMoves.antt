@@ -36,7 +36,8 @@ pub record MovesAreAlike (lists : Lists) : Type 0 where
       → AreAlike lists (comes (delivering p) c (at_offset e p)) (comes (spoken lists) c (at_offset e p))
   pub finishes : (c : List ℕ) (a new : Texts) (b : Notes) → SaysSession lists a b
       → FinishesAt false c (a.subs c) a new → SaysSession lists new (finishes (spoken lists) c b)
-  pub checks : (c : List ℕ) (top : Option Position) → AreAlike lists (checks plain c top) (checks (spoken lists) c top)
+  pub checks : (c : List ℕ) (top : Option Position)
+      → AreAlike lists (checks plain c top) (checks (spoken lists) c top)
   pub says : (i : Item) (n : Note) → SaysNote lists i n → AreAlike lists (push plain i) (push (spoken lists) n)
   pub closes : (code : ℕ) → AreAlike lists (closes_now (Close code)) (closes_now (note.Close code))
   pub takes : AreAlike lists takes_front takes_front
@@ -50,12 +51,14 @@ GoesOn lists k g old new = (b : Notes) → SaysAt lists (attached_at old k) b �
 pub record CallsAreAlike (lists : Lists) : Type 0 where
   pub attaches : (k now : ℕ) (user : List ℕ) (old new : Node) → Opens k user now old new
       → SaysAt lists (attached_at new k) opens
-  pub one : (k : ℕ) (f : Texts → Texts) (g : Notes → Notes) (old new : Node) → AreAlike lists f g → One k f old new
+  pub one : (k : ℕ) (f : Texts → Texts) (g : Notes → Notes) (old new : Node) → AreAlike lists f g
+      → One k f old new
       → GoesOn lists k g old new
   pub delivers : (c e : List ℕ) (p : Placed) (old new : Node) → IsListed lists c e p → Delivers c e p old new
       → new.refused ≡ 0
       → (k : ℕ) → GoesOn lists k (comes (spoken lists) c (at_offset e p)) old new
-  pub finishes : (k : ℕ) (c : List ℕ) (old new : Node) → Meets k (λ hit. FinishesAt hit c (sub_at old k c)) old new
+  pub finishes : (k : ℕ) (c : List ℕ) (old new : Node)
+      → Meets k (λ hit. FinishesAt hit c (sub_at old k c)) old new
       → new.refused ≡ 0
       → GoesOn lists k (finishes (spoken lists) c) old new
   pub meets : (k : ℕ) (f : Texts → Texts) (g : Notes → Notes) (old new : Node) → AreAlike lists f g

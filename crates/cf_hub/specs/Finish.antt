@@ -21,7 +21,8 @@ pub record Finishes (refused : Bool) (c : List ℕ) (id : ℕ) (was : Bool) (r :
       (put_sub c (finished (releasing run) r h) a) b
 
 -- nothing changes where there is nothing to finish
-abbrev pub FinishesAt : Bool → List ℕ → Subscription Held → SessionState Held Item → SessionState Held Item → Type 0
+abbrev pub FinishesAt : Bool → List ℕ → Subscription Held → SessionState Held Item → SessionState Held Item
+    → Type 0
 FinishesAt refused c Off a b = b ≡ a
 FinishesAt refused c (Asked id since h) a b = b ≡ a
 FinishesAt refused c (Ready id was r h) a b = Finishes refused c id was r h a b

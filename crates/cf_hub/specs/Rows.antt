@@ -44,4 +44,5 @@ pub record AgreedBefore (c : List ℕ) (sessions : ℕ → Option Attached) (row
 -- whatever a call at channel c did with a session for which that channel was on, this fate does the same
 abbrev pub TellsFate : Fate → List ℕ → Option Attached → Type 0
 TellsFate f c o =
-    (k : ℕ) (rows : List Follow) (g : Fate) → follows rows c k ≡ true → WentOff g c k o rows → WentOff f c k o rows
+    (k : ℕ) (rows : List Follow) (g : Fate) → follows rows c k ≡ true → WentOff g c k o rows
+    → WentOff f c k o rows

@@ -31,7 +31,8 @@ pub record SessionState (B N : Type 0) : Type 0 where
 
 pub record Wording (B N : Type 0) : Type 0 where
   -- the reply to a subscribe
-  pub reply : (channel : List ℕ) → (id : ℕ) → (was_recovering : Bool) → (reading : Reading) → (buffer : B) → N
+  pub reply : (channel : List ℕ) → (id : ℕ) → (was_recovering : Bool) → (reading : Reading) → (buffer : B)
+      → N
   -- what follows it: the pushes of what came meanwhile, how many offsets they go on, and whether something is missing
   -- then
   pub run : (channel : List ℕ) → (reading : Reading) → (buffer : B) → List N
@@ -103,7 +104,8 @@ abbrev pub put_sub : {B N : Type 0} → List ℕ → Subscription B → SessionS
 put_sub c x s = record s { subs = with s.subs c x }
 
 -- a subscription is asked for
-abbrev pub begins : {B N : Type 0} → Wording B N → List ℕ → ℕ → Option Position → SessionState B N → SessionState B N
+abbrev pub begins : {B N : Type 0} → Wording B N → List ℕ → ℕ → Option Position → SessionState B N
+    → SessionState B N
 begins w c id since s = put_sub c (Asked id since w.empty) s
 
 -- the client leaves a channel
@@ -123,7 +125,8 @@ reads w c r s = read_at w c r (s.subs c) s
 
 -- A publication is delivered: it is kept before the reply; after it, it is dropped where it is known, passed on where
 -- it is the next one, and else the subscription ends.
-abbrev pub by_verdict : {B N : Type 0} → Wording B N → List ℕ → Position → Option ℕ → Verdict → SessionState B N
+abbrev pub by_verdict : {B N : Type 0} → Wording B N → List ℕ → Position → Option ℕ → Verdict
+    → SessionState B N
     → SessionState B N
 by_verdict w c q mark Drop s = s
 by_verdict w c q mark Pass s = push w (w.place c q) (put_sub c (On q mark) s)
@@ -144,9 +147,11 @@ abbrev pub finished : {B N : Type 0} → Wording B N → Reading → B → Subsc
 finished w r b = if w.falls_short r b then Off else On (record { epoch = r.epoch; offset = r.top + w.reach r b }) None
 
 abbrev pub finish_notes : {B N : Type 0} → Wording B N → List ℕ → ℕ → Bool → Reading → B → List N
-finish_notes w c id was r b = w.reply c id was r b ∷ (w.run c r b ++ (if w.falls_short r b then w.end c ∷ [] else []))
+finish_notes w c id was r b =
+    w.reply c id was r b ∷ (w.run c r b ++ (if w.falls_short r b then w.end c ∷ [] else []))
 
-abbrev pub finish_at : {B N : Type 0} → Wording B N → List ℕ → Subscription B → SessionState B N → SessionState B N
+abbrev pub finish_at : {B N : Type 0} → Wording B N → List ℕ → Subscription B → SessionState B N
+    → SessionState B N
 finish_at w c Off s = s
 finish_at w c (Asked id since b) s = s
 finish_at w c (Ready id was r b) s = says w (finish_notes w c id was r b) (put_sub c (finished w r b) s)
@@ -156,19 +161,22 @@ abbrev pub finishes : {B N : Type 0} → Wording B N → List ℕ → SessionSta
 finishes w c s = finish_at w c (s.subs c) s
 
 -- the position check
-abbrev pub by_check : {B N : Type 0} → Wording B N → List ℕ → Position → Checked → SessionState B N → SessionState B N
+abbrev pub by_check : {B N : Type 0} → Wording B N → List ℕ → Position → Checked → SessionState B N
+    → SessionState B N
 by_check w c p Fine s = put_sub c (On p None) s
 by_check w c p Behind s = put_sub c (On p (Some p.offset)) s
 by_check w c p Ended s = push w (w.end c) (put_sub c Off s)
 
-abbrev pub check_at : {B N : Type 0} → Wording B N → List ℕ → Option Position → Subscription B → SessionState B N
+abbrev pub check_at : {B N : Type 0} → Wording B N → List ℕ → Option Position → Subscription B
+    → SessionState B N
     → SessionState B N
 check_at w c top Off s = s
 check_at w c top (Asked id since b) s = s
 check_at w c top (Ready id was r b) s = s
 check_at w c top (On p mark) s = by_check w c p (position_check top p mark) s
 
-abbrev pub checks : {B N : Type 0} → Wording B N → List ℕ → Option Position → SessionState B N → SessionState B N
+abbrev pub checks : {B N : Type 0} → Wording B N → List ℕ → Option Position → SessionState B N
+    → SessionState B N
 checks w c top s = check_at w c top (s.subs c) s
 
 -- ---- asking about subscriptions

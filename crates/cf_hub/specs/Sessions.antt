@@ -64,7 +64,8 @@ Acts refused move old new = OrCloses refused plain move (state_of old) (state_of
 
 -- a text is said, if there is one; or memory was refused for it, and it is closed in place of that
 abbrev pub SaysText : Bool → Option (String Global) → Session → Session → Type 0
-SaysText refused text old new = (t : List ℕ) → IfSome text (λ x. string_bytes x ≡ t) → Acts refused (says_one t) old new
+SaysText refused text old new =
+    (t : List ℕ) → IfSome text (λ x. string_bytes x ≡ t) → Acts refused (says_one t) old new
 
 -- it is told these; or memory was refused amid them, and it is closed then
 abbrev pub Tells : Bool → List Item → Session → Session → Type 0
@@ -80,7 +81,8 @@ fate_brought c e p old new = fate_of c (at_offset e p) (state_of old) (state_of 
 
 -- its channels are off after as this fate at channel c says
 abbrev pub EndsAs : Fate → List ℕ → Session → Session → Type 0
-EndsAs f c old new = (d : List ℕ) → is_off ((state_of new).subs d) ≡ off_after f c d (is_off ((state_of old).subs d))
+EndsAs f c old new =
+    (d : List ℕ) → is_off ((state_of new).subs d) ≡ off_after f c d (is_off ((state_of old).subs d))
 
 -- closed where the call closed it, else this
 abbrev pub closed_or : Bool → Session → Fate → Fate

@@ -23,11 +23,13 @@ pub record GivesUp {B N : Type 0} (w : Wording B N) (c : List ℕ) (a b : Sessio
 -- want of it, or what came for the channel is given up
 abbrev pub Serves : {B N : Type 0} → Bool → Wording B N → List ℕ → (SessionState B N → SessionState B N)
     → SessionState B N → SessionState B N → Type 0
-Serves refused w c move a b = (b ≡ move a) ⊎ ((refused ≡ true) × (ClosesWith (w.close no_memory) a b ⊎ GivesUp w c a b))
+Serves refused w c move a b =
+    (b ≡ move a) ⊎ ((refused ≡ true) × (ClosesWith (w.close no_memory) a b ⊎ GivesUp w c a b))
 
 -- b is what the move makes of a; or memory was refused for this session, and in place of the move it is closed for
 -- want of it
-abbrev pub OrCloses : {B N : Type 0} → Bool → Wording B N → (SessionState B N → SessionState B N) → SessionState B N
+abbrev pub OrCloses : {B N : Type 0} → Bool → Wording B N → (SessionState B N → SessionState B N)
+    → SessionState B N
     → SessionState B N → Type 0
 OrCloses refused w move a b = (b ≡ move a) ⊎ ((refused ≡ true) × ClosesWith (w.close no_memory) a b)
 
@@ -40,7 +42,8 @@ pub record ClosesAmid {B N : Type 0} (w : Wording B N) (ns : List N) (a b : Sess
   pub closed : b ≡ closes (w.close no_memory) (says w first a)
 
 -- all of these notes were said; or memory was refused amid them
-abbrev pub SaysAll : {B N : Type 0} → Bool → Wording B N → List N → SessionState B N → SessionState B N → Type 0
+abbrev pub SaysAll : {B N : Type 0} → Bool → Wording B N → List N → SessionState B N → SessionState B N
+    → Type 0
 SaysAll refused w ns a b = (b ≡ says w ns a) ⊎ ((refused ≡ true) × ClosesAmid w ns a b)
 
 -- none and none, or two that are related

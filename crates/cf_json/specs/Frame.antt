@@ -47,7 +47,8 @@ BeginsTooDeepFrame s = (n : ℕ) × OnlyDeepFrame (take n s)
 
 -- what each fault says of a text that is read as a frame
 abbrev pub RefusesFrame : List ℕ → Fault → Type 0
-RefusesFrame s (NotJson p) = (p ≤ length s) × ((ts : List Tree) → IsFrame s ts → ⊥) × (BeginsTooDeepFrame s → ⊥)
+RefusesFrame s (NotJson p) =
+    (p ≤ length s) × ((ts : List Tree) → IsFrame s ts → ⊥) × (BeginsTooDeepFrame s → ⊥)
 RefusesFrame s (TooDeep p) =
     (p ≤ length s) × ((ts : List Tree) → IsFrame s ts → max_depth < frame_depth ts) × BeginsTooDeepFrame s
 RefusesFrame s Memory = ⊤

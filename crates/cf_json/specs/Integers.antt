@@ -11,7 +11,8 @@ whole_of s = if bytes_eq s (decimal (digits_value 10 s)) then Some (digits_value
 -- the same, with a minus sign before it or none
 abbrev pub signed_of : List ℕ → Option ℤ
 signed_of [] = None
-signed_of (x ∷ s) = if x == 45 then option_map (λ n. neg_ℤ (pos n)) (whole_of s) else option_map pos (whole_of (x ∷ s))
+signed_of (x ∷ s) =
+    if x == 45 then option_map (λ n. neg_ℤ (pos n)) (whole_of s) else option_map pos (whole_of (x ∷ s))
 
 -- what fits 64 bits
 abbrev pub as_u64 : ℕ → Option ℕ

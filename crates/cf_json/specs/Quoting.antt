@@ -16,7 +16,8 @@ hex_digit d = if nat_lt d 10 then 48 + d else 87 + d
 -- a byte that no letter stands for: a control character by its code unit, `\u00` and two hexadecimal digits, and any
 -- other by itself
 abbrev pub escape_by_code : ℕ → List ℕ
-escape_by_code x = if nat_lt x 32 then 92 ∷ 117 ∷ 48 ∷ 48 ∷ hex_digit (x / 16) ∷ hex_digit (x % 16) ∷ [] else x ∷ []
+escape_by_code x =
+    if nat_lt x 32 then 92 ∷ 117 ∷ 48 ∷ 48 ∷ hex_digit (x / 16) ∷ hex_digit (x % 16) ∷ [] else x ∷ []
 
 abbrev pub escape_by : ℕ → Option ℕ → List ℕ
 escape_by x None = escape_by_code x

@@ -5,7 +5,8 @@ use Rattle.cf_stream.specs.PublicationList.{Life}
 use Rattle.cf_stream.specs.StreamState.{StreamState}
 use Rattle.cf_machine.specs.PublicationList.{Broker}
 
-abbrev pub life_by : (lists : List ℕ → List Datum) → (keys : List ℕ → List (List ℕ)) → Option StreamState → Option Life
+abbrev pub life_by : (lists : List ℕ → List Datum) → (keys : List ℕ → List (List ℕ)) → Option StreamState
+    → Option Life
 life_by lists keys o =
     option_map (λ s. record { epoch = s.epoch; list = lists s.epoch; keys = keys s.epoch; held = s.held }) o
 

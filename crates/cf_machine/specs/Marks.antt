@@ -77,7 +77,8 @@ numbered n [] = []
 numbered n (e ∷ es) = if e.at == n then e ∷ numbered n es else numbered n es
 
 -- what befalls client x at channel c, event by event: what the events do, and then what these entries tell
-abbrev pub befell_from : Config → List ℕ → List ℕ → List Entry → ℕ → World → List Happening → List (List Mark)
+abbrev pub befell_from : Config → List ℕ → List ℕ → List Entry → ℕ → World → List Happening
+    → List (List Mark)
 befell_from cfg x c t n w [] = []
 befell_from cfg x c t n w (h ∷ hs) =
     (allowed_marks cfg x c w h ++ entry_marks x c (numbered n t)) ∷ befell_from cfg x c t (suc n) (befalls cfg w h) hs

@@ -48,7 +48,8 @@ IsOneOf e (x ∷ xs) = (e ≡ x) ⊎ IsOneOf e xs
 abbrev pub OneDatum : List Entry → Type 0
 OneDatum t =
     (d e : Entry) → IsOneOf d t → IsOneOf e t
-    → (c : List ℕ) (p : Position) (a b : List ℕ) → d.item ≡ ToldPublished c p a → e.item ≡ ToldPublished c p b → a ≡ b
+    → (c : List ℕ) (p : Position) (a b : List ℕ) → d.item ≡ ToldPublished c p a
+    → e.item ≡ ToldPublished c p b → a ≡ b
 
 -- ---- what befell one client at one channel so far, the latest first
 

@@ -6,7 +6,8 @@ use Rattle.cf_protocol.specs.Note.{PingDue, Close}
 -- It ends within the list of its epoch, it begins no later than it ends, and where it didn't recover it begins where
 -- it ends.
 abbrev pub IsReadingOf : Lists → List ℕ → Reading → Type 0
-IsReadingOf lists c r = (r.low ≤ r.top) × (r.top ≤ length (lists c r.epoch)) × (r.recovered ≡ false → r.low ≡ r.top)
+IsReadingOf lists c r =
+    (r.low ≤ r.top) × (r.top ≤ length (lists c r.epoch)) × (r.recovered ≡ false → r.low ≡ r.top)
 
 -- A reply has such a reading, a history lies within its list, and in a schedule no ping waits.
 abbrev pub IsTellable : Lists → Note → Type 0

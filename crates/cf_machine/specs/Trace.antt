@@ -6,7 +6,8 @@ use Rattle.cf_protocol.specs.declared.position.Position.{Position}
 pub data Item : Type 0 where
   -- a subscription stands at this position; whether its client asked from a position, and whether the stream held all
   -- between
-  Subscribed : (channel : List ℕ) → (was_recovering : Bool) → (recovered : Bool) → (position : Position) → Item
+  Subscribed : (channel : List ℕ) → (was_recovering : Bool) → (recovered : Bool) → (position : Position)
+      → Item
   -- a publication, at its place
   Published : (channel : List ℕ) → (position : Position) → (body : List ℕ) → Item
   -- the subscription ended, and its client has to ask again

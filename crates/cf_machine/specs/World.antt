@@ -55,11 +55,13 @@ rows l = count_on l.session.subs l.channels
 -- how many sessions a node has, and how many subscriptions of all its sessions
 abbrev pub sessions_of : ℕ → (List ℕ → ClientLink) → List (List ℕ) → ℕ
 sessions_of n links [] = 0
-sessions_of n links (x ∷ xs) = if on_node n (links x).node then suc (sessions_of n links xs) else sessions_of n links xs
+sessions_of n links (x ∷ xs) =
+    if on_node n (links x).node then suc (sessions_of n links xs) else sessions_of n links xs
 
 abbrev pub rows_of : ℕ → (List ℕ → ClientLink) → List (List ℕ) → ℕ
 rows_of n links [] = 0
-rows_of n links (x ∷ xs) = if on_node n (links x).node then rows (links x) + rows_of n links xs else rows_of n links xs
+rows_of n links (x ∷ xs) =
+    if on_node n (links x).node then rows (links x) + rows_of n links xs else rows_of n links xs
 
 abbrev pub is_connected : List ℕ → World → Bool
 is_connected x w = is_some (w.links x).node

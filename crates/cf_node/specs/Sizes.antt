@@ -8,7 +8,8 @@ use Rattle.cf_shard.specs.Shard.{IsFull}
 
 -- the log of each shard has the entry more, behind all that the shard's pass had seen
 abbrev pub AreSized : (old new : List PassState) → (name : List ℕ) → (size : ℕ) → Type 0
-AreSized old new name n = (shard : ℕ) → shard < 16 → IsSized (pass_at old shard).log (pass_at new shard).log name n
+AreSized old new name n =
+    (shard : ℕ) → shard < 16 → IsSized (pass_at old shard).log (pass_at new shard).log name n
 
 -- the log that a pass has seen has no room for the entry
 abbrev pub IsFullFor : PassState → (name : List ℕ) → (size : ℕ) → Type 0

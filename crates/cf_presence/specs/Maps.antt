@@ -16,7 +16,8 @@ abbrev pub by_text : {X : Type 0} → BTreeMap (String Global) X → fin.FinMap 
 by_text m = fin.from_entries (map (λ e. (string_bytes e.0, e.1)) m.entries)
 
 -- new has w at the bytes, and elsewhere what old has
-abbrev pub SetsAt : {X : Type 0} → BTreeMap (String Global) X → BTreeMap (String Global) X → List ℕ → Option X → Type 0
+abbrev pub SetsAt : {X : Type 0} → BTreeMap (String Global) X → BTreeMap (String Global) X → List ℕ → Option X
+    → Type 0
 SetsAt old new bs w = (q : List ℕ) → get_by_text new q ≡ update bytes_eq (get_by_text old) bs w q
 
 -- the clients, if there are any

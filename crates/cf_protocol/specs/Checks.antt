@@ -76,7 +76,8 @@ module _ (t : NamespaceTable) where
       well_named c ∷ (is_bad_key key || is_bad_data d, error.BadRequest) ∷ set_up c ∷ may_publish c ∷ []
   checks (Presence c) = well_named c ∷ set_up c ∷ keeps_presence c ∷ []
   checks (PresenceStats c) = well_named c ∷ set_up c ∷ keeps_presence c ∷ []
-  checks (History c limit since reverse) = well_named c ∷ set_up c ∷ may_list c ∷ (reverse, error.NotAvailable) ∷ []
+  checks (History c limit since reverse) =
+      well_named c ∷ set_up c ∷ may_list c ∷ (reverse, error.NotAvailable) ∷ []
   checks Other = (true, error.NotAvailable) ∷ []
   checks Ping = []
   checks Send = []

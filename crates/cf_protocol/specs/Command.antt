@@ -60,7 +60,8 @@ abbrev pub requests : List (Name × (Tree → Option Request))
 requests =
     ("connect", object_as connect) ∷ ("subscribe", object_as subscribe) ∷ ("unsubscribe", object_as unsubscribe)
     ∷ ("publish", object_as publish)
-    ∷ ("presence", object_as presence) ∷ ("presence_stats", object_as presence_stats) ∷ ("history", object_as history)
+    ∷ ("presence", object_as presence) ∷ ("presence_stats", object_as presence_stats)
+    ∷ ("history", object_as history)
     ∷ ("ping", always Ping) ∷ ("send", always Send)
     ∷ ("rpc", always Other) ∷ ("refresh", always Other) ∷ ("sub_refresh", always Other) ∷ []
 

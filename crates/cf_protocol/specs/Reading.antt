@@ -80,7 +80,8 @@ abbrev pub IsObject : Option Members → Option Fields → Type 0
 IsObject o r = MatchOption o (r ≡ None) (λ m. IsSomeAnd r (λ fs. Reads m.text.now m.found.items fs))
 
 -- one key of several that has a value, where it stands, and what it is read as; Bad where nothing is read
-abbrev pub Chooses : {K A : Type 0} → List ℕ → (K → Tree → Option A) → Result (K × Span) ReadFault → Option A → Type 0
+abbrev pub Chooses : {K A : Type 0} → List ℕ → (K → Tree → Option A) → Result (K × Span) ReadFault
+    → Option A → Type 0
 Chooses text read (Ok r) o = (t : Tree) × IsAt text t r.1 × (o ≡ read r.0 t)
 Chooses text read (Err Bad) o = o ≡ None
 Chooses text read (Err Memory) o = ⊥

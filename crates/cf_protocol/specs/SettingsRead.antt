@@ -53,7 +53,8 @@ HasMost b old = (s : Settings) → times b (letters_of s) ≤ times b (letters_o
 -- ---- entries
 
 -- a table has one entry more, which the text spells; Bad where each that it spells has a name that stands already
-abbrev pub Adds : {V : Type 0} → (List ℕ → List ℕ × V → Type 0) → List ℕ → List (List ℕ × V) → Result Unit ReadFault
+abbrev pub Adds : {V : Type 0} → (List ℕ → List ℕ × V → Type 0) → List ℕ → List (List ℕ × V)
+    → Result Unit ReadFault
     → List (List ℕ × V) → Type 0
 Adds {V} IsEntry text old (Ok done) new =
     (e : List ℕ × V) × IsEntry text e × (entry_at old e.0 ≡ None) × (new ≡ old ++ e ∷ [])

@@ -85,7 +85,8 @@ info_or_none (Some w) = inner (info w)
 abbrev pub publication : (List ℕ → Tree) → Placed → Tree
 publication body p =
     object_of
-    (("data" ⇒ Some (body p.datum.body)) ∷ ("info" ⇒ info_or_none p.datum.info) ∷ ("offset" ⇒ whole p.offset) ∷ [])
+    (("data" ⇒ Some (body p.datum.body)) ∷ ("info" ⇒ info_or_none p.datum.info) ∷ ("offset" ⇒ whole p.offset)
+    ∷ [])
 
 abbrev pub publications : (List ℕ → Tree) → List Placed → Option Tree
 publications body ps = list (map (publication body) ps)
@@ -115,12 +116,14 @@ command body id (request.Connect token) =
     ("connect" ⇒ Some (object_of (("token" ⇒ text token) ∷ []))) ∷ ("id" ⇒ whole id) ∷ []
 command body id (request.Subscribe channel p) =
     ("id" ⇒ whole id) ∷ ("subscribe" ⇒ Some (object_of (("channel" ⇒ text channel) ∷ from p))) ∷ []
-command body id (request.Unsubscribe channel) = ("id" ⇒ whole id) ∷ ("unsubscribe" ⇒ Some (channel_alone channel)) ∷ []
+command body id (request.Unsubscribe channel) =
+    ("id" ⇒ whole id) ∷ ("unsubscribe" ⇒ Some (channel_alone channel)) ∷ []
 command body id (request.Publish channel key d) =
     ("id" ⇒ whole id)
     ∷ ("publish" ⇒ Some
     (object_of (("channel" ⇒ text channel) ∷ ("data" ⇒ body_of body d) ∷ ("key" ⇒ text key) ∷ []))) ∷ []
-command body id (request.Presence channel) = ("id" ⇒ whole id) ∷ ("presence" ⇒ Some (channel_alone channel)) ∷ []
+command body id (request.Presence channel) =
+    ("id" ⇒ whole id) ∷ ("presence" ⇒ Some (channel_alone channel)) ∷ []
 command body id (request.PresenceStats channel) =
     ("id" ⇒ whole id) ∷ ("presence_stats" ⇒ Some (channel_alone channel)) ∷ []
 command body id (request.History channel limit p reverse) =
@@ -155,7 +158,8 @@ presence users = ("presence" ⇒ inner (map client (entries users))) ∷ []
 
 abbrev pub connected : List ℕ → List Member
 connected id =
-    ("client" ⇒ text id) ∷ ("ping" ⇒ whole 25) ∷ ("pong" ⇒ flag true) ∷ ("version" ⇒ text (codes "1.0.0")) ∷ []
+    ("client" ⇒ text id) ∷ ("ping" ⇒ whole 25) ∷ ("pong" ⇒ flag true) ∷ ("version" ⇒ text (codes "1.0.0"))
+    ∷ []
 
 abbrev pub subscribed : (List ℕ → Tree) → Position → List Placed → Bool → Bool → List Member
 subscribed body p ps recovered was =
@@ -170,7 +174,8 @@ abbrev pub past : (List ℕ → Tree) → Position → List Placed → List Memb
 past body p ps = position p ++ ("publications" ⇒ publications body ps) ∷ []
 
 abbrev pub error : ℕ → List Member
-error code = ("code" ⇒ whole code) ∷ ("message" ⇒ text (message_of code)) ∷ ("temporary" ⇒ flag (code == 100)) ∷ []
+error code =
+    ("code" ⇒ whole code) ∷ ("message" ⇒ text (message_of code)) ∷ ("temporary" ⇒ flag (code == 100)) ∷ []
 
 -- the result object stands also where it is empty
 abbrev pub reply : (List ℕ → Tree) → ℕ → Outcome → List Member

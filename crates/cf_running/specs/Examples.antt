@@ -36,7 +36,8 @@ abbrev pub taken : List Section
 taken = Takes 1 ∷ Receives ann ∷ []
 
 abbrev pub opening : List Section
-opening = Attaches bob 0 ∷ Attaches ann 0 ∷ Gains (Open news (codes "aaaa")) ∷ Sends ann (Ask news) ∷ Begins 1 ∷ []
+opening =
+    Attaches bob 0 ∷ Attaches ann 0 ∷ Gains (Open news (codes "aaaa")) ∷ Sends ann (Ask news) ∷ Begins 1 ∷ []
 
 -- a publication is accepted and delivered after ann's stream was read and before the answer reaches the hub; one more
 -- after that
@@ -50,7 +51,8 @@ comes_between =
 abbrev pub comes_back : List Section
 comes_back =
     comes_between ++ Breaks ann ∷ Attaches ann 0 ∷ (bob_has "3" ++ (bob_publishes 3 ++ Delivers 0 ∷ Takes 1
-    ∷ Sends ann (AskFrom news) ∷ Begins 2 ∷ AsksShard 2 ∷ ReadDone 2 ∷ Finishes 2 ∷ Takes 2 ∷ Receives ann ∷ []))
+    ∷ Sends ann (AskFrom news) ∷ Begins 2 ∷ AsksShard 2 ∷ ReadDone 2 ∷ Finishes 2 ∷ Takes 2 ∷ Receives ann
+    ∷ []))
 
 -- memory is refused amid ann's finish, after the reply
 abbrev pub broken_off : List Section
@@ -71,7 +73,8 @@ abbrev pub shrunk : List Section
 shrunk =
     comes_between ++ Breaks ann ∷ Attaches ann 0
     ∷ (bob_has "3" ++ (bob_publishes 3 ++ Sizes 0 [] 1 ∷ (bob_has "4" ++ (bob_publishes 4
-    ++ Sends ann (AskFrom news) ∷ Begins 2 ∷ AsksShard 2 ∷ ReadDone 2 ∷ Finishes 2 ∷ Takes 2 ∷ Receives ann ∷ []))))
+    ++ Sends ann (AskFrom news) ∷ Begins 2 ∷ AsksShard 2 ∷ ReadDone 2 ∷ Finishes 2 ∷ Takes 2 ∷ Receives ann
+    ∷ []))))
 
 abbrev pub ann_gets : Item → Told
 ann_gets i = record { client = ann; item = i }

@@ -112,7 +112,8 @@ abbrev pub is_in : List ℕ → Option (List ℕ) → Bool
 is_in e None = false
 is_in e (Some i) = bytes_eq e i
 
-abbrev pub gathered : List ℕ → List ℕ → Option (List ℕ) × List Datum → Entry → Option (List ℕ) × List Datum
+abbrev pub gathered : List ℕ → List ℕ → Option (List ℕ) × List Datum → Entry
+    → Option (List ℕ) × List Datum
 gathered c e p (Open d i) = if bytes_eq d c then (Some i, p.1) else p
 gathered c e p (Publish d key x) = if bytes_eq d c && is_in e p.0 then (p.0, p.1 ++ x ∷ []) else p
 gathered c e p (Trim d n) = p
@@ -241,7 +242,8 @@ is_free Free = true
 is_free other = false
 
 -- the worker of a connection takes the first command
-abbrev pub first_command : (SentCommand → List SentCommand → Connection → Connection) → List SentCommand → Connection
+abbrev pub first_command : (SentCommand → List SentCommand → Connection → Connection) → List SentCommand
+    → Connection
     → Connection
 first_command f [] x = x
 first_command f (k ∷ rest) x = f k rest x

@@ -42,7 +42,8 @@ epochs_in log q = filter_map (opening_of q) log
 -- sizes; and nothing is listed in an epoch in which the channel was never opened.
 pub record IsLogOf (mine : List ℕ → Bool) (sizes : NamespaceTable) (log : List Entry) (b : Broker) : Type 0 where
   pub life : (c : List ℕ) → mine c ≡ true → life_at b c ≡ life_in sizes log c
-  pub size : (c : List ℕ) → mine c ≡ true → size_by (b.sizes c) (settings_of sizes c) ≡ size_at (sizes_in sizes log) c
+  pub size : (c : List ℕ) → mine c ≡ true
+      → size_by (b.sizes c) (settings_of sizes c) ≡ size_at (sizes_in sizes log) c
   pub unopened : (c e : List ℕ) → mine c ≡ true → is_among e (epochs_in log c) ≡ false → b.lists c e ≡ []
 
 -- ---- what the log may gain, and what happens to the machine then
@@ -67,7 +68,8 @@ IsApart mine its x = (q : List ℕ) → is_about its x q ≡ true → mine q ≡
 -- stream stands, of a namespace that is set up, that repeats none of the stream, which is not at the last offset; a
 -- trim or a forget where a stream stands; another size at any time.
 abbrev pub MayGain : Config → List Entry → Entry → Type 0
-MayGain cfg log (Open c e) = (life_in cfg.namespaces log c ≡ None) × (e ≢ []) × (is_among e (epochs_in log c) ≡ false)
+MayGain cfg log (Open c e) =
+    (life_in cfg.namespaces log c ≡ None) × (e ≢ []) × (is_among e (epochs_in log c) ≡ false)
 MayGain cfg log (Publish c key d) =
     IsSome (settings_of cfg.namespaces c)
     × IsSomeAnd (life_in cfg.namespaces log c) (λ l. (length l.list < last_offset) × (repeat_of key l.keys ≡ None))

@@ -66,7 +66,8 @@ pub record MovesAmong (A : List ℕ → Type 0) (lists : Lists) : Type 0 where
   -- what is taken is a note, or an aside
   pub takes : (a : Texts) (b : Notes) → SaysAmong A lists a b
       → SaysAmong A lists (takes_front a) (takes_front b) ⊎ SaysAmong A lists (takes_front a) b
-  pub says : (hit : Bool) (i : Item) (n : Note) (a new : Texts) (b : Notes) → SaysNote lists i n → SaysAmong A lists a b
+  pub says : (hit : Bool) (i : Item) (n : Note) (a new : Texts) (b : Notes) → SaysNote lists i n
+      → SaysAmong A lists a b
       → OrCloses hit plain (push plain i) a new → MovesOrCloses A lists (push (spoken lists) n) new b
   pub says_aside : (hit : Bool) (t : List ℕ) (a new : Texts) (b : Notes) → A t → SaysAmong A lists a b
       → OrCloses hit plain (push plain (Text t)) a new → MovesOrCloses A lists (λ v. v) new b

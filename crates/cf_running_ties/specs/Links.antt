@@ -49,7 +49,8 @@ IsSentOrLost old n x new = (new ≡ at_number old n (old n ++ x ∷ [])) ⊎ (ne
 
 -- what was sent on each link and not received is what waits there in the running server, number by number
 pub record Waits (site : Site) (s : Server) (sent received : Lines) : Type 0 where
-  pub at : (n : ℕ) → (left : List Carried) × (sent n ≡ received n ++ left) × AllZip (IsNumbered site s) (s.links n) left
+  pub at : (n : ℕ)
+      → (left : List Carried) × (sent n ≡ received n ++ left) × AllZip (IsNumbered site s) (s.links n) left
 
 -- what waits first on a node's link is this publication, by its number: it is what the next delivery there delivers
 pub record IsFirst (site : Site) (s : Server) (n : ℕ) (x : Carried) : Type 0 where

@@ -13,7 +13,8 @@ abbrev pub Says : (List ℕ → Bool) → Lists → Texts → Notes → Type 0
 Says is_aside lists a b = SaysAmong (λ t. is_aside t ≡ true) lists a b
 
 -- a session of the hub, and the connection that has it, which is attached at the node
-pub record IsConnected (is_aside : List ℕ → Bool) (site : Site) (s : Server) (n k : ℕ) (a : Attached) : Type 0 where
+pub record IsConnected (is_aside : List ℕ → Bool) (site : Site) (s : Server) (n k : ℕ)
+    (a : Attached) : Type 0 where
   pub known : k < s.count
   pub here : (s.connections k).node ≡ n
   pub attached : (s.connections k).attached ≡ true
@@ -31,7 +32,8 @@ pub record IsHubOf (is_aside : List ℕ → Bool) (site : Site) (s : Server) (n 
     (hub : Node) : Type 0 where
   pub each : (j : ℕ) → ConnectedBy is_aside site s n (attached_at hub j) (numbers j)
   pub apart : (i j k : ℕ) → numbers i ≡ Some k → numbers j ≡ Some k → i ≡ j
-  pub all : (k : ℕ) → (s.connections k).node ≡ n → (s.connections k).attached ≡ true → (j : ℕ) × (numbers j ≡ Some k)
+  pub all : (k : ℕ) → (s.connections k).node ≡ n → (s.connections k).attached ≡ true
+      → (j : ℕ) × (numbers j ≡ Some k)
 
 -- ---- the sections of a call that serves all sessions
 
@@ -52,7 +54,8 @@ pub record ClosesAnd (is_aside : List ℕ → Bool) (site : Site) (s : Server) (
   pub is : IsHubOf is_aside site (ran site s (closes ++ section ∷ [])) n numbers hub
 
 -- and after some closes and pings
-pub record ClosesAndPings (is_aside : List ℕ → Bool) (site : Site) (s : Server) (n : ℕ) (numbers : ℕ → Option ℕ)
+pub record ClosesAndPings (is_aside : List ℕ → Bool) (site : Site) (s : Server) (n : ℕ)
+    (numbers : ℕ → Option ℕ)
     (hub : Node) : Type 0 where
   pub sections : List Section
   pub are : AllByRecursion IsCloseOrPing sections
@@ -73,7 +76,8 @@ pub record Moves (g : Notes → Notes) (t : Connection → Connection) : Type 0 
   pub session : (y : Connection) → y.attached ≡ true → (t y).session ≡ g y.session
 
 -- connection k makes it, perhaps after it was closed, and the hub is the node's
-pub record MovesBehindClose (is_aside : List ℕ → Bool) (site : Site) (s : Server) (n k : ℕ) (numbers : ℕ → Option ℕ)
+pub record MovesBehindClose (is_aside : List ℕ → Bool) (site : Site) (s : Server) (n k : ℕ)
+    (numbers : ℕ → Option ℕ)
     (t : Connection → Connection) (hub : Node) : Type 0 where
   pub closes : List Section
   pub are : AllByRecursion IsClose closes

@@ -47,25 +47,30 @@ max_data_depth = 60
 
 -- A datum is one JSON value, with white space round it, of which the compact text is kept.
 abbrev pub IsData : List ℕ → List ℕ → Type 0
-IsData s body = (t : Tree) × (at : Span) × Document s t at × (depth t ≤ max_data_depth) × (body ≡ compact_text t)
+IsData s body =
+    (t : Tree) × (at : Span) × Document s t at × (depth t ≤ max_data_depth) × (body ≡ compact_text t)
 
 -- ---- lines
 
 -- The line says this event, in a schedule over so many nodes. A publish that has no key has the empty one.
 abbrev pub Says : ℕ → List ℕ → Event → Type 0
 Says nodes line (Epoch e) = IsEpochWord e × (line ≡ spaced (codes "epoch" ∷ e ∷ []))
-Says nodes line (Connect x n) = IsClientName x × (n < nodes) × (line ≡ spaced (codes "connect" ∷ x ∷ decimal n ∷ []))
+Says nodes line (Connect x n) =
+    IsClientName x × (n < nodes) × (line ≡ spaced (codes "connect" ∷ x ∷ decimal n ∷ []))
 Says nodes line (Ask x c) = IsClientName x × IsChannelName c × (line ≡ spaced (codes "ask" ∷ x ∷ c ∷ []))
-Says nodes line (AskFrom x c) = IsClientName x × IsChannelName c × (line ≡ spaced (codes "askfrom" ∷ x ∷ c ∷ []))
+Says nodes line (AskFrom x c) =
+    IsClientName x × IsChannelName c × (line ≡ spaced (codes "askfrom" ∷ x ∷ c ∷ []))
 Says nodes line (Read x c) = IsClientName x × IsChannelName c × (line ≡ spaced (codes "read" ∷ x ∷ c ∷ []))
-Says nodes line (Finish x c) = IsClientName x × IsChannelName c × (line ≡ spaced (codes "finish" ∷ x ∷ c ∷ []))
+Says nodes line (Finish x c) =
+    IsClientName x × IsChannelName c × (line ≡ spaced (codes "finish" ∷ x ∷ c ∷ []))
 Says nodes line (Publish c [] body) =
     IsChannelName c × (s : List ℕ) × IsData s body × (line ≡ spaced (codes "publish" ∷ c ∷ s ∷ []))
 Says nodes line (Publish c key body) =
     IsChannelName c × IsKey key × (s : List ℕ) × IsData s body
     × (line ≡ spaced (codes "publishkey" ∷ c ∷ key ∷ s ∷ []))
 Says nodes line (PublishBy x c [] body) =
-    IsClientName x × IsChannelName c × (s : List ℕ) × IsData s body × (line ≡ spaced (codes "put" ∷ x ∷ c ∷ s ∷ []))
+    IsClientName x × IsChannelName c × (s : List ℕ) × IsData s body
+    × (line ≡ spaced (codes "put" ∷ x ∷ c ∷ s ∷ []))
 Says nodes line (PublishBy x c key body) =
     IsClientName x × IsChannelName c × IsKey key × (s : List ℕ) × IsData s body
     × (line ≡ spaced (codes "putkey" ∷ x ∷ c ∷ key ∷ s ∷ []))
@@ -74,7 +79,8 @@ Says nodes line (Deliver n i) =
 Says nodes line (Take x) = IsClientName x × (line ≡ spaced (codes "take" ∷ x ∷ []))
 Says nodes line (Break x) = IsClientName x × (line ≡ spaced (codes "break" ∷ x ∷ []))
 Says nodes line (Leave x c) = IsClientName x × IsChannelName c × (line ≡ spaced (codes "leave" ∷ x ∷ c ∷ []))
-Says nodes line (Trim c k) = IsChannelName c × (k ≤ most_left) × (line ≡ spaced (codes "trim" ∷ c ∷ decimal k ∷ []))
+Says nodes line (Trim c k) =
+    IsChannelName c × (k ≤ most_left) × (line ≡ spaced (codes "trim" ∷ c ∷ decimal k ∷ []))
 Says nodes line (Forget c) = IsChannelName c × (line ≡ spaced (codes "forget" ∷ c ∷ []))
 Says nodes line BrokerRestart = line ≡ codes "brokerrestart"
 Says nodes line (SetSize name n) =

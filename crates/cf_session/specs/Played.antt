@@ -32,7 +32,8 @@ AskStreams t (Todo s) = AllAsk (HasStream t) s
 AskStreams t (Out kind after) = (a : Answer) → AllAsk (HasStream t) (after a)
 
 -- a node carries out a call, and gives this answer
-abbrev pub Gives : {N : Type 0} → (N → Act → Option Answer → N → Type 0) → N → Call → CodeAnswer → N → Type 0
+abbrev pub Gives : {N : Type 0} → (N → Act → Option Answer → N → Type 0) → N → Call → CodeAnswer → N
+    → Type 0
 Gives does n call answer m = does n (Calls call) (Some (shown_answer answer)) m
 
 module _ {N : Type 0} (closed : N → Bool) (does : N → Act → Option Answer → N → Type 0) where
@@ -51,7 +52,8 @@ module _ {N : Type 0} (closed : N → Bool) (does : N → Act → Option Answer 
       (mid : N) × does n (Says (reply_text id o)) None mid
       × (((closed mid ≡ false) × Plays after mid m end) ⊎ Stops after mid m end)
   Plays (Pong after) n m end =
-      (mid : N) × does n PassesPong None mid × (((closed mid ≡ false) × Plays after mid m end) ⊎ Stops after mid m end)
+      (mid : N) × does n PassesPong None mid
+      × (((closed mid ≡ false) × Plays after mid m end) ⊎ Stops after mid m end)
   Plays (Ask call after) n m end =
       (mid : N) × (a : Answer) × does n (Calls call) (Some a) mid
       × (((closed mid ≡ false) × Plays (after a) mid m end) ⊎ Stops (after a) mid m end)

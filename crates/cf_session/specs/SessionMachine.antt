@@ -116,7 +116,8 @@ pub record FindsNoMemory (new : Progress) (refused : ℕ) : Type 0 where
 -- only the answer to an attach is kept, and takes memory
 abbrev pub GoesOn : Answer → Progress → Progress → (refused : ℕ) → Type 0
 GoesOn a old new refused =
-    ((new ≡ answered_progress a old) × (refused ≡ 0)) ⊎ ((awaits old ≡ Some kind.Attach) × FindsNoMemory new refused)
+    ((new ≡ answered_progress a old) × (refused ≡ 0))
+    ⊎ ((awaits old ≡ Some kind.Attach) × FindsNoMemory new refused)
 
 -- a text comes to a session that has nothing to do
 abbrev pub HearsAt : Tables → Script → List ℕ → Script → Type 0

@@ -33,13 +33,15 @@ cost PassesPong = 1
 cost (Closes code) = 1
 
 -- a node carries out an act, whatever it answers
-pub record DoesAct {N : Type 0} (does : N → Act → Option Answer → N → Type 0) (n : N) (a : Act) (m : N) : Type 0 where
+pub record DoesAct {N : Type 0} (does : N → Act → Option Answer → N → Type 0) (n : N) (a : Act)
+    (m : N) : Type 0 where
   pub answer : Option Answer
   pub done : does n a answer m
 
 -- From a node and units left to another and what is left then, by acts alone. Before each the session isn't closed
 -- and a unit is left; the last may cost more than is left.
-pub data Spends {N : Type 0} (closed : N → Bool) (does : N → Act → Option Answer → N → Type 0) (n : N) (units : ℕ) : N
+pub data Spends {N : Type 0} (closed : N → Bool) (does : N → Act → Option Answer → N → Type 0) (n : N)
+    (units : ℕ) : N
     → ℕ → Type 0 where
   rests : Spends closed does n units n units
   acts : (mid m : N) (left : ℕ) (a : Act)

@@ -23,7 +23,8 @@ use Rattle.cf_shard.specs.declared.refusal.Refused.TheVariants.{AtLastOffset, Wr
 -- ---- `makes`: streams, log and epochs after a call that succeeds
 
 -- a publish with this answer: the channel's stream is given the datum under the key; where it opens, an epoch was drawn
-pub record HasPublished {E : Type 0} (draws : Draw E) (channel key : List ℕ) (d : Datum) (now : ℕ) (old new : Lent E)
+pub record HasPublished {E : Type 0} (draws : Draw E) (channel key : List ℕ) (d : Datum) (now : ℕ)
+    (old new : Lent E)
     (p : Published) : Type 0 where
   pub streams : new.streams ≡ after_publish old.streams channel p.position.epoch key d now
   pub log : new.log ≡ old.log ++ entries_of_publish p.repeated old.streams channel p.position.epoch key d

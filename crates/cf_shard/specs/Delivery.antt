@@ -14,7 +14,8 @@ abbrev pub carried : (channel : List ℕ) → Position → Datum → Carried
 carried c p d = record { channel = c; epoch = p.epoch; publication = record { offset = p.offset; datum = d } }
 
 -- each of the first links was offered this, the first link first, and nothing else was offered
-unfoldable pub OfferedToAll : {L : Type 0} → (offers : L → ℕ → Carried → L → Type 0) → (count : ℕ) → Carried
+unfoldable pub OfferedToAll : {L : Type 0} → (offers : L → ℕ → Carried → L → Type 0) → (count : ℕ)
+    → Carried
     → (old new : L) → Type 0
 OfferedToAll offers zero d old new = new ≡ old
 OfferedToAll {L} offers (suc n) d old new = (mid : L) × OfferedToAll offers n d old mid × offers mid n d new

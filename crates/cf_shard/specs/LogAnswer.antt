@@ -49,14 +49,16 @@ pub record AnswersPublish (t : NamespaceTable) (before after : List Entry) (chan
   pub stands : p.repeated ≡ false → IsPosition t after channel (Some p.position)
 
 -- an accepted publish: the log ends with its one entry, after the opening where the stream opened; a repeat has none
-abbrev pub IsPublished : NamespaceTable → (seen after : List Entry) → (channel key : List ℕ) → Datum → Published
+abbrev pub IsPublished : NamespaceTable → (seen after : List Entry) → (channel key : List ℕ) → Datum
+    → Published
     → Type 0
 IsPublished t seen after c key d p =
     IsCall seen after (λ log. publishing p.repeated (life_in t log c) c p.position.epoch key d)
     (λ log. AnswersPublish t log after c key p)
 
 -- a read
-abbrev pub IsReadAnswer : NamespaceTable → (seen after : List Entry) → (channel : List ℕ) → (since : Option Position)
+abbrev pub IsReadAnswer : NamespaceTable → (seen after : List Entry) → (channel : List ℕ)
+    → (since : Option Position)
     → Position → (recovered : Bool) → List Placed → Type 0
 IsReadAnswer t seen after c since p recovered items =
     IsCall seen after (λ log. opening (life_in t log c) c p.epoch [])
@@ -70,7 +72,8 @@ IsHistoryAnswer t seen after c since limit p items =
     (λ log. IsListed (life_or (life_in t log c) p.epoch) since limit p items)
 
 -- a trim and a forget: one entry where the channel has a stream
-abbrev pub IsTrimmed : NamespaceTable → (seen after : List Entry) → (channel : List ℕ) → (count : ℕ) → Type 0
+abbrev pub IsTrimmed : NamespaceTable → (seen after : List Entry) → (channel : List ℕ) → (count : ℕ)
+    → Type 0
 IsTrimmed t seen after c n = IsCall seen after (λ log. if_stands (life_in t log c) (Trim c n)) (λ log. Unit {0})
 
 abbrev pub IsForgotten : NamespaceTable → (seen after : List Entry) → (channel : List ℕ) → Type 0
@@ -105,7 +108,8 @@ IsOutside None (Some p) = Unit {0}
 IsOutside (Some l) (Some p) = p.epoch ≢ l.epoch
 
 -- the log has no room for the entries of a call, after the opening of the channel's stream where there is none
-abbrev pub HasNoRoom : NamespaceTable → (log : List Entry) → (channel : List ℕ) → (entries : List Entry) → Type 0
+abbrev pub HasNoRoom : NamespaceTable → (log : List Entry) → (channel : List ℕ) → (entries : List Entry)
+    → Type 0
 HasNoRoom t log c entries = IsFull log (opening (life_in t log c) c [] entries)
 
 -- no repeat is refused
@@ -130,7 +134,8 @@ pub record RefusesHistory (t : NamespaceTable) (log : List Entry) (c : List ℕ)
   pub other : e ≢ AtLastOffset
 
 -- a trim or a forget has no room for its entry
-abbrev pub RefusesEntry : NamespaceTable → (log : List Entry) → (channel : List ℕ) → Entry → Refused → Type 0
+abbrev pub RefusesEntry : NamespaceTable → (log : List Entry) → (channel : List ℕ) → Entry → Refused
+    → Type 0
 RefusesEntry t log c x e = (e ≡ AtLastCount) × IsFull log (if_stands (life_in t log c) x)
 
 -- another size for a namespace has no room for its entry

@@ -30,7 +30,8 @@ pub record Lent (E : Type 0) : Type 0 where
 
 abbrev pub lent_code : {E : Type 0} → Coded E → Coded (Lent E)
 lent_code {E} e =
-    code_by (StreamMap × (Channels × (E × List Entry))) (coded× coded_kept (coded× coded_channels (coded× e coded_log)))
+    code_by (StreamMap × (Channels × (E × List Entry)))
+    (coded× coded_kept (coded× coded_channels (coded× e coded_log)))
     (λ s. (s.streams, (s.presence, (s.epochs, s.log))))
     (λ p. record { streams = p.0; presence = p.1.0; epochs = p.1.1.0; log = p.1.1.1 }) (λ _. refl)
 

@@ -13,7 +13,8 @@ abbrev pub entries_of_use : StreamMap → (channel epoch : List ℕ) → List En
 entries_of_use k c e = opening (stream_of k c) c e []
 
 -- an accepted publish: the same, and then the publication; nothing where it is a repeat
-abbrev pub entries_of_publish : (repeated : Bool) → StreamMap → (channel epoch key : List ℕ) → Datum → List Entry
+abbrev pub entries_of_publish : (repeated : Bool) → StreamMap → (channel epoch key : List ℕ) → Datum
+    → List Entry
 entries_of_publish repeated k c e key d = publishing repeated (stream_of k c) c e key d
 
 -- a trim, and a forget: one entry where the channel has a stream

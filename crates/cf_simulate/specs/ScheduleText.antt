@@ -44,7 +44,8 @@ abbrev pub IsUnreadable : ℕ → List ℕ → Type 0
 IsUnreadable nodes line = (IsPassedOver line → ⊥) × IsNone (Says nodes line)
 
 -- line n is the first that can't be used, and this is why
-pub record IsFirstFault (nodes : ℕ) (text : List ℕ) (n : ℕ) (Why : List ℕ → List (Option Event) → Type 0) : Type 0 where
+pub record IsFirstFault (nodes : ℕ) (text : List ℕ) (n : ℕ)
+    (Why : List ℕ → List (Option Event) → Type 0) : Type 0 where
   pub before : List (List ℕ)
   pub line : List ℕ
   pub after : List (List ℕ)

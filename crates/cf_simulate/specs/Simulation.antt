@@ -89,7 +89,8 @@ pub record WritesAll (explains : Bool) (cfg : Config) (events : List Event) (old
   pub adds : Appends old new bytes
 
 -- some first events were carried out, and they are shown, and none but they
-pub record PrintsWhole (explains : Bool) (cfg : Config) (events : List Event) (old new : Option (List ℕ)) : Type 0 where
+pub record PrintsWhole (explains : Bool) (cfg : Config) (events : List Event)
+    (old new : Option (List ℕ)) : Type 0 where
   pub done : ℕ
   pub within : done ≤ length events
   pub bytes : List ℕ
@@ -97,14 +98,16 @@ pub record PrintsWhole (explains : Bool) (cfg : Config) (events : List Event) (o
   pub adds : Appends old new bytes
 
 -- some first events were carried out, and the front of what shows them is written
-pub record PrintsPart (explains : Bool) (cfg : Config) (events : List Event) (old new : Option (List ℕ)) : Type 0 where
+pub record PrintsPart (explains : Bool) (cfg : Config) (events : List Event)
+    (old new : Option (List ℕ)) : Type 0 where
   pub done : ℕ
   pub within : done ≤ length events
   pub bytes : List ℕ
   pub shown : AreShown explains cfg (take done events) bytes
   pub adds : AddsPart old new bytes
 
-abbrev pub EndsRun : Bool → Config → List Event → Option (List ℕ) → Option (List ℕ) → SimulateFault → Type 0
+abbrev pub EndsRun : Bool → Config → List Event → Option (List ℕ) → Option (List ℕ) → SimulateFault
+    → Type 0
 EndsRun explains cfg events old new Memory = PrintsWhole explains cfg events old new
 EndsRun explains cfg events old new InputOutput = PrintsPart explains cfg events old new
 EndsRun explains cfg events old new f = ⊥

@@ -49,7 +49,8 @@ pub record Denies (e : ErrorCode) (s m : Scene) (a : Answer) : Type 0 where
   pub stays : m ≡ s
 
 -- the session goes to what is related to it, and there is no other
-pub record Moves (k : ℕ) (R : SessionState Held Item → SessionState Held Item → Type 0) (old new : Node) : Type 0 where
+pub record Moves (k : ℕ) (R : SessionState Held Item → SessionState Held Item → Type 0)
+    (old new : Node) : Type 0 where
   pub here : Both (InState R) (attached_at old k) (attached_at new k)
   pub others : OthersStay k old new
   pub agrees : Agrees (attached_at new) new.rows
@@ -81,7 +82,8 @@ WhyNot k c h hub.Already = IsOpenWith (λ off. off ≡ false) k c h
 WhyNot k c h hub.TooMany = IsOpenWith (λ off. off ≡ true) k c h × IsFull k h
 WhyNot k c h hub.Memory = ⊥
 
-pub record BeginsAt (k : ℕ) (c : List ℕ) (id : ℕ) (since : Option Position) (s m : Scene) (a : Answer) : Type 0 where
+pub record BeginsAt (k : ℕ) (c : List ℕ) (id : ℕ) (since : Option Position) (s m : Scene)
+    (a : Answer) : Type 0 where
   pub may : (e : HubRefusal) → WhyNot k c s.hub e → ⊥
   pub begins : OnHub (Begins k c id since) s m
   pub answer : a ≡ Done
@@ -216,7 +218,8 @@ said_at (Some k) text old new = Moves k (λ a b. b ≡ push plain (Text text) a)
 -- a publication of this epoch is brought to the hub's sessions
 pub record Delivers (c e : List ℕ) (p : Placed) (old new : Node) : Type 0 where
   pub each : (k : ℕ)
-      → Both (InState (λ a b. b ≡ comes (delivering p) c (at_offset e p) a)) (attached_at old k) (attached_at new k)
+      → Both (InState (λ a b. b ≡ comes (delivering p) c (at_offset e p) a)) (attached_at old k)
+      (attached_at new k)
   pub agrees : Agrees (attached_at new) new.rows
 
 abbrev pub brings : List ℕ → List ℕ → Option Placed → Node → Node → Type 0

@@ -17,7 +17,8 @@ use Rattle.cf_stream.specs.Streams.{StreamMap, IsOfAnother, repeat_at, size_at}
 
 -- an answer in this epoch: drawn where no stream stood; no epoch only where none stood and none was drawn; at another
 -- refusal nothing was drawn
-pub record DrawsToOpen {E X : Type 0} (draws : E → Option (List ℕ) → E → Type 0) (stood : Option Shown) (old new : E)
+pub record DrawsToOpen {E X : Type 0} (draws : E → Option (List ℕ) → E → Type 0) (stood : Option Shown)
+    (old new : E)
     (result : Result X StreamRefusal) (epoch : X → List ℕ) : Type 0 where
   pub drawn : IfOk result (λ x. Draws draws stood (epoch x) old new)
   pub no_epoch : IsErrOf result NoEpoch → LacksEpoch draws stood old new
@@ -34,7 +35,8 @@ pub record RefusalsOfOne (s : Shown) (key : List ℕ) (result : Result Published
 -- of a publish to a channel: a repeat has none; the last offset exactly where the stream is there; never a wrong epoch
 pub record RefusalsOfPublish (stood : Option Shown) (key : List ℕ) (result : Result Published StreamRefusal)
     : Type 0 where
-  pub repeat : (p : Position) → repeat_at stood key ≡ Some p → result ≡ Ok (record { position = p; repeated = true })
+  pub repeat : (p : Position) → repeat_at stood key ≡ Some p
+      → result ≡ Ok (record { position = p; repeated = true })
   pub last : IsErrOf result AtLastOffset ↔ IsAtLast stood key
   pub never : IfErr result (λ e. e ≢ WrongEpoch)
 
@@ -53,7 +55,8 @@ pub record ListsOfPublish (channel key : List ℕ) (d : Datum) (old new : Stream
   pub changes : ChangesAt old new channel (life_with (size_at old.namespaces channel) key d p.position.epoch)
 
 -- a read: the list is as it was, or opens
-pub record ListsOfRead (channel : List ℕ) (since : Option Position) (old new : StreamMap) (r : Recovery) : Type 0 where
+pub record ListsOfRead (channel : List ℕ) (since : Option Position) (old new : StreamMap)
+    (r : Recovery) : Type 0 where
   pub answer : ReadsAt old channel since r.position r.recovered r.publications.items
   pub changes : ChangesAt old new channel (life_read r.position.epoch)
 

@@ -16,10 +16,12 @@ abbrev pub DrawsEpoch : {E : Type 0} → (E → Option (List ℕ) → E → Type
 DrawsEpoch draws e old new = draws old (Some e) new × (e ≢ [])
 
 -- the epoch of a channel's stream: where none stood it is drawn, else nothing is drawn
-abbrev pub Draws : {E : Type 0} → (E → Option (List ℕ) → E → Type 0) → Option Shown → List ℕ → E → E → Type 0
+abbrev pub Draws : {E : Type 0} → (E → Option (List ℕ) → E → Type 0) → Option Shown → List ℕ → E → E
+    → Type 0
 Draws draws None e old new = DrawsEpoch draws e old new
 Draws draws (Some s) e old new = (e ≡ s.epoch) × (new ≡ old)
 
 -- there is no stream, and a draw gave no epoch for one
-abbrev pub LacksEpoch : {E : Type 0} → (E → Option (List ℕ) → E → Type 0) → Option Shown → E → E → Type 0
+abbrev pub LacksEpoch : {E : Type 0} → (E → Option (List ℕ) → E → Type 0) → Option Shown → E → E
+    → Type 0
 LacksEpoch draws o old new = (o ≡ None) × DrawsNone draws old new

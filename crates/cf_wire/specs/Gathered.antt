@@ -13,7 +13,8 @@ module _ {S : Type 0} where
   abbrev pub gathered_code : Coded S → Coded (Gathered S)
   gathered_code code =
       code_by (S × (List ℕ × ℕ)) (coded× code (coded× (coded_list coded_ℕ) coded_ℕ))
-      (λ g. (g.stream, (g.waiting, g.limit))) (λ p. record { stream = p.0; waiting = p.1.0; limit = p.1.1 }) (λ _. refl)
+      (λ g. (g.stream, (g.waiting, g.limit))) (λ p. record { stream = p.0; waiting = p.1.0; limit = p.1.1 })
+      (λ _. refl)
 
   -- all that was written: what is on the stream, and then what waits
   abbrev pub written : (S → Option (List ℕ)) → Gathered S → Option (List ℕ)

@@ -174,7 +174,8 @@ module _ {S : Type 0} where
 
   -- it answered Ok: the frame is on the stream
   abbrev pub Lands : (S → Option (List ℕ)) → Socket S → Out → Socket S → Stage → Type 0
-  Lands contents old out new stage = Puts contents old out new × (new.output ≡ []) × (stage ≡ settled (close_in out))
+  Lands contents old out new stage =
+      Puts contents old out new × (new.output ≡ []) × (stage ≡ settled (close_in out))
 
   -- it answered this error: where the stream failed the frame waits, and refused memory, or an output that a text
   -- found full, changed nothing
@@ -198,7 +199,8 @@ module _ {S : Type 0} where
   -- after a flush: all that waited is on the stream, or the stream failed
   abbrev pub FlushLeaves : Option ℕ → Socket S → Stage → Type 0
   FlushLeaves close new stage =
-      ((new.output ≡ []) × (stage ≡ settled close)) ⊎ ((e : Error) × IsIo e × (stage ≡ after e (Unflushed close)))
+      ((new.output ≡ []) × (stage ≡ settled close))
+      ⊎ ((e : Error) × IsIo e × (stage ≡ after e (Unflushed close)))
 
 -- a desk and a wire
 pub record Place (D S : Type 0) : Type 0 where
@@ -240,13 +242,15 @@ module _ {D S : Type 0} where
         (v.stage ≡ Open)
         × ((r : Result Message Error) × (mid : Socket S) × is_bad r × Reads remaining v.socket mid r
         × Settles contents mid (Close bad_message) w.socket w.stage)
-    WireDoes (failed e) v w = (v.stage ≡ Open) × Reads remaining v.socket w.socket (Err e) × (w.stage ≡ after e Open)
+    WireDoes (failed e) v w =
+        (v.stage ≡ Open) × Reads remaining v.socket w.socket (Err e) × (w.stage ≡ after e Open)
     WireDoes none v w = (v.stage ≡ Open) × (w ≡ v)
     WireDoes (sent o) v w = (v.stage ≡ Open) × Lands contents v.socket o w.socket w.stage
     WireDoes (refused o e) v w = (v.stage ≡ Open) × Refuses contents v.socket o w.socket e w.stage
     WireDoes (unwrapped o) v w = (v.stage ≡ Open) × Unwraps v.socket o w.socket w.stage
     WireDoes flushed v w =
-        (close : Option ℕ) × (v.stage ≡ Unflushed close) × Flushed contents v.socket w.socket × (w.socket.output ≡ [])
+        (close : Option ℕ) × (v.stage ≡ Unflushed close) × Flushed contents v.socket w.socket
+        × (w.socket.output ≡ [])
         × (w.stage ≡ settled close)
     WireDoes (tried e) v w =
         (close : Option ℕ) × (v.stage ≡ Unflushed close) × Flushed contents v.socket w.socket × IsIo e

@@ -66,7 +66,8 @@ pub record ShowsBroker (table : NamespaceTable) (b : Code) (m : Broker) : Type 0
   pub keyed : (c e : List ℕ) → length (m.keys c e) ≡ length (m.lists c e)
 
 -- what a read brings of a channel's stream
-pub record Brings (lists : Lists) (c : List ℕ) (since : Option Position) (s : StreamState) (r : Recovery) : Type 0 where
+pub record Brings (lists : Lists) (c : List ℕ) (since : Option Position) (s : StreamState)
+    (r : Recovery) : Type 0 where
   pub at : r.position ≡ position_of s
   pub recovered : r.recovered ≡ (read_of since s).recovered
   pub publications : r.publications.items
@@ -108,7 +109,8 @@ size_in table m c = size_by (m.sizes c) (settings_of table c)
 
 -- what a publish under a key comes to: it is accepted; or it is a repeat, or the stream is at its last offset, or
 -- would open while no epoch waits, or the channel's namespace isn't set up, and then nothing changes
-abbrev pub Publishes : NamespaceTable → Broker → (channel key : List ℕ) → Datum → Code → Published → Type 0
+abbrev pub Publishes : NamespaceTable → Broker → (channel key : List ℕ) → Datum → Code → Published
+    → Type 0
 Publishes table m c key d new outcome.Accepted =
     (is_some (settings_of table c) ≡ true) × (can_open c m ≡ true) × (is_repeat c key m ≡ false)
     × (at_last_offset c m ≡ false) × ShowsBroker table new (publish (size_in table m c) c key d m)

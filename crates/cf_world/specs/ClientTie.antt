@@ -143,7 +143,8 @@ Sends e x p old new None = NotSent e x p old new
 Sends e x p old new (Some text) = Sent e x (string_bytes text) p old new
 
 -- a client takes a text, and its application is told this
-pub record Heard (x text : List ℕ) (p : Peer) (old new : List ℕ → Option Peer) (told : List AppItem) : Type 0 where
+pub record Heard (x text : List ℕ) (p : Peer) (old new : List ℕ → Option Peer)
+    (told : List AppItem) : Type 0 where
   pub apart : AreApart (state_of p.client).client
   pub state : State
   pub becomes : Becomes x p state old new

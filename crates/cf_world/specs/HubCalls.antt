@@ -132,7 +132,8 @@ pub record NoSeat (h g : Node) : Type 0 where
 -- node n has a new session, or none: it isn't there, or has no room
 abbrev pub Attaches : ℕ → Option ℕ → Hubs → Hubs → Type 0
 Attaches n Option.None old new =
-    ((old n ≡ Option.None) × ((j : ℕ) → new j ≡ old j)) ⊎ ((h : Node) × (old n ≡ Some h) × OneHub n NoSeat old new h)
+    ((old n ≡ Option.None) × ((j : ℕ) → new j ≡ old j))
+    ⊎ ((h : Node) × (old n ≡ Some h) × OneHub n NoSeat old new h)
 Attaches n (Some k) old new = (h : Node) × (old n ≡ Some h) × OneHub n (Sits k) old new h
 
 -- ---- a command is answered

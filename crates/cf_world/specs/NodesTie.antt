@@ -71,7 +71,8 @@ pub record IsNode (n : ℕ) (h : Node) (m : World) : Type 0 where
   pub few : h.used ≤ largest
   pub refused : h.refused ≡ 0
 
-pub record ShowsNodes (cfg : Config) (hubs : ℕ → Option Node) (seats : List ℕ → Option Seat) (m : World) : Type 0 where
+pub record ShowsNodes (cfg : Config) (hubs : ℕ → Option Node) (seats : List ℕ → Option Seat)
+    (m : World) : Type 0 where
   pub nodes : (n : ℕ) → is_some (hubs n) ≡ nat_lt n cfg.nodes
   pub hub : (n : ℕ) (h : Node) → hubs n ≡ Some h → IsNode n h m
   pub links : (x : List ℕ) → ShowsLink cfg.namespaces m.broker.lists hubs (seats x) (m.links x)

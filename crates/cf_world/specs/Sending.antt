@@ -73,7 +73,8 @@ pub record Keeps (old new : Whole) : Type 0 where
   pub namespaces : new.namespaces ≡ old.namespaces
   pub broker : new.broker ≡ old.broker
 
-abbrev pub WorldSends : Config → World → List ℕ → ClientCommand → Whole → Whole → Option Granted → Type 0
+abbrev pub WorldSends : Config → World → List ℕ → ClientCommand → Whole → Whole → Option Granted
+    → Type 0
 WorldSends cfg m x e old new g =
     SendsAs cfg m x e (slice_get old.hubs.items) (slice_get new.hubs.items) (get_by_text old.clients)
     (get_by_text new.clients) new.namespaces new.broker g
