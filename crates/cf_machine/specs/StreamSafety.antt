@@ -1,7 +1,7 @@
 -- STREAM SAFETY: what a trace may say, beside the happenings that it is of.
--- A reader has to believe the machine in four things, which are not in the trace: whether the condition of an event
--- held, which node a client is on, whether its subscription was asked for there, and the stream as its node read it
--- (see Marks). All else is read off the events themselves and the trace.
+-- A reader has to believe the machine in five things, which are not in the trace: whether the condition of an event
+-- held, which node a client is on, whether its subscription was asked for there, the stream as its node read it (see
+-- Marks), and what had been published at each place. All else is read off the events themselves and the trace.
 use Rattle.std.specs.Prelude.{◌≡◌, ℕ, zero, suc, ◌-◌, ◌≤◌, ◌<◌, min, ◌↔◌, IsTrue, Bool, true, false, if◌then◌else◌}
 use Rattle.std.specs.Prelude.{Option, Some, None, List, [], ◌∷◌, ◌++◌, ◌⊎◌, length, take}
 use Rattle.cf_protocol.specs.Position.{Position}
