@@ -9,12 +9,13 @@ use Rattle.cf_protocol.specs.Fields.{max_u32}
 use Rattle.cf_protocol.specs.Outgoing.{Outcome, Connected, Subscribed, Unsubscribed, Published, Present, Counted}
 use Rattle.cf_protocol.specs.Outgoing.{Past, Pinged, Failed, Pushed, Publication, Unsubscribe, Outgoing, Ping, Answer}
 use Rattle.cf_protocol.specs.Outgoing.{Push}
-use Rattle.cf_client.specs.ClientState.{Client, Mode, Idle, Asking, Live, idle, is_idle, new_client, asks, leaves}
-use Rattle.cf_client.specs.ClientState.{calls_for, reconnects, without}
+use Rattle.cf_model.specs.ClientState.{Client, Mode, Idle, Asking, Live, idle, is_idle, new_client, asks, leaves}
+use Rattle.cf_model.specs.ClientState.{calls_for, reconnects, without}
 use Rattle.cf_client.specs.AppItem as item
 use Rattle.cf_client.specs.AppItem.{AppItem, published}
 use Rattle.cf_client.specs.declared.fault.ClientFault.{ClientFault}
 use Rattle.cf_client.specs.declared.fault.ClientFault.TheVariants.{NotNow, AtLastId, Memory}
+use Rattle.cf_model.specs.Limits.{last_id}
 
 -- a publish or a history that isn't answered yet
 pub record Call : Type 0 where
@@ -49,9 +50,6 @@ abbrev pub reconnected : State → State
 reconnected s = record { connected = false; client = reconnects s.client; out = [] }
 
 -- ---- why a call is refused; None: it isn't
-
-abbrev pub last_id : ℕ
-last_id = max_u32
 
 abbrev pub connect_fault : State → Option ClientFault
 connect_fault s = if s.connected then Some NotNow else None

@@ -1,4 +1,3 @@
-pub mod ClientState
 pub mod AppItem
 pub mod ClientCalls
 pub mod ClientView

@@ -3,8 +3,8 @@ use Rattle.std.proofs.Common.{◌≡◌, ◌⊎◌, inl, inr, ℕ, Bool, true, O
 use Rattle.cf_protocol.specs.Position.{Position}
 use Rattle.cf_queue.specs.OutQueue.{Item, Close}
 use Rattle.cf_hub.specs.Checked.{answer_of, check_answer, stand_of}
-use Rattle.cf_hub.specs.PositionCheck.{Checked, Fine, Behind, Ended, position_check}
-use Rattle.cf_hub.specs.SessionState.{Subscription, Off, Asked, Ready, On, SessionState, by_check, check_at, checks, closes, is_off, no_memory, push, put_sub}
+use Rattle.cf_model.specs.PositionCheck.{Checked, Fine, Behind, Ended, position_check}
+use Rattle.cf_model.specs.SessionState.{Subscription, Off, Asked, Ready, On, SessionState, by_check, check_at, checks, closes, is_off, no_memory, push, put_sub}
 use Rattle.cf_hub.specs.WantOfMemory.{ClosesWith, OrCloses}
 use Rattle.cf_hub.specs.Wordings.{Held, plain}
 use Rattle.cf_hub.specs.declared.checked.Checked.{Checked as Answer}

@@ -9,13 +9,14 @@ use Rattle.std.specs.Ordering.{nat_cmp}
 use Rattle.cf_protocol.specs.Datum.{Placed}
 use Rattle.cf_protocol.specs.Position.{Position}
 use Rattle.cf_queue.specs.OutQueue.{Item}
-use Rattle.cf_subscribers.specs.Follows.{Follow, channels_of, most_rows, sessions_of, with_follow}
+use Rattle.cf_subscribers.specs.Follows.{Follow, channels_of, sessions_of, with_follow}
+use Rattle.cf_model.specs.Limits.{most_rows}
 use Rattle.cf_hub.specs.Delivery.{fate_at, none, tally}
 use Rattle.cf_hub.specs.declared.delivered.Delivered.{Delivered}
 use Rattle.cf_hub.specs.Places.{Places, session_in}
 use Rattle.cf_hub.specs.Rows.{Agrees, sub_in}
 use Rattle.cf_hub.specs.Session.{Attached, Shown, attached_shown, attached_of, ticked, ticks}
-use Rattle.cf_hub.specs.SessionState.{SessionState, Subscription, begins, comes, is_off, opens}
+use Rattle.cf_model.specs.SessionState.{SessionState, Subscription, begins, comes, is_off, opens}
 use Rattle.cf_hub.specs.WantOfMemory.{Both, OrCloses, Serves}
 use Rattle.cf_hub.specs.Turns.{Turns, first_turn, get_turns, gets_turn, no_turns, turns_left}
 use Rattle.cf_hub.specs.Wordings.{Held, at_offset, delivering, plain}
@@ -23,6 +24,7 @@ use Rattle.cf_hub.specs.declared.refusal.HubRefusal.{HubRefusal}
 use Rattle.cf_hub.specs.declared.refusal.HubRefusal.TheVariants as refusal
 use Rattle.cf_hub.specs.declared.queued.Queued.{Queued}
 use Rattle.cf_hub.specs.declared.queued.Queued.TheVariants as queued
+use Rattle.cf_model.specs.Limits.{largest, most_sessions}
 
 -- what contracts see of a hub: its node, its boot number, and how many client ids it has used; its sessions by
 -- number; which session follows which channel; how many requests for memory were refused, up to the largest number of
@@ -36,9 +38,6 @@ pub record Node : Type 0 where
   pub refused : ℕ
   pub turns : Turns
 
-abbrev pub largest : ℕ
-largest = 18446744073709551615
-
 -- the session of a number, where there is one
 abbrev pub attached_at : Node → ℕ → Option Attached
 attached_at h k = option_map attached_shown (lookup (is_at (nat_cmp k)) h.sessions)
@@ -49,13 +48,6 @@ attached_in sessions k = option_map attached_of (session_in sessions k)
 -- no session yet
 abbrev pub empty : ℕ → ℕ → Node
 empty node boot = record { node = node; boot = boot; used = 0; sessions = []; rows = []; refused = 0; turns = no_turns }
-
--- the most sessions of a node, and the most channels of a session
-abbrev pub most_sessions : ℕ
-most_sessions = 16384
-
-abbrev pub most_channels : ℕ
-most_channels = 128
 
 -- the numbers of all sessions are below that
 abbrev pub IsBounded : (ℕ → Option Attached) → Type 0

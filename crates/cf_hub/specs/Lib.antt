@@ -1,5 +1,3 @@
-pub mod PositionCheck
-pub mod SessionState
 pub mod WantOfMemory
 pub mod Wordings
 pub mod Delivery
@@ -14,7 +12,6 @@ pub mod Rows
 pub mod Hub
 pub mod Reply
 pub mod Sessions
-pub mod Spoken
 pub mod Alike
 pub mod InNotes
 pub mod AlikeMoves

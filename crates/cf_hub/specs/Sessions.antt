@@ -13,7 +13,7 @@ use Rattle.cf_hub.specs.Places.{Places}
 use Rattle.cf_hub.specs.Reply.{IsAnswered}
 use Rattle.cf_hub.specs.Rows.{off_after, sub_in}
 use Rattle.cf_hub.specs.Session.{Attached, Badge, badge_of, state_of, ticks}
-use Rattle.cf_hub.specs.SessionState.{Off, SessionState, comes, is_off, is_ready, push, put_sub, reads}
+use Rattle.cf_model.specs.SessionState.{Off, SessionState, comes, is_off, is_ready, push, put_sub, reads}
 use Rattle.cf_hub.specs.Subscriptions.{reading_of}
 use Rattle.cf_hub.specs.WantOfMemory.{Both, OrCloses, SaysAll, Serves}
 use Rattle.cf_hub.specs.Wordings.{Held, at_offset, delivering, plain, push_text, reading}

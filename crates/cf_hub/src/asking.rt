@@ -5,7 +5,7 @@ ghost use Rattle.std.specs.String.{string_eq};
 ghost use Rattle.cf_hub.specs.Asking.{asked_of};
 ghost use Rattle.cf_hub.specs.Hub.{attached_in};
 ghost use Rattle.cf_hub.specs.Rows.{sub_in};
-ghost use Rattle.cf_hub.specs.SessionState.{is_unfinished};
+ghost use Rattle.cf_model.specs.SessionState.{is_unfinished};
 ghost use Rattle.cf_hub.specs.Subscriptions.{sub_of};
 ghost use Rattle.indexmap.specs.IndexMap.{IsUnique};
 
@@ -27,7 +27,7 @@ impl Hub {
     ghost use Rattle.std.specs.Prelude.{◌≡◌, ◌↔◌, ℕ, List, false, IsTrue};
     ghost use Rattle.cf_hub.specs.Asking.{asked_of};
     ghost use Rattle.cf_hub.specs.Hub.{sub_at};
-    ghost use Rattle.cf_hub.specs.SessionState.{is_unfinished};
+    ghost use Rattle.cf_model.specs.SessionState.{is_unfinished};
 
     /// The subscription of a session to a channel, while the stream was not read for it. It takes no memory.
     pub fn asked(&self, session: u32, channel: &str) -> Option<Asked>
@@ -68,7 +68,7 @@ impl Session {
     ghost use Rattle.std.specs.Prelude.{◌≡◌, ◌↔◌, ℕ, List, false, IsTrue};
     ghost use Rattle.cf_hub.specs.Asking.{asked_of};
     ghost use Rattle.cf_hub.specs.Session.{state_of};
-    ghost use Rattle.cf_hub.specs.SessionState.{is_unfinished};
+    ghost use Rattle.cf_model.specs.SessionState.{is_unfinished};
 
     fn asked(&self, channel: &str) -> Option<Asked>
         ensures { result ≡ asked_of ((state_of self.now).subs channel.now) }

@@ -2,7 +2,7 @@
 ghost use Rattle.std.specs.Prelude.{◌≡◌, ◌+◌, ◌⊎◌, ℕ, List, Bool, length, map, MatchOption, Some, option_map, is_some, false};
 ghost use Rattle.cf_protocol.specs.Datum.{numbered};
 ghost use Rattle.cf_hub.specs.Reply.{Answers, AnswersIn, stands, was_read};
-ghost use Rattle.cf_hub.specs.SessionState.{is_asked, is_ready};
+ghost use Rattle.cf_model.specs.SessionState.{is_asked, is_ready};
 ghost use Rattle.cf_hub.specs.Subscriptions.{SetsAt, names, progress_at, sub_of};
 
 use crate::fate::Fate;
@@ -145,7 +145,7 @@ impl Session {
     ghost use Rattle.cf_hub.specs.Finish.{fate_in, refused_in};
     ghost use Rattle.cf_hub.specs.Reply.{answer_notes, finish_texts};
     ghost use Rattle.cf_hub.specs.Session.{badge_of, state_of};
-    ghost use Rattle.cf_hub.specs.SessionState.{begins, is_asked, is_off, is_ready};
+    ghost use Rattle.cf_model.specs.SessionState.{begins, is_asked, is_off, is_ready};
     ghost use Rattle.cf_hub.specs.Sessions.{AnswersTo, EndsAs, FinishesSession, Moves, Tells, closed_or, finish_fate, leaves_if, takes_read};
     ghost use Rattle.cf_hub.specs.Wordings.{plain};
 

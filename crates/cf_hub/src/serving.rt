@@ -15,10 +15,11 @@ impl Hub {
     ghost use Rattle.cf_queue.specs.OutQueue.{Text};
     ghost use Rattle.cf_hub.specs.Checked.{check_answer, stand_of};
     ghost use Rattle.cf_hub.specs.Finish.{FinishesAt};
-    ghost use Rattle.cf_hub.specs.Hub.{HasNoneFrom, IsBounded, IsNextFrom, IsNextTurn, Meets, One, PingStep, largest, most_sessions, SameNode, SameRest, Ticks, attached_at, is_open, queued_in, sub_at, waits_in};
+    ghost use Rattle.cf_hub.specs.Hub.{HasNoneFrom, IsBounded, IsNextFrom, IsNextTurn, Meets, One, PingStep, SameNode, SameRest, Ticks, attached_at, is_open, queued_in, sub_at, waits_in};
+    ghost use Rattle.cf_model.specs.Limits.{largest, most_sessions};
     ghost use Rattle.cf_hub.specs.Rows.{Agrees};
     ghost use Rattle.cf_hub.specs.Session.{badge_ponged};
-    ghost use Rattle.cf_hub.specs.SessionState.{checks, is_asked, is_ready, push, reads};
+    ghost use Rattle.cf_model.specs.SessionState.{checks, is_asked, is_ready, push, reads};
     ghost use Rattle.cf_hub.specs.Subscriptions.{reading_of};
     ghost use Rattle.cf_hub.specs.Turns.{gets_turn};
     ghost use Rattle.cf_hub.specs.WantOfMemory.{OrCloses};

@@ -32,7 +32,7 @@ impl Session {
     ghost use Rattle.cf_queue.specs.OutQueue.{Text, Close};
     ghost use Rattle.cf_hub.specs.Hub.{is_waiting};
     ghost use Rattle.cf_hub.specs.Session.{badge_of, state_of};
-    ghost use Rattle.cf_hub.specs.SessionState.{Off, On, closes_now, is_off, opens, put_sub, takes_front};
+    ghost use Rattle.cf_model.specs.SessionState.{Off, On, closes_now, is_off, opens, put_sub, takes_front};
     ghost use Rattle.cf_hub.specs.Sessions.{Acts, EndsAs, IsBrought, Moves, SaysText, Tells, closed_or, fate_brought, new_badge, pushes, says_one};
     ghost use Rattle.cf_hub.specs.Subscriptions.{progress_at, sub_of};
     ghost use Rattle.cf_hub.specs.Wordings.{IsWritten, push_text};

@@ -44,7 +44,7 @@ impl Session {
     ghost use Rattle.std.specs.Prelude.{◌≡◌, ◌&&◌, ◌-◌, nat_le, List, ℕ, Some, None, [], is_some, option_map};
     ghost use Rattle.cf_hub.specs.Checked.{check_answer, stand_of};
     ghost use Rattle.cf_hub.specs.Session.{badge_of, is_ping_due, is_unanswered, ponged, state_of, ticked};
-    ghost use Rattle.cf_hub.specs.SessionState.{On, checks};
+    ghost use Rattle.cf_model.specs.SessionState.{On, checks};
     ghost use Rattle.cf_hub.specs.Sessions.{Acts, EndsAs, ticks_of};
     ghost use Rattle.cf_hub.specs.Wordings.{plain};
 

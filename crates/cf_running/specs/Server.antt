@@ -15,15 +15,16 @@ use Rattle.cf_protocol.specs.Note.{Lists, Reading, Note, Fails, Put, Left, Liste
 use Rattle.cf_protocol.specs.Position.{Position}
 use Rattle.cf_protocol.specs.Settings.{settings_of}
 use Rattle.cf_stream.specs.ChannelLists.{stands_at}
-use Rattle.cf_stream.specs.Keys.{repeat_of}
+use Rattle.cf_model.specs.Keys.{repeat_of}
 use Rattle.cf_stream.specs.LogState.{life_in}
-use Rattle.cf_stream.specs.PublicationList.{Life, state_of}
-use Rattle.cf_stream.specs.StreamState.{last_offset}
-use Rattle.cf_stream.specs.StreamAnswer.{read_of, listed_above}
-use Rattle.cf_hub.specs.SessionState.{opens, begins, leaves, reads, comes, finishes, checks, closes_now, push}
-use Rattle.cf_hub.specs.SessionState.{takes_front, is_off}
-use Rattle.cf_client.specs.ClientState.{Client, new_client, last_of, is_idle, hears, reconnects}
-use Rattle.cf_client.specs.ClientCalls.{last_id}
+use Rattle.cf_stream.specs.PublicationList.{state_of}
+use Rattle.cf_model.specs.Life.{Life}
+use Rattle.cf_model.specs.StreamState.{last_offset}
+use Rattle.cf_model.specs.StreamAnswer.{read_of, listed_above}
+use Rattle.cf_model.specs.SessionState.{opens, begins, leaves, reads, comes, finishes, checks, closes_now, push}
+use Rattle.cf_model.specs.SessionState.{takes_front, is_off}
+use Rattle.cf_model.specs.ClientState.{Client, new_client, last_of, is_idle, hears, reconnects}
+use Rattle.cf_model.specs.Limits.{last_id}
 use Rattle.cf_machine.specs.ClientLink.{client_sends, finishes_over, finishes_amid}
 use Rattle.cf_machine.specs.ClientRequest.{ClientRequest, SentCommand, Subscribe, Unsubscribe}
 use Rattle.cf_machine.specs.ClientRequest.{Publish as PublishRequest, History}

@@ -7,7 +7,7 @@ use Rattle.cf_protocol.specs.Datum.{Datum, Placed}
 use Rattle.cf_protocol.specs.LogEntry.{Entry}
 use Rattle.cf_protocol.specs.LogEntry.Entry.{Open, Publish, Trim, Forget, Size}
 use Rattle.cf_protocol.specs.Note.{Lists, Note, Close}
-use Rattle.cf_client.specs.ClientCalls.{last_id}
+use Rattle.cf_model.specs.Limits.{last_id}
 use Rattle.cf_hub.specs.InNotes.{Grown, IsListed}
 use Rattle.cf_hub.proofs.InNotes.{grown_then}
 use Rattle.cf_machine.specs.PublicationList.{Place}

@@ -14,13 +14,14 @@ use Rattle.cf_protocol.specs.Position.{Position}
 use Rattle.cf_protocol.specs.Regular.{IsBody, IsPlaced}
 use Rattle.cf_protocol.specs.Settings.{settings_of}
 use Rattle.cf_stream.specs.ChannelLists.{life_or, stands_at}
-use Rattle.cf_stream.specs.Keys.{is_no_key, offset_of, repeat_of}
+use Rattle.cf_model.specs.Keys.{is_no_key, offset_of, repeat_of}
 use Rattle.cf_stream.specs.LogState.{life_in, publishing, sizes_in}
-use Rattle.cf_stream.specs.PublicationList.{IsPublished as IsPublishedIn, Life, opened, published}
+use Rattle.cf_stream.specs.PublicationList.{IsPublished as IsPublishedIn, opened, published}
+use Rattle.cf_model.specs.Life.{Life}
 use Rattle.cf_stream.specs.Stream.{answer_by}
 use Rattle.cf_stream.specs.Streams.{size_at}
 use Rattle.cf_stream.specs.declared.answer.Published.{Published}
-use Rattle.cf_stream.specs.StreamState.{StreamState, last_offset}
+use Rattle.cf_model.specs.StreamState.{StreamState, last_offset}
 use Rattle.cf_hub.specs.InNotes.{IsListed}
 use Rattle.cf_link.specs.Link.{AreLeft}
 use Rattle.cf_machine.specs.Lives.{life_by}

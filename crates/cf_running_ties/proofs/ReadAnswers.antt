@@ -14,8 +14,9 @@ use Rattle.cf_protocol.specs.Regular.{ArePlaced, IsBody, IsPosition}
 use Rattle.cf_protocol.specs.Settings.{NamespaceTable}
 use Rattle.cf_stream.specs.ChannelLists.{life_or}
 use Rattle.cf_stream.specs.LogState.{life_in, opening}
-use Rattle.cf_stream.specs.PublicationList.{IsListed, IsRead, Life, opened, state_of}
-use Rattle.cf_stream.specs.StreamAnswer.{Listing, allowed_by, listed_above, read_of}
+use Rattle.cf_stream.specs.PublicationList.{IsListed, IsRead, opened, state_of}
+use Rattle.cf_model.specs.Life.{Life}
+use Rattle.cf_model.specs.StreamAnswer.{Listing, allowed_by, listed_above, read_of}
 use Rattle.cf_hub.specs.InNotes.{AreMissed, Grown}
 use Rattle.cf_hub.proofs.InNotes.{read_stays}
 use Rattle.cf_machine.proofs.Names.{itself}

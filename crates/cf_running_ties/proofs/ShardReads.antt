@@ -9,10 +9,11 @@ use Rattle.cf_protocol.specs.Note.{Reading, placed_from}
 use Rattle.cf_protocol.specs.Position.{Position}
 use Rattle.cf_stream.specs.ChannelLists.{ReadsAt, ShowsAt, life_or}
 use Rattle.cf_stream.specs.LogState.{IsState, life_in, opening}
-use Rattle.cf_stream.specs.PublicationList.{IsRead, Life, opened, state_of}
+use Rattle.cf_stream.specs.PublicationList.{IsRead, opened, state_of}
+use Rattle.cf_model.specs.Life.{Life}
 use Rattle.cf_stream.specs.Stream.{Shown}
-use Rattle.cf_stream.specs.StreamState.{StreamState}
-use Rattle.cf_stream.specs.StreamAnswer.{most_in_reply, read_of, still_held}
+use Rattle.cf_model.specs.StreamState.{StreamState}
+use Rattle.cf_model.specs.StreamAnswer.{most_in_reply, read_of, still_held}
 use Rattle.cf_stream.specs.Streams.{StreamMap, size_at, stream_of}
 use Rattle.cf_machine.specs.Config.{Config}
 use Rattle.cf_machine.proofs.Names.{by_test}

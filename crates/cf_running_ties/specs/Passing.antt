@@ -12,7 +12,7 @@ use Rattle.cf_queue.specs.OutQueue.{Item, Text, Close}
 use Rattle.cf_hub.specs.InNotes.{SaysNote}
 use Rattle.cf_client.specs.AppItem.{AppItem}
 use Rattle.cf_client.specs.ClientCalls.{NoAsk, PassesOver, State, TakesAll, channel_under, reconnected}
-use Rattle.cf_client.specs.ClientState.{is_out}
+use Rattle.cf_model.specs.ClientState.{is_out}
 
 -- the reply to a connect, the answers about presence, and that to a ping
 abbrev pub IsAsideAnswer : Outcome → Type 0

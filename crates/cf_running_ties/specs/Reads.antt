@@ -6,8 +6,9 @@ use Rattle.cf_protocol.specs.Note.{Listed, Lists, Note, outgoing_of}
 use Rattle.cf_protocol.specs.Outgoing.{Answer, Outgoing, Past}
 use Rattle.cf_protocol.specs.Position.{Position}
 use Rattle.cf_protocol.specs.Regular.{IsBody, IsCode, IsInfo, IsRegular}
-use Rattle.cf_stream.specs.PublicationList.{Life, state_of}
-use Rattle.cf_stream.specs.StreamAnswer.{listed_above, read_of}
+use Rattle.cf_stream.specs.PublicationList.{state_of}
+use Rattle.cf_model.specs.Life.{Life}
+use Rattle.cf_model.specs.StreamAnswer.{listed_above, read_of}
 use Rattle.cf_hub.specs.InNotes.{AreMissed, Grown}
 use Rattle.cf_running.specs.Server.{Publishes, Section, Server, Site, ToPublish, Work, life_of, lists_of}
 use Rattle.cf_running_ties.specs.ShardCalls.{answered}

@@ -11,7 +11,7 @@ use Rattle.cf_protocol.specs.Datum.{Datum}
 use Rattle.cf_protocol.specs.Settings.{NamespaceTable}
 use Rattle.cf_stream.specs.Calls.{DrawsToOpen, ListsOfPublish, RefusalsOfOne, RefusalsOfPublish}
 use Rattle.cf_stream.specs.FreshEpochs.{DrawsEpoch, DrawsNone}
-use Rattle.cf_stream.specs.Keys.{is_no_key}
+use Rattle.cf_model.specs.Keys.{is_no_key}
 use Rattle.cf_stream.specs.Stream.{Shown, answer_by, answer_to, first_pushed, given, newest_of, pushed, repeated_by, started, used_at}
 use Rattle.cf_stream.specs.LogState.{Adds, publishing}
 use Rattle.cf_stream.specs.Streams.{StreamMap, SetsAt, by_channel, newest_at, put_at, repeat_at, size_at, stood_or, stood_or_opened, stream_of}

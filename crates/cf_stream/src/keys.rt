@@ -2,7 +2,7 @@
 ghost use Rattle.std.specs.Prelude.{◌≡◌, ◌≤◌, ◌+◌, [], false, min, length, OnOk};
 ghost use Rattle.std.specs.String.{string_bytes};
 ghost use Rattle.circular_buffer.specs.Buffer.{buffer};
-ghost use Rattle.cf_stream.specs.Keys.{and_key, is_no_key, offset_of};
+ghost use Rattle.cf_model.specs.Keys.{and_key, is_no_key, offset_of};
 
 use crate::ring::{make_room, put};
 use circular_buffer::HeapCircularBuffer;
@@ -21,7 +21,7 @@ pub(crate) struct KeptKey {
 
 impl Model for KeptKey {
     ghost use Rattle.std.specs.String.{string_bytes};
-    ghost use Rattle.cf_stream.specs.Keys.{KeyAt};
+    ghost use Rattle.cf_model.specs.Keys.{KeyAt};
 
     ghost Value = { KeyAt };
 
@@ -36,7 +36,7 @@ pub(crate) struct RecentKeys {
 
 impl Model for RecentKeys {
     ghost use Rattle.circular_buffer.specs.Buffer.{Buffer};
-    ghost use Rattle.cf_stream.specs.Keys.{KeyAt};
+    ghost use Rattle.cf_model.specs.Keys.{KeyAt};
     ghost use Rattle.cf_stream.specs.Ring.{kept_keys};
 
     ghost Value = { Buffer KeyAt };

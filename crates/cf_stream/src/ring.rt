@@ -1,6 +1,6 @@
 //! The ring behind a stream.
 ghost use Rattle.std.specs.Prelude.{◌≡◌, ◌+◌, ◌≤◌, [], ◌∷◌, ◌++◌, length, min, take, drop, IfOk, OnOk};
-ghost use Rattle.cf_stream.specs.Keys.{newest};
+ghost use Rattle.cf_model.specs.Keys.{newest};
 
 use cf_protocol::Publication;
 use circular_buffer::HeapCircularBuffer;

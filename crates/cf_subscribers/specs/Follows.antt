@@ -4,6 +4,7 @@ use Rattle.std.specs.Prelude.{◌≡◌, ℕ, ◌≤◌, ◌==◌, ◌&&◌, not
 use Rattle.std.specs.Prelude.{◌++◌, length, map, filter, slice_get}
 use Rattle.std.specs.List.{list_any}
 use Rattle.std.specs.Str.{bytes_eq}
+use Rattle.cf_model.specs.Limits.{most_rows}
 
 pub record Follow : Type 0 where
   pub channel : List ℕ
@@ -48,10 +49,6 @@ after_in s (j ∷ js) = if j == s then slice_get js 0 else after_in s js
 abbrev pub AreOnce : List Follow → Type 0
 AreOnce [] = Unit {0}
 AreOnce (f ∷ fs) = (follows fs f.channel f.session ≡ false) × AreOnce fs
-
--- the most that a node has
-abbrev pub most_rows : ℕ
-most_rows = 65536
 
 -- what always holds of a node's rows
 pub record AreFollows (fs : List Follow) : Type 0 where

@@ -6,7 +6,7 @@ use Rattle.std.proofs.lemmas.List.Elements.{All-from_recursion}
 use Rattle.cf_protocol.specs.Names.{with}
 use Rattle.cf_protocol.specs.Settings.{NamespaceTable}
 use Rattle.cf_client.specs.ClientCalls.{State}
-use Rattle.cf_client.specs.ClientState.{reconnects}
+use Rattle.cf_model.specs.ClientState.{reconnects}
 use Rattle.cf_client.specs.ClientView.{state_of}
 use Rattle.cf_hub.specs.Hub.{Node}
 use Rattle.cf_machine.specs.ClientLink.{ClientLink, breaks}

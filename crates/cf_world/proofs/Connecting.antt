@@ -6,7 +6,8 @@ use Rattle.cf_client.specs.ClientCalls.{State}
 use Rattle.cf_client.specs.ClientView.{state_of}
 use Rattle.cf_hub.specs.AlikeMoves.{CallsAreAlike}
 use Rattle.cf_hub.specs.Counts.{CountsSessions}
-use Rattle.cf_hub.specs.Hub.{Node, largest, most_sessions}
+use Rattle.cf_hub.specs.Hub.{Node}
+use Rattle.cf_model.specs.Limits.{largest, most_sessions}
 use Rattle.cf_machine.specs.ClientLink.{ClientLink}
 use Rattle.cf_machine.specs.Config.{Config}
 use Rattle.cf_machine.specs.Event.{Connect}

@@ -2,11 +2,12 @@
 use Rattle.std.proofs.Common.{◌≡◌, ◌≢◌, ◌⊎◌, inl, inr, ◌∙◌, ◌&&◌, ◌||◌, ℕ, not, Bool, true, false, if◌then◌else◌, Option, Some, None, is_some, List, [], ◌∷◌, nat_le, refl, sym, ap, subst}
 use Rattle.std.proofs.lemmas.Bool.{and_left, and_right}
 use Rattle.cf_protocol.specs.Names.{is_among}
-use Rattle.cf_client.specs.ClientCalls.{State, call_fault, last_id}
-use Rattle.cf_client.specs.ClientState.{Client, is_idle}
+use Rattle.cf_client.specs.ClientCalls.{State, call_fault}
+use Rattle.cf_model.specs.Limits.{last_id}
+use Rattle.cf_model.specs.ClientState.{Client, is_idle}
 use Rattle.cf_client.specs.declared.fault.ClientFault.{ClientFault}
 use Rattle.cf_client.specs.declared.fault.ClientFault.TheVariants.{NotNow, AtLastId}
-use Rattle.cf_hub.specs.SessionState.{Off, Asked, Ready, On, is_off, is_unfinished}
+use Rattle.cf_model.specs.SessionState.{Off, Asked, Ready, On, is_off, is_unfinished}
 use Rattle.cf_machine.specs.ClientLink.{ClientLink}
 use Rattle.cf_machine.specs.ClientRequest.{ClientRequest}
 use Rattle.cf_machine.specs.Config.{Config}

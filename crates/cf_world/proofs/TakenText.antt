@@ -13,14 +13,14 @@ use Rattle.cf_protocol.specs.Settings.{NamespaceTable}
 use Rattle.cf_protocol.specs.Written.{outgoing_text}
 use Rattle.cf_client.specs.AppItem.{AppItem}
 use Rattle.cf_client.specs.ClientCalls.{State, TakesAll, asks_under}
-use Rattle.cf_client.specs.ClientState.{Client, Mode, Idle, Asking, Live, hears}
+use Rattle.cf_model.specs.ClientState.{Client, Mode, Idle, Asking, Live, hears}
 use Rattle.cf_client.specs.ClientView.{state_of}
 use Rattle.cf_client.specs.OneAnswer.{AreApart}
 use Rattle.cf_client.specs.OneMeaning.{AnswersOwn, AsksAt, OneMeaning, items_of}
 use Rattle.cf_hub.specs.AlikeMoves.{CallsAreAlike, MovesAreAlike}
 use Rattle.cf_hub.specs.Hub.{Node}
 use Rattle.cf_hub.specs.InNotes.{IsSaid}
-use Rattle.cf_hub.specs.SessionState.{takes_front}
+use Rattle.cf_model.specs.SessionState.{takes_front}
 use Rattle.cf_machine.specs.AnswersById.{AreForChannel, IsForChannel}
 use Rattle.cf_machine.specs.ClientLink.{ClientLink, gets, hold_first, holds, receive_first, receives}
 use Rattle.cf_machine.specs.Config.{Config}

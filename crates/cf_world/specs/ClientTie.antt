@@ -13,7 +13,7 @@ use Rattle.cf_protocol.specs.Written.{command_text}
 use Rattle.cf_client.specs.AppItem.{AppItem}
 use Rattle.cf_client.specs.ClientCalls.{State, connected, new_state, TakesAll, asked, ask_fault, call_fault, called}
 use Rattle.cf_client.specs.ClientCalls.{left, leave_fault, reconnected}
-use Rattle.cf_client.specs.ClientState.{Client, last_of, new_client}
+use Rattle.cf_model.specs.ClientState.{Client, last_of, new_client}
 use Rattle.cf_client.specs.ClientView.{ClientView, state_of}
 use Rattle.cf_client.specs.OneAnswer.{AreApart}
 use Rattle.cf_client.specs.OneMeaning.{CallsAt}

@@ -3,7 +3,7 @@ ghost use Rattle.std.specs.Prelude.{◌≡◌, ◌≤◌, if◌then◌else◌, i
 ghost use Rattle.cf_protocol.specs.Settings.{NamespaceTable, entry_at, settings_of};
 ghost use Rattle.cf_machine.specs.FreshEpochs.{AreFresh};
 ghost use Rattle.cf_machine.specs.PublicationList.{Broker as Shared, can_open, epoch_comes, forget, forget_all, new_broker, publication, set_size, stands_at, trim};
-ghost use Rattle.cf_stream.specs.Streams.{in_namespace};
+ghost use Rattle.cf_model.specs.StreamState.{in_namespace};
 ghost use Rattle.cf_world.specs.BrokerTie.{IsDatum, ShowsBroker, Histories, Publishes, Reads, Stands};
 
 use crate::epochs::WaitingEpochs;

@@ -3,7 +3,7 @@ use Rattle.std.specs.Prelude.{IsTrue}
 use Rattle.cf_hub.specs.Places.{session_in}
 use Rattle.cf_hub.specs.Rows.{sub_in}
 use Rattle.cf_hub.specs.Session.{attached_of}
-use Rattle.cf_hub.specs.SessionState.{is_unfinished}
+use Rattle.cf_model.specs.SessionState.{is_unfinished}
 use Rattle.cf_hub.specs.declared.session.Session.{Session}
 use Rattle.cf_hub.proofs.asking.is_settled_in.Goals as goal
 

@@ -1,5 +1,5 @@
 use Rattle.std.proofs.Common.{◌∙◌, ap}
-use Rattle.cf_client.specs.ClientState.{is_idle}
+use Rattle.cf_model.specs.ClientState.{is_idle}
 use Rattle.cf_client.proofs.client.Client.is_idle.Goals as goal
 
 pub returns : goal.returns

@@ -1,7 +1,7 @@
 use Rattle.std.proofs.Common.{◌≡◌, ◌∙◌, refl, ◌∷◌, [], true, false, ap, subst, List, ℕ, IfNone, IfSome, inl, inr}
 use Rattle.std.specs.String.{string_bytes}
 use Rattle.std.proofs.lemmas.Result.{IfOk-weaker}
-use Rattle.cf_client.specs.ClientState.{Mode, idle}
+use Rattle.cf_model.specs.ClientState.{Mode, idle}
 use Rattle.cf_client.specs.ClientCalls.{asks_under, moves}
 use Rattle.cf_client.specs.AppItem.{Refused}
 use Rattle.cf_client.specs.Draft.{drafted, drafted_mode}

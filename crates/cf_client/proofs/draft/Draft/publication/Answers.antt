@@ -1,7 +1,7 @@
 use Rattle.std.proofs.Common.{◌≡◌, [], ◌∷◌, sym, ap, subst, List, ℕ}
 use Rattle.std.proofs.lemmas.List.{append-nil}
 use Rattle.std.specs.String.{string_bytes}
-use Rattle.cf_client.specs.ClientState.{Live}
+use Rattle.cf_model.specs.ClientState.{Live}
 use Rattle.cf_client.specs.ClientCalls.{moves}
 use Rattle.cf_client.specs.AppItem.{published}
 use Rattle.cf_client.specs.Draft.{drafted, drafted_mode}

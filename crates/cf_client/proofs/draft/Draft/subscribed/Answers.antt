@@ -1,7 +1,7 @@
 use Rattle.std.proofs.Common.{◌≡◌, ◌∙◌, [], ◌∷◌, ◌++◌, true, false, map, sym, ap, subst, refl, List, ℕ, IfNone, IfSome, inl, inr}
 use Rattle.std.proofs.lemmas.List.{append-nil}
 use Rattle.std.specs.String.{string_bytes}
-use Rattle.cf_client.specs.ClientState.{Live}
+use Rattle.cf_model.specs.ClientState.{Live}
 use Rattle.cf_client.specs.ClientCalls.{asks_under}
 use Rattle.cf_client.specs.AppItem.{Subscribed, published}
 use Rattle.cf_client.specs.Draft.{drafted, drafted_mode}

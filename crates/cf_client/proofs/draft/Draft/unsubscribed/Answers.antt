@@ -2,7 +2,7 @@ use Rattle.std.proofs.Common.{◌≡◌, [], ◌∷◌, true, false, Some, nat_l
 use Rattle.std.proofs.lemmas.List.{append-nil}
 use Rattle.std.proofs.lemmas.Bool.Decides.{nat_tests}
 use Rattle.std.specs.String.{string_bytes}
-use Rattle.cf_client.specs.ClientState.{Idle, Live}
+use Rattle.cf_model.specs.ClientState.{Idle, Live}
 use Rattle.cf_client.specs.AppItem.{Resubscribing}
 use Rattle.cf_client.specs.Draft.{drafted, drafted_mode}
 use Rattle.cf_client.specs.Shown.{shown_mode}

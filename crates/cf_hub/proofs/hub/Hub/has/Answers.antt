@@ -2,7 +2,7 @@ use Rattle.std.proofs.Common.{◌∙◌, ℕ, Option, sym, ap, not}
 use Rattle.cf_hub.specs.Hub.{Node}
 use Rattle.cf_hub.specs.Rows.{sub_in}
 use Rattle.cf_hub.specs.Session.{Attached}
-use Rattle.cf_hub.specs.SessionState.{is_off}
+use Rattle.cf_model.specs.SessionState.{is_off}
 use Rattle.cf_hub.proofs.Hubs.{seen}
 use Rattle.cf_hub.proofs.hub.Hub.has.Goals as goal
 

@@ -3,7 +3,7 @@ use Rattle.std.specs.Prelude.{IsTrue}
 use Rattle.cf_hub.specs.Hub.{Node}
 use Rattle.cf_hub.specs.Rows.{sub_in}
 use Rattle.cf_hub.specs.Session.{Attached}
-use Rattle.cf_hub.specs.SessionState.{is_unfinished}
+use Rattle.cf_model.specs.SessionState.{is_unfinished}
 use Rattle.cf_hub.proofs.Hubs.{seen}
 use Rattle.cf_hub.proofs.hub.Hub.is_settled.Goals as goal
 

@@ -3,11 +3,11 @@ use Rattle.cf_queue.specs.OutQueue.{Item, Text, Close}
 use Rattle.cf_hub.specs.declared.fate.Fate.TheVariants as fate
 use Rattle.cf_hub.specs.Rows.{off_after}
 use Rattle.cf_hub.specs.Session.{state_of}
-use Rattle.cf_hub.specs.SessionState.{SessionState, is_off, no_memory, checks}
+use Rattle.cf_model.specs.SessionState.{SessionState, is_off, no_memory, checks}
 use Rattle.cf_hub.specs.Wordings.{plain, end_text}
 use Rattle.cf_hub.proofs.States.{said_off, ends_off}
 use Rattle.cf_hub.specs.Checked.{answer_of, stand_of}
-use Rattle.cf_hub.specs.PositionCheck.{Ended, position_check}
+use Rattle.cf_model.specs.PositionCheck.{Ended, position_check}
 use Rattle.cf_hub.specs.declared.step.Step.{Step}
 use Rattle.cf_hub.specs.WantOfMemory.{OrCloses}
 use Rattle.cf_hub.proofs.Checks.{checks_as, ends_checked, stand_off}

@@ -3,7 +3,7 @@ use Rattle.cf_queue.specs.OutQueue.{Item}
 use Rattle.cf_hub.specs.declared.fate.Fate.TheVariants as fate
 use Rattle.cf_hub.specs.Rows.{off_after}
 use Rattle.cf_hub.specs.Session.{state_of}
-use Rattle.cf_hub.specs.SessionState.{SessionState, is_off}
+use Rattle.cf_model.specs.SessionState.{SessionState, is_off}
 use Rattle.cf_hub.specs.Reply.{finish_texts}
 use Rattle.cf_hub.proofs.Finishing.{finish_state, finish_offs, not_ready}
 use Rattle.cf_hub.proofs.session.Session.finish.Goals as goal

@@ -1,7 +1,7 @@
 use Rattle.std.proofs.Common.{◌≡◌, ◌↔◌, ℕ, List, Bool, false, sym, subst}
 use Rattle.std.specs.Prelude.{IsTrue}
 use Rattle.cf_hub.specs.Session.{state_of}
-use Rattle.cf_hub.specs.SessionState.{is_unfinished}
+use Rattle.cf_model.specs.SessionState.{is_unfinished}
 use Rattle.cf_hub.proofs.Settling.{ready}
 use Rattle.cf_hub.proofs.session.Session.is_settled.Goals as goal
 

@@ -1,6 +1,6 @@
 use Rattle.std.proofs.Common.{rules, ◌≡◌, ℕ, List, string_bytes, subst, inl}
 use Rattle.cf_queue.specs.OutQueue.{Text}
-use Rattle.cf_hub.specs.SessionState.{push}
+use Rattle.cf_model.specs.SessionState.{push}
 use Rattle.cf_hub.specs.Wordings.{plain}
 use Rattle.cf_hub.proofs.Notes.{with_queue, queue_fits}
 use Rattle.cf_hub.proofs.Puts.{subs_of}

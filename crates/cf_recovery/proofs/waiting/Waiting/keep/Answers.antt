@@ -1,5 +1,5 @@
 use Rattle.std.proofs.Common.{◌≡◌, ◌∷◌, ◌∙◌, sym, subst, false}
-use Rattle.cf_recovery.specs.Arrivals.{has, arrives, overfull}
+use Rattle.cf_model.specs.Arrivals.{has, arrives, overfull}
 use Rattle.cf_recovery.specs.ArrivalBuffer.{ArrivalBuffer, arrival, places, TakesRoom, StandsFor, with_arrival, given_up}
 use Rattle.cf_recovery.proofs.Keeping.{neither, with_arrival-full, with_arrival-kept, stands_more, within-push, on_ok}
 use Rattle.cf_recovery.proofs.waiting.Waiting.keep.Goals as goal

@@ -1,7 +1,8 @@
 use Rattle.std.proofs.Common.{◌∙◌, ◌<◌, length, sym, ap, arith}
 use Rattle.std.specs.Prelude.{unwrap_or, []}
 use Rattle.std.proofs.lemmas.List.{length-map}
-use Rattle.cf_subscribers.specs.Follows.{follow, follows, most_rows}
+use Rattle.cf_subscribers.specs.Follows.{follow, follows}
+use Rattle.cf_model.specs.Limits.{most_rows}
 use Rattle.cf_subscribers.specs.Names.{by_name, name_at, named, number_at}
 use Rattle.cf_subscribers.proofs.ByName.{covers_known, follows_known, with_named}
 use Rattle.cf_subscribers.proofs.Keeping.{AreFollows-push}

@@ -7,8 +7,8 @@ use Rattle.std.specs.Prelude.{◌∷◌, ◌++◌, sum_by, drop}
 use Rattle.cf_protocol.specs.Names.{with}
 use Rattle.cf_protocol.specs.Note.{Reading}
 use Rattle.cf_protocol.specs.Position.{Position}
-use Rattle.cf_recovery.specs.Verdict.{Verdict, Drop, Pass, Insufficient, verdict}
-use Rattle.cf_hub.specs.PositionCheck.{Checked, Fine, Behind, Ended, position_check}
+use Rattle.cf_model.specs.Verdict.{Verdict, Drop, Pass, Insufficient, verdict}
+use Rattle.cf_model.specs.PositionCheck.{Checked, Fine, Behind, Ended, position_check}
 
 -- one channel of a session
 pub data Subscription (B : Type 0) : Type 0 where

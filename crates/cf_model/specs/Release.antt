@@ -3,7 +3,7 @@
 use Rattle.std.specs.Prelude.{◌≡◌, ℕ, suc, zero, ◌+◌, ◌<◌, ◌≤◌, true, ◌&&◌, ◌||◌, not, Bool, if◌then◌else◌, List}
 use Rattle.cf_protocol.specs.Position.{Position}
 use Rattle.cf_protocol.specs.Note.{Reading}
-use Rattle.cf_recovery.specs.Arrivals.{has, highest, overfull, all_within}
+use Rattle.cf_model.specs.Arrivals.{has, highest, overfull, all_within}
 
 -- whether the n positions of this epoch that follow the offset all arrived
 abbrev pub all_arrived : List Position → List ℕ → ℕ → ℕ → Bool

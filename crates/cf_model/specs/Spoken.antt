@@ -5,10 +5,10 @@ use Rattle.std.specs.Prelude.{ℕ, zero, suc, List, [], ◌∷◌, length}
 use Rattle.cf_protocol.specs.Note.{Lists, Note, Reply, Pub, End, PingDue, Close}
 use Rattle.cf_protocol.specs.Position.{Position}
 use Rattle.cf_protocol.specs.Written.{note_text}
-use Rattle.cf_recovery.specs.Arrivals.{arrives}
-use Rattle.cf_recovery.specs.Release.{falls_short, run_length}
-use Rattle.cf_recovery.specs.Verdict.{next}
-use Rattle.cf_hub.specs.SessionState.{Wording}
+use Rattle.cf_model.specs.Arrivals.{arrives}
+use Rattle.cf_model.specs.Release.{falls_short, run_length}
+use Rattle.cf_model.specs.Verdict.{next}
+use Rattle.cf_model.specs.SessionState.{Wording}
 
 unfoldable pub note_length : Lists → Note → ℕ
 note_length lists n = length (note_text lists n)

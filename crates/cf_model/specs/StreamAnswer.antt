@@ -5,7 +5,7 @@ use Rattle.std.specs.Prelude.{Option, Some, None}
 use Rattle.std.specs.Str.{bytes_eq}
 use Rattle.cf_protocol.specs.declared.position.Position.{Position}
 use Rattle.cf_protocol.specs.Note.{Reading}
-use Rattle.cf_stream.specs.StreamState.{StreamState}
+use Rattle.cf_model.specs.StreamState.{StreamState}
 
 -- the most publications that one reply brings
 abbrev pub most_in_reply : ℕ

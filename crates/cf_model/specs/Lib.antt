@@ -1,0 +1,12 @@
+pub mod Limits
+pub mod StreamState
+pub mod StreamAnswer
+pub mod Keys
+pub mod Arrivals
+pub mod Release
+pub mod Verdict
+pub mod PositionCheck
+pub mod SessionState
+pub mod Spoken
+pub mod ClientState
+pub mod Life
