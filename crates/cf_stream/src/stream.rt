@@ -48,7 +48,7 @@ pub struct Stream {
 #[derive(Drop)]
 struct Inner {
     epoch: Epoch,
-    size: usize,
+    size: u16,
     top: u64,
     published: u64,
     used: u64,
@@ -231,11 +231,11 @@ impl Stream {
     {
         let inner = self.inner.as_mut();
         inner.recent.make_room(inner.alloc, key.as_str())?;
-        make_room(&mut inner.ring, inner.size)?;
+        make_room(&mut inner.ring, inner.size as usize)?;
         let offset = inner.top + 1;
         let publication = Publication { offset, body, info };
         inner.recent.remember(key, offset);
-        put(&mut inner.ring, inner.size, publication);
+        put(&mut inner.ring, inner.size as usize, publication);
         inner.top = offset;
         inner.published = now;
         inner.used = now;
@@ -368,7 +368,7 @@ impl Stream {
     {
         let inner = self.inner.as_mut();
         inner.ring.truncate_front(size);
-        inner.size = size;
+        inner.size = size as u16;
     }
 
     /// Empties the history where `seconds` have passed since the last publication, and says whether the stream is to be forgotten,
@@ -440,7 +440,7 @@ fn after_top(alloc: Global, epoch: Epoch, size: usize, top: u64) -> Result<Strea
     let ring = HeapCircularBuffer::with_capacity(alloc, 0)?;
     let inner = Inner {
         epoch,
-        size,
+        size: size as u16,
         top,
         published: 0,
         used: 0,
