@@ -90,6 +90,9 @@ impl Streams {
         ensures repeat { result ≡ repeat_at (stream_of self.now channel.now) key.now }
         ensures list_answer { RepeatsAt self.now channel.now key.now result }
     {
+        if key.is_empty() {
+            return None;
+        }
         match self.map.get(channel) {
             None => None,
             Some(stream) => stream.repeat_of(key),
