@@ -106,13 +106,22 @@ impl AttachedClient {
         let Some(number) = self.standing.number() else {
             return Err(ErrorCode::Internal);
         };
-        // Room for the channel at which the client will be present.
-        if self.channels.reserve(1).is_err() {
+        if self.make_room().is_err() {
             return Err(ErrorCode::Internal);
         }
         match hub.begin(number, channel, id, since) {
             Ok(()) => Ok(()),
             Err(refusal) => Err(hub_error(&refusal)),
+        }
+    }
+
+    // Room for the channel at which the client will be present. Most clients have one channel, so the
+    // first brings no room for more.
+    fn make_room(&mut self) -> Result<(), AllocError> {
+        if self.channels.is_empty() {
+            self.channels.reserve_exact(1)
+        } else {
+            self.channels.reserve(1)
         }
     }
 

@@ -167,6 +167,11 @@ impl<'a, B: Backend> SessionDesk<'a, B> {
         if self.owed {
             self.owed = self.handler.take(&mut self.taken);
         }
-        self.taken.pop_front()
+        let out = self.taken.pop_front();
+        if out.is_none() {
+            // An idle connection keeps no room for it.
+            self.taken.shrink_to_fit();
+        }
+        out
     }
 }

@@ -20,7 +20,7 @@ use tungstenite::{NoMask, Role, WebSocket, WebSocketConfig};
 
 /// How many bytes one read of the stream asks for: more than a client mostly says at once. The socket keeps at most two such
 /// buffers, also while its client says nothing.
-const READ_BYTES: usize = 512;
+const READ_BYTES: usize = 256;
 /// The longest message that is read, in bytes: above the longest text of a session, which closes for it by itself.
 const LONGEST_MESSAGE: usize = 131_072;
 /// How many bytes of output wait at most: one text of a session's queue, and what is owed to pings.
