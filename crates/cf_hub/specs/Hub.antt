@@ -10,7 +10,7 @@ use Rattle.cf_protocol.specs.Datum.{Placed}
 use Rattle.cf_protocol.specs.Position.{Position}
 use Rattle.cf_queue.specs.OutQueue.{Item}
 use Rattle.cf_subscribers.specs.Follows.{Follow, channels_of, sessions_of, with_follow}
-use Rattle.cf_model.specs.Limits.{most_rows}
+use Rattle.cf_model.specs.Limits.{most_channels, most_rows}
 use Rattle.cf_hub.specs.Delivery.{fate_at, none, tally}
 use Rattle.cf_hub.specs.declared.delivered.Delivered.{Delivered}
 use Rattle.cf_hub.specs.Places.{Places, session_in}
