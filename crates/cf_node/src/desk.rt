@@ -15,7 +15,7 @@ use std::collections::VecDeque;
 use std::marker::PhantomData;
 
 /// What a turn may carry out of a client's texts, in the units of `cf_session::Budget`.
-const UNITS: usize = 256;
+const UNITS: usize = 96;
 
 /// A client's session between two turns.
 #[derive(Drop)]
