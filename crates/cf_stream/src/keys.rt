@@ -4,8 +4,7 @@ ghost use Rattle.std.specs.String.{string_bytes};
 ghost use Rattle.circular_buffer.specs.Buffer.{buffer};
 ghost use Rattle.cf_model.specs.Keys.{and_key, is_no_key, offset_of};
 
-use crate::ring::{make_room, put};
-use circular_buffer::HeapCircularBuffer;
+use crate::ring::Ring;
 use std::alloc::{AllocError, Global};
 use std::marker::Model;
 
@@ -31,17 +30,16 @@ impl Model for KeptKey {
 /// The keys that a stream remembers, the oldest first. Until the first one comes they take a word.
 #[derive(Drop)]
 pub(crate) struct RecentKeys {
-    ring: Option<Box<HeapCircularBuffer<KeptKey>>>,
+    ring: Ring<KeptKey>,
 }
 
 impl Model for RecentKeys {
     ghost use Rattle.circular_buffer.specs.Buffer.{Buffer};
     ghost use Rattle.cf_model.specs.Keys.{KeyAt};
-    ghost use Rattle.cf_stream.specs.Ring.{kept_keys};
 
     ghost Value = { Buffer KeyAt };
 
-    ghost view = { λ k. kept_keys k.ring };
+    ghost view = { λ k. k.ring };
 }
 
 impl RecentKeys {
@@ -49,7 +47,7 @@ impl RecentKeys {
     pub(crate) fn new() -> RecentKeys
         ensures { result ≡ buffer [] 0 }
     {
-        RecentKeys { ring: None }
+        RecentKeys { ring: Ring::new() }
     }
 
     /// Makes room for a key, if it is one: the empty key is none.
@@ -62,14 +60,7 @@ impl RecentKeys {
         if key.is_empty() {
             return Ok(());
         }
-        match &mut self.ring {
-            Some(ring) => make_room(ring.as_mut(), MOST_KEYS),
-            None => {
-                let ring = HeapCircularBuffer::with_capacity(alloc, 1)?;
-                self.ring = Some(Box::new(alloc, ring)?);
-                Ok(())
-            }
-        }
+        self.ring.make_room(alloc, MOST_KEYS)
     }
 
     /// Remembers the key of a publication, and lets the oldest go past a hundred. The empty key is none. It takes no memory.
@@ -79,12 +70,8 @@ impl RecentKeys {
             → min 100 (length self.old.items + 1) ≤ self.old.capacity }
         ensures { self.new.items ≡ and_key self.old.items (string_bytes key) offset }
     {
-        if key.is_empty() {
-            return;
-        }
-        match &mut self.ring {
-            None => unreachable!(),
-            Some(ring) => put(ring.as_mut(), MOST_KEYS, KeptKey { key, offset }),
+        if !key.is_empty() {
+            self.ring.put(MOST_KEYS, KeptKey { key, offset });
         }
     }
 
@@ -92,15 +79,12 @@ impl RecentKeys {
     pub(crate) fn offset_of(&self, key: &str) -> Option<u64>
         ensures { result ≡ offset_of key.now self.now.items }
     {
-        match &self.ring {
-            None => None,
-            Some(ring) => offset_in(ring.as_ref(), key),
-        }
+        offset_in(&self.ring, key)
     }
 }
 
 /// The offset at which a key stands.
-fn offset_in(keys: &HeapCircularBuffer<KeptKey>, key: &str) -> Option<u64>
+fn offset_in(keys: &Ring<KeptKey>, key: &str) -> Option<u64>
     ensures { result ≡ offset_of key.now keys.now.items }
 {
     for i in 0..keys.len() {

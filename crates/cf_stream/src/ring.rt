@@ -1,43 +1,145 @@
 //! The ring behind a stream.
-ghost use Rattle.std.specs.Prelude.{◌≡◌, ◌+◌, ◌≤◌, [], ◌∷◌, ◌++◌, length, min, take, drop, IfOk, OnOk};
+ghost use Rattle.std.specs.Prelude.{◌≡◌, ◌+◌, ◌-◌, ◌≤◌, ◌==◌, [], ◌∷◌, ◌++◌, length, min, take, drop, slice_get, option_copied, IfOk, OnOk};
+ghost use Rattle.circular_buffer.specs.Buffer.{buffer};
 ghost use Rattle.cf_model.specs.Keys.{newest};
 
 use cf_protocol::Publication;
 use circular_buffer::HeapCircularBuffer;
 use std::alloc::{AllocError, Global};
+use std::marker::Model;
 
-/// Makes room for one item more where `size` allows it. The block grows only where it has to, to about twice what is held.
-pub(crate) fn make_room<T: Drop>(
-    ring: &mut HeapCircularBuffer<T>,
-    size: usize,
-) -> Result<(), AllocError>
-    requires { (1 ≤ size) × (size ≤ 10000) × (length ring.old.items ≤ size) }
-    ensures items { ring.new.items ≡ ring.old.items }
-    ensures room { OnOk result (min size (length ring.old.items + 1) ≤ ring.new.capacity) }
+/// The last items of a list, the oldest first. Until the first one comes they take a word.
+#[derive(Drop)]
+pub(crate) struct Ring<T> {
+    block: Option<Box<HeapCircularBuffer<T>>>,
+}
+
+impl<T> Model for Ring<T> {
+    ghost use Rattle.circular_buffer.specs.Buffer.{Buffer};
+    ghost use Rattle.cf_stream.specs.Ring.{kept};
+
+    ghost Value = { Buffer T };
+
+    ghost view = { λ r. kept r.block };
+}
+
+impl<T: Drop> Ring<T> {
+    /// No item, and no room for one.
+    pub(crate) fn new() -> Ring<T>
+        ensures { result ≡ buffer [] 0 }
+    {
+        Ring { block: None }
+    }
+
+    /// How many items there are.
+    pub(crate) fn len(&self) -> usize
+        ensures { result ≡ length self.now.items }
+    {
+        match &self.block {
+            None => 0,
+            Some(block) => block.as_ref().len(),
+        }
+    }
+
+    /// Whether there is no item.
+    pub(crate) fn is_empty(&self) -> bool
+        ensures { result ≡ (length self.now.items == 0) }
+    {
+        self.len() == 0
+    }
+
+    /// The item at a place.
+    pub(crate) fn get(&self, index: usize) -> Option<&T>
+        ensures { option_copied result ≡ slice_get self.now.items index }
+    {
+        match &self.block {
+            None => None,
+            Some(block) => block.as_ref().get(index),
+        }
+    }
+
+    /// The last item.
+    pub(crate) fn back(&self) -> Option<&T>
+        ensures { option_copied result ≡ slice_get self.now.items (length self.now.items - 1) }
+    {
+        self.get(self.len().saturating_sub(1))
+    }
+
+    /// Makes room for one item more where `size` allows it. The block grows only where it has to, to about twice what is held.
+    pub(crate) fn make_room(&mut self, alloc: Global, size: usize) -> Result<(), AllocError>
+        requires { (1 ≤ size) × (size ≤ 10000) × (length self.old.items ≤ size) }
+        ensures items { self.new.items ≡ self.old.items }
+        ensures room { OnOk result (min size (length self.old.items + 1) ≤ self.new.capacity) }
+    {
+        match &mut self.block {
+            Some(block) => grow(block.as_mut(), size),
+            None => {
+                let block = HeapCircularBuffer::with_capacity(alloc, 1)?;
+                self.block = Some(Box::new(alloc, block)?);
+                Ok(())
+            }
+        }
+    }
+
+    /// Appends an item and lets the oldest go past `size`. It takes no memory.
+    pub(crate) fn put(&mut self, size: usize, item: T)
+        requires sized { (1 ≤ size) × (length self.old.items ≤ size) }
+        requires room { min size (length self.old.items + 1) ≤ self.old.capacity }
+        ensures { self.new.items ≡ newest size (self.old.items ++ item ∷ []) }
+    {
+        match &mut self.block {
+            None => unreachable!(),
+            Some(block) => push(block.as_mut(), size, item),
+        }
+    }
+
+    /// Keeps at most the last `count` items. It takes no memory.
+    pub(crate) fn keep(&mut self, count: usize)
+        ensures { self.new.items ≡ newest count self.old.items }
+    {
+        match &mut self.block {
+            None => {}
+            Some(block) => block.as_mut().truncate_front(count),
+        }
+    }
+
+    /// Lets all items go, and their block.
+    pub(crate) fn clear(&mut self)
+        ensures { self.new ≡ buffer [] 0 }
+    {
+        self.block = None;
+    }
+}
+
+/// Makes room for one item more in a block, where `size` allows it.
+fn grow<T: Drop>(block: &mut HeapCircularBuffer<T>, size: usize) -> Result<(), AllocError>
+    requires { (1 ≤ size) × (size ≤ 10000) × (length block.old.items ≤ size) }
+    ensures items { block.new.items ≡ block.old.items }
+    ensures room { OnOk result (min size (length block.old.items + 1) ≤ block.new.capacity) }
 {
-    let len = ring.len();
-    if len < size && len == ring.capacity() {
-        ring.resize((2 * len + 1).min(size))?;
+    let len = block.len();
+    if len < size && len == block.capacity() {
+        block.resize((2 * len + 1).min(size))?;
     }
     Ok(())
 }
 
-/// Appends an item and lets the oldest go past `size`. It takes no memory.
-pub(crate) fn put<T: Drop>(ring: &mut HeapCircularBuffer<T>, size: usize, item: T)
-    requires sized { (1 ≤ size) × (length ring.old.items ≤ size) }
-    requires room { min size (length ring.old.items + 1) ≤ ring.old.capacity }
-    ensures { ring.new.items ≡ newest size (ring.old.items ++ item ∷ []) }
+/// Appends an item to a block and lets the oldest go past `size`.
+fn push<T: Drop>(block: &mut HeapCircularBuffer<T>, size: usize, item: T)
+    requires sized { (1 ≤ size) × (length block.old.items ≤ size) }
+    requires room { min size (length block.old.items + 1) ≤ block.old.capacity }
+    ensures { block.new.items ≡ newest size (block.old.items ++ item ∷ []) }
 {
-    if ring.len() >= size {
-        ring.truncate_front(size - 1);
+    if block.len() >= size {
+        block.truncate_front(size - 1);
     }
-    ring.push_back(item);
+    block.push_back(item);
 }
 
 /// Copies of `count` items from the place `from` on.
 pub(crate) fn copies(
     alloc: Global,
-    ring: &HeapCircularBuffer<Publication>,
+    ring: &Ring<Publication>,
     from: usize,
     count: usize,
 ) -> Result<Vec<Publication>, AllocError>

@@ -13,9 +13,8 @@ use crate::answer::{History, Published, Recovery};
 use crate::due::Due;
 use crate::keys::RecentKeys;
 use crate::refusal::StreamRefusal;
-use crate::ring::{copies, make_room, put};
+use crate::ring::{Ring, copies};
 use cf_protocol::{Epoch, Info, Position, Publication};
-use circular_buffer::HeapCircularBuffer;
 use std::alloc::{AllocError, Global};
 use std::marker::Model;
 
@@ -52,7 +51,7 @@ struct Inner {
     top: u64,
     published: u64,
     used: u64,
-    ring: HeapCircularBuffer<Publication>,
+    ring: Ring<Publication>,
     recent: RecentKeys,
     alloc: Global,
 }
@@ -231,11 +230,11 @@ impl Stream {
     {
         let inner = self.inner.as_mut();
         inner.recent.make_room(inner.alloc, key.as_str())?;
-        make_room(&mut inner.ring, inner.size as usize)?;
+        inner.ring.make_room(inner.alloc, inner.size as usize)?;
         let offset = inner.top + 1;
         let publication = Publication { offset, body, info };
         inner.recent.remember(key, offset);
-        put(&mut inner.ring, inner.size as usize, publication);
+        inner.ring.put(inner.size as usize, publication);
         inner.top = offset;
         inner.published = now;
         inner.used = now;
@@ -357,7 +356,7 @@ impl Stream {
         ensures list { GoesOn self.old self.new (kept_newest count) }
     {
         let inner = self.inner.as_mut();
-        inner.ring.truncate_front(count);
+        inner.ring.keep(count);
     }
 
     /// Sets the size, and keeps the newest that it allows. It takes no memory, since the ring grows only in `publish`.
@@ -367,7 +366,7 @@ impl Stream {
         ensures list { GoesOn self.old self.new (kept_newest size) }
     {
         let inner = self.inner.as_mut();
-        inner.ring.truncate_front(size);
+        inner.ring.keep(size);
         inner.size = size as u16;
     }
 
@@ -437,14 +436,13 @@ fn after_top(alloc: Global, epoch: Epoch, size: usize, top: u64) -> Result<Strea
     requires top_fits { top ≤ LAST_OFFSET }
     ensures { IfOk result (λ s. s ≡ started epoch size top) }
 {
-    let ring = HeapCircularBuffer::with_capacity(alloc, 0)?;
     let inner = Inner {
         epoch,
         size: size as u16,
         top,
         published: 0,
         used: 0,
-        ring,
+        ring: Ring::new(),
         recent: RecentKeys::new(),
         alloc,
     };

@@ -12,5 +12,5 @@ returns-then-missed-min c =
     let same : c.in_ok-since.since.epoch ≡ c.self.inside.inner.value.epoch = search rules in
     let many = length-map c.self.inside.inner.value.ring.items (λ (p : Placed). p.datum) in
     let few : c.self.inside.inner.value.top - c.in_ok-since.since.offset ≤ min (length (map (λ (p : Placed). p.datum) c.self.inside.inner.value.ring.items)) 300 =
-    omega (arith, c.len.ensures.len, c.min.ensures, many, at_top, at_ring) in
+    omega (arith, c.len.ensures, c.min.ensures, many, at_top, at_ring) in
     rw (← c.self.view_is, at_top) (missed_some (the_view c.self.inside) c.args.since c.in_ok-since.since c.in_ok-since.was same (let h = c.if-since-inner.false in rw at_top at h) few)
