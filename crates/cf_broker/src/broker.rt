@@ -130,6 +130,17 @@ impl<N: Naming, E: Epochs + Drop> Broker<N, E> {
         }
     }
 
+    /// Whether some node is behind with what was published: more wait in its link than an eighth of the link's room, and than 16.
+    /// What other threads send and receive is nothing that a contract names: this is tested.
+    pub fn is_crowded<R: Wait>(&self, rt: &R) -> bool {
+        for link in self.links.as_slice() {
+            if link.is_crowded(rt) {
+                return true;
+            }
+        }
+        false
+    }
+
     /// The word of a shard, by which passes are lent, met and joined.
     pub fn word(&self, shard: usize) -> &ShardWord
         requires { shard < SHARDS }

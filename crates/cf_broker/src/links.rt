@@ -4,25 +4,54 @@ use cf_shard::{Delivery, Links};
 use std::sync::atomic::{AtomicU64, Ordering};
 use std::sync::{Mutex, Wait};
 
+/// A link is crowded where more wait in it than an eighth of its room, and than these.
+const FEW: usize = 16;
+
 /// The end of a node's link at which the broker sends, under a lock of its own, and how many publications it had no room for.
 #[derive(Drop)]
 pub(crate) struct NodeLink {
     sender: Mutex<Sender<Delivery>>,
     lost: AtomicU64,
+    // How many publications waited in it when somebody looked last.
+    waiting: AtomicU64,
+    // It is crowded where more wait.
+    most: u64,
 }
 
 impl NodeLink {
     /// A link that has lost nothing yet.
     pub(crate) fn new(sender: Sender<Delivery>) -> NodeLink {
+        let most = (sender.capacity() / 8).max(FEW) as u64;
         NodeLink {
             sender: Mutex::new(sender),
             lost: AtomicU64::new(0),
+            waiting: AtomicU64::new(0),
+            most,
         }
     }
 
     /// How many publications it had no room for.
     pub(crate) fn lost(&self) -> u64 {
         self.lost.load(Ordering::SeqCst)
+    }
+
+    /// Whether many publications wait in it. The link is looked at only where many waited when somebody looked last.
+    pub(crate) fn is_crowded<R: Wait>(&self, rt: &R) -> bool {
+        if self.waiting.load(Ordering::SeqCst) <= self.most {
+            return false;
+        }
+        let waiting = self.sender.lock(rt).waiting(rt) as u64;
+        self.waiting.store(waiting, Ordering::SeqCst);
+        waiting > self.most
+    }
+
+    // Sends a publication. A link that is full gives it back, and this node alone has lost it.
+    fn send<R: Wait>(&self, rt: &R, delivery: Delivery) {
+        let mut sender = self.sender.lock(rt);
+        if sender.send(rt, delivery).is_err() {
+            let _before = self.lost.fetch_add(1, Ordering::SeqCst);
+        }
+        self.waiting.store(sender.waiting(rt) as u64, Ordering::SeqCst);
     }
 }
 
@@ -45,11 +74,6 @@ impl<'a, R: Wait> Links for NodeLinks<'a, R> {
     }
 
     fn offer(&mut self, node: usize, delivery: Delivery) {
-        // A link that is full gives it back, and this node alone has lost it.
-        let link = &self.links[node];
-        let sent = link.sender.lock(self.rt).send(self.rt, delivery);
-        if sent.is_err() {
-            let _before = link.lost.fetch_add(1, Ordering::SeqCst);
-        }
+        self.links[node].send(self.rt, delivery);
     }
 }

@@ -1,5 +1,5 @@
 //! The two ends of a link.
-ghost use Rattle.std.specs.Prelude.{◌≡◌, ◌<◌, ◌++◌, ◌∷◌, [], IfOk, IfErr, OnOk, OnErr, MatchOption, IfNone};
+ghost use Rattle.std.specs.Prelude.{◌≡◌, ◌+◌, ◌<◌, ◌≤◌, length, ◌++◌, ◌∷◌, [], IfOk, IfErr, OnOk, OnErr, MatchOption, IfNone};
 ghost use Rattle.cf_link.specs.Link.{IsSameLink, WasFull, WasEmpty, AreLeft};
 
 use crate::bell::Bell;
@@ -106,6 +106,22 @@ impl<T> Sender<T> {
             self.bell.ring();
         }
         sent
+    }
+
+    /// How many items wait in the link, at one moment of the call. It takes no memory.
+    pub fn waiting(&mut self, rt: &impl Wait) -> usize
+        ensures same { self.new ≡ self.old }
+        ensures within { result ≤ self.old.capacity }
+        ensures sent { length self.old.told + result ≤ length self.old.items }
+    {
+        self.line.len_as::<Sends, _>(rt, &mut self.pass)
+    }
+
+    /// For how many items the link has room.
+    pub fn capacity(&self) -> usize
+        ensures { result ≡ self.now.capacity }
+    {
+        self.line.capacity()
     }
 }
 

@@ -41,6 +41,9 @@ pub(crate) trait Backend {
     /// Whether the worker that brings publications has turned within two seconds.
     fn is_well(&self, now: u64) -> bool;
 
+    /// Whether some node is behind with what was published, so that who publishes is to wait.
+    fn is_crowded(&self) -> bool;
+
     /// A connection is not served, for want of descriptors or memory.
     fn note_refused(&self);
 

@@ -19,6 +19,8 @@ pub(crate) struct CommandHandler<'a, B> {
     pub(crate) client: AttachedClient,
     /// The moment of the turn, in seconds.
     pub(crate) now: u64,
+    /// It published while some node was behind: it goes on once none is.
+    pub(crate) is_held: bool,
 }
 
 impl<'a, B: Backend> Node for CommandHandler<'a, B> {
@@ -103,10 +105,13 @@ impl<'a, B: Backend> Node for CommandHandler<'a, B> {
         if self.sees_end() {
             return Err(ErrorCode::Internal);
         }
-        match self
+        let answer = self
             .backend
-            .publish(channel.as_str(), body, key, info, self.now)
-        {
+            .publish(channel.as_str(), body, key, info, self.now);
+        if self.backend.is_crowded() {
+            self.is_held = true;
+        }
+        match answer {
             Ok(_) => Ok(()),
             Err(refused) => Err(broker_error(refused)),
         }

@@ -17,6 +17,9 @@ use std::marker::PhantomData;
 /// What a turn may carry out of a client's texts, in the units of `cf_session::Budget`.
 const UNITS: usize = 96;
 
+/// The same where some node is behind with what was published: one call.
+const FEW_UNITS: usize = 4;
+
 /// A client's session between two turns.
 #[derive(Drop)]
 struct Talk<'a, B: Backend> {
@@ -117,6 +120,7 @@ impl<'a, B: Backend> SessionDesk<'a, B> {
                 backend,
                 client: AttachedClient::new(alloc, now),
                 now,
+                is_held: false,
             },
             talk: Talk::new(backend),
             taken: VecDeque::new(alloc),
@@ -134,12 +138,22 @@ impl<'a, B: Backend> SessionDesk<'a, B> {
         self.hears = hears;
         self.has_heard = false;
         if hears {
-            self.budget = Budget::new(UNITS);
+            self.budget = Budget::new(self.units());
+            self.handler.is_held = false;
             if !self.talk.session.is_idle() {
                 self.talk.go_on(&mut self.handler, &mut self.budget);
                 self.owed = true;
                 self.has_heard = true;
             }
+        }
+    }
+
+    // What this turn may carry out.
+    fn units(&self) -> usize {
+        if self.handler.is_held || self.handler.backend.is_crowded() {
+            FEW_UNITS
+        } else {
+            UNITS
         }
     }
 

@@ -44,6 +44,9 @@ const MOST_EVENTS: usize = 512;
 /// sees each new second.
 const PATIENCE: u64 = 1000;
 
+/// The same where some wait until no node is behind.
+const SHORT_PATIENCE: u64 = 1;
+
 /// What the listener was left with.
 #[derive(Clone, Copy, PartialEq, Eq, Drop)]
 enum Accepts {
@@ -77,6 +80,8 @@ struct IoLoop<'a, B: Backend> {
     spenders: Agenda,
     // For how many turns these have waited for what is to be sent.
     waited: u32,
+    // Those that published while some node was behind.
+    held: Agenda,
     // The hub may have something for sessions that it wasn't asked for.
     is_behind: bool,
     // The places whose sessions the hub has just named.
@@ -154,6 +159,7 @@ impl<'a, B: Backend> IoLoop<'a, B> {
             agenda: Agenda::new(alloc),
             spenders: Agenda::new(alloc),
             waited: 0,
+            held: Agenda::new(alloc),
             is_behind: false,
             batch: Vec::new(alloc),
             buffer: Vec::new(alloc),
@@ -192,13 +198,24 @@ impl<'a, B: Backend> IoLoop<'a, B> {
 
     // Waits for readiness, where nothing is left to do.
     fn wait(&mut self, events: &mut Events) -> io::Result<()> {
-        let is_done = self.agenda.is_empty()
+        let patience = if !self.is_done() {
+            0
+        } else if self.held.is_empty() {
+            PATIENCE
+        } else {
+            SHORT_PATIENCE
+        };
+        self.acceptor.wait(events, Duration::from_millis(patience))
+    }
+
+    // Whether nothing is left to do at once.
+    fn is_done(&self) -> bool {
+        self.agenda.is_empty()
             && self.spenders.is_empty()
+            && (self.held.is_empty() || self.backend.is_crowded())
             && !self.is_behind
             && self.accepts != Accepts::More
-            && !self.seconds.is_late();
-        let patience = if is_done { PATIENCE } else { 0 };
-        self.acceptor.wait(events, Duration::from_millis(patience))
+            && !self.seconds.is_late()
     }
 
     // One turn: what is ready is noted, who has a turn to come has it, and then comes a new second.
@@ -216,6 +233,7 @@ impl<'a, B: Backend> IoLoop<'a, B> {
         self.serve_named();
         self.serve_agenda();
         self.serve_spender();
+        self.serve_held();
         if !self.is_behind {
             self.backend.catch_up();
         }
@@ -267,21 +285,13 @@ impl<'a, B: Backend> IoLoop<'a, B> {
 
     // A turn of the connection at a place is to come.
     fn owe(&mut self, place: usize) {
-        let is_added = if self.has_spent(place) {
-            self.spenders.add(place).is_ok()
-        } else {
-            self.agenda.add(place).is_ok()
+        let agenda = match self.places.get(place) {
+            Some(Connection::Open(open)) if open.desk.handler.is_held => &mut self.held,
+            Some(Connection::Open(open)) if open.is_spent => &mut self.spenders,
+            _ => &mut self.agenda,
         };
-        if !is_added {
+        if agenda.add(place).is_err() {
             self.end(place);
-        }
-    }
-
-    // Whether the connection at a place has spent the bounds of its last turn.
-    fn has_spent(&self, place: usize) -> bool {
-        match self.places.get(place) {
-            Some(Connection::Open(open)) => open.is_spent,
-            _ => false,
         }
     }
 
@@ -374,6 +384,17 @@ impl<'a, B: Backend> IoLoop<'a, B> {
         }
     }
 
+    // One that published while some node was behind goes on, where none is any more.
+    fn serve_held(&mut self) {
+        if self.held.is_empty() || self.backend.is_crowded() {
+            return;
+        }
+        if let Some(place) = self.held.next() {
+            self.hear(place);
+            self.serve_named();
+        }
+    }
+
     // The turn of the connection at a place: its head is read on, or its client is heard.
     fn hear(&mut self, place: usize) {
         if let Some(Connection::Head(head)) = self.places.get_mut(place) {
@@ -444,6 +465,7 @@ impl<'a, B: Backend> IoLoop<'a, B> {
     fn vacate(&mut self, place: usize) {
         self.agenda.remove(place);
         self.spenders.remove(place);
+        self.held.remove(place);
         let _ = self.free.push(place);
     }
 

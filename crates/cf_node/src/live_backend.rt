@@ -81,6 +81,10 @@ impl<'a, R: Wait, N: Naming, E: Epochs + Drop> Backend for LiveBackend<'a, R, N,
         self.shared.is_well(now)
     }
 
+    fn is_crowded(&self) -> bool {
+        self.broker.is_crowded(self.rt)
+    }
+
     fn note_refused(&self) {
         if let Some(counts) = self.setup.counts {
             counts.add_refused();
