@@ -8,7 +8,11 @@ use crossbeam_queue::{Pass, RuledArrayQueue};
 use std::alloc::{AllocError, Global};
 use std::marker::Model;
 use std::sync::{Arc, Wait};
+use std::thread;
 use std::time::{Clock, Duration};
+
+/// So often a receiver looks before it sleeps.
+const MOST_LOOKS: usize = 16;
 
 pub(crate) type Line<T> = RuledArrayQueue<T, Log<T>, InOrder>;
 
@@ -138,8 +142,25 @@ impl<T> Receiver<T> {
         self.line.pop_as::<Receives, _>(rt, &mut self.pass)
     }
 
-    /// The oldest item that waits. Where none does it sleeps until one is sent, or for so long at most, and looks again; it may
-    /// wake sooner. `None` as for `receive`. It takes no memory.
+    /// The oldest item that waits, where need be after a few more looks, between which others have the processor.
+    fn receive_soon(&mut self, rt: &impl Wait) -> Option<T>
+        ensures same { IsSameLink self.new self.old }
+        ensures received { MatchOption result (self.new.items ≡ self.old.items)
+            (λ x. self.new.items ≡ self.old.items ++ x ∷ []) }
+        ensures told { self.new.told ≡ self.old.told }
+        ensures empty { IfNone result (WasEmpty self.old) }
+    {
+        for _ in 0..MOST_LOOKS {
+            if let Some(item) = self.receive(rt) {
+                return Some(item);
+            }
+            thread::yield_now();
+        }
+        self.receive(rt)
+    }
+
+    /// The oldest item that waits. Where none does it looks a few times more, and then sleeps until one is sent, or for so long at
+    /// most, and looks again; it may wake sooner. `None` as for `receive`. It takes no memory.
     pub fn receive_within<R: Wait + Clock>(&mut self, rt: &R, most: Duration) -> Option<T>
         ensures same { IsSameLink self.new self.old }
         ensures received { MatchOption result (self.new.items ≡ self.old.items)
@@ -147,7 +168,7 @@ impl<T> Receiver<T> {
         ensures told { self.new.told ≡ self.old.told }
         ensures empty { IfNone result (WasEmpty self.old) }
     {
-        if let Some(item) = self.receive(rt) {
+        if let Some(item) = self.receive_soon(rt) {
             return Some(item);
         }
         self.bell.tire();

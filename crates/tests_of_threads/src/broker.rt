@@ -3,6 +3,7 @@ ghost use Rattle.std.specs.Prelude.{◌≡◌, IsSome};
 ghost use Rattle.cf_protocol.specs.Settings.{settings_of};
 ghost use Rattle.cf_broker.specs.Shards.{names, number_of};
 
+mod crowding;
 mod keys;
 mod moments;
 mod offers;

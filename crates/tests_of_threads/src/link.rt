@@ -9,9 +9,12 @@ use std::time::{Clock, Duration, Instant};
 #[test]
 fn one_place(rt: HostRuntime) -> Result<(), Fail> {
     let (mut sender, mut receiver) = pair(rt.alloc(), 1)?;
+    assert_eq!(rt; sender.waiting(&rt), 0);
     assert_eq!(rt; sender.send(&rt, 7u32), Ok(()));
+    assert_eq!(rt; sender.waiting(&rt), 1);
     assert_eq!(rt; sender.send(&rt, 8), Err(8));
     assert_eq!(rt; receiver.receive(&rt), Some(7));
+    assert_eq!(rt; sender.waiting(&rt), 0);
     assert_eq!(rt; receiver.receive(&rt), None);
     assert_eq!(rt; settle(&rt, sender, receiver), 0);
     Ok(())
