@@ -141,6 +141,14 @@ impl<N: Naming, E: Epochs + Drop> Broker<N, E> {
         false
     }
 
+    /// Wakes who sleeps at the other ends of the links: what was published is brought on from then on at the latest, and where nobody
+    /// rings once a receiver looks by itself. One ring does for many publishes. This is tested.
+    pub fn ring<R: Wait>(&self, rt: &R) {
+        for link in self.links.as_slice() {
+            link.ring(rt);
+        }
+    }
+
     /// The word of a shard, by which passes are lent, met and joined.
     pub fn word(&self, shard: usize) -> &ShardWord
         requires { shard < SHARDS }
@@ -149,8 +157,8 @@ impl<N: Naming, E: Epochs + Drop> Broker<N, E> {
         at_place!(self, shard => word())
     }
 
-    /// Publishes to a channel at a moment in seconds, offers the publication to each node, and answers its position. The
-    /// channel's stream opens where there is none. A node whose link is full loses it. A publish whose key is among the last
+    /// Publishes to a channel at a moment in seconds, offers the publication to each node, and answers its position. It wakes no
+    /// node: `ring` does. The channel's stream opens where there is none. A node whose link is full loses it. A publish whose key is among the last
     /// hundred of the stream is a repeat: it adds and offers nothing, is answered with the position of the publication that it
     /// repeats, and is never refused. The empty key is none. Of a publish that is no repeat: `AtLastOffset` at the stream's last
     /// offset, `NoEpoch` where a stream would open and none was drawn, `Memory` where a growth was refused, `AtLastCount` where

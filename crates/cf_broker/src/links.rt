@@ -45,13 +45,19 @@ impl NodeLink {
         waiting > self.most
     }
 
+    /// Wakes its node's dispatcher, where it sleeps.
+    pub(crate) fn ring<R: Wait>(&self, rt: &R) {
+        self.sender.lock(rt).ring();
+    }
+
     // Sends a publication. A link that is full gives it back, and this node alone has lost it.
     fn send<R: Wait>(&self, rt: &R, delivery: Delivery) {
         let mut sender = self.sender.lock(rt);
         if sender.send(rt, delivery).is_err() {
             let _before = self.lost.fetch_add(1, Ordering::SeqCst);
         }
-        self.waiting.store(sender.waiting(rt) as u64, Ordering::SeqCst);
+        self.waiting
+            .store(sender.waiting(rt) as u64, Ordering::SeqCst);
     }
 }
 

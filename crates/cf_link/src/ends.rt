@@ -8,11 +8,7 @@ use crossbeam_queue::{Pass, RuledArrayQueue};
 use std::alloc::{AllocError, Global};
 use std::marker::Model;
 use std::sync::{Arc, Wait};
-use std::thread;
 use std::time::{Clock, Duration};
-
-/// So often a receiver looks before it sleeps.
-const MOST_LOOKS: usize = 16;
 
 pub(crate) type Line<T> = RuledArrayQueue<T, Log<T>, InOrder>;
 
@@ -96,8 +92,9 @@ pub fn pair<T: Drop>(alloc: Global, capacity: usize) -> Result<(Sender<T>, Recei
 }
 
 impl<T> Sender<T> {
-    /// Sends an item, and wakes a receiver that sleeps. The item comes back where the link was full at one moment of the call: as
-    /// many as it has room for were sent behind those that this end was told to have been received. It takes no memory.
+    /// Sends an item, and wakes nobody: `ring` does, once for all that was sent. The item comes back where the link was full at one
+    /// moment of the call: as many as it has room for were sent behind those that this end was told to have been received. It takes
+    /// no memory.
     pub fn send(&mut self, rt: &impl Wait, item: T) -> Result<(), T>
         ensures same { IsSameLink self.new self.old }
         ensures sent { OnOk result (self.new.items ≡ self.old.items ++ item ∷ []) }
@@ -105,11 +102,12 @@ impl<T> Sender<T> {
         ensures refused { IfErr result (λ x. (x ≡ item) × (self.new.items ≡ self.old.items)) }
         ensures full { OnErr result (WasFull self.old) }
     {
-        let sent = self.line.push_as::<Sends, _>(rt, &mut self.pass, item);
-        if sent.is_ok() {
-            self.bell.ring();
-        }
-        sent
+        self.line.push_as::<Sends, _>(rt, &mut self.pass, item)
+    }
+
+    /// Wakes a receiver that sleeps. It takes no memory.
+    pub fn ring(&self) {
+        self.bell.ring();
     }
 
     /// How many items wait in the link, at one moment of the call. It takes no memory.
@@ -142,25 +140,8 @@ impl<T> Receiver<T> {
         self.line.pop_as::<Receives, _>(rt, &mut self.pass)
     }
 
-    /// The oldest item that waits, where need be after a few more looks, between which others have the processor.
-    fn receive_soon(&mut self, rt: &impl Wait) -> Option<T>
-        ensures same { IsSameLink self.new self.old }
-        ensures received { MatchOption result (self.new.items ≡ self.old.items)
-            (λ x. self.new.items ≡ self.old.items ++ x ∷ []) }
-        ensures told { self.new.told ≡ self.old.told }
-        ensures empty { IfNone result (WasEmpty self.old) }
-    {
-        for _ in 0..MOST_LOOKS {
-            if let Some(item) = self.receive(rt) {
-                return Some(item);
-            }
-            thread::yield_now();
-        }
-        self.receive(rt)
-    }
-
-    /// The oldest item that waits. Where none does it looks a few times more, and then sleeps until one is sent, or for so long at
-    /// most, and looks again; it may wake sooner. `None` as for `receive`. It takes no memory.
+    /// The oldest item that waits. Where none does it sleeps until the other end rings, or for so long at most, and looks again;
+    /// it may wake sooner. `None` as for `receive`. It takes no memory.
     pub fn receive_within<R: Wait + Clock>(&mut self, rt: &R, most: Duration) -> Option<T>
         ensures same { IsSameLink self.new self.old }
         ensures received { MatchOption result (self.new.items ≡ self.old.items)
@@ -168,7 +149,7 @@ impl<T> Receiver<T> {
         ensures told { self.new.told ≡ self.old.told }
         ensures empty { IfNone result (WasEmpty self.old) }
     {
-        if let Some(item) = self.receive_soon(rt) {
+        if let Some(item) = self.receive(rt) {
             return Some(item);
         }
         self.bell.tire();

@@ -44,6 +44,9 @@ pub(crate) trait Backend {
     /// Whether some node is behind with what was published, so that who publishes is to wait.
     fn is_crowded(&self) -> bool;
 
+    /// Wakes the workers that bring on what was published.
+    fn ring(&self);
+
     /// A connection is not served, for want of descriptors or memory.
     fn note_refused(&self);
 

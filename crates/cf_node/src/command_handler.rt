@@ -19,6 +19,8 @@ pub(crate) struct CommandHandler<'a, B> {
     pub(crate) client: AttachedClient,
     /// The moment of the turn, in seconds.
     pub(crate) now: u64,
+    /// It published something for which nobody was woken yet.
+    pub(crate) has_published: bool,
     /// It published while some node was behind: it goes on once none is.
     pub(crate) is_held: bool,
 }
@@ -108,9 +110,8 @@ impl<'a, B: Backend> Node for CommandHandler<'a, B> {
         let answer = self
             .backend
             .publish(channel.as_str(), body, key, info, self.now);
-        if self.backend.is_crowded() {
-            self.is_held = true;
-        }
+        self.has_published = true;
+        self.is_held = self.is_held || self.backend.is_crowded();
         match answer {
             Ok(_) => Ok(()),
             Err(refused) => Err(broker_error(refused)),
@@ -187,6 +188,14 @@ impl<'a, B: Backend> CommandHandler<'a, B> {
         match self.client.standing.number() {
             Some(number) => { take_for(&mut self.backend.hub(), number, true, taken).leaves_more() }
             None => false,
+        }
+    }
+
+    /// Wakes who brings on what was published in a turn, if anything was.
+    pub(crate) fn ring(&mut self) {
+        if self.has_published {
+            self.has_published = false;
+            self.backend.ring();
         }
     }
 

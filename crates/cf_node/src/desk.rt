@@ -120,6 +120,7 @@ impl<'a, B: Backend> SessionDesk<'a, B> {
                 backend,
                 client: AttachedClient::new(alloc, now),
                 now,
+                has_published: false,
                 is_held: false,
             },
             talk: Talk::new(backend),

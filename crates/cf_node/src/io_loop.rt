@@ -427,6 +427,7 @@ impl<'a, B: Backend> IoLoop<'a, B> {
         let turned = match self.places.get_mut(place) {
             Some(Connection::Open(open)) => {
                 let turned = open.turn(&mut self.buffer, self.seconds.done(), hears);
+                open.desk.handler.ring();
                 if let Some(number) = open.desk.handler.client.standing.number() {
                     if let Some(owner) = self.owners.get_mut(number as usize) {
                         *owner = place;

@@ -85,6 +85,10 @@ impl<'a, R: Wait, N: Naming, E: Epochs + Drop> Backend for LiveBackend<'a, R, N,
         self.broker.is_crowded(self.rt)
     }
 
+    fn ring(&self) {
+        self.broker.ring(self.rt);
+    }
+
     fn note_refused(&self) {
         if let Some(counts) = self.setup.counts {
             counts.add_refused();

@@ -35,6 +35,7 @@ fn send_all(rt: &impl Wait, sender: &mut Sender<u32>, count: u32) {
     for number in 0..count {
         for _ in rt.forever() {
             if sender.send(rt, number).is_ok() {
+                sender.ring();
                 break;
             }
             thread::yield_now();
@@ -76,7 +77,9 @@ fn time_to_hear<R: Threads + Wait + Clock + Copy + Send + 'static>(
     let start = Instant::now(&rt)?;
     let child = thread::spawn(&rt, move || {
         thread::sleep(&rt, Duration::from_millis(20));
-        sender.send(&rt, 7u32).is_ok()
+        let sent = sender.send(&rt, 7u32).is_ok();
+        sender.ring();
+        sent
     })?;
     let item = hear(&rt, &mut receiver);
     let waited = start.elapsed(&rt)?;
