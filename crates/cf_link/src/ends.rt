@@ -140,6 +140,14 @@ impl<T> Receiver<T> {
         self.line.pop_as::<Receives, _>(rt, &mut self.pass)
     }
 
+    /// How many items wait in the link, at one moment of the call. It takes no memory.
+    pub fn waiting(&mut self, rt: &impl Wait) -> usize
+        ensures same { self.new ≡ self.old }
+        ensures within { result ≤ self.old.capacity }
+    {
+        self.line.len_as::<Receives, _>(rt, &mut self.pass)
+    }
+
     /// The oldest item that waits. Where none does it sleeps until the other end rings, or for so long at most, and looks again;
     /// it may wake sooner. `None` as for `receive`. It takes no memory.
     pub fn receive_within<R: Wait + Clock>(&mut self, rt: &R, most: Duration) -> Option<T>

@@ -47,6 +47,9 @@ pub(crate) trait Backend {
     /// Wakes the workers that bring on what was published.
     fn ring(&self);
 
+    /// Whether what was published last went to many of the node's clients.
+    fn meets_many(&self) -> bool;
+
     /// A connection is not served, for want of descriptors or memory.
     fn note_refused(&self);
 

@@ -110,7 +110,11 @@ impl<'a, B: Backend> Node for CommandHandler<'a, B> {
         let answer = self
             .backend
             .publish(channel.as_str(), body, key, info, self.now);
-        self.has_published = true;
+        if self.backend.meets_many() {
+            self.backend.ring();
+        } else {
+            self.has_published = true;
+        }
         self.is_held = self.is_held || self.backend.is_crowded();
         match answer {
             Ok(_) => Ok(()),
@@ -191,7 +195,7 @@ impl<'a, B: Backend> CommandHandler<'a, B> {
         }
     }
 
-    /// Wakes who brings on what was published in a turn, if anything was.
+    /// Wakes who brings on what was published in a turn, where nobody was woken for it yet.
     pub(crate) fn ring(&mut self) {
         if self.has_published {
             self.has_published = false;

@@ -4,11 +4,11 @@ ghost use Rattle.cf_dispatch.specs.Dispatch.{Dispatches};
 use crate::gate::{DISPATCHER, Gate};
 use crate::shared::Shared;
 use cf_dispatch::{Mailbox, pass_on};
-use cf_hub::Delivered;
+use cf_hub::{Delivered, Hub};
 use cf_link::Receiver;
 use cf_shard::Delivery;
-use std::sync::Wait;
 use std::sync::atomic::{AtomicU64, Ordering};
+use std::sync::{MutexGuard, Wait};
 use std::thread;
 use std::time::{Clock, Duration};
 
@@ -16,13 +16,49 @@ use std::time::{Clock, Duration};
 // as long.
 const LONGEST_SLEEP: u64 = 500;
 
+// Publications that come at once are brought to the hub under one lock, until they met so many
+// sessions.
+const MOST_MET: usize = 64;
+
 /// The dispatcher's end of the node's link, and the hub under its lock.
 #[derive(Drop)]
 pub(crate) struct NodeMailbox<'a, R, G> {
-    pub(crate) rt: &'a R,
-    pub(crate) gate: &'a G,
-    pub(crate) receiver: Receiver<Delivery>,
-    pub(crate) shared: &'a Shared,
+    rt: &'a R,
+    gate: &'a G,
+    receiver: Receiver<Delivery>,
+    shared: &'a Shared,
+    // The hub, while more waits to be brought to it.
+    hub: Option<MutexGuard<'a, Hub>>,
+    // How many sessions met what was brought under this lock.
+    met: usize,
+}
+
+impl<'a, R: Wait, G> NodeMailbox<'a, R, G> {
+    /// The mailbox of a node, at its end of the node's link.
+    pub(crate) fn new(
+        rt: &'a R,
+        gate: &'a G,
+        receiver: Receiver<Delivery>,
+        shared: &'a Shared,
+    ) -> NodeMailbox<'a, R, G> {
+        NodeMailbox {
+            rt,
+            gate,
+            receiver,
+            shared,
+            hub: None,
+            met: 0,
+        }
+    }
+
+    // Whether the next publication is brought under the same lock.
+    fn goes_on(&mut self, delivered: &Delivered) -> bool
+        ensures { self.new.receiver ≡ self.old.receiver }
+    {
+        let met = delivered.passed.saturating_add(delivered.kept);
+        self.met = self.met.saturating_add(met as usize);
+        self.met < MOST_MET && !self.shared.owes_way() && self.receiver.waiting(self.rt) > 0
+    }
 }
 
 impl<'a, R: Wait + Clock, G: Gate> Mailbox for NodeMailbox<'a, R, G> {
@@ -35,7 +71,7 @@ impl<'a, R: Wait + Clock, G: Gate> Mailbox for NodeMailbox<'a, R, G> {
         (λ d. new.receiver.items ≡ old.receiver.items ++ d ∷ []) };
 
     // Between two workers no more can be said of the hub.
-    ghost brings = { λ old _ _ new. new ≡ old };
+    ghost brings = { λ old _ _ new. new.receiver ≡ old.receiver };
 
     ghost wakes = { λ old new. new ≡ old };
 
@@ -46,10 +82,21 @@ impl<'a, R: Wait + Clock, G: Gate> Mailbox for NodeMailbox<'a, R, G> {
     }
 
     fn bring(&mut self, delivery: &Delivery) -> Delivered {
-        self.shared.give_way(self.rt);
-        let delivered = self.shared.deliver(self.rt, delivery);
+        let mut hub = match self.hub.take() {
+            Some(hub) => hub,
+            None => {
+                self.met = 0;
+                self.shared.give_way(self.rt);
+                self.shared.lock(self.rt)
+            }
+        };
+        let delivered = deliver(&mut hub, delivery);
+        self.shared.note_met(delivered.passed);
         if delivered.passed > 0 {
             self.shared.fall_behind(delivery.publication.body.len());
+        }
+        if self.goes_on(&delivered) {
+            self.hub = Some(hub);
         }
         delivered
     }
@@ -57,6 +104,15 @@ impl<'a, R: Wait + Clock, G: Gate> Mailbox for NodeMailbox<'a, R, G> {
     fn wake(&mut self) {
         self.shared.wake();
     }
+}
+
+// Brings a publication to a hub.
+fn deliver(hub: &mut Hub, delivery: &Delivery) -> Delivered {
+    hub.deliver(
+        delivery.channel.as_str(),
+        &delivery.epoch,
+        &delivery.publication,
+    )
 }
 
 /// Takes turns until `stop` isn't 0.

@@ -89,6 +89,10 @@ impl<'a, R: Wait, N: Naming, E: Epochs + Drop> Backend for LiveBackend<'a, R, N,
         self.broker.ring(self.rt);
     }
 
+    fn meets_many(&self) -> bool {
+        self.shared.meets_many()
+    }
+
     fn note_refused(&self) {
         if let Some(counts) = self.setup.counts {
             counts.add_refused();

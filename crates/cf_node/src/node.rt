@@ -133,13 +133,11 @@ impl<'a, N: Naming> Node<'a, N> {
         };
         let backend = &backend;
         thread::scope(thread::scope_env(), rt, |scope| {
-            let mut mailbox = NodeMailbox {
-                rt,
-                gate,
-                receiver,
-                shared,
+            let brings = move || {
+                let mut mailbox = NodeMailbox::new(rt, gate, receiver, shared);
+                dispatch(rt, node, &mut mailbox, gate, stop);
             };
-            let served = match scope.spawn(move || dispatch(rt, node, &mut mailbox, gate, stop)) {
+            let served = match scope.spawn(brings) {
                 Ok(_) => serve(rt, node, backend, acceptor, gate, stop),
                 Err(refused) => Err(io::Error::from(refused)),
             };

@@ -1,8 +1,7 @@
 //! What a node's two workers share.
 ghost use Rattle.std.specs.Prelude.{◌≤◌, ◌+◌, ◌↔◌, IsTrue};
 
-use cf_hub::{Delivered, Hub};
-use cf_shard::Delivery;
+use cf_hub::Hub;
 use mio::Waker;
 use std::sync::atomic::{AtomicU64, Ordering};
 use std::sync::{Mutex, MutexGuard, Wait};
@@ -20,6 +19,9 @@ const LARGE: usize = 16_384;
 
 /// So many bytes of a large publication are worth a millisecond.
 const PACE: usize = 32_768;
+
+/// A publication that is pushed to so many clients keeps the dispatcher busy for a while.
+const MANY: u64 = 64;
 
 /// The most times that it yields to a loop that waits for the hub.
 const MOST_YIELDS: u32 = 1000;
@@ -40,6 +42,8 @@ pub(crate) struct Shared {
     rest: AtomicU64,
     // Not 0 while the loop waits for the hub.
     wanted: AtomicU64,
+    // How many clients the last publication was pushed to.
+    met: AtomicU64,
     // The moment of the dispatcher's last turn, in seconds.
     turned_at: AtomicU64,
 }
@@ -60,6 +64,7 @@ impl Shared {
             behind: AtomicU64::new(0),
             rest: AtomicU64::new(0),
             wanted: AtomicU64::new(0),
+            met: AtomicU64::new(0),
             turned_at: AtomicU64::new(0),
         }
     }
@@ -72,6 +77,16 @@ impl Shared {
     /// Whether the dispatcher has turned within two seconds.
     pub(crate) fn is_well(&self, now: u64) -> bool {
         lives(self.turned_at.load(Ordering::SeqCst), now)
+    }
+
+    /// The last publication was pushed to so many clients.
+    pub(crate) fn note_met(&self, count: u32) {
+        self.met.store(count as u64, Ordering::SeqCst);
+    }
+
+    /// Whether the last publication was pushed to many clients.
+    pub(crate) fn meets_many(&self) -> bool {
+        self.met.load(Ordering::SeqCst) >= MANY
     }
 
     /// Wakes the IO loop, unless it was woken since it last looked.
@@ -87,13 +102,9 @@ impl Shared {
         self.woken.store(0, Ordering::SeqCst);
     }
 
-    /// Brings a publication to the hub.
-    pub(crate) fn deliver<R: Wait>(&self, rt: &R, delivery: &Delivery) -> Delivered {
-        self.hub.lock(rt).deliver(
-            delivery.channel.as_str(),
-            &delivery.epoch,
-            &delivery.publication,
-        )
+    /// The hub for the dispatcher.
+    pub(crate) fn lock<R: Wait>(&self, rt: &R) -> MutexGuard<'_, Hub> {
+        self.hub.lock(rt)
     }
 
     /// The hub for the IO loop, before whom the dispatcher gives way.
@@ -116,6 +127,12 @@ impl Shared {
         if bytes >= LARGE {
             self.rest.store((bytes / PACE) as u64 + 1, Ordering::SeqCst);
         }
+    }
+
+    /// Whether the dispatcher has to give way before it brings more: to the readers of a large
+    /// publication, or to an IO loop that is behind.
+    pub(crate) fn owes_way(&self) -> bool {
+        self.rest.load(Ordering::SeqCst) != 0 || self.behind.load(Ordering::SeqCst) >= MOST_BEHIND
     }
 
     // The time passes that is left to the readers of what was brought last.
