@@ -141,8 +141,8 @@ impl<N: Naming, E: Epochs + Drop> Broker<N, E> {
         false
     }
 
-    /// Wakes who sleeps at the other ends of the links: what was published is brought on from then on at the latest, and where nobody
-    /// rings once a receiver looks by itself. One ring does for many publishes. This is tested.
+    /// Wakes the nodes' dispatchers that sleep, so that they bring on what was published. One ring does for many publishes; where
+    /// nobody rings, a dispatcher looks once its sleep is over.
     pub fn ring<R: Wait>(&self, rt: &R) {
         for link in self.links.as_slice() {
             link.ring(rt);
