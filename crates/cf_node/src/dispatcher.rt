@@ -1,4 +1,5 @@
 //! The worker that brings what the broker published to the node's hub.
+ghost use Rattle.std.specs.Prelude.{◌≡◌};
 ghost use Rattle.cf_dispatch.specs.Dispatch.{Dispatches};
 
 use crate::gate::{DISPATCHER, Gate};
@@ -16,9 +17,9 @@ use std::time::{Clock, Duration};
 // as long.
 const LONGEST_SLEEP: u64 = 500;
 
-// Publications that come at once are brought to the hub under one lock, until they met so many
-// sessions.
-const MOST_MET: usize = 64;
+// Publications that come at once are brought to the hub under one lock, until there were so many of
+// them and of the sessions that they met.
+const MOST_MET: u32 = 64;
 
 /// The dispatcher's end of the node's link, and the hub under its lock.
 #[derive(Drop)]
@@ -29,8 +30,8 @@ pub(crate) struct NodeMailbox<'a, R, G> {
     shared: &'a Shared,
     // The hub, while more waits to be brought to it.
     hub: Option<MutexGuard<'a, Hub>>,
-    // How many sessions met what was brought under this lock.
-    met: usize,
+    // How many publications were brought under this lock, and sessions met them.
+    met: u32,
 }
 
 impl<'a, R: Wait, G> NodeMailbox<'a, R, G> {
@@ -56,7 +57,7 @@ impl<'a, R: Wait, G> NodeMailbox<'a, R, G> {
         ensures { self.new.receiver ≡ self.old.receiver }
     {
         let met = delivered.passed.saturating_add(delivered.kept);
-        self.met = self.met.saturating_add(met as usize);
+        self.met = self.met.saturating_add(met).saturating_add(1);
         self.met < MOST_MET && !self.shared.owes_way() && self.receiver.waiting(self.rt) > 0
     }
 }
