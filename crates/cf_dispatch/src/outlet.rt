@@ -71,7 +71,12 @@ fn has_room(taken: &mut VecDeque<Out>) -> bool
     ensures same { taken.new.items ≡ taken.old.items }
     ensures room { IsTrue result ↔ (deque_len taken.new < deque_capacity taken.new) }
 {
-    let _ = taken.reserve(1);
+    let _ = if taken.capacity() == 0 {
+        // Most clients get one thing at a time.
+        taken.reserve_exact(1)
+    } else {
+        taken.reserve(1)
+    };
     taken.len() < taken.capacity()
 }
 
