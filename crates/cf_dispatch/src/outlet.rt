@@ -72,8 +72,8 @@ fn has_room(taken: &mut VecDeque<Out>) -> bool
     ensures room { IsTrue result ↔ (deque_len taken.new < deque_capacity taken.new) }
 {
     let _ = if taken.capacity() == 0 {
-        // Most clients get one thing at a time.
-        taken.reserve_exact(1)
+        // Most clients get one thing at a time, before more is looked for.
+        taken.reserve_exact(2)
     } else {
         taken.reserve(1)
     };

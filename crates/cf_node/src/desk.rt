@@ -184,8 +184,8 @@ impl<'a, B: Backend> SessionDesk<'a, B> {
         }
         let out = self.taken.pop_front();
         if out.is_none() {
-            // An idle connection keeps room for one thing, so that the next takes no memory.
-            self.taken.shrink_to(1);
+            // An idle connection keeps room for what comes one by one, so that this takes no memory.
+            self.taken.shrink_to(2);
         }
         out
     }

@@ -285,13 +285,31 @@ impl<'a, B: Backend> IoLoop<'a, B> {
 
     // A turn of the connection at a place is to come.
     fn owe(&mut self, place: usize) {
-        let agenda = match self.places.get(place) {
-            Some(Connection::Open(open)) if open.desk.handler.is_held => &mut self.held,
-            Some(Connection::Open(open)) if open.is_spent => &mut self.spenders,
-            _ => &mut self.agenda,
+        let added = if self.is_held(place) {
+            self.held.add(place)
+        } else if self.has_spent(place) {
+            self.spenders.add(place)
+        } else {
+            self.agenda.add(place)
         };
-        if agenda.add(place).is_err() {
+        if added.is_err() {
             self.end(place);
+        }
+    }
+
+    // Whether the connection at a place published while some node was behind.
+    fn is_held(&self, place: usize) -> bool {
+        match self.places.get(place) {
+            Some(Connection::Open(open)) => open.desk.handler.is_held,
+            _ => false,
+        }
+    }
+
+    // Whether the connection at a place has spent the bounds of its last turn.
+    fn has_spent(&self, place: usize) -> bool {
+        match self.places.get(place) {
+            Some(Connection::Open(open)) => open.is_spent,
+            _ => false,
         }
     }
 
