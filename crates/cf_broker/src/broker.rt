@@ -157,12 +157,12 @@ impl<N: Naming, E: Epochs + Drop> Broker<N, E> {
         at_place!(self, shard => word())
     }
 
-    /// Publishes to a channel at a moment in seconds, offers the publication to each node, and answers its position. It wakes no
-    /// node: `ring` does. The channel's stream opens where there is none. A node whose link is full loses it. A publish whose key is among the last
-    /// hundred of the stream is a repeat: it adds and offers nothing, is answered with the position of the publication that it
-    /// repeats, and is never refused. The empty key is none. Of a publish that is no repeat: `AtLastOffset` at the stream's last
-    /// offset, `NoEpoch` where a stream would open and none was drawn, `Memory` where a growth was refused, `AtLastCount` where
-    /// the shard's log has no room.
+    /// Publishes to a channel at a moment in seconds, offers the publication to each node, and answers its position. It wakes
+    /// no node: `ring` does. The channel's stream opens where there is none. A node whose link is full loses it. A publish
+    /// whose key is among the last hundred of the stream is a repeat: it adds and offers nothing, is answered with the position
+    /// of the publication that it repeats, and is never refused. The empty key is none. Of a publish that is no repeat:
+    /// `AtLastOffset` at the stream's last offset, `NoEpoch` where a stream would open and none was drawn, `Memory` where a
+    /// growth was refused, `AtLastCount` where the shard's log has no room.
     pub fn publish<R: Wait>(
         &self,
         rt: &R,
