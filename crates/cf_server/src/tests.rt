@@ -10,9 +10,10 @@ mod serving;
 mod speaking;
 mod together;
 
-use crate::command_line::{self, DEFAULT_LINK, DEFAULT_NAMESPACES, Job, Options, ServeOptions};
-use crate::config_of;
-use crate::fault::{Fault, Setting};
+use cf_commands::{
+    DEFAULT_LINK, DEFAULT_NAMESPACES, Fault, Job, Options, ServeOptions, Setting, config_of,
+    read_words,
+};
 use cf_simulate::SimulateFault;
 use std::alloc::Global;
 use std::process::Abort;
@@ -60,7 +61,7 @@ fn words_of(alloc: Global, line: &str) -> Option<Vec<String>> {
 // Whether a line's words ask for this job, or, where there is none, can't be used.
 fn asks_for(alloc: Global, line: &str, wanted: Option<Job<'_>>) -> bool {
     match words_of(alloc, line) {
-        Some(words) => command_line::read(alloc, words.as_slice()).ok() == wanted,
+        Some(words) => read_words(alloc, words.as_slice()).ok() == wanted,
         None => false,
     }
 }

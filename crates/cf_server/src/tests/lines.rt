@@ -1,5 +1,5 @@
 //! The lines of standard input while nodes serve.
-use crate::sizes::{Line, Listener};
+use cf_commands::{Line, Listener};
 use std::alloc::Global;
 
 // Keeps what it hears, a `|` behind each line.

@@ -2,8 +2,8 @@
 ghost use Rattle.std.specs.Prelude.{◌≡◌, ◌<◌};
 ghost use Rattle.cf_broker.specs.Shards.{names};
 
-use crate::command_line::DEFAULT_NAMESPACES;
 use cf_broker::{Broker, Passes, Words};
+use cf_commands::DEFAULT_NAMESPACES;
 use cf_epochs::{Boot, BootEpochs};
 use cf_link::{Sender, pair};
 use cf_node::{Node, Setup};

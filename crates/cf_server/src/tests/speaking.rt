@@ -1,7 +1,5 @@
 //! Conversations by `speak`.
-use crate::command_line::{DEFAULT_EPOCHS, DEFAULT_NAMESPACES, SpeakOptions};
-use crate::fault::Fault;
-use crate::speak::{setup_of, speak};
+use cf_commands::{DEFAULT_EPOCHS, DEFAULT_NAMESPACES, Fault, SpeakOptions, setup_of, speak};
 use std::alloc::{AllocError, Global};
 use std::process::Abort;
 

@@ -15,27 +15,27 @@ use std::sync::Wait;
 const KEPT: usize = 44;
 
 /// Who hears the lines of standard input.
-pub(crate) trait Listener {
+pub trait Listener {
     /// A whole line, without its line feed; of a long one its first 44 bytes.
     fn hear_line(&mut self, line: &str);
 }
 
 /// A line of standard input, as far as it has come.
 #[derive(Drop)]
-pub(crate) struct Line {
+pub struct Line {
     bytes: Vec<u8>,
 }
 
 impl Line {
     /// Nothing has come.
-    pub(crate) fn new(alloc: Global) -> Result<Line, AllocError> {
+    pub fn new(alloc: Global) -> Result<Line, AllocError> {
         Ok(Line {
             bytes: Vec::with_capacity(alloc, KEPT)?,
         })
     }
 
     /// These bytes have come. The lines that they end are heard, but for those that aren't UTF-8.
-    pub(crate) fn add_all<L: Listener>(&mut self, bytes: &[u8], listener: &mut L) {
+    pub fn add_all<L: Listener>(&mut self, bytes: &[u8], listener: &mut L) {
         for byte in bytes {
             self.add(*byte, listener);
         }

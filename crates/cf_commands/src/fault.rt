@@ -1,6 +1,6 @@
 //! How a command of the program ends where it doesn't succeed.
 ghost use Rattle.std.specs.Prelude.{◌≡◌};
-ghost use Rattle.cf_server.specs.Status.{status_of, fault_of_text};
+ghost use Rattle.cf_commands.specs.Status.{status_of, fault_of_text};
 
 use cf_protocol::ReadFault;
 use cf_simulate::SimulateFault;
@@ -86,7 +86,7 @@ impl Fault {
 
 impl From<AllocError> for Fault {
     ghost use Rattle.std.specs.Prelude.{◌≡◌};
-    ghost use Rattle.cf_server.specs.declared.fault.Fault.TheVariants.{Memory};
+    ghost use Rattle.cf_commands.specs.declared.fault.Fault.TheVariants.{Memory};
 
     ghost from_gives = { λ _ fault. fault ≡ Memory };
 
@@ -97,7 +97,7 @@ impl From<AllocError> for Fault {
 
 impl<T: Drop> From<AllocFailed<T>> for Fault {
     ghost use Rattle.std.specs.Prelude.{◌≡◌};
-    ghost use Rattle.cf_server.specs.declared.fault.Fault.TheVariants.{Memory};
+    ghost use Rattle.cf_commands.specs.declared.fault.Fault.TheVariants.{Memory};
 
     ghost from_gives = { λ _ fault. fault ≡ Memory };
 
@@ -108,7 +108,7 @@ impl<T: Drop> From<AllocFailed<T>> for Fault {
 
 impl From<SimulateFault> for Fault {
     ghost use Rattle.std.specs.Prelude.{◌≡◌};
-    ghost use Rattle.cf_server.specs.declared.fault.Fault.TheVariants.{Simulation};
+    ghost use Rattle.cf_commands.specs.declared.fault.Fault.TheVariants.{Simulation};
 
     ghost from_gives = { λ fault given. given ≡ Simulation fault };
 
@@ -118,7 +118,7 @@ impl From<SimulateFault> for Fault {
 }
 
 impl From<io::Error> for Fault {
-    ghost use Rattle.cf_server.specs.Status.{IsOutside};
+    ghost use Rattle.cf_commands.specs.Status.{IsOutside};
 
     ghost from_gives = { λ _ fault. IsOutside fault };
 

@@ -301,7 +301,7 @@ fn program<'a>(alloc: Global) -> Result<Command<'a>, AllocError> {
 
 /// Reads the program's words. With none but the program's name they ask for `simulate`. An error is what is to be shown:
 /// the help that was asked for, or why the words can't be used.
-pub fn read<'a>(alloc: Global, words: &'a [String]) -> Result<Job<'a>, Error> {
+pub fn read_words<'a>(alloc: Global, words: &'a [String]) -> Result<Job<'a>, Error> {
     let matches = program(alloc)?.try_get_matches_from(words)?;
     Ok(match matches.subcommand() {
         Some(("serve", found)) => Job::Serve(serve_options(found)),
@@ -341,7 +341,7 @@ fn serve_options<'a>(found: &ArgMatches<'a>) -> ServeOptions<'a> {
     }
 }
 
-/// Shows an error of `read`, and gives the exit status.
+/// Shows an error of `read_words`, and gives the exit status.
 pub fn show<R: Print + Eprint>(rt: &R, error: &Error) -> Result<ExitCode, Fault> {
     if error.kind() == ErrorKind::OutOfMemory {
         return Err(Fault::Memory);

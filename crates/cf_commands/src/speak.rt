@@ -4,7 +4,7 @@ ghost use Rattle.cf_speak.specs.Conversation.{BreaksOff, Speaks};
 
 use crate::command_line::SpeakOptions;
 use crate::fault::{Fault, Setting};
-use crate::{namespaces_of, tokens_of};
+use crate::settings::{namespaces_of, tokens_of};
 use cf_speak::{GivenEpochs, Setup, SpeakFault, converse};
 use std::alloc::Global;
 use std::io::{BufRead, Write};

@@ -1,7 +1,7 @@
 //! What is known of the nodes while they serve, and the wait for the end of standard input.
 ghost use Rattle.std.specs.Prelude.{◌≡◌, true, IfOk, IfErr};
 ghost use Rattle.std.specs.Io.KnownBytes.{IsAtEnd};
-ghost use Rattle.cf_server.specs.Status.{IsOutside};
+ghost use Rattle.cf_commands.specs.Status.{IsOutside};
 
 use crate::fault::Fault;
 use crate::sizes::{Line, Listener};
