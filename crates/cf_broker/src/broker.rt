@@ -149,6 +149,13 @@ impl<N: Naming, E: Epochs + Drop> Broker<N, E> {
         }
     }
 
+    /// Wakes the dispatcher of one node, where it sleeps; where there is no such node, nobody.
+    pub fn ring_at<R: Wait>(&self, rt: &R, node: usize) {
+        if let Some(link) = self.links.get(node) {
+            link.ring(rt);
+        }
+    }
+
     /// The word of a shard, by which passes are lent, met and joined.
     pub fn word(&self, shard: usize) -> &ShardWord
         requires { shard < SHARDS }

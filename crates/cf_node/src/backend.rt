@@ -44,8 +44,11 @@ pub(crate) trait Backend {
     /// Whether some node is behind with what was published, so that who publishes is to wait.
     fn is_crowded(&self) -> bool;
 
-    /// Wakes the workers that bring on what was published.
+    /// Wakes the workers that bring on what was published, on every node.
     fn ring(&self);
+
+    /// Wakes the one of this node.
+    fn ring_here(&self);
 
     /// Whether what was published last went to many of the node's clients.
     fn meets_many(&self) -> bool;

@@ -110,10 +110,10 @@ impl<'a, B: Backend> Node for CommandHandler<'a, B> {
         let answer = self
             .backend
             .publish(channel.as_str(), body, key, info, self.now);
+        self.has_published = true;
         if self.backend.meets_many() {
-            self.backend.ring();
-        } else {
-            self.has_published = true;
+            // What goes to many of the node's clients is brought on meanwhile.
+            self.backend.ring_here();
         }
         self.is_held = self.is_held || self.backend.is_crowded();
         match answer {

@@ -3,7 +3,7 @@ ghost use Rattle.std.specs.Prelude.{◌≡◌};
 ghost use Rattle.cf_dispatch.specs.Dispatch.{Dispatches};
 
 use crate::gate::{DISPATCHER, Gate};
-use crate::shared::Shared;
+use crate::shared::{MANY, Shared};
 use cf_dispatch::{Mailbox, pass_on};
 use cf_hub::{Delivered, Hub};
 use cf_link::Receiver;
@@ -16,10 +16,6 @@ use std::time::{Clock, Duration};
 // How long it sleeps at most where nothing comes, in milliseconds: a program that ends waits for it
 // as long.
 const LONGEST_SLEEP: u64 = 500;
-
-// Publications that come at once are brought to the hub under one lock, until there were so many of
-// them and of the sessions that they met.
-const MOST_MET: u32 = 64;
 
 /// The dispatcher's end of the node's link, and the hub under its lock.
 #[derive(Drop)]
@@ -58,7 +54,7 @@ impl<'a, R: Wait, G> NodeMailbox<'a, R, G> {
     {
         let met = delivered.passed.saturating_add(delivered.kept);
         self.met = self.met.saturating_add(met).saturating_add(1);
-        self.met < MOST_MET && !self.shared.owes_way() && self.receiver.waiting(self.rt) > 0
+        self.met < MANY && !self.shared.owes_way() && self.receiver.waiting(self.rt) > 0
     }
 }
 

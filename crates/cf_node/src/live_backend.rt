@@ -89,6 +89,10 @@ impl<'a, R: Wait, N: Naming, E: Epochs + Drop> Backend for LiveBackend<'a, R, N,
         self.broker.ring(self.rt);
     }
 
+    fn ring_here(&self) {
+        self.broker.ring_at(self.rt, usize::from(self.setup.node()));
+    }
+
     fn meets_many(&self) -> bool {
         self.shared.meets_many()
     }

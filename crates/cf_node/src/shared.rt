@@ -20,8 +20,9 @@ const LARGE: usize = 16_384;
 /// So many bytes of a large publication are worth a millisecond.
 const PACE: usize = 32_768;
 
-/// A publication that is pushed to so many clients keeps the dispatcher busy for a while.
-const MANY: u64 = 64;
+/// So many clients keep the dispatcher busy for a while: for what follows a publication that was
+/// pushed to as many it is woken at once, and no further one is brought to the hub under a lock.
+pub(crate) const MANY: u32 = 64;
 
 /// The most times that it yields to a loop that waits for the hub.
 const MOST_YIELDS: u32 = 1000;
@@ -86,7 +87,7 @@ impl Shared {
 
     /// Whether the last publication was pushed to many clients.
     pub(crate) fn meets_many(&self) -> bool {
-        self.met.load(Ordering::SeqCst) >= MANY
+        self.met.load(Ordering::SeqCst) >= MANY as u64
     }
 
     /// Wakes the IO loop, unless it was woken since it last looked.
