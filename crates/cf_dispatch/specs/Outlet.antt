@@ -1,6 +1,6 @@
 -- What is taken from a node's hub for a client. (This project's own profile.)
 use Rattle.std.specs.Prelude.{◌≡◌, ◌≤◌, ◌+◌, ◌⊎◌, ℕ, Bool, true, false, ◌++◌, List, length, map, option_map}
-use Rattle.std.specs.Prelude.{string_len, sum_by}
+use Rattle.std.specs.Prelude.{sum_by}
 use Rattle.cf_queue.specs.Meaning.{meaning}
 use Rattle.cf_queue.specs.OutQueue.{Item}
 use Rattle.cf_queue.specs.declared.queue.Out.{Out}
@@ -30,7 +30,7 @@ pub record Takes (k : ℕ) (old new : Node) (had has : List Out) : Type 0 where
 
 -- how many bytes of text it has
 abbrev pub bytes_in : Out → ℕ
-bytes_in (out.Text text) = string_len text
+bytes_in (out.Text text) = length text
 bytes_in (out.Close code) = 0
 
 -- so many bytes of texts are taken at once, or as many items

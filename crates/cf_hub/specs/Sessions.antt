@@ -1,8 +1,6 @@
 -- What a call makes of one of a node's sessions: of the session itself, and of all of them by number.
 use Rattle.std.specs.Prelude.{◌≡◌, ◌≢◌, ◌&&◌, ℕ, not, Bool, false, if◌then◌else◌, Option, MatchOption, IfSome, List}
-use Rattle.std.specs.Prelude.{map, option_map, string_bytes}
-use Rattle.std.specs.declared.alloc.Global.{Global}
-use Rattle.std.specs.declared.string.String.{String}
+use Rattle.std.specs.Prelude.{map, option_map}
 use Rattle.cf_protocol.specs.Datum.{Placed}
 use Rattle.cf_queue.specs.OutQueue.{Item, Text}
 use Rattle.cf_stream.specs.declared.answer.Recovery.{Recovery}
@@ -63,9 +61,9 @@ abbrev pub Acts : Bool → Move → Session → Session → Type 0
 Acts refused move old new = OrCloses refused plain move (state_of old) (state_of new)
 
 -- a text is said, if there is one; or memory was refused for it, and it is closed in place of that
-abbrev pub SaysText : Bool → Option (String Global) → Session → Session → Type 0
+abbrev pub SaysText : Bool → Option (List ℕ) → Session → Session → Type 0
 SaysText refused text old new =
-    (t : List ℕ) → IfSome text (λ x. string_bytes x ≡ t) → Acts refused (says_one t) old new
+    (t : List ℕ) → IfSome text (λ x. x ≡ t) → Acts refused (says_one t) old new
 
 -- it is told these; or memory was refused amid them, and it is closed then
 abbrev pub Tells : Bool → List Item → Session → Session → Type 0

@@ -1,7 +1,5 @@
 -- How the code says and keeps things: texts and closes, and the publications that came.
-use Rattle.std.specs.Prelude.{◌≡◌, ◌||◌, ℕ, true, Bool, List, [], map, length, Option, None, IfSome, string_bytes}
-use Rattle.std.specs.declared.alloc.Global.{Global}
-use Rattle.std.specs.declared.string.String.{String}
+use Rattle.std.specs.Prelude.{◌≡◌, ◌||◌, ℕ, true, Bool, List, [], map, length, Option, None, IfSome}
 use Rattle.cf_protocol.specs.Datum.{Placed}
 use Rattle.cf_protocol.specs.Note.{Reading, insufficient}
 use Rattle.cf_protocol.specs.Outgoing.{Ping, Answer, Push, Subscribed, Publication, Unsubscribe}
@@ -82,5 +80,5 @@ abbrev pub at_offset : List ℕ → Placed → Position
 at_offset e p = record { epoch = e; offset = p.offset }
 
 -- the text, where there is one, is the push of this publication
-abbrev pub IsWritten : Option (String Global) → List ℕ → Placed → Type 0
-IsWritten text c p = IfSome text (λ t. string_bytes t ≡ push_text c p)
+abbrev pub IsWritten : Option (List ℕ) → List ℕ → Placed → Type 0
+IsWritten text c p = IfSome text (λ t. t ≡ push_text c p)

@@ -18,6 +18,7 @@ use crate::one_session::{
 use crate::pending::Pending;
 use crate::session_table::Sessions;
 use crate::wording::push_text;
+use bytes::ByteStr;
 use cf_protocol::{Epoch, Publication};
 use cf_queue::Out;
 use cf_subscribers::Subscribers;
@@ -188,7 +189,7 @@ impl Hub {
         channel: &str,
         epoch: &Epoch,
         publication: &Publication,
-        written: &Option<String>,
+        written: &Option<ByteStr>,
     ) -> Delivered
         requires { IsWritten written.now channel.now publication.now }
         ensures each { Delivers channel.now epoch.now publication.now self.old self.new }

@@ -18,6 +18,7 @@ use crate::queued::Queued;
 use crate::session::Session;
 use crate::session_table::Sessions;
 use crate::step::Step;
+use bytes::ByteStr;
 use cf_protocol::{Epoch, Position, Publication};
 use cf_queue::Out;
 use cf_stream::Recovery;
@@ -32,7 +33,7 @@ pub(crate) fn bring_one(
     channel: &str,
     epoch: &Epoch,
     publication: &Publication,
-    written: &Option<String>,
+    written: &Option<ByteStr>,
 ) -> Step
     requires { IsWritten written.now channel.now publication.now }
     ensures here { MeetsIn number (Brings result.refused channel.now epoch.now publication.now)

@@ -4,7 +4,8 @@ ghost use Rattle.std.specs.Prelude.{◌≡◌, ◌||◌};
 use crate::fate::Fate;
 use crate::step::Step;
 use crate::subscription::{Meets, Met, Progress, replace, take_at, take_out};
-use crate::wording::{end_text, push_text};
+use crate::wording::{end_text, push_text, shared};
+use bytes::ByteStr;
 use cf_protocol::{CloseCode, Epoch, Publication};
 use cf_queue::{Out, OutQueue, QueueRefusal};
 use cf_recovery::Verdict;
@@ -105,7 +106,7 @@ impl Session {
     }
 
     /// Queues a text, or closes the session. Says whether memory was refused, as it was for a text that isn't there.
-    pub(crate) fn say(&mut self, text: Option<String>) -> bool
+    pub(crate) fn say(&mut self, text: Option<ByteStr>) -> bool
         ensures state { SaysText result text self.old self.new }
         ensures badge { badge_of self.new ≡ badge_of self.old }
     {
@@ -127,23 +128,23 @@ impl Session {
         }
     }
 
-    /// Queues a text that is there, and says what that did.
+    /// Queues a text, and says what that did.
     pub(crate) fn tell(&mut self, text: String) -> Step
         ensures state { Acts result.refused (says_one (string_bytes text)) self.old self.new }
         ensures offs { EndsAs result.fate [] self.old self.new }
         ensures badge { badge_of self.new ≡ badge_of self.old }
     {
         let was_closed = self.queue.is_closed();
-        let refused = self.say(Some(text));
+        let refused = self.say(shared(text));
         self.step(was_closed, Fate::Passed, refused)
     }
 
-    /// Queues a copy of a text, or closes the session. Says whether memory was refused.
-    fn say_copy(&mut self, text: &str) -> bool
+    /// Queues a text that others get as well, or closes the session. Says whether memory was refused.
+    fn say_shared(&mut self, text: &ByteStr) -> bool
         ensures state { Acts result (says_one text.now) self.old self.new }
         ensures badge { badge_of self.new ≡ badge_of self.old }
     {
-        match self.queue.push_copy(text) {
+        match self.queue.push_shared(text) {
             Ok(()) => false,
             Err(QueueRefusal::Closed) => false,
             Err(QueueRefusal::Slow) => {
@@ -161,7 +162,7 @@ impl Session {
     fn say_publication(
         &mut self,
         alloc: Global,
-        written: &Option<String>,
+        written: &Option<ByteStr>,
         channel: &str,
         publication: &Publication,
     ) -> bool
@@ -171,7 +172,7 @@ impl Session {
         ensures badge { badge_of self.new ≡ badge_of self.old }
     {
         match written {
-            Some(text) => self.say_copy(text.as_str()),
+            Some(text) => self.say_shared(text),
             None => self.say(push_text(alloc, channel, publication)),
         }
     }
@@ -244,7 +245,7 @@ impl Session {
         channel: &str,
         epoch: &Epoch,
         publication: &Publication,
-        written: &Option<String>,
+        written: &Option<ByteStr>,
     ) -> Step
         requires { IsWritten written.now channel.now publication.now }
         ensures state { IsBrought result.refused channel.now epoch.now publication.now

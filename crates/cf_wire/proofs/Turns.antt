@@ -1,7 +1,5 @@
 -- How events make a turn, and how turns join.
-use Rattle.std.proofs.Common.{◌≡◌, ◌∙◌, ℕ, ◌+◌, ◌-◌, length, ◌≤◌, ◌<◌, List, [], ◌∷◌, ◌++◌, Bool, if◌then◌else◌, Option, None, Some, Result, Ok, Err, OnOk, IfErr, true, false, ◌⊎◌, inl, inr, refl, sym, ap, subst, arith, string_bytes}
-use Rattle.std.specs.declared.string.String.{String}
-use Rattle.std.specs.declared.alloc.Global.{Global}
+use Rattle.std.proofs.Common.{◌≡◌, ◌∙◌, ℕ, ◌+◌, ◌-◌, length, ◌≤◌, ◌<◌, List, [], ◌∷◌, ◌++◌, Bool, if◌then◌else◌, Option, None, Some, Result, Ok, Err, OnOk, IfErr, true, false, ◌⊎◌, inl, inr, refl, sym, ap, subst, arith}
 use Rattle.tungstenite.specs.Connection.{write_step, close_step}
 use Rattle.tungstenite.specs.Content.{text}
 use Rattle.tungstenite.specs.Failure.{IsIo, WriteFails}
@@ -14,7 +12,7 @@ use Rattle.cf_queue.specs.declared.queue.Out.{Out}
 use Rattle.cf_queue.specs.declared.queue.Out.TheVariants.{Text, Close}
 use Rattle.cf_wire.specs.CloseFrame.{frame_of}
 use Rattle.cf_wire.specs.Stages.{WireState, is_open, is_over, waits_by, end_by, after, close_in, settled, Halts, Stops}
-use Rattle.cf_wire.specs.Turn.{Event, heard, passed, ended, rejected, failed, none, sent, refused, unwrapped, flushed, tried, reads, moves, bytes, bytes_before, is_stop, most_reads, most_bytes, IsEmptied, Rests, IsUsedUp, EndFits, Mark, going, emptied, over, Fits, is_bad, is_signal, code_in, bad_message, Puts, Fails, Settles, FlushLeaves, Place, place, DeskDoes, WireDoes, Did, Part, Turns, mark_of, read_in}
+use Rattle.cf_wire.specs.Turn.{Event, heard, passed, ended, rejected, failed, none, sent, refused, flushed, tried, reads, moves, bytes, bytes_before, is_stop, most_reads, most_bytes, IsEmptied, Rests, IsUsedUp, EndFits, Mark, going, emptied, over, Fits, is_bad, is_signal, code_in, bad_message, Puts, Fails, Settles, FlushLeaves, Place, place, DeskDoes, WireDoes, Did, Part, Turns, mark_of, read_in}
 use Rattle.cf_wire.specs.declared.end.Stage.{Stage}
 use Rattle.cf_wire.specs.declared.end.Stage.TheVariants.{Open, Unflushed, Over}
 use Rattle.cf_wire.specs.declared.end.WireEnd.{WireEnd}
@@ -46,7 +44,6 @@ bytes_zero (failed x ∷ es) h = omega (arith, bytes_zero es (omega (arith, h)))
 bytes_zero (none ∷ es) h = omega (arith, bytes_zero es (omega (arith, h)))
 bytes_zero (sent o ∷ es) h = omega (arith, bytes_zero es (omega (arith, h)))
 bytes_zero (refused o x ∷ es) h = omega (arith, bytes_zero es (omega (arith, h)))
-bytes_zero (unwrapped o ∷ es) h = omega (arith, bytes_zero es (omega (arith, h)))
 bytes_zero (flushed ∷ es) h = omega (arith, bytes_zero es (omega (arith, h)))
 bytes_zero (tried x ∷ es) h = omega (arith, bytes_zero es (omega (arith, h)))
 
@@ -60,7 +57,6 @@ before_zero (failed x ∷ es) h = before_zero es (omega (arith, h))
 before_zero (none ∷ es) h = before_zero es (omega (arith, h))
 before_zero (sent o ∷ es) h = before_zero es (omega (arith, h))
 before_zero (refused o x ∷ es) h = before_zero es (omega (arith, h))
-before_zero (unwrapped o ∷ es) h = before_zero es (omega (arith, h))
 before_zero (flushed ∷ es) h = before_zero es (omega (arith, h))
 before_zero (tried x ∷ es) h = before_zero es (omega (arith, h))
 
@@ -74,7 +70,6 @@ before_bound (failed x ∷ es) = omega (arith, before_bound es)
 before_bound (none ∷ es) = omega (arith, before_bound es)
 before_bound (sent o ∷ es) = omega (arith, before_bound es)
 before_bound (refused o x ∷ es) = omega (arith, before_bound es)
-before_bound (unwrapped o ∷ es) = omega (arith, before_bound es)
 before_bound (flushed ∷ es) = omega (arith, before_bound es)
 before_bound (tried x ∷ es) = omega (arith, before_bound es)
 
@@ -88,7 +83,6 @@ before_quiet (failed x ∷ es) fs h = before_quiet es fs (omega (arith, h))
 before_quiet (none ∷ es) fs h = before_quiet es fs (omega (arith, h))
 before_quiet (sent o ∷ es) fs h = before_quiet es fs (omega (arith, h))
 before_quiet (refused o x ∷ es) fs h = before_quiet es fs (omega (arith, h))
-before_quiet (unwrapped o ∷ es) fs h = before_quiet es fs (omega (arith, h))
 before_quiet (flushed ∷ es) fs h = before_quiet es fs (omega (arith, h))
 before_quiet (tried x ∷ es) fs h = before_quiet es fs (omega (arith, h))
 
@@ -102,7 +96,6 @@ before_append (failed x ∷ es) fs = before_append es fs
 before_append (none ∷ es) fs = before_append es fs
 before_append (sent o ∷ es) fs = before_append es fs
 before_append (refused o x ∷ es) fs = before_append es fs
-before_append (unwrapped o ∷ es) fs = before_append es fs
 before_append (flushed ∷ es) fs = before_append es fs
 before_append (tried x ∷ es) fs = before_append es fs
 
@@ -127,7 +120,6 @@ rests_stop (failed x) es b h = h
 rests_stop none es b h = absurd (cc h)
 rests_stop (sent o) es b h = h
 rests_stop (refused o x) es b h = h
-rests_stop (unwrapped o) es b h = h
 rests_stop flushed es b h = h
 rests_stop (tried x) es b h = h
 
@@ -141,7 +133,6 @@ rests_append (failed x ∷ es) fs b h = h
 rests_append (none ∷ es) fs b h = h
 rests_append (sent o ∷ es) fs b h = h
 rests_append (refused o x ∷ es) fs b h = h
-rests_append (unwrapped o ∷ es) fs b h = h
 rests_append (flushed ∷ es) fs b h = h
 rests_append (tried x ∷ es) fs b h = h
 
@@ -155,7 +146,6 @@ emptied_append (failed x ∷ es) fs h = absurd h
 emptied_append (none ∷ es) fs h = tt
 emptied_append (sent o ∷ es) fs h = absurd h
 emptied_append (refused o x ∷ es) fs h = absurd h
-emptied_append (unwrapped o ∷ es) fs h = absurd h
 emptied_append (flushed ∷ es) fs h = absurd h
 emptied_append (tried x ∷ es) fs h = absurd h
 
@@ -169,7 +159,6 @@ rests_emptied (failed x ∷ es) b h is = absurd h
 rests_emptied (none ∷ es) b h is = is
 rests_emptied (sent o ∷ es) b h is = absurd h
 rests_emptied (refused o x ∷ es) b h is = absurd h
-rests_emptied (unwrapped o ∷ es) b h is = absurd h
 rests_emptied (flushed ∷ es) b h is = absurd h
 rests_emptied (tried x ∷ es) b h is = absurd h
 
@@ -217,9 +206,6 @@ closed_if false stage end h = refl
 open_not_after : (stage : Stage) (e : Error) (close : Option ℕ) → stage ≡ Open → stage ≡ after e (Unflushed close) → ⊥
 open_not_after stage e close a b = absurd (cc (sym (ap is_open a) ∙ ap is_open b, closed_if (waits_by e) (Unflushed close) (end_by e) refl))
 
-open_not_over : (stage : Stage) (end : WireEnd) → stage ≡ Open → stage ≡ Over end → ⊥
-open_not_over stage end a b = absurd (cc (sym (ap is_open a) ∙ ap is_open b))
-
 -- ---- what the socket answered
 
 module _ {S : Type 0} where
@@ -231,10 +217,10 @@ module _ {S : Type 0} where
       inl (subst (Puts contents old out) (sym same) puts, ap (λ (s : Socket S). s.output) same ∙ empty, ok)
   settles contents old mid new out stage (Err e) puts empty fails same ok err =
       let P : Socket S → Type 0 = λ x. Fails contents old out x e in
-      inr (inl (e, (subst P (sym same) fails, err)))
+      inr (e, (subst P (sym same) fails, err))
 
-  pub settles_text : (contents : S → Option (List ℕ)) (old mid new : Socket S) (s : String Global) (m : Message) (stage : Stage) (answer : Result (Unit {0}) Error)
-      → content_of m ≡ text (string_bytes s)
+  pub settles_text : (contents : S → Option (List ℕ)) (old mid new : Socket S) (s : List ℕ) (m : Message) (stage : Stage) (answer : Result (Unit {0}) Error)
+      → content_of m ≡ text s
       → OnOk answer (Writes contents old mid (write_step old.conn (content_of m))) → OnOk answer (mid.output ≡ [])
       → IfErr answer (WriteFails (write_step old.conn (content_of m))) → IfErr answer (λ e. e ≡ WriteBufferFull → mid ≡ old)
       → IfErr answer (λ e. IsIo e → Writes contents old mid (write_step old.conn (content_of m))) → IfErr answer (λ e. e ≡ OutOfMemory → mid ≡ old)
@@ -352,17 +338,14 @@ module _ {D S : Type 0} (hears : D → List ℕ → D → Type 0) (gives : D →
   pub out_open : (d e : D) (v w : WireState S) (out : Out) → v.stage ≡ Open → gives d (Some out) e → Settles contents v.socket out w.socket w.stage → w.stage ≡ Open
       → Part hears gives ready remaining contents 1 0 0 0 going (place d v) (place e w)
   out_open d e v w out is h (inl lands) opened = turns_one (sent out) 1 0 0 0 going _ _ h (is, lands) (omega arith) (omega arith) (omega arith) (inl (omega arith)) tt
-  out_open d e v w out is h (inr (inl fails)) opened = absurd (open_not_after w.stage fails.0 (close_in out) opened fails.1.1)
-  out_open d e v w out is h (inr (inr unwraps)) opened = absurd (open_not_over w.stage wire.Memory opened unwraps.2)
+  out_open d e v w out is h (inr fails) opened = absurd (open_not_after w.stage fails.0 (close_in out) opened fails.1.1)
 
   pub out_stopped : (d e : D) (v w : WireState S) (out : Out) (end : TurnEnd) → v.stage ≡ Open → gives d (Some out) e → Settles contents v.socket out w.socket w.stage
       → Stops end w.stage → Part hears gives ready remaining contents 0 0 0 0 (over end) (place d v) (place e w)
   out_stopped d e v w out end is h (inl lands) stops =
       turns_one (sent out) 0 0 0 0 (over end) _ _ h (is, lands) (omega arith) (omega arith) (omega arith) (inl (omega arith)) (fits_settled end (close_in out) w.stage (sent out) [] (ready e) lands.2 stops)
-  out_stopped d e v w out end is h (inr (inl fails)) stops =
+  out_stopped d e v w out end is h (inr fails) stops =
       turns_one (refused out fails.0) 0 0 0 0 (over end) _ _ h (is, fails.1) (omega arith) (omega arith) (omega arith) (inl (omega arith)) (fits_stop end w.stage (refused out fails.0) [] (ready e) stops.0 refl)
-  out_stopped d e v w out end is h (inr (inr unwraps)) stops =
-      turns_one (unwrapped out) 0 0 0 0 (over end) _ _ h (is, unwraps) (omega arith) (omega arith) (omega arith) (inl (omega arith)) (fits_stop end w.stage (unwrapped out) [] (ready e) stops.0 refl)
 
   -- ---- by what was flushed
 

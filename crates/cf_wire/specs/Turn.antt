@@ -1,7 +1,7 @@
 -- What a turn of a wire did, event by event, each by what `tungstenite` promises of the call behind it.
 -- (RFC 6455: the messages of a WebSocket, its pings, pongs and close.)
 use Rattle.std.specs.Prelude.{◌≡◌, ◌≤◌, ◌<◌, ◌⊎◌, ℕ, ◌+◌, ◌-◌, List, [], ◌∷◌, length, Bool, true, false, Option, None}
-use Rattle.std.specs.Prelude.{Some, Result, Ok, Err, string_bytes, ⊤}
+use Rattle.std.specs.Prelude.{Some, Result, Ok, Err, ⊤}
 use Rattle.websocket.specs.Connection.{Connection, Effect}
 use Rattle.websocket.specs.declared.error.Error.{Error as FrameError}
 use Rattle.tungstenite.specs.CloseCode.{close_code_number}
@@ -41,8 +41,6 @@ pub data Event : Type 0 where
   -- something was taken from the desk, and its frame is on the stream; or the socket answered this error
   sent : (out : Out) → Event
   refused : (out : Out) → (error : Error) → Event
-  -- something was taken from the desk, and memory for its message was refused before the socket was called
-  unwrapped : (out : Out) → Event
   -- what waited is on the stream; or the socket answered this error
   flushed : Event
   tried : (error : Error) → Event
@@ -96,7 +94,6 @@ abbrev pub is_stop : Event → Bool
 is_stop rejected = true
 is_stop (failed e) = true
 is_stop (refused o e) = true
-is_stop (unwrapped o) = true
 is_stop (tried e) = true
 is_stop other = false
 
@@ -164,7 +161,7 @@ bad_message = close_code_of BadRequest
 
 -- what a `send` or a `close` of the socket asks of its connection
 abbrev pub step_of : Connection → Out → Result Effect FrameError
-step_of conn (Text s) = write_step conn (text (string_bytes s))
+step_of conn (Text t) = write_step conn (text t)
 step_of conn (Close code) = close_step conn (frame_of code)
 
 module _ {S : Type 0} where
@@ -187,14 +184,9 @@ module _ {S : Type 0} where
   abbrev pub Refuses : (S → Option (List ℕ)) → Socket S → Out → Socket S → Error → Stage → Type 0
   Refuses contents old out new e stage = Fails contents old out new e × (stage ≡ after e (Unflushed (close_in out)))
 
-  -- memory for the message of a text was refused, and the socket was not called
-  abbrev pub Unwraps : Socket S → Out → Socket S → Stage → Type 0
-  Unwraps old out new stage = (close_in out ≡ None) × (new ≡ old) × (stage ≡ Over wire.Memory)
-
   abbrev pub Settles : (S → Option (List ℕ)) → Socket S → Out → Socket S → Stage → Type 0
   Settles contents old out new stage =
       Lands contents old out new stage ⊎ ((e : Error) × Refuses contents old out new e stage)
-      ⊎ Unwraps old out new stage
 
   -- after a flush: all that waited is on the stream, or the stream failed
   abbrev pub FlushLeaves : Option ℕ → Socket S → Stage → Type 0
@@ -223,7 +215,6 @@ module _ {D S : Type 0} where
     DeskDoes none d e = gives d None e
     DeskDoes (sent o) d e = gives d (Some o) e
     DeskDoes (refused o error) d e = gives d (Some o) e
-    DeskDoes (unwrapped o) d e = gives d (Some o) e
     DeskDoes flushed d e = e ≡ d
     DeskDoes (tried error) d e = e ≡ d
 
@@ -247,7 +238,6 @@ module _ {D S : Type 0} where
     WireDoes none v w = (v.stage ≡ Open) × (w ≡ v)
     WireDoes (sent o) v w = (v.stage ≡ Open) × Lands contents v.socket o w.socket w.stage
     WireDoes (refused o e) v w = (v.stage ≡ Open) × Refuses contents v.socket o w.socket e w.stage
-    WireDoes (unwrapped o) v w = (v.stage ≡ Open) × Unwraps v.socket o w.socket w.stage
     WireDoes flushed v w =
         (close : Option ℕ) × (v.stage ≡ Unflushed close) × Flushed contents v.socket w.socket
         × (w.socket.output ≡ [])

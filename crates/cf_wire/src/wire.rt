@@ -234,19 +234,14 @@ impl<S: Read + Write + Drop> Wire<S> {
         }
     }
 
-    fn send(&mut self, text: String) -> Result<(), TurnEnd>
+    fn send(&mut self, text: Utf8Bytes) -> Result<(), TurnEnd>
         ensures put { Settles S.contents self.old.socket (out.Text text) self.new.socket
             self.new.stage }
         ensures open { OnOk result (self.new.stage ≡ Stage.Open) }
         ensures ends { IfErr result (λ end. Stops end self.new.stage) }
     {
-        match Utf8Bytes::from_string(text) {
-            Ok(words) => {
-                let answer = self.socket.send(Message::Text(words));
-                self.settle(answer, None)
-            }
-            Err(_) => Err(self.stop(WireEnd::Memory)),
-        }
+        let answer = self.socket.send(Message::Text(text));
+        self.settle(answer, None)
     }
 
     fn shut(&mut self, code: u16) -> Result<(), TurnEnd>

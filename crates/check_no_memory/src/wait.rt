@@ -2,6 +2,7 @@
 
 use crate::NoMemory;
 use crate::report::Report;
+use bytes::ByteStr;
 use cf_queue::{Out, OutQueue};
 use std::alloc::Global;
 
@@ -9,7 +10,7 @@ use std::alloc::Global;
 fn filled(alloc: Global) -> Result<OutQueue, NoMemory> {
     let mut queue = OutQueue::new(alloc, 1000);
     for _ in 0..10 {
-        if queue.push_copy("text").is_err() {
+        if queue.push(ByteStr::from_static("text")).is_err() {
             return Err(NoMemory);
         }
     }

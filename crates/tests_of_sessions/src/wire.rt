@@ -1,6 +1,7 @@
 //! Wires over streams in memory.
 ghost use Rattle.std.specs.Prelude.{not};
 
+use bytes::ByteStr;
 use cf_protocol::{Outcome, Outgoing, read_commands, write_reply};
 use cf_queue::Out;
 use cf_wire::{Desk, Gather, TurnEnd, Wire, WireFault};
@@ -121,15 +122,16 @@ impl Desk for Echo {
     }
 }
 
-fn answer_to(alloc: Global, text: &str) -> Option<String> {
+fn answer_to(alloc: Global, text: &str) -> Option<ByteStr> {
     let Ok(commands) = read_commands(alloc, text) else {
-        return String::from_str(alloc, text).ok();
+        return ByteStr::copy_from_str(alloc, text).ok();
     };
     let command = commands.first()?;
     let client = String::from_str(alloc, "0-1-1").ok()?;
     let outcome = Outcome::Connected { client };
     let id = command.id;
-    write_reply(alloc, &Outgoing::Answer { id, outcome }).ok()
+    let reply = write_reply(alloc, &Outgoing::Answer { id, outcome }).ok()?;
+    ByteStr::from_string(reply).ok()
 }
 
 /// A stream that begins with a request.

@@ -1,7 +1,8 @@
 //! A session's output.
 use crate::shown::says;
+use bytes::ByteStr;
 use cf_queue::{Out, OutQueue, QueueRefusal};
-use std::alloc::Global;
+use std::alloc::{AllocError, Global};
 
 fn is_taken(queue: &mut OutQueue, text: &str) -> bool {
     match queue.take() {
@@ -10,19 +11,25 @@ fn is_taken(queue: &mut OutQueue, text: &str) -> bool {
     }
 }
 
-/// Whether an empty queue takes a copy of a text that fills it, gives it, and takes the text
+/// Whether an empty queue takes a share of a text that fills it, gives it, and takes the text
 /// itself.
-fn takes_and_gives(alloc: Global, text: String) -> bool {
+fn takes_and_gives(alloc: Global, text: ByteStr) -> bool {
     let mut queue = OutQueue::new(alloc, text.len());
-    queue.push_copy(text.as_str()).is_ok()
+    queue.push_shared(&text).is_ok()
         && is_taken(&mut queue, text.as_str())
         && queue.push(text).is_ok()
 }
 
+/// A text of as many bytes as may wait for a client.
+fn longest(alloc: Global) -> Result<ByteStr, AllocError> {
+    ByteStr::from_string("x".repeat(alloc, 1_048_576)?)
+}
+
 #[test]
 fn whole_limit(rt: HostRuntime) {
-    let holds = match "x".repeat(rt.alloc(), 1_048_576) {
-        Ok(text) => takes_and_gives(rt.alloc(), text),
+    let alloc = rt.alloc();
+    let holds = match longest(alloc) {
+        Ok(text) => takes_and_gives(alloc, text),
         Err(_) => false,
     };
     assert!(rt; holds);

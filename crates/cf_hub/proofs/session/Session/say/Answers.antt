@@ -1,4 +1,4 @@
-use Rattle.std.proofs.Common.{rules, ◌≡◌, ℕ, List, string_bytes, subst, inl}
+use Rattle.std.proofs.Common.{rules, ◌≡◌, ℕ, List, subst, inl}
 use Rattle.cf_queue.specs.OutQueue.{Text}
 use Rattle.cf_model.specs.SessionState.{push}
 use Rattle.cf_hub.specs.Wordings.{plain}
@@ -8,6 +8,6 @@ use Rattle.cf_hub.proofs.session.Session.say.Goals as goal
 
 pub returns-in-Ok-clause-state : goal.returns-in-Ok-clause-state
 returns-in-Ok-clause-state c = λ t h.
-    let is : string_bytes c.in-Some.text ≡ t = search rules in
+    let is : c.in-Some.text ≡ t = search rules in
     inl (subst (λ (u : List ℕ). with_queue (subs_of c.args.self.now.subscriptions) c.push.new.self ≡ push plain (Text u) (with_queue (subs_of c.args.self.now.subscriptions) c.args.self.now.queue)) is
-    (queue_fits (string_bytes c.in-Some.text) (subs_of c.args.self.now.subscriptions) c.args.self.now.queue c.push.new.self c.args.self.now.limited c.in-Ok.ensures.room c.in-Ok.ensures.ok c.in-Ok.ensures.last))
+    (queue_fits c.in-Some.text (subs_of c.args.self.now.subscriptions) c.args.self.now.queue c.push.new.self c.args.self.now.limited c.in-Ok.ensures.room c.in-Ok.ensures.ok c.in-Ok.ensures.last))

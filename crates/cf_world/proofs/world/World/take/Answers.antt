@@ -46,11 +46,11 @@ returns-in_ok-entries-in-Some-Text-clause-ok c = λ cfg past t.
     let says = says-there t x c.in-Some.seat sat there.0 there.1 in
     let o : Option Attached = attached_at there.0 c.in-Some.seat.session in
     let found = seat_found (peers x) c.in-Some.seat sat in
-    let name : string_bytes c.in-Some-Text.text ≡ c.as_str.result.now = search rules in
+    let name : c.in-Some-Text.text ≡ c.as_str.result.now = search rules in
     let sent : c.in-Some-Text.field-0 ≡ out.Text c.in-Some-Text.text = search rules in
     let waits : TextFront w.broker.lists c.as_str.result.now (w.links x).session.notes =
     subst (λ (ts : List ℕ). TextFront w.broker.lists ts (w.links x).session.notes) name
-    (text_waits w.broker.lists o (w.links x).session (string_bytes c.in-Some-Text.text) says (sym (ap (λ (v : Out). Some (meaning v)) sent) ∙ c.in-Some-Text.ensures.front there.0 there.1)) in
+    (text_waits w.broker.lists o (w.links x).session c.in-Some-Text.text says (sym (ap (λ (v : Out). Some (meaning v)) sent) ∙ c.in-Some-Text.ensures.front there.0 there.1)) in
     let heard = c.in_ok-told-in-Some-Text.ensures found.0 found.1 in
     let for : (d : List ℕ) → AreForChannel d ((w.links x).client.modes d) (coming (w.links x)) =
     λ d. subst (λ (v : World). AreForChannel d ((v.links x).client.modes d) (coming (v.links x))) (c.schedules_are_loose_runs.ensures.world cfg past) (c.answers_by_id.ensures cfg (lines past) x d) in
@@ -68,11 +68,11 @@ returns-in_ok-entries-in-Some-Text-clause-writes c = λ cfg past t.
     let says = says-there t x c.in-Some.seat sat there.0 there.1 in
     let o : Option Attached = attached_at there.0 c.in-Some.seat.session in
     let found = seat_found (peers x) c.in-Some.seat sat in
-    let name : string_bytes c.in-Some-Text.text ≡ c.as_str.result.now = search rules in
+    let name : c.in-Some-Text.text ≡ c.as_str.result.now = search rules in
     let sent : c.in-Some-Text.field-0 ≡ out.Text c.in-Some-Text.text = search rules in
     let waits : TextFront w.broker.lists c.as_str.result.now (w.links x).session.notes =
     subst (λ (ts : List ℕ). TextFront w.broker.lists ts (w.links x).session.notes) name
-    (text_waits w.broker.lists o (w.links x).session (string_bytes c.in-Some-Text.text) says (sym (ap (λ (v : Out). Some (meaning v)) sent) ∙ c.in-Some-Text.ensures.front there.0 there.1)) in
+    (text_waits w.broker.lists o (w.links x).session c.in-Some-Text.text says (sym (ap (λ (v : Out). Some (meaning v)) sent) ∙ c.in-Some-Text.ensures.front there.0 there.1)) in
     let heard = c.in_ok-told-in-Some-Text.ensures found.0 found.1 in
     let for : (d : List ℕ) → AreForChannel d ((w.links x).client.modes d) (coming (w.links x)) =
     λ d. subst (λ (v : World). AreForChannel d ((v.links x).client.modes d) (coming (v.links x))) (c.schedules_are_loose_runs.ensures.world cfg past) (c.answers_by_id.ensures cfg (lines past) x d) in
