@@ -9,6 +9,12 @@ loop-out-preserved-in_ok-write_one g c =
     (g.W.Write.contents c.args.writer.now) (g.W.Write.contents c.loop-out.writer) (g.W.Write.contents c.write_one.new.writer)
     (meaning c.in-Some.out) c.loop-out.invariant c.in-Some.ensures.front c.in-Some.ensures.step c.in_ok-write_one.ensures.written
 
+pub loop-out-preserved-in_ok-write_one-2 : goal.loop-out-preserved-in_ok-write_one-2
+loop-out-preserved-in_ok-write_one-2 g c =
+    written_more (scene_of c.args.node.now) (scene_of c.loop-out.node) (scene_of c.take.new.self)
+    (g.W.Write.contents c.args.writer.now) (g.W.Write.contents c.loop-out.writer) (g.W.Write.contents c.write_one.new.writer)
+    (meaning c.in-Some.out) c.loop-out.invariant c.in-Some.ensures.front c.in-Some.ensures.step c.in_ok-write_one.ensures.written
+
 pub loop-out-preserved : goal.loop-out-preserved
 loop-out-preserved g c =
     written_more (scene_of c.args.node.now) (scene_of c.loop-out.node) (scene_of c.take.new.self)
