@@ -3,13 +3,13 @@
 
 mod command_line;
 mod fault;
+mod program;
 mod report;
-mod run;
 mod running;
-mod serve;
+mod serving;
 mod settings;
 mod sizes;
-mod speak;
+mod speaking;
 
 pub use cf_simulate::simulate;
 pub use command_line::{
@@ -17,8 +17,8 @@ pub use command_line::{
     VERSION, read_words, show,
 };
 pub use fault::{Fault, Setting};
-pub use run::run;
-pub use serve::serve;
+pub use program::run;
+pub use serving::serve;
 pub use settings::config_of;
 pub use sizes::{Line, Listener};
-pub use speak::{setup_of, speak};
+pub use speaking::{setup_of, speak};

@@ -2,9 +2,9 @@
 
 use crate::command_line::{self, Job, Options, SpeakOptions, VERSION};
 use crate::fault::Fault;
-use crate::serve::serve;
+use crate::serving::serve;
 use crate::settings::config_of;
-use crate::speak::{setup_of, speak};
+use crate::speaking::{setup_of, speak};
 use cf_simulate::simulate;
 use std::io::{BufReader, BufWriter, Write};
 use std::net::Net;

@@ -1,5 +1,5 @@
 use Rattle.cf_broker.specs.Shards.{by_number}
-use Rattle.cf_commands.proofs.serve.serve.Given as goal
+use Rattle.cf_commands.proofs.serving.serve.Given as goal
 
 -- the words that were just made, and the namespaces that were read
 abbrev pub ghosts-serve_on : goal.ghosts-serve_on
