@@ -1,3 +1,4 @@
 pub mod Seen
 pub mod Numbers
 pub mod Refusals
+pub mod Sizing

@@ -1,8 +1,7 @@
 //! What an operator says while nodes serve: the lines of standard input that set sizes.
 ghost use Rattle.std.specs.Prelude.{◌≡◌, ◌≤◌};
 
-use cf_broker::{Broker, Passes};
-use cf_node::set_size;
+use cf_broker::{Broker, Passes, set_size_in_all};
 use cf_protocol::Namespaces;
 use cf_schedule::{Event, EventFault};
 use cf_shard::Naming;
@@ -110,7 +109,7 @@ impl<'a, R: Wait + Eprint, N: Naming, E: Epochs + Drop> Sizes<'a, R, N, E> {
         if !self.namespaces.contains(name) {
             return;
         }
-        if !set_size(self.rt, self.broker, &mut self.passes, name, size) {
+        if !set_size_in_all(self.rt, self.broker, &mut self.passes, name, size) {
             let _ = eprintln!(self.rt; "size {name} refused");
         }
     }

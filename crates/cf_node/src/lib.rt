@@ -21,10 +21,8 @@ mod node;
 mod refusing;
 mod rounds;
 mod shared;
-mod sizes;
 mod socket;
 
 pub use fault_counts::FaultCounts;
 pub use gate::{DISPATCHER, Gate, IO_LOOP};
 pub use node::{Node, Setup};
-pub use sizes::set_size;

@@ -1,11 +1,12 @@
 //! The sizes of namespaces, which may change while nodes serve.
 ghost use Rattle.std.specs.Prelude.{◌≡◌, ◌≤◌, ◌<◌, IsSome, MatchBool, slice_set};
 ghost use Rattle.cf_broker.specs.Shards.{pass_at};
-ghost use Rattle.cf_node.specs.Sizes.{AreSized, HasFull, IsFullFor};
+ghost use Rattle.cf_broker.specs.Sizes.{AreSized, HasFull, IsFullFor};
 ghost use Rattle.cf_protocol.specs.Settings.{entry_at};
 ghost use Rattle.cf_shard.specs.LogAnswer.{IsSized};
 
-use cf_broker::{Broker, Passes, SHARDS};
+use crate::broker::{Broker, SHARDS};
+use crate::words::Passes;
 use cf_shard::Naming;
 use cf_stream::{Epochs, LARGEST_SIZE};
 use std::sync::Wait;
@@ -13,7 +14,7 @@ use std::sync::Wait;
 /// Sets how many publications the streams of a namespace may hold, in one shard of the broker after
 /// another, while nodes serve or before. Says whether each shard took it: one whose log is full keeps
 /// the size that it has. It takes no memory.
-pub fn set_size<N: Naming, E: Epochs + Drop, R: Wait>(
+pub fn set_size_in_all<N: Naming, E: Epochs + Drop, R: Wait>(
     rt: &R,
     broker: &Broker<N, E>,
     passes: &mut Passes<N>,
