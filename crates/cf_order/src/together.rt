@@ -118,7 +118,6 @@ fn publish_as<'a, N: Naming, R: Wait>(
 /// Two threads publish a body each to one channel, with passes that are lent to them and handed back. Where both did, the
 /// pass has seen both publications, behind all that it had seen before, and two publishes more are its own. Where one did not, the
 /// pass has seen a log that is full.
-#[tactic(auto, using(crate::proofs::Gaining::gains_more, crate::proofs::Prefixes::prefix_length))]
 pub fn publish_both<N: Naming + Send + Sync, R: Threads + Wait + Sync>(
     rt: &R,
     word: &ShardWord,

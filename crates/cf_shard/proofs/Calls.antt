@@ -179,7 +179,7 @@ opened_new None e key size new = elim (is_no_key key) as (λ b. cond {A = Option
 opened_new (Some s) e key size new = none_mapped _ (repeated_by s key) new
 
 -- a publish that repeats nothing is no repeat
-is_fresh : (k : StreamMap) (c key : List ℕ) (p : Published) → p ≡ answer_to (stood_or_opened k c p.position.epoch) key → repeat_at (stream_of k c) key ≡ None → p.repeated ≡ false
+pub is_fresh : (k : StreamMap) (c key : List ℕ) (p : Published) → p ≡ answer_to (stood_or_opened k c p.position.epoch) key → repeat_at (stream_of k c) key ≡ None → p.repeated ≡ false
 is_fresh k c key p is new =
     let s : Shown = stood_or_opened k c p.position.epoch in
     ap (λ (x : Published). x.repeated) is ∙ ap (λ (r : Option ℕ). (answer_by r s.epoch s.top).repeated) (opened_new (stream_of k c) p.position.epoch key (size_at k.namespaces c) new)
