@@ -1,22 +1,25 @@
-//! Times a node's hub and its rows, for `bench/hub`.
+//! Times calls of the libraries, for `bench/hub` and `bench/texts`.
 //!
-//! A line of the input is `hub SESSIONS CROWDS SUBSCRIBERS TIMES`, or `rows STEP`. For each line the counts and the nanoseconds are
-//! printed.
+//! A line of the input is `hub SESSIONS CROWDS SUBSCRIBERS TIMES`, `rows STEP`, or one of `commands`, `replies` and `write` with how
+//! often it is made and a text. For each line the counts and the nanoseconds are printed.
 #![tactic(auto)]
 
 mod crowd;
 mod table;
+mod texts;
 
 use crowd::Crowds;
 use std::alloc::Global;
 use std::io;
 use table::Removal;
+use texts::Calls;
 
 /// What a line asks for.
 #[derive(Clone, Copy, Debug)]
-enum Job {
+enum Job<'a> {
     Hub(Crowds),
     Rows(Removal),
+    Texts(Calls<'a>),
 }
 
 /// The number of a word, if it is one.
@@ -28,7 +31,7 @@ fn number_of(word: Option<&str>) -> Option<u32> {
 }
 
 /// What a line asks for.
-fn job_of(line: &str) -> Option<Job> {
+fn job_of(line: &str) -> Option<Job<'_>> {
     let mut words = line.split(' ');
     match words.next()? {
         "hub" => {
@@ -47,7 +50,7 @@ fn job_of(line: &str) -> Option<Job> {
             let step = number_of(words.next())?;
             Some(Job::Rows(Removal { step }))
         }
-        _ => None,
+        _ => Some(Job::Texts(texts::calls_of(line)?)),
     }
 }
 
@@ -58,6 +61,7 @@ fn main(rt: HostRuntime) -> io::Result<()> {
         match job_of(line.as_str()) {
             Some(Job::Hub(crowds)) => crowd::run(&rt, alloc, crowds)?,
             Some(Job::Rows(removal)) => table::run(&rt, alloc, removal)?,
+            Some(Job::Texts(calls)) => texts::run(&rt, alloc, calls)?,
             None => println!(rt; "unusable line")?,
         }
     }
