@@ -44,10 +44,9 @@ returns-then-a-clause-share g c = λ both.
     ) (omega arith)
 
 pub returns-then-a-clause-both : goal.returns-then-a-clause-both
-returns-then-a-clause-both g c = λ both.
-    (
-      lent_gains _ _ _ _ _ (ap (λ p. p.log) c.lend-one.ensures.lent) (c.join-one.ensures.first.2 c.if-a.true).1
-        (prefix_trans _ _ _ c.join.ensures.seen.1 c.join-2.ensures.seen.0),
-      lent_gains _ _ _ _ _ (ap (λ p. p.log) c.lend-two.ensures.lent ∙ ap (λ p. p.log) c.lend-one.ensures.same)
-        (c.join-one.ensures.second.2 both).1 c.join-2.ensures.seen.1,
-    )
+returns-then-a-clause-both g c = λ both. (
+  lent_gains _ _ _ _ _ (ap (λ p. p.log) c.lend-one.ensures.lent) (c.join-one.ensures.first.2 c.if-a.true).1
+      (prefix_trans _ _ _ c.join.ensures.seen.1 c.join-2.ensures.seen.0),
+  lent_gains _ _ _ _ _ (ap (λ p. p.log) c.lend-two.ensures.lent ∙ ap (λ p. p.log) c.lend-one.ensures.same)
+      (c.join-one.ensures.second.2 both).1 c.join-2.ensures.seen.1,
+)
