@@ -17,23 +17,10 @@ fn setup(alloc: Global) -> Option<Setup> {
     }
 }
 
-/// What a conversation writes that goes to its end.
-fn spoken(alloc: Global, setup: Setup, lines: &str) -> Option<Vec<u8>> {
-    let mut reader = lines.as_bytes();
-    let mut writer = Vec::new(alloc);
-    match converse(alloc, &mut reader, &mut writer, setup) {
-        Ok(()) => Some(writer),
-        Err(_) => None,
-    }
-}
-
 /// Whether a conversation goes to its end and writes this.
 fn is_spoken(alloc: Global, lines: &str, wanted: &str) -> bool {
-    match setup(alloc) {
-        Some(setup) => match spoken(alloc, setup, lines) {
-            Some(written) => written.as_slice() == wanted.as_bytes(),
-            None => false,
-        },
+    match spoken(alloc, lines, usize::MAX) {
+        Some((is_whole, written)) => is_whole && written.as_slice() == wanted.as_bytes(),
         None => false,
     }
 }
@@ -143,8 +130,8 @@ impl Write for Buffered {
 }
 
 /// Whether a conversation goes to its end where so many flushes succeed, and what was flushed then.
-fn flushes(alloc: Global, flushes: usize) -> Option<(bool, Vec<u8>)> {
-    let mut reader = LINES.as_bytes();
+fn spoken(alloc: Global, lines: &str, flushes: usize) -> Option<(bool, Vec<u8>)> {
+    let mut reader = lines.as_bytes();
     let mut writer = Buffered {
         waiting: Vec::new(alloc),
         flushed: Vec::new(alloc),
@@ -158,10 +145,10 @@ fn flushes(alloc: Global, flushes: usize) -> Option<(bool, Vec<u8>)> {
 /// fails so does the conversation.
 #[test]
 fn flushed(rt: HostRuntime) {
-    let (is_whole, written) = flushes(rt.alloc(), 4).expect(&rt, "memory");
+    let (is_whole, written) = spoken(rt.alloc(), LINES, 4).expect(&rt, "memory");
     assert!(rt; is_whole);
     assert!(rt; written.as_slice() == ANSWERS.as_bytes());
-    let (is_whole, written) = flushes(rt.alloc(), 3).expect(&rt, "memory");
+    let (is_whole, written) = spoken(rt.alloc(), LINES, 3).expect(&rt, "memory");
     assert!(rt; !is_whole);
     assert!(rt; ANSWERS.as_bytes().starts_with(written.as_slice()));
     assert!(rt; !written.is_empty());
