@@ -1,0 +1,9 @@
+use Rattle.std.proofs.Common.{◌≡◌, ◌∙◌, true, if◌then◌else◌, sym, ap}
+use Rattle.cf_wire.specs.declared.end.Stage.TheVariants.{Over}
+use Rattle.cf_wire.specs.Stages.{end_by}
+use Rattle.cf_wire.proofs.wire.Wire.pause.Goals as goal
+
+pub returns-then-would_block-clause-left : goal.returns-then-would_block-clause-left
+returns-then-would_block-clause-left g c =
+    let waits : c.would_block.result ≡ true = cc in
+    ap (λ b. if b then c.args.stage else Over (end_by c.args.error.now)) (sym waits ∙ c.would_block.ensures)
