@@ -1,5 +1,5 @@
 -- What a position check makes of a session.
-use Rattle.std.proofs.Common.{◌≡◌, ◌⊎◌, inl, inr, ℕ, Bool, true, Option, Some, List, refl, sym, ap, ◌∙◌}
+use Rattle.std.proofs.Common.{◌≡◌, ◌⊎◌, inl, inr, ℕ, Bool, true, Option, Some, None, List, refl, sym, ap, ◌∙◌}
 use Rattle.cf_protocol.specs.Position.{Position}
 use Rattle.cf_queue.specs.OutQueue.{Item, Close}
 use Rattle.cf_hub.specs.Checked.{answer_of, check_answer, stand_of}
@@ -48,6 +48,12 @@ module _ (c : List ℕ) (top : Option Position) (s : SessionState Held Item) (x 
       by_value Fine e = absurd (cc)
       by_value Behind e = absurd (cc)
       by_value Ended e = absurd (cc)
+
+-- where all is well, or there was nothing to check, the mark goes
+pub fine_checked : (c : List ℕ) (top : Option Position) (s b : SessionState Held Item) (x : Stand) → stand_of (s.subs c) ≡ Some x → (a : Answer) → a ≡ answer_of (position_check top x.at x.mark)
+    → (a ≡ answer.Fine) ⊎ (a ≡ answer.Nothing) → b ≡ put_sub c (On x.at None) s → b ≡ checks plain c top s
+fine_checked c top s b x on a is (inl fine) e = e ∙ sym (checks_as c top s x on a is Fine fine)
+fine_checked c top s b x on a is (inr nothing) e = never c top s x on a is nothing
 
 -- an unsubscribe push is said, or the session is closed
 pub ends_checked : (r : Bool) (c : List ℕ) (top : Option Position) (n : Item) (s mid b : SessionState Held Item) → mid ≡ put_sub c Off s → checks plain c top s ≡ push plain n (put_sub c Off s)
