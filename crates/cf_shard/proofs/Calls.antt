@@ -65,6 +65,12 @@ opening_stood k c position stood e es at is =
     ap (λ (o : Option ℕ). opening o c e es) is ∙ opening_map (λ (p : Position). p.offset) position c e es
     ∙ ap (λ (o : Option Position). opening o c e es) at ∙ opening_map position_of (stream_of k c) c e es
 
+pub if_stands_stood : (k : StreamMap) (c : List ℕ) (position : Option Position) (stood : Option ℕ) (x : Entry) → position ≡ option_map position_of (stream_of k c) → stood ≡ option_map (λ (p : Position). p.offset) position
+    → if_stands stood x ≡ if_stands (stream_of k c) x
+if_stands_stood k c position stood x at is =
+    ap (λ (o : Option ℕ). if_stands o x) is ∙ if_stands_map (λ (p : Position). p.offset) position x
+    ∙ ap (λ (o : Option Position). if_stands o x) at ∙ if_stands_map position_of (stream_of k c) x
+
 -- the streams stay the state of the log
 pub kept : (t : NamespaceTable) (w : TableId) (old new : StreamMap) (o o' : OwnerState) (es : List Entry) → IsShard t w old o → Adds old new es → o'.word ≡ o.word
     → o'.log ≡ o.log ++ es → IsShard t w new o'
