@@ -1,3 +1,4 @@
 pub mod Agendas
 pub mod Batches
 pub mod Taking
+pub mod Waits
