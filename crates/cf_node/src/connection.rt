@@ -112,6 +112,41 @@ impl<'a, B: Backend> Connection<'a, B> {
         }
     }
 
+    /// Takes a turn, in which its client is heard or only served, and wakes who brings on what was
+    /// published in it. A connection whose head has not come whole has nothing to do.
+    pub(crate) fn turn(&mut self, buffer: &mut Vec<u8>, now: u64, hears: bool) -> Turned {
+        match self {
+            Connection::Open(open) => {
+                let turned = open.turn(buffer, now, hears);
+                open.desk.handler.ring();
+                turned
+            }
+            Connection::Refusing(refusing) => refusing.turn(),
+            Connection::Empty | Connection::Head(_) => Turned::Idle,
+        }
+    }
+
+    /// The connection is over: its socket is closed, and its client's session goes. Whether there was
+    /// one.
+    pub(crate) fn gives_up(self) -> bool {
+        match self {
+            Connection::Empty => false,
+            Connection::Head(_) | Connection::Refusing(_) => true,
+            Connection::Open(open) => {
+                Box::into_inner(open).give_up();
+                true
+            }
+        }
+    }
+
+    /// The number of its session in the hub, once it is attached.
+    pub(crate) fn session(&self) -> Option<u32> {
+        match self {
+            Connection::Open(open) => open.desk.handler.client.standing.number(),
+            _ => None,
+        }
+    }
+
     /// The socket is ready to be read, or at its end, or takes more. Whether there is one.
     pub(crate) fn notice(&mut self, readable: bool, ended: bool) -> bool {
         match self {
@@ -168,6 +203,13 @@ impl<'a, B: Backend> Open<'a, B> {
             TurnEnd::Closed(_) => self.closes(),
             TurnEnd::StreamFault | TurnEnd::Memory => Turned::Over,
         }
+    }
+
+    // The connection is over: its socket is closed, and then its client's session goes.
+    fn give_up(self) {
+        let Open { wire, mut desk, .. } = self;
+        drop(wire);
+        desk.handler.give_up();
     }
 
     // The wire is closed, by either side: from now on its session does nothing more, and what was

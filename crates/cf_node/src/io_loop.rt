@@ -103,10 +103,7 @@ pub(crate) fn serve<R: Wait + Clock, B: Backend, G: Gate>(
     gate: &G,
     stop: &AtomicU64,
 ) -> io::Result<()> {
-    let mut io_loop = IoLoop::new(backend, acceptor);
-    io_loop.run(rt, node, gate, stop)?;
-    io_loop.shut_down();
-    Ok(())
+    IoLoop::new(backend, acceptor).run(rt, node, gate, stop)
 }
 
 // A connection whose head is whole: the handshake is answered, or the question whether the node
@@ -169,7 +166,7 @@ impl<'a, B: Backend> IoLoop<'a, B> {
         }
     }
 
-    // Takes turns until `stop` isn't 0.
+    // Takes turns until `stop` isn't 0, and then closes all sessions.
     fn run<R: Wait + Clock, G: Gate>(
         &mut self,
         rt: &R,
@@ -193,6 +190,7 @@ impl<'a, B: Backend> IoLoop<'a, B> {
                 thread::yield_now();
             }
         }
+        self.shut_down();
         Ok(())
     }
 
@@ -442,25 +440,23 @@ impl<'a, B: Backend> IoLoop<'a, B> {
 
     // Turns the connection at a place, where its client is heard or only served.
     fn serve(&mut self, place: usize, hears: bool) {
-        let turned = match self.places.get_mut(place) {
-            Some(Connection::Open(open)) => {
-                let turned = open.turn(&mut self.buffer, self.seconds.done(), hears);
-                open.desk.handler.ring();
-                if let Some(number) = open.desk.handler.client.standing.number() {
-                    if let Some(owner) = self.owners.get_mut(number as usize) {
-                        *owner = place;
-                    }
-                }
-                turned
-            }
-            Some(Connection::Refusing(refusing)) => refusing.turn(),
-            _ => return,
-        };
-        match turned {
+        match self.turn_at(place, hears) {
             Turned::Idle => {}
             Turned::More => self.owe(place),
             Turned::Over => self.end(place),
         }
+    }
+
+    // The turn of the connection at a place. The place is its session's from then on.
+    fn turn_at(&mut self, place: usize, hears: bool) -> Turned {
+        let Some(connection) = self.places.get_mut(place) else {
+            return Turned::Idle;
+        };
+        let turned = connection.turn(&mut self.buffer, self.seconds.done(), hears);
+        if let Some(number) = connection.session() {
+            note_place(&mut self.owners, number, place);
+        }
+        turned
     }
 
     // The connection at a place is over.
@@ -468,16 +464,9 @@ impl<'a, B: Backend> IoLoop<'a, B> {
         let Some(connection) = self.places.get_mut(place) else {
             return;
         };
-        match mem::replace(connection, Connection::Empty) {
-            Connection::Empty => return,
-            Connection::Head(_) => {}
-            Connection::Open(open) => {
-                let Open { mut desk, .. } = Box::into_inner(open);
-                desk.handler.give_up();
-            }
-            Connection::Refusing(_) => {}
+        if mem::replace(connection, Connection::Empty).gives_up() {
+            self.vacate(place);
         }
-        self.vacate(place);
     }
 
     // A place stands empty again.
@@ -558,6 +547,13 @@ impl<'a, B: Backend> IoLoop<'a, B> {
 // At which place a session's connection is, if it has one.
 fn place_of(owners: &[usize], session: u32) -> usize {
     owners.get(session as usize).copied().unwrap_or(0)
+}
+
+// Notes at which place a session's connection is.
+fn note_place(owners: &mut [usize], session: u32, place: usize) {
+    if let Some(owner) = owners.get_mut(session as usize) {
+        *owner = place;
+    }
 }
 
 impl<'a, B: Backend> Outlets for IoLoop<'a, B> {
