@@ -4,9 +4,6 @@ use cf_client::{AppEvent, Client, ClientFault};
 use std::alloc::{AllocError, Global};
 use std::process::Abort;
 
-const SUBSCRIBED: &str =
-    r#"{"id":2,"subscribe":{"epoch":"aaaa","offset":0,"positioned":true,"recoverable":true}}"#;
-
 /// An event as a line.
 fn line_of(alloc: Global, event: &AppEvent) -> Result<String, AllocError> {
     match event {
@@ -74,98 +71,79 @@ fn tells(alloc: Global, client: &mut Client, text: &str, lines: &str) -> bool {
     }
 }
 
-/// Whether the application gets from a row's text what stands behind its arrow, or nothing where it
-/// has none.
-fn is_told(alloc: Global, client: &mut Client, row: &str) -> bool {
-    match row.split_once(" => ") {
-        Some((text, lines)) => tells(alloc, client, text, lines),
-        None => tells(alloc, client, row, ""),
+/// The text of a command: a call of the client by its name, and what it is passed.
+fn command(client: &mut Client, call: &str) -> Result<String, ClientFault> {
+    let (name, passed) = call.split_once(' ').unwrap_or((call, ""));
+    match name {
+        "connect" => client.connect(passed),
+        "ask" => client.ask(passed),
+        "ask_from" => client.ask_from(passed),
+        "leave" => client.leave(passed),
+        "list" => client.list(passed, -1),
+        _ => put(client, name, passed),
     }
 }
 
-fn are_told(rt: &impl Abort, alloc: Global, client: &mut Client, rows: &str) {
-    for row in rows.split('\n') {
-        assert!(rt; is_told(alloc, client, row), "{row}");
+/// The text of a publish to `news`, or of one under a key, which stands before the data.
+fn put(client: &mut Client, name: &str, passed: &str) -> Result<String, ClientFault> {
+    match (name, passed.split_once(' ')) {
+        ("put_key", Some((key, data))) => client.put_key("news", key, data),
+        _ => client.put("news", passed),
     }
 }
 
-fn is_text(written: Result<String, ClientFault>, text: &str) -> bool {
-    match written {
+/// Whether a call of the client has this text.
+fn sends(client: &mut Client, call: &str, text: &str) -> bool {
+    if call == "reconnect" {
+        client.reconnect();
+        return text.is_empty();
+    }
+    match command(client, call) {
         Ok(written) => written.as_str() == text,
         Err(_) => false,
     }
 }
 
-/// A command's text is this one.
-fn sends(rt: &impl Abort, written: Result<String, ClientFault>, text: &str) {
-    assert!(rt; is_text(written, text), "{text}");
+/// Whether a row is so: behind the arrow of a call stands its text, and behind that of a text what the application gets from it,
+/// or nothing where there is no arrow.
+fn is_so(alloc: Global, client: &mut Client, row: &str) -> bool {
+    let (happened, wanted) = row.split_once(" => ").unwrap_or((row, ""));
+    if happened.starts_with('{') {
+        return tells(alloc, client, happened, wanted);
+    }
+    sends(client, happened, wanted)
 }
 
-/// A client is connected, and asks for `news` by this text.
-fn connects(rt: &impl Abort, client: &mut Client, asking: &str) {
-    sends(rt, client.connect(""), r#"{"connect":{},"id":1}"#);
-    sends(rt, client.ask_from("news"), asking);
+/// With a new client these rows are so, in their order.
+fn are_so(rt: &impl Abort, alloc: Global, rows: &str) {
+    let mut client = Client::new(alloc);
+    for row in rows.split('\n') {
+        assert!(rt; is_so(alloc, &mut client, row), "{row}");
+    }
 }
 
-const ASKING: &str = r#"{"id":2,"subscribe":{"channel":"news"}}"#;
-
-/// A client that is connected, and live on `news` in epoch aaaa.
-fn is_live(rt: &impl Abort, alloc: Global, client: &mut Client) {
-    connects(rt, client, ASKING);
-    assert!(rt;
-        tells(
-            alloc,
-            client,
-            SUBSCRIBED,
-            "subscribed news false false aaaa 0;"
-        )
-    );
-}
+const COMMANDS: &str = r#"connect t => {"connect":{"token":"t"},"id":1}
+ask news => {"id":2,"subscribe":{"channel":"news"}}
+put {"t":1} => {"id":3,"publish":{"channel":"news","data":{"t":1}}}
+list news => {"history":{"channel":"news","limit":-1},"id":4}
+leave news => {"id":5,"unsubscribe":{"channel":"news"}}
+ask_from news => {"id":6,"subscribe":{"channel":"news"}}
+put_key k 1 => {"id":7,"publish":{"channel":"news","data":1,"key":"k"}}
+put_key  1 => {"id":8,"publish":{"channel":"news","data":1}}"#;
 
 #[test]
 fn texts_of_commands(rt: HostRuntime) {
-    let mut client = Client::new(rt.alloc());
-    sends(
-        &rt,
-        client.connect("t"),
-        r#"{"connect":{"token":"t"},"id":1}"#,
-    );
-    sends(&rt, client.ask("news"), ASKING);
-    sends(
-        &rt,
-        client.put("news", r#"{"t":1}"#),
-        r#"{"id":3,"publish":{"channel":"news","data":{"t":1}}}"#,
-    );
-    sends(
-        &rt,
-        client.list("news", -1),
-        r#"{"history":{"channel":"news","limit":-1},"id":4}"#,
-    );
-    sends(
-        &rt,
-        client.leave("news"),
-        r#"{"id":5,"unsubscribe":{"channel":"news"}}"#,
-    );
-    sends(
-        &rt,
-        client.ask_from("news"),
-        r#"{"id":6,"subscribe":{"channel":"news"}}"#,
-    );
-    sends(
-        &rt,
-        client.put_key("news", "k", "1"),
-        r#"{"id":7,"publish":{"channel":"news","data":1,"key":"k"}}"#,
-    );
-    sends(
-        &rt,
-        client.put_key("news", "", "1"),
-        r#"{"id":8,"publish":{"channel":"news","data":1}}"#,
-    );
+    are_so(&rt, rt.alloc(), COMMANDS);
 }
 
-/// To a client with a publish under id 3, and a history under id 4. It answers an ask that is
-/// answered already, and comes to a channel that is live no more.
-const CONVERSATION: &str = r#"{"id":2,"subscribe":{"epoch":"aaaa","offset":0}}
+/// With a publish under id 3, and a history under id 4. An ask is answered that is answered already, and a publication comes to a
+/// channel that is live no more.
+const CONVERSATION: &str = r#"connect => {"connect":{},"id":1}
+ask_from news => {"id":2,"subscribe":{"channel":"news"}}
+{"id":2,"subscribe":{"epoch":"aaaa","offset":0,"positioned":true,"recoverable":true}} => subscribed news false false aaaa 0;
+put 1 => {"id":3,"publish":{"channel":"news","data":1}}
+list news => {"history":{"channel":"news","limit":-1},"id":4}
+{"id":2,"subscribe":{"epoch":"aaaa","offset":0}}
 {"push":{"channel":"news","pub":{"data":{"t":1},"offset":1}}} => published news aaaa 1 {"t":1};
 {} => pong due;
 {"error":{"code":103,"message":"permission denied"},"id":3} => refused news 103;
@@ -175,23 +153,15 @@ const CONVERSATION: &str = r#"{"id":2,"subscribe":{"epoch":"aaaa","offset":0}}
 
 #[test]
 fn a_conversation(rt: HostRuntime) {
-    let mut client = Client::new(rt.alloc());
-    is_live(&rt, rt.alloc(), &mut client);
-    sends(
-        &rt,
-        client.put("news", "1"),
-        r#"{"id":3,"publish":{"channel":"news","data":1}}"#,
-    );
-    sends(
-        &rt,
-        client.list("news", -1),
-        r#"{"history":{"channel":"news","limit":-1},"id":4}"#,
-    );
-    are_told(&rt, rt.alloc(), &mut client, CONVERSATION);
+    are_so(&rt, rt.alloc(), CONVERSATION);
 }
 
-/// Every kind of reply and push, to a client with a history under id 3.
-const EVERY_KIND: &str = r#"{"connect":{"client":"0-1-1"},"id":1}
+/// Every kind of reply and push, with a history under id 3.
+const EVERY_KIND: &str = r#"connect => {"connect":{},"id":1}
+ask_from news => {"id":2,"subscribe":{"channel":"news"}}
+{"id":2,"subscribe":{"epoch":"aaaa","offset":0,"positioned":true,"recoverable":true}} => subscribed news false false aaaa 0;
+list news => {"history":{"channel":"news","limit":-1},"id":3}
+{"connect":{"client":"0-1-1"},"id":1}
 {"id":9,"publish":{}}{"id":9,"unsubscribe":{}}
 {"id":9,"presence":{"presence":{"0-1-1":{"client":"0-1-1"}}}}
 {"id":9,"presence_stats":{"num_clients":1,"num_users":1}}
@@ -203,29 +173,41 @@ const EVERY_KIND: &str = r#"{"connect":{"client":"0-1-1"},"id":1}
 {"push":{"channel":"other","pub":{"data":1,"offset":1}}}
 {}{} => pong due;pong due;
 {"push":{"channel":"news","pub":{"data":1,"info":{"client":"0-1-1","user":"ann"},"offset":1}}} => published news aaaa 1 1;
-{"push":{"channel":"news","unsubscribe":{"code":2499}}}"#;
+{"push":{"channel":"news","unsubscribe":{"code":2499}}}
+ask news => {"id":4,"subscribe":{"channel":"news"}}
+{"error":{"code":105},"id":4} => refused news 105;"#;
 
 #[test]
 fn every_kind(rt: HostRuntime) {
-    let mut client = Client::new(rt.alloc());
-    is_live(&rt, rt.alloc(), &mut client);
-    sends(
-        &rt,
-        client.list("news", -1),
-        r#"{"history":{"channel":"news","limit":-1},"id":3}"#,
-    );
-    are_told(&rt, rt.alloc(), &mut client, EVERY_KIND);
-    sends(
-        &rt,
-        client.ask("news"),
-        r#"{"id":4,"subscribe":{"channel":"news"}}"#,
-    );
-    are_told(
-        &rt,
-        rt.alloc(),
-        &mut client,
-        r#"{"error":{"code":105},"id":4} => refused news 105;"#,
-    );
+    are_so(&rt, rt.alloc(), EVERY_KIND);
+}
+
+/// A client goes on from its last position, leaves, passes over the answer, and asks again.
+const COMING_BACK: &str = r#"connect => {"connect":{},"id":1}
+ask_from news => {"id":2,"subscribe":{"channel":"news"}}
+{"id":2,"subscribe":{"epoch":"aaaa","offset":0,"positioned":true,"recoverable":true}} => subscribed news false false aaaa 0;
+{"push":{"channel":"news","pub":{"data":1,"offset":1}}} => published news aaaa 1 1;
+reconnect
+connect => {"connect":{},"id":1}
+ask_from news => {"id":2,"subscribe":{"channel":"news","epoch":"aaaa","offset":1,"recover":true}}
+leave news => {"id":3,"unsubscribe":{"channel":"news"}}
+{"id":2,"subscribe":{"epoch":"aaaa","offset":0,"positioned":true,"recoverable":true}}
+ask_from news => {"id":4,"subscribe":{"channel":"news","epoch":"aaaa","offset":1,"recover":true}}
+{"id":4,"subscribe":{"epoch":"aaaa","offset":2,"publications":[{"data":2,"offset":2}],"recovered":true,"was_recovering":true}} => subscribed news true true aaaa 2;published news aaaa 2 2;"#;
+
+#[test]
+fn comes_back(rt: HostRuntime) {
+    are_so(&rt, rt.alloc(), COMING_BACK);
+}
+
+/// Whether a client connects, and asks for `news`, by their texts.
+fn connects(alloc: Global, client: &mut Client) -> bool {
+    is_so(alloc, client, r#"connect => {"connect":{},"id":1}"#)
+        && is_so(
+            alloc,
+            client,
+            r#"ask_from news => {"id":2,"subscribe":{"channel":"news"}}"#,
+        )
 }
 
 /// A reply of 300 publications.
@@ -246,7 +228,7 @@ fn count_events(alloc: Global, client: &mut Client) -> Option<usize> {
 #[test]
 fn largest_reply(rt: HostRuntime) {
     let mut client = Client::new(rt.alloc());
-    connects(&rt, &mut client, ASKING);
+    assert!(rt; connects(rt.alloc(), &mut client));
     assert!(rt; count_events(rt.alloc(), &mut client) == Some(301));
 }
 
@@ -284,36 +266,6 @@ fn many_channels(rt: HostRuntime) {
     }
 }
 
-const PUBLISHED: &str =
-    r#"{"push":{"channel":"news","pub":{"data":1,"offset":1}}} => published news aaaa 1 1;"#;
-
-const ASKING_FROM: &str =
-    r#"{"id":2,"subscribe":{"channel":"news","epoch":"aaaa","offset":1,"recover":true}}"#;
-
-const ASKING_AGAIN: &str =
-    r#"{"id":4,"subscribe":{"channel":"news","epoch":"aaaa","offset":1,"recover":true}}"#;
-
-const RECOVERED: &str =
-    r#"{"id":4,"subscribe":{"epoch":"aaaa","offset":2,"publications":[{"data":2,"offset":2}],"recovered":true,"was_recovering":true}} => subscribed news true true aaaa 2;published news aaaa 2 2;"#;
-
-/// A client goes on from its last position, leaves, passes over the answer, and asks again.
-#[test]
-fn comes_back(rt: HostRuntime) {
-    let mut client = Client::new(rt.alloc());
-    is_live(&rt, rt.alloc(), &mut client);
-    are_told(&rt, rt.alloc(), &mut client, PUBLISHED);
-    client.reconnect();
-    connects(&rt, &mut client, ASKING_FROM);
-    sends(
-        &rt,
-        client.leave("news"),
-        r#"{"id":3,"unsubscribe":{"channel":"news"}}"#,
-    );
-    are_told(&rt, rt.alloc(), &mut client, SUBSCRIBED);
-    sends(&rt, client.ask_from("news"), ASKING_AGAIN);
-    are_told(&rt, rt.alloc(), &mut client, RECOVERED);
-}
-
 /// Whether a text is refused so.
 fn refuses(client: &mut Client, text: &str, fault: ClientFault) -> bool {
     match client.on_text(text) {
@@ -328,7 +280,7 @@ fn texts_before_connect(rt: HostRuntime) {
     let mut client = Client::new(rt.alloc());
     assert!(rt; refuses(&mut client, "nonsense", ClientFault::Bad));
     assert!(rt; refuses(&mut client, "{}", ClientFault::NotNow));
-    connects(&rt, &mut client, ASKING);
+    assert!(rt; connects(rt.alloc(), &mut client));
     assert!(rt; refuses(&mut client, "nonsense", ClientFault::Bad));
 }
 

@@ -59,15 +59,19 @@ fn filled(alloc: Global) -> Option<Stream> {
     Some(stream)
 }
 
-/// Whether a full stream recovers, and with how many publications.
-fn recovered(alloc: Global, since: u64) -> Option<(bool, usize)> {
-    let mut stream = filled(alloc)?;
+/// Whether a stream recovers, and with how many publications.
+fn recovered(stream: &mut Stream, since: u64) -> Option<(bool, usize)> {
     let found = stream.recover(at(since), 0).ok()?;
     Some((found.recovered, found.publications.len()))
 }
 
+/// The same of a full stream.
+fn recovered_of_full(alloc: Global, since: u64) -> Option<(bool, usize)> {
+    recovered(&mut filled(alloc)?, since)
+}
+
 fn recovers(rt: &impl Abort, alloc: Global, since: u64, answer: (bool, usize)) {
-    assert!(rt; recovered(alloc, since) == Some(answer), "{since}");
+    assert!(rt; recovered_of_full(alloc, since) == Some(answer), "{since}");
 }
 
 #[test]
@@ -264,16 +268,23 @@ fn hundred_keys(alloc: Global) -> Option<Stream> {
     Some(stream)
 }
 
+fn is_keyed(alloc: Global, stream: &mut Stream, number: u64, answer: (u64, bool)) -> bool {
+    keyed(alloc, stream, number) == Some(answer)
+}
+
+/// Whether a stream of three that was given a hundred keys knows the last hundred.
+fn knows_a_hundred(alloc: Global, stream: &mut Stream) -> bool {
+    is_keyed(alloc, stream, 1, (1, true))
+        && is_keyed(alloc, stream, 101, (101, false))
+        && is_keyed(alloc, stream, 1, (102, false))
+        && is_keyed(alloc, stream, 2, (103, false))
+        && is_keyed(alloc, stream, 4, (4, true))
+}
+
 #[test]
 fn keys_are_remembered(rt: HostRuntime) {
-    let Some(mut stream) = hundred_keys(rt.alloc()) else {
-        panic!(rt; "no memory");
-    };
-    assert!(rt; keyed(rt.alloc(), &mut stream, 1) == Some((1, true)));
-    assert!(rt; keyed(rt.alloc(), &mut stream, 101) == Some((101, false)));
-    assert!(rt; keyed(rt.alloc(), &mut stream, 1) == Some((102, false)));
-    assert!(rt; keyed(rt.alloc(), &mut stream, 2) == Some((103, false)));
-    assert!(rt; keyed(rt.alloc(), &mut stream, 4) == Some((4, true)));
+    let mut stream = hundred_keys(rt.alloc()).expect(&rt, "memory");
+    assert!(rt; knows_a_hundred(rt.alloc(), &mut stream));
     assert!(rt; stream.repeat_of("k4").is_some());
     assert!(rt; stream.repeat_of("k3").is_none());
     assert!(rt; stream.held() == 3);
@@ -282,15 +293,12 @@ fn keys_are_remembered(rt: HostRuntime) {
 // A repeat is answered at the last offset too, and after a trim to nothing.
 #[test]
 fn repeat_at_last_offset(rt: HostRuntime) {
-    let alloc = rt.alloc();
-    let Some(mut stream) = started_late(alloc) else {
-        panic!(rt; "no memory");
-    };
-    assert!(rt; keyed(alloc, &mut stream, 1) == Some((LAST_OFFSET, false)));
-    assert!(rt; keyed(alloc, &mut stream, 1) == Some((LAST_OFFSET, true)));
-    assert!(rt; keyed(alloc, &mut stream, 2).is_none());
+    let mut stream = started_late(rt.alloc()).expect(&rt, "memory");
+    assert!(rt; is_keyed(rt.alloc(), &mut stream, 1, (LAST_OFFSET, false)));
+    assert!(rt; is_keyed(rt.alloc(), &mut stream, 1, (LAST_OFFSET, true)));
+    assert!(rt; keyed(rt.alloc(), &mut stream, 2).is_none());
     stream.trim(0);
-    assert!(rt; keyed(alloc, &mut stream, 1) == Some((LAST_OFFSET, true)));
+    assert!(rt; is_keyed(rt.alloc(), &mut stream, 1, (LAST_OFFSET, true)));
     assert!(rt; stream.held() == 0);
 }
 
@@ -307,28 +315,33 @@ fn great(alloc: Global) -> Option<Stream> {
     Some(stream)
 }
 
-#[test]
-fn great_stream(rt: HostRuntime) {
-    let Some(mut stream) = great(rt.alloc()) else {
-        panic!(rt; "no memory");
-    };
-    let Ok(found) = stream.recover(at(9700), 0) else {
-        panic!(rt; "no memory");
-    };
-    assert!(rt; found.recovered && found.publications.len() == 300);
-    let Ok(gone) = stream.recover(at(9699), 0) else {
-        panic!(rt; "no memory");
-    };
-    assert!(rt; !gone.recovered);
-    let Ok(listed) = stream.history(None, -1, 0) else {
-        panic!(rt; "no memory");
-    };
-    assert!(rt; listed.publications.len() == 300);
-    assert!(rt; listed.publications.iter().all(|one| one.offset <= 300));
+/// Whether a stream lists the first 300 publications.
+fn lists_first_300(stream: &mut Stream) -> bool {
+    match stream.history(None, -1, 0) {
+        Ok(found) => {
+            found.publications.len() == 300
+                && found.publications.iter().all(|one| one.offset <= 300)
+        }
+        Err(_) => false,
+    }
+}
+
+/// Whether a stream of 10,000 publications keeps two where it is made smaller, also once it is larger again.
+fn keeps_two(stream: &mut Stream) -> bool {
     stream.resize(2);
     stream.resize(5);
-    let Ok(lost) = stream.recover(at(9997), 0) else {
-        panic!(rt; "no memory");
-    };
-    assert!(rt; !lost.recovered && stream.held() == 2);
+    recovered(stream, 9997) == Some((false, 0)) && stream.held() == 2
+}
+
+fn is_great(stream: &mut Stream) -> bool {
+    recovered(stream, 9700) == Some((true, 300))
+        && recovered(stream, 9699) == Some((false, 0))
+        && lists_first_300(stream)
+        && keeps_two(stream)
+}
+
+#[test]
+fn great_stream(rt: HostRuntime) {
+    let mut stream = great(rt.alloc()).expect(&rt, "memory");
+    assert!(rt; is_great(&mut stream));
 }
