@@ -1,5 +1,7 @@
 //! A client's texts, carried out on a node that stands in for a real one.
 ghost use Rattle.std.specs.Prelude.{◌≡◌};
+ghost use Rattle.cf_session.specs.Standing.{tables_of};
+ghost use Rattle.cf_session.specs.Turn.{CanGoOn, StaysSetUp};
 
 use cf_presence::Stats;
 use cf_protocol::{
@@ -206,41 +208,73 @@ const PONGED: &str =
 {"id":2,"ping":{}}
 "#;
 
+/// Whether a turn of so many units ends so, and this is what the node said by then.
+fn turns(
+    session: &mut Session<'_>,
+    node: &mut Stand<'_>,
+    units: usize,
+    is_done: bool,
+    said: &str,
+) -> bool
+    requires tables { node.old.namespaces.now ≡ (tables_of session.old).namespaces }
+    requires ready { CanGoOn session.old }
+    ensures ready { CanGoOn session.new }
+    ensures keeps { StaysSetUp session.old session.new }
+    ensures namespaces { node.new.namespaces.now ≡ node.old.namespaces.now }
+{
+    carry_on(session, node, &mut Budget::new(units)) == is_done && node.said.as_str() == said
+}
+
 /// A frame in four turns: the attach, the reply to it, nothing where no unit is left, and the rest.
-#[test]
-fn in_turns(rt: HostRuntime) {
-    let (namespaces, tokens) = tables(rt.alloc()).expect(&rt, "tables");
-    let mut session = Session::new(rt.alloc(), &namespaces, &tokens);
+fn goes_in_turns(session: &mut Session<'_>, node: &mut Stand<'_>) -> bool
+    requires tables { node.old.namespaces.now ≡ (tables_of session.old).namespaces }
+    requires ready { CanGoOn session.old }
+{
+    turns(session, node, 4, false, "")
+        && turns(session, node, 1, false, CONNECTED)
+        && turns(session, node, 0, false, CONNECTED)
+        && turns(session, node, 256, true, PONGED)
+}
+
+/// Two turns of which neither says anything.
+fn says_nothing(session: &mut Session<'_>, node: &mut Stand<'_>) -> bool
+    requires tables { node.old.namespaces.now ≡ (tables_of session.old).namespaces }
+    requires ready { CanGoOn session.old }
+{
+    turns(session, node, 256, true, "") && turns(session, node, 256, true, "")
+}
+
+/// Whether a frame goes in turns, or, where the node closes the session after its first act, no further.
+fn is_carried_out(alloc: Global, namespaces: &Namespaces, tokens: &Tokens, acts: usize) -> bool {
+    let mut session = Session::new(alloc, namespaces, tokens);
     let mut node = Stand {
-        namespaces: &namespaces,
-        said: String::new(rt.alloc()),
-        left: 100,
-        alloc: rt.alloc(),
+        namespaces,
+        said: String::new(alloc),
+        left: acts,
+        alloc,
     };
     hear_text(&mut session, FRAME);
-    assert!(rt; !carry_on(&mut session, &mut node, &mut Budget::new(4)));
-    assert!(rt; node.said.is_empty());
-    assert!(rt; !carry_on(&mut session, &mut node, &mut Budget::new(1)));
-    assert!(rt; node.said.as_str() == CONNECTED);
-    assert!(rt; !carry_on(&mut session, &mut node, &mut Budget::new(0)));
-    assert!(rt; node.said.as_str() == CONNECTED);
-    assert!(rt; carry_on(&mut session, &mut node, &mut Budget::new(256)));
-    assert!(rt; node.said.as_str() == PONGED);
+    if acts > 1 {
+        goes_in_turns(&mut session, &mut node)
+    } else {
+        says_nothing(&mut session, &mut node)
+    }
+}
+
+fn carries_out(alloc: Global, acts: usize) -> bool {
+    match tables(alloc) {
+        Some((namespaces, tokens)) => is_carried_out(alloc, &namespaces, &tokens, acts),
+        None => false,
+    }
+}
+
+#[test]
+fn in_turns(rt: HostRuntime) {
+    assert!(rt; carries_out(rt.alloc(), 100));
 }
 
 /// Where the node has closed the session after the attach, the rest is not carried out.
 #[test]
 fn closed_between_turns(rt: HostRuntime) {
-    let (namespaces, tokens) = tables(rt.alloc()).expect(&rt, "tables");
-    let mut session = Session::new(rt.alloc(), &namespaces, &tokens);
-    let mut node = Stand {
-        namespaces: &namespaces,
-        said: String::new(rt.alloc()),
-        left: 1,
-        alloc: rt.alloc(),
-    };
-    hear_text(&mut session, FRAME);
-    assert!(rt; carry_on(&mut session, &mut node, &mut Budget::new(256)));
-    assert!(rt; carry_on(&mut session, &mut node, &mut Budget::new(256)));
-    assert!(rt; node.said.is_empty());
+    assert!(rt; carries_out(rt.alloc(), 1));
 }
