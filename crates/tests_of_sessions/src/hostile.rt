@@ -324,13 +324,19 @@ impl Desk for ClientDesk<'_> {
     }
 }
 
-/// A wire over a connect, and a frame of 32,768 pongs and this behind it.
-fn wire_over_pongs(alloc: Global, behind: &str) -> Option<Wire<Pieces>> {
+/// A frame of 32,768 pongs and this behind it.
+fn pongs_and(alloc: Global, behind: &str) -> Option<Vec<u8>> {
     let mut frame = "{}".repeat(alloc, 32_768).ok()?;
     frame.push_str(behind).ok()?;
+    text_frame(alloc, frame.as_str()).ok()
+}
+
+/// A wire over a connect, and such a frame.
+fn wire_over_pongs(alloc: Global, behind: &str) -> Option<Wire<Pieces>> {
     let mut input = masked_connect(alloc).ok()?;
-    let pongs = text_frame(alloc, frame.as_str()).ok()?;
-    input.extend_from_slice(pongs.as_slice()).ok()?;
+    input
+        .extend_from_slice(pongs_and(alloc, behind)?.as_slice())
+        .ok()?;
     wire_over(alloc, input.as_slice(), 4096)
 }
 
@@ -344,18 +350,28 @@ fn tables(alloc: Global) -> Option<(Namespaces, Tokens)> {
     }
 }
 
-/// Whether a turn over a connect and pongs, with this behind them, ends so, with so many pongs and this last on the stream.
-fn meets_pongs(alloc: Global, behind: &str, (end, pongs): (TurnEnd, usize), last: &[u8]) -> bool {
-    let Some((namespaces, tokens)) = tables(alloc) else {
-        return false;
-    };
-    match (wire_over_pongs(alloc, behind), hub_desk(alloc)) {
-        (Some(mut wire), Some(at)) => {
+/// Whether a turn ends so, with so many pongs and this last on the stream.
+fn ends_so(
+    wire: &mut Wire<Pieces>,
+    alloc: Global,
+    (end, pongs): (TurnEnd, usize),
+    last: &[u8],
+) -> bool {
+    match (tables(alloc), hub_desk(alloc)) {
+        (Some((namespaces, tokens)), Some(at)) => {
             let talk = Session::new(alloc, &namespaces, &tokens);
             let mut desk = ClientDesk { talk, at, pongs: 0 };
-            wire.turn(&mut desk) == end && desk.pongs == pongs && wrote(&wire, last)
+            wire.turn(&mut desk) == end && desk.pongs == pongs && wrote(wire, last)
         }
         _ => false,
+    }
+}
+
+/// The same of a turn over a connect and pongs, with this behind them.
+fn meets_pongs(alloc: Global, behind: &str, end: (TurnEnd, usize), last: &[u8]) -> bool {
+    match wire_over_pongs(alloc, behind) {
+        Some(mut wire) => ends_so(&mut wire, alloc, end, last),
+        None => false,
     }
 }
 

@@ -4,8 +4,6 @@ use cf_protocol::{Epoch, Position, Publication};
 use cf_queue::Out;
 use cf_stream::Recovery;
 use std::alloc::{AllocError, Global};
-use std::process::Abort;
-use std::test::Fail;
 
 const REPLY: &str = r#"{"id":2,"subscribe":{"epoch":"aaaa","positioned":true,"recoverable":true}}"#;
 
@@ -47,6 +45,19 @@ fn deliver(hub: &mut Hub, alloc: Global, offset: u64) -> Result<Delivered, Alloc
     Ok(hub.deliver("news", &epoch, &publication(alloc, offset)?))
 }
 
+/// Whether a delivery passes this on to so many, closes so many and ends so many.
+fn delivers(
+    hub: &mut Hub,
+    alloc: Global,
+    offset: u64,
+    (passed, closed, ended): (u32, u32, u32),
+) -> bool {
+    match deliver(hub, alloc, offset) {
+        Ok(met) => met.passed == passed && met.closed == closed && met.ended == ended,
+        Err(_) => false,
+    }
+}
+
 fn newcomer(hub: &mut Hub, alloc: Global) -> Option<u32> {
     let Ok(name) = String::from_str(alloc, "ann") else {
         return None;
@@ -54,13 +65,6 @@ fn newcomer(hub: &mut Hub, alloc: Global) -> Option<u32> {
     match hub.attach(name, 0) {
         Ok(session) => Some(session),
         Err(_) => None,
-    }
-}
-
-fn attach(hub: &mut Hub, alloc: Global) -> Result<u32, Fail> {
-    match newcomer(hub, alloc) {
-        Some(session) => Ok(session),
-        None => Err(Fail::from(AllocError)),
     }
 }
 
@@ -73,10 +77,20 @@ fn follow(hub: &mut Hub, alloc: Global, session: u32) {
     }
 }
 
-fn subscribed(hub: &mut Hub, alloc: Global) -> Result<u32, Fail> {
-    let session = attach(hub, alloc)?;
+/// The next session, which follows `news`.
+fn subscribed(hub: &mut Hub, alloc: Global) -> Option<u32> {
+    let session = newcomer(hub, alloc)?;
     follow(hub, alloc, session);
-    Ok(session)
+    Some(session)
+}
+
+/// A hub of one session.
+fn hub_of_one(alloc: Global) -> Option<Box<Hub>> {
+    let mut boxed = empty_hub(alloc).ok()?;
+    match newcomer(&mut boxed, alloc) {
+        Some(0) => Some(boxed),
+        _ => None,
+    }
 }
 
 /// Whether this is that text.
@@ -87,189 +101,201 @@ fn is_text(out: &Option<Out>, text: &str) -> bool {
     }
 }
 
-/// The session's client gets this text next.
-fn gets<R: Abort>(rt: &R, hub: &mut Hub, session: u32, text: &str) {
-    let out = hub.take(session);
-    assert!(rt; is_text(&out, text));
-}
-
-/// Nothing waits for the session's client.
-fn gets_nothing<R: Abort>(rt: &R, hub: &mut Hub, session: u32) {
-    assert_eq!(rt; hub.take(session), None);
-}
-
-/// The close with this code is what the session's client gets next.
-fn gets_close<R: Abort>(rt: &R, hub: &mut Hub, session: u32, code: u16) {
-    assert_eq!(rt; hub.take(session), Some(Out::Close(code)));
-}
-
-/// The session may begin with a channel.
-fn begins<R: Abort>(rt: &R, hub: &mut Hub, session: u32, channel: &str) {
-    assert_eq!(rt; hub.begin(session, channel, 2, None), Ok(()));
-}
-
-/// The session may not begin with a channel.
-fn is_refused<R: Abort>(rt: &R, hub: &mut Hub, channel: &str, refusal: HubRefusal) {
-    assert_eq!(rt; hub.begin(0, channel, 2, None), Err(refusal));
-}
-
-/// What isn't there isn't read, finished or left.
-fn has_nothing<R: Abort>(rt: &R, alloc: Global, hub: &mut Hub) {
-    assert!(rt; !hub.read_done(0, "news", read(alloc, 0)));
-    assert!(rt; !hub.finish(0, "news"));
-    assert!(rt; !hub.leave(0, "news"));
-}
-
-/// A session begins with 128 channels, and with none of them twice.
-fn begins_with_128<R: Abort>(rt: &R, alloc: Global, hub: &mut Hub) -> Result<(), Fail> {
-    for number in 0..128_u32 {
-        let channel = format!(in alloc; "c{number}")?;
-        begins(rt, hub, 0, channel.as_str());
-        is_refused(rt, hub, channel.as_str(), HubRefusal::Already);
+/// Whether this is the close with that code.
+fn is_close(out: &Option<Out>, code: u16) -> bool {
+    match out {
+        Some(Out::Close(found)) => *found == code,
+        _ => false,
     }
-    Ok(())
 }
 
-/// A session that has 128 channels begins with another one only once it left one.
-fn begins_with_no_more<R: Abort>(rt: &R, hub: &mut Hub) {
-    is_refused(rt, hub, "news", HubRefusal::TooMany);
-    assert!(rt; hub.leave(0, "c7"));
-    begins(rt, hub, 0, "news");
+/// Whether the session's client gets this text next.
+fn gets(hub: &mut Hub, session: u32, text: &str) -> bool {
+    is_text(&hub.take(session), text)
 }
 
-/// A closed session begins with nothing.
-fn begins_with_none<R: Abort>(rt: &R, hub: &mut Hub) {
+/// Whether nothing waits for the session's client.
+fn gets_nothing(hub: &mut Hub, session: u32) -> bool {
+    hub.take(session).is_none()
+}
+
+/// Whether the close with this code is what the session's client gets next.
+fn gets_close(hub: &mut Hub, session: u32, code: u16) -> bool {
+    is_close(&hub.take(session), code)
+}
+
+/// Whether session 0 may begin with a channel.
+fn begins(hub: &mut Hub, channel: &str) -> bool {
+    hub.begin(0, channel, 2, None).is_ok()
+}
+
+/// Whether session 0 may not begin with a channel.
+fn is_refused(hub: &mut Hub, channel: &str, refusal: HubRefusal) -> bool {
+    match hub.begin(0, channel, 2, None) {
+        Ok(()) => false,
+        Err(found) => found == refusal,
+    }
+}
+
+/// Whether what isn't there isn't read, finished or left.
+fn has_nothing(hub: &mut Hub, alloc: Global) -> bool {
+    !hub.read_done(0, "news", read(alloc, 0)) && !hub.finish(0, "news") && !hub.leave(0, "news")
+}
+
+/// Whether the session begins with a channel of this number, and not twice.
+fn begins_once(hub: &mut Hub, alloc: Global, number: u32) -> bool {
+    match format!(in alloc; "c{number}") {
+        Ok(channel) => {
+            begins(hub, channel.as_str()) && is_refused(hub, channel.as_str(), HubRefusal::Already)
+        }
+        Err(_) => false,
+    }
+}
+
+/// Whether a session begins with 128 channels, and with none of them twice.
+fn begins_with_128(hub: &mut Hub, alloc: Global) -> bool {
+    for number in 0..128_u32 {
+        if !begins_once(hub, alloc, number) {
+            return false;
+        }
+    }
+    true
+}
+
+/// Whether a session that has 128 channels begins with another one only once it left one.
+fn begins_with_no_more(hub: &mut Hub) -> bool {
+    is_refused(hub, "news", HubRefusal::TooMany) && hub.leave(0, "c7") && begins(hub, "news")
+}
+
+/// Whether a closed session begins with nothing.
+fn begins_with_none(hub: &mut Hub) -> bool {
     hub.close(0, 3001);
-    is_refused(rt, hub, "news", HubRefusal::NoSession);
-    gets_close(rt, hub, 0, 3001);
-    assert!(rt; !hub.short());
+    is_refused(hub, "news", HubRefusal::NoSession) && gets_close(hub, 0, 3001) && !hub.short()
 }
 
 #[test]
-fn refusals(rt: HostRuntime) -> Result<(), Fail> {
+fn refusals(rt: HostRuntime) {
     let alloc = rt.alloc();
-    let hub = &mut *empty_hub(alloc)?;
-    is_refused(&rt, hub, "news", HubRefusal::NoSession);
-    assert_eq!(rt; attach(hub, alloc)?, 0);
-    has_nothing(&rt, alloc, hub);
-    begins_with_128(&rt, alloc, hub)?;
-    begins_with_no_more(&rt, hub);
-    begins_with_none(&rt, hub);
-    Ok(())
+    let mut boxed = empty_hub(alloc).expect(&rt, "memory");
+    let hub = &mut *boxed;
+    assert!(rt; is_refused(hub, "news", HubRefusal::NoSession));
+    assert!(rt; newcomer(hub, alloc) == Some(0));
+    assert!(rt; has_nothing(hub, alloc));
+    assert!(rt; begins_with_128(hub, alloc));
+    assert!(rt; begins_with_no_more(hub));
+    assert!(rt; begins_with_none(hub));
 }
 
-/// A session is pinged at 25 seconds.
-fn is_pinged<R: Abort>(rt: &R, hub: &mut Hub, session: u32) {
+/// Whether session 0 is pinged at 25 seconds.
+fn is_pinged(hub: &mut Hub) -> bool {
     hub.tick(24);
-    gets_nothing(rt, hub, session);
+    let was_quiet = gets_nothing(hub, 0);
     hub.tick(25);
-    gets(rt, hub, session, "{}");
+    was_quiet && gets(hub, 0, "{}")
 }
 
-/// A session that was pinged at 25 seconds is closed at 33, unless its client answered by then.
-fn is_closed_at_33<R: Abort>(rt: &R, hub: &mut Hub, session: u32, is_closed: bool) {
+/// Whether session 0, which was pinged at 25 seconds, is closed at 33, unless its client answered by then.
+fn is_closed_at_33(hub: &mut Hub, is_closed: bool) -> bool {
     hub.tick(32);
-    gets_nothing(rt, hub, session);
+    let was_quiet = gets_nothing(hub, 0);
     hub.tick(33);
-    assert_eq!(rt; hub.is_closed(session), is_closed);
+    let was_closed = hub.is_closed(0);
     hub.tick(50);
+    was_quiet && was_closed == is_closed
 }
 
 #[test]
-fn pings(rt: HostRuntime) -> Result<(), Fail> {
-    let alloc = rt.alloc();
-    let hub = &mut *empty_hub(alloc)?;
-    let session = attach(hub, alloc)?;
-    is_pinged(&rt, hub, session);
-    hub.pong(session);
-    is_closed_at_33(&rt, hub, session, false);
-    gets(&rt, hub, session, "{}");
-    Ok(())
+fn pings(rt: HostRuntime) {
+    let mut boxed = hub_of_one(rt.alloc()).expect(&rt, "memory");
+    let hub = &mut *boxed;
+    assert!(rt; is_pinged(hub));
+    hub.pong(0);
+    assert!(rt; is_closed_at_33(hub, false));
+    assert!(rt; gets(hub, 0, "{}"));
 }
 
 #[test]
-fn closes_where_no_pong_comes(rt: HostRuntime) -> Result<(), Fail> {
-    let alloc = rt.alloc();
-    let hub = &mut *empty_hub(alloc)?;
-    let session = attach(hub, alloc)?;
-    is_pinged(&rt, hub, session);
-    is_closed_at_33(&rt, hub, session, true);
-    gets_close(&rt, hub, session, 3012);
-    Ok(())
+fn closes_where_no_pong_comes(rt: HostRuntime) {
+    let mut boxed = hub_of_one(rt.alloc()).expect(&rt, "memory");
+    let hub = &mut *boxed;
+    assert!(rt; is_pinged(hub));
+    assert!(rt; is_closed_at_33(hub, true));
+    assert!(rt; gets_close(hub, 0, 3012));
 }
 
 /// A delivery, a read of the stream, or a finish.
-fn steps<R: Abort>(rt: &R, alloc: Global, hub: &mut Hub, step: char) -> Result<(), Fail> {
+fn is_stepped(hub: &mut Hub, alloc: Global, step: char) -> bool {
     match step {
-        'd' => {
-            let _met = deliver(hub, alloc, 1)?;
-        }
-        'r' => assert!(rt; hub.read_done(0, "news", read(alloc, 0))),
-        _ => assert!(rt; hub.finish(0, "news")),
+        'd' => deliver(hub, alloc, 1).is_ok(),
+        'r' => hub.read_done(0, "news", read(alloc, 0)),
+        _ => hub.finish(0, "news"),
     }
-    Ok(())
 }
 
-/// The reply comes before the push, each once.
-fn replies_first<R: Abort>(rt: &R, hub: &mut Hub) {
-    assert!(rt; hub.is_on(0, "news"));
-    gets(rt, hub, 0, REPLY);
-    gets(rt, hub, 0, FIRST);
-    gets_nothing(rt, hub, 0);
+/// Whether the reply comes before the push, each once.
+fn replies_first(hub: &mut Hub) -> bool {
+    hub.is_on(0, "news") && gets(hub, 0, REPLY) && gets(hub, 0, FIRST) && gets_nothing(hub, 0)
 }
 
-/// Steps in this order.
-fn goes<R: Abort>(rt: &R, alloc: Global, order: &str) -> Result<(), Fail> {
-    let hub = &mut *empty_hub(alloc)?;
-    assert_eq!(rt; attach(hub, alloc)?, 0);
-    begins(rt, hub, 0, "news");
+/// Whether steps in this order go well.
+fn are_stepped(hub: &mut Hub, alloc: Global, order: &str) -> bool {
     for step in order.chars() {
-        steps(rt, alloc, hub, step)?;
+        if !is_stepped(hub, alloc, step) {
+            return false;
+        }
     }
-    replies_first(rt, hub);
-    Ok(())
+    replies_first(hub)
+}
+
+fn goes(alloc: Global, order: &str) -> bool {
+    match hub_of_one(alloc) {
+        Some(mut hub) => begins(&mut hub, "news") && are_stepped(&mut hub, alloc, order),
+        None => false,
+    }
 }
 
 #[test]
-fn reply_before_push(rt: HostRuntime) -> Result<(), Fail> {
-    for order in ["drf", "rdf", "rfd", "ddrf", "rfdd"] {
-        goes(&rt, rt.alloc(), order)?;
+fn reply_before_push(rt: HostRuntime) {
+    for order in "drf rdf rfd ddrf rfdd".split(' ') {
+        assert!(rt; goes(rt.alloc(), order), "{order}");
     }
-    Ok(())
 }
 
-/// A check that finds a subscription behind twice ends it.
-fn is_checked_twice<R: Abort>(rt: &R, hub: &mut Hub, session: u32) {
-    for (top, checked) in [
-        (1, Checked::Behind),
-        (0, Checked::Fine),
-        (1, Checked::Behind),
-        (1, Checked::Ended),
-    ] {
-        assert_eq!(rt; hub.check(session, "news", Some(place(top))), checked);
-    }
-    gets(rt, hub, session, END);
+/// Whether a check that finds a subscription of session 1 behind twice ends it.
+fn is_checked_twice(hub: &mut Hub) -> bool {
+    hub.check(1, "news", Some(place(1))) == Checked::Behind
+        && hub.check(1, "news", Some(place(0))) == Checked::Fine
+        && hub.check(1, "news", Some(place(1))) == Checked::Behind
+        && hub.check(1, "news", Some(place(1))) == Checked::Ended
+        && gets(hub, 1, END)
 }
 
-/// A delivery ends a subscription that missed one.
-fn meets_gap<R: Abort>(rt: &R, alloc: Global, hub: &mut Hub, session: u32) -> Result<(), Fail> {
-    let met = deliver(hub, alloc, 2)?;
-    assert_eq!(rt; (met.ended, met.passed, met.closed), (1, 0, 0));
-    gets(rt, hub, session, END);
-    Ok(())
+/// Whether a delivery ends the subscription of session 0, which missed one, and the next drops nothing.
+fn meets_gap(hub: &mut Hub, alloc: Global) -> bool {
+    if !delivers(hub, alloc, 2, (0, 0, 1)) || !gets(hub, 0, END) {
+        return false;
+    }
+    match deliver(hub, alloc, 3) {
+        Ok(met) => met.dropped == 0,
+        Err(_) => false,
+    }
+}
+
+/// A hub of two sessions that follow `news`.
+fn hub_of_two(alloc: Global) -> Option<Box<Hub>> {
+    let mut boxed = empty_hub(alloc).ok()?;
+    let _first = subscribed(&mut boxed, alloc)?;
+    let _second = subscribed(&mut boxed, alloc)?;
+    Some(boxed)
 }
 
 #[test]
-fn gap_and_check(rt: HostRuntime) -> Result<(), Fail> {
-    let alloc = rt.alloc();
-    let hub = &mut *empty_hub(alloc)?;
-    let first = subscribed(hub, alloc)?;
-    let second = subscribed(hub, alloc)?;
-    assert_eq!(rt; hub.check(second, "chat", None), Checked::Nothing);
-    is_checked_twice(&rt, hub, second);
-    meets_gap(&rt, alloc, hub, first)?;
-    assert_eq!(rt; deliver(hub, alloc, 3)?.dropped, 0);
-    Ok(())
+fn gap_and_check(rt: HostRuntime) {
+    let mut boxed = hub_of_two(rt.alloc()).expect(&rt, "memory");
+    let hub = &mut *boxed;
+    assert!(rt; hub.check(1, "chat", None) == Checked::Nothing);
+    assert!(rt; is_checked_twice(hub));
+    assert!(rt; meets_gap(hub, rt.alloc()));
 }
 
 /// A text as long as all that may wait for a client.
@@ -281,63 +307,60 @@ fn longest_text(alloc: Global) -> Result<String, AllocError> {
     Ok(long)
 }
 
-/// One of two that follow `news` has so much waiting that a delivery closes it.
-fn overflows<R: Abort>(rt: &R, alloc: Global, hub: &mut Hub, slow: u32) -> Result<(), Fail> {
-    assert_eq!(rt; hub.say(slow, longest_text(alloc)?), Queued::Kept);
-    let met = deliver(hub, alloc, 1)?;
-    assert_eq!(rt; (met.passed, met.closed), (1, 1));
-    Ok(())
+/// Whether session 0 of two that follow `news` has so much waiting that a delivery closes it.
+fn overflows(hub: &mut Hub, alloc: Global) -> bool {
+    match longest_text(alloc) {
+        Ok(long) => hub.say(0, long) == Queued::Kept && delivers(hub, alloc, 1, (1, 1, 0)),
+        Err(_) => false,
+    }
 }
 
-/// A client that was too slow gets what waited, and the close.
-fn is_closed_as_slow<R: Abort>(rt: &R, alloc: Global, hub: &mut Hub, slow: u32) {
-    assert_eq!(rt; hub.say(slow, String::new(alloc)), Queued::Closed);
-    assert!(rt; hub.take(slow).is_some());
-    gets_close(rt, hub, slow, 3008);
+/// Whether the client of session 0, which was too slow, gets what waited, and the close.
+fn is_closed_as_slow(hub: &mut Hub, alloc: Global) -> bool {
+    hub.say(0, String::new(alloc)) == Queued::Closed
+        && hub.take(0).is_some()
+        && gets_close(hub, 0, 3008)
 }
 
 #[test]
-fn slow_consumer(rt: HostRuntime) -> Result<(), Fail> {
-    let alloc = rt.alloc();
-    let hub = &mut *empty_hub(alloc)?;
-    let slow = subscribed(hub, alloc)?;
-    let other = subscribed(hub, alloc)?;
-    overflows(&rt, alloc, hub, slow)?;
-    is_closed_as_slow(&rt, alloc, hub, slow);
-    gets(&rt, hub, other, FIRST);
-    assert_eq!(rt; hub.say(9, String::new(alloc)), Queued::Gone);
-    Ok(())
+fn slow_consumer(rt: HostRuntime) {
+    let mut boxed = hub_of_two(rt.alloc()).expect(&rt, "memory");
+    let hub = &mut *boxed;
+    assert!(rt; overflows(hub, rt.alloc()));
+    assert!(rt; is_closed_as_slow(hub, rt.alloc()));
+    assert!(rt; gets(hub, 1, FIRST));
+    assert!(rt; hub.say(9, String::new(rt.alloc())) == Queued::Gone);
 }
 
-/// The next session has this number, and follows `news`.
-fn is_next<R: Abort>(rt: &R, alloc: Global, hub: &mut Hub, number: u32) -> Result<(), Fail> {
-    assert_eq!(rt; subscribed(hub, alloc)?, number);
-    Ok(())
+/// Whether the next three sessions have the numbers 0 to 2, and follow `news`.
+fn are_first_three(hub: &mut Hub, alloc: Global) -> bool {
+    subscribed(hub, alloc) == Some(0)
+        && subscribed(hub, alloc) == Some(1)
+        && subscribed(hub, alloc) == Some(2)
 }
 
-/// Each of three that a delivery met gets a turn, in order of their subscribing.
-fn gives_turns<R: Abort>(rt: &R, alloc: Global, hub: &mut Hub) -> Result<(), Fail> {
-    assert_eq!(rt; hub.next_with_output(), None);
-    let met = deliver(hub, alloc, 1)?;
-    assert_eq!(rt; met.passed, 3);
-    for number in [Some(0), Some(2), Some(1), None] {
-        assert_eq!(rt; hub.next_with_output(), number);
-    }
-    Ok(())
+/// Whether the number of a session that ends is given again.
+fn gives_number_again(hub: &mut Hub, alloc: Global) -> bool {
+    hub.detach(1) == 1 && hub.is_closed(1) && subscribed(hub, alloc) == Some(1)
+}
+
+/// Whether each of three that a delivery met gets a turn, in order of their subscribing.
+fn gives_turns(hub: &mut Hub, alloc: Global) -> bool {
+    hub.next_with_output().is_none()
+        && delivers(hub, alloc, 1, (3, 0, 0))
+        && hub.next_with_output() == Some(0)
+        && hub.next_with_output() == Some(2)
+        && hub.next_with_output() == Some(1)
+        && hub.next_with_output().is_none()
 }
 
 #[test]
-fn numbers_and_output(rt: HostRuntime) -> Result<(), Fail> {
-    let alloc = rt.alloc();
-    let hub = &mut *empty_hub(alloc)?;
-    for number in 0..3 {
-        is_next(&rt, alloc, hub, number)?;
-    }
-    assert_eq!(rt; hub.detach(1), 1);
-    assert!(rt; hub.is_closed(1));
-    is_next(&rt, alloc, hub, 1)?;
-    gives_turns(&rt, alloc, hub)?;
-    Ok(())
+fn numbers_and_output(rt: HostRuntime) {
+    let mut boxed = empty_hub(rt.alloc()).expect(&rt, "memory");
+    let hub = &mut *boxed;
+    assert!(rt; are_first_three(hub, rt.alloc()));
+    assert!(rt; gives_number_again(hub, rt.alloc()));
+    assert!(rt; gives_turns(hub, rt.alloc()));
 }
 
 /// A hub whose sessions 0 to 2 follow `news`. None where memory was refused.
@@ -354,38 +377,35 @@ fn three(alloc: Global) -> Option<Box<Hub>> {
     Some(boxed)
 }
 
-/// All three of a delivery are passed, or two, and the third is closed.
-fn met_three<R: Abort>(rt: &R, hub: &Hub, met: &Delivered) {
-    assert!(rt; (met.passed == 3 && met.closed == 0) || (met.passed == 2 && met.closed == 1));
-    assert_eq!(rt; (met.kept, met.dropped, met.ended), (0, 0, 0));
-    assert!(rt; met.closed == 0 || hub.short());
+/// Whether a delivery passes a publication to so many, or to one less, which is closed for want of memory, and keeps so many.
+fn has_met(hub: &Hub, met: &Delivered, passed: u32, kept: u32) -> bool {
+    let is_whole = met.passed == passed && met.closed == 0;
+    let is_short = met.passed.saturating_add(1) == passed && met.closed == 1 && hub.short();
+    (is_whole || is_short) && met.kept == kept && met.dropped == 0 && met.ended == 0
 }
 
-/// A session's client gets the first publication, or the close where memory was refused.
-fn gets_first_or_close<R: Abort>(rt: &R, hub: &mut Hub, session: u32) {
+/// Whether a session's client gets the first publication, or the close where memory was refused.
+fn gets_first_or_close(hub: &mut Hub, session: u32) -> bool {
     if hub.is_closed(session) {
-        gets_close(rt, hub, session, 3004);
-    } else {
-        gets(rt, hub, session, FIRST);
+        return gets_close(hub, session, 3004);
     }
+    gets(hub, session, FIRST)
 }
 
 // By `.ci/hub-refused` also with each request for memory refused in turn.
 #[test]
-fn deliver_refused(rt: HostRuntime) -> Result<(), Fail> {
-    let alloc = rt.alloc();
-    let Some(mut hub) = three(alloc) else {
-        return Ok(());
+fn deliver_refused(rt: HostRuntime) {
+    let Some(mut boxed) = three(rt.alloc()) else {
+        return;
     };
-    let hub = &mut *hub;
-    let Ok(met) = deliver(hub, alloc, 1) else {
-        return Ok(());
+    let hub = &mut *boxed;
+    let Ok(met) = deliver(hub, rt.alloc(), 1) else {
+        return;
     };
-    met_three(&rt, hub, &met);
+    assert!(rt; has_met(hub, &met, 3, 0));
     for session in 0..3 {
-        gets_first_or_close(&rt, hub, session);
+        assert!(rt; gets_first_or_close(hub, session), "{session}");
     }
-    Ok(())
 }
 
 /// A hub whose session 0 follows `news`, and whose session 1 asks for it. None where memory was refused.
@@ -401,13 +421,6 @@ fn one_asks(alloc: Global) -> Option<Box<Hub>> {
     Some(boxed)
 }
 
-/// The publication is kept for session 1, and passed to session 0, or that one is closed for want of memory.
-fn is_kept<R: Abort>(rt: &R, hub: &Hub, met: &Delivered) {
-    assert!(rt; (met.passed == 1 && met.closed == 0) || (met.passed == 0 && met.closed == 1));
-    assert_eq!(rt; (met.kept, met.dropped, met.ended), (1, 0, 0));
-    assert!(rt; met.closed == 0 || hub.short());
-}
-
 /// The texts of which one comes behind the reply: what was kept; or an end, where memory was refused and closed nobody, since
 /// that may have been for what was to be kept (or for the one text of both, which each then writes for itself).
 fn behind_reply(hub: &Hub, met: &Delivered) -> (&'static str, &'static str) {
@@ -418,68 +431,79 @@ fn behind_reply(hub: &Hub, met: &Delivered) -> (&'static str, &'static str) {
     }
 }
 
-/// What was asked for is read and finished.
-fn is_finished<R: Abort>(rt: &R, alloc: Global, hub: &mut Hub, session: u32) {
-    assert!(rt; hub.read_done(session, "news", read(alloc, 0)));
-    assert!(rt; hub.finish(session, "news"));
+/// Whether what session 1 asked for is read and finished.
+fn is_finished(hub: &mut Hub, alloc: Global) -> bool {
+    hub.read_done(1, "news", read(alloc, 0)) && hub.finish(1, "news")
 }
 
-/// The client gets its reply, one of these texts behind it, and nothing more.
-fn gets_reply_and<R: Abort>(rt: &R, hub: &mut Hub, session: u32, texts: (&str, &str)) {
-    gets(rt, hub, session, REPLY);
-    let out = hub.take(session);
-    assert!(rt; is_text(&out, texts.0) || is_text(&out, texts.1));
-    gets_nothing(rt, hub, session);
+/// Whether the client of session 1 gets one of these texts, and nothing more.
+fn gets_one_of(hub: &mut Hub, texts: (&str, &str)) -> bool {
+    let out = hub.take(1);
+    (is_text(&out, texts.0) || is_text(&out, texts.1)) && gets_nothing(hub, 1)
 }
 
-/// The client of a session for whose reply or push memory was refused gets what was said before it, and the close.
-fn gets_given_up<R: Abort>(rt: &R, hub: &mut Hub, session: u32) {
-    let mut out = hub.take(session);
+/// What the client of session 1 gets next, or behind its reply.
+fn behind(hub: &mut Hub) -> Option<Out> {
+    let out = hub.take(1);
     if is_text(&out, REPLY) {
-        out = hub.take(session);
+        return hub.take(1);
     }
-    assert_eq!(rt; out, Some(Out::Close(3004)));
-    gets_nothing(rt, hub, session);
+    out
+}
+
+/// Whether the client of session 1, for whose reply or push memory was refused, gets what was said before it, and the close.
+fn gets_given_up(hub: &mut Hub) -> bool {
+    is_close(&behind(hub), 3004) && gets_nothing(hub, 1)
+}
+
+/// Whether session 1, which asked for `news`, has its reply and one of these texts behind it, or is given up where memory is refused
+/// to it.
+fn is_answered(hub: &mut Hub, alloc: Global, texts: (&str, &str)) -> bool {
+    let was_short = hub.short();
+    if !is_finished(hub, alloc) {
+        return false;
+    }
+    if hub.short() && !was_short {
+        return gets_given_up(hub);
+    }
+    gets(hub, 1, REPLY) && gets_one_of(hub, texts)
 }
 
 // By `.ci/hub-refused` also with each request for memory refused in turn.
 #[test]
-fn overflow_refused(rt: HostRuntime) -> Result<(), Fail> {
-    let alloc = rt.alloc();
-    let Some(mut hub) = one_asks(alloc) else {
-        return Ok(());
+fn overflow_refused(rt: HostRuntime) {
+    let Some(mut boxed) = one_asks(rt.alloc()) else {
+        return;
     };
-    let hub = &mut *hub;
-    let Ok(met) = deliver(hub, alloc, 1) else {
-        return Ok(());
+    let hub = &mut *boxed;
+    let Ok(met) = deliver(hub, rt.alloc(), 1) else {
+        return;
     };
-    is_kept(&rt, hub, &met);
+    // The publication is kept for session 1.
+    assert!(rt; has_met(hub, &met, 1, 1));
     let texts = behind_reply(hub, &met);
-    let was_short = hub.short();
-    is_finished(&rt, alloc, hub, 1);
-    if hub.short() && !was_short {
-        gets_given_up(&rt, hub, 1);
-    } else {
-        gets_reply_and(&rt, hub, 1, texts);
+    assert!(rt; is_answered(hub, rt.alloc(), texts));
+}
+
+fn says(alloc: Global, refusal: HubRefusal, words: &str) -> bool {
+    match refusal.to_string(alloc) {
+        Ok(said) => said.as_str() == words,
+        Err(_) => false,
     }
-    Ok(())
 }
 
 #[test]
-fn refusals_in_words(rt: HostRuntime) -> Result<(), Fail> {
-    for (refusal, words) in [
-        (HubRefusal::NoSession, "there is no such session"),
-        (
-            HubRefusal::Already,
-            "the session follows the channel already",
-        ),
-        (
-            HubRefusal::TooMany,
-            "the node or the session has as many as it may have",
-        ),
-        (HubRefusal::Memory, "out of memory"),
-    ] {
-        assert_eq!(rt; format!(in rt.alloc(); "{refusal}")?.as_str(), words);
-    }
-    Ok(())
+fn refusals_in_words(rt: HostRuntime) {
+    assert!(rt;
+        says(
+            rt.alloc(),
+            HubRefusal::NoSession,
+            "there is no such session"
+        )
+    );
+    let already = "the session follows the channel already";
+    assert!(rt; says(rt.alloc(), HubRefusal::Already, already));
+    let too_many = "the node or the session has as many as it may have";
+    assert!(rt; says(rt.alloc(), HubRefusal::TooMany, too_many));
+    assert!(rt; says(rt.alloc(), HubRefusal::Memory, "out of memory"));
 }

@@ -390,15 +390,17 @@ fn data_depth(rt: HostRuntime) {
     assert!(rt; is_nested(rt.alloc(), 63, BAD_REQUEST));
 }
 
-/// Whether a publish to a channel whose name has so many bytes is refused as a bad request.
-fn is_bad_name(alloc: Global, session: &mut Session<'_>, bytes: usize) -> Option<bool> {
+/// A publish to a channel whose name has so many bytes.
+fn publish_to(alloc: Global, bytes: usize) -> Option<String> {
     let name = "x".repeat(alloc, bytes).ok()?;
-    let text = format!(in alloc; "{{\"id\":2,\"publish\":{{\"channel\":\"{name}\",\"data\":1}}}}");
-    Some(
-        serve(alloc, session, text.ok()?.as_str())?
-            .as_str()
-            .contains("107"),
-    )
+    format!(in alloc; "{{\"id\":2,\"publish\":{{\"channel\":\"{name}\",\"data\":1}}}}").ok()
+}
+
+/// Whether such a publish is refused as a bad request.
+fn is_bad_name(alloc: Global, session: &mut Session<'_>, bytes: usize) -> Option<bool> {
+    let text = publish_to(alloc, bytes)?;
+    let done = serve(alloc, session, text.as_str())?;
+    Some(done.as_str().contains("107"))
 }
 
 /// Whether a frame of so many empty commands is answered by as many pongs.
@@ -416,16 +418,20 @@ fn is_too_long(alloc: Global, session: &mut Session<'_>, count: usize) -> Option
     Some(is_served(alloc, session, frame.as_str(), BAD_REQUEST))
 }
 
+fn keeps_limits(alloc: Global, session: &mut Session<'_>) -> bool {
+    is_bad_name(alloc, session, 255) == Some(false)
+        && is_bad_name(alloc, session, 256) == Some(true)
+        && is_ponged(alloc, session, 32_768) == Some(true)
+        && is_too_long(alloc, session, 32_768) == Some(true)
+}
+
 /// A frame of 65,536 bytes has all its commands carried out, and one byte more closes; names of 255
 /// and 256 bytes.
 #[test]
 fn limits(rt: HostRuntime) {
     let (namespaces, tokens) = tables(rt.alloc(), "").expect(&rt, "tables");
     let mut session = connected(rt.alloc(), &namespaces, &tokens);
-    assert!(rt; is_bad_name(rt.alloc(), &mut session, 255) == Some(false));
-    assert!(rt; is_bad_name(rt.alloc(), &mut session, 256) == Some(true));
-    assert!(rt; is_ponged(rt.alloc(), &mut session, 32_768) == Some(true));
-    assert!(rt; is_too_long(rt.alloc(), &mut session, 32_768) == Some(true));
+    assert!(rt; keeps_limits(rt.alloc(), &mut session));
 }
 
 const NO_MEMORY: &str = "close 3004 internal server error";
