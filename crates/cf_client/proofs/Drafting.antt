@@ -1,5 +1,5 @@
 -- What a draft makes of what a client knows, and what contracts see of it.
-use Rattle.std.proofs.Common.{◌≡◌, ◌∙◌, ℕ, zero, suc, ◌+◌, ◌<◌, ◌≤◌, drop, get_or, drop-cons, Bool, true, false, cond, if◌then◌else◌, not, ◌==◌, ◌||◌, Option, Some, None, IsSome, is_some, List, [], ◌∷◌, ◌++◌, refl, sym, ap, subst, filter, length, arith}
+use Rattle.std.proofs.Common.{◌≡◌, ◌∙◌, ℕ, zero, suc, ◌+◌, ◌<◌, ◌≤◌, drop, get_or, drop-cons, Bool, true, false, cond, if◌then◌else◌, not, ◌==◌, ◌||◌, Option, Some, None, IsSome, is_some, List, [], ◌∷◌, ◌++◌, map, reverse, refl, sym, ap, subst, filter, length, arith, Vec}
 use Rattle.std.specs.BTreeMap.{get_by_text, is_at}
 use Rattle.std.specs.Cmp.Lexicographic.{slice_cmp}
 use Rattle.std.specs.List.{All, list_any}
@@ -11,16 +11,18 @@ use Rattle.std.specs.String.{string_bytes}
 use Rattle.std.specs.declared.string.String.{String}
 use Rattle.std.specs.declared.alloc.Global.{Global}
 use Rattle.std.proofs.lemmas.Bool.Decides.{nat_tests}
+use Rattle.std.proofs.lemmas.List.{map-append, reverse-append}
 use Rattle.std.proofs.lemmas.List.Elements.{All-head, All-tail}
 use Rattle.std.proofs.lemmas.Map.Text.{is_eq-slice_cmp}
 use Rattle.std.proofs.lemmas.Slice.Eq.{bytes_eq-Decides}
 use Rattle.cf_protocol.specs.Names.{with}
 use Rattle.cf_protocol.specs.Position.{Position}
 use Rattle.cf_model.specs.ClientState.{Mode, Asking, Live, idle, is_idle, last_of}
-use Rattle.cf_client.specs.ClientCalls.{Call, asks_under, channel_under, asked, left, moves, answered}
+use Rattle.cf_client.specs.ClientCalls.{Call, State, asks_under, called, channel_under, asked, left, moves, answered}
 use Rattle.cf_client.specs.ClientView.{ids_of}
 use Rattle.cf_client.specs.Draft.{changed_or, drafted_code, drafted_mode, drafted_calls, drafted}
-use Rattle.cf_client.specs.Shown.{Channels, modes_of, mode_or_idle, shown_mode, SetsMode, calls_of, known_state}
+use Rattle.cf_client.specs.Shown.{Channels, modes_of, mode_or_idle, shown_mode, SetsMode, calls_of, known_state, shown_call}
+use Rattle.cf_client.specs.declared.calls.Call.{Call as CodeCall}
 use Rattle.cf_client.specs.declared.channels.Mode.{Mode as CodeMode}
 use Rattle.cf_client.specs.declared.channels.Mode.TheVariants as code
 use Rattle.cf_client.specs.declared.draft.Draft.{Draft as CodeDraft}
@@ -76,6 +78,19 @@ moves_live k old new b name p m same live goes =
     subst (Moved k old new m) same goes (live_is_there p (get_by_text old.changed name) (get_by_text k.channels name) live)
 
 -- ---- what a client does of itself
+
+ids_of-more : (ks : List Call) (k : Call) → ids_of (ks ++ k ∷ []) ≡ k.id ∷ ids_of ks
+ids_of-more ks k = ap reverse (map-append (λ (x : Call). x.id) ks (k ∷ [])) ∙ reverse-append (map (λ (x : Call). x.id) ks) (k.id ∷ [])
+
+pub called_path : (k : CodeKnown) (calls : Vec CodeCall Global) (id : ℕ) (channel : String Global) (name : List ℕ) → calls.items ≡ k.calls.items ++ record { id = id; channel = channel } ∷ [] → id ≡ suc k.last_id → string_bytes channel ≡ name
+    → known_state (record k { calls = calls; last_id = id }) ≡ called name (known_state k)
+called_path k calls id channel name is next named_so =
+    let s : State = known_state k in
+    let one : Call = record { id = suc k.last_id; channel = name } in
+    let out : calls_of calls.items ≡ s.out ++ one ∷ [] =
+    ap calls_of is ∙ map-append shown_call k.calls.items (record { id = id; channel = channel } ∷ []) ∙ (λ i. s.out ++ record { id = next i; channel = named_so i } ∷ []) in
+    let ids : ids_of (calls_of calls.items) ≡ suc k.last_id ∷ s.client.calls = ap ids_of out ∙ ids_of-more s.out one in
+    λ i. record { connected = s.connected; client = record { fresh = suc (next i); modes = s.client.modes; calls = ids i }; out = out i }
 
 pub asked_path : (k : CodeKnown) (new : Channels) (key name : List ℕ) (id : ℕ) (from : Option Position) (mode asking : CodeMode) → key ≡ name → id ≡ suc k.last_id
     → ((d : List ℕ) → get_by_text new d ≡ update bytes_eq (get_by_text k.channels) key (Some asking) d)

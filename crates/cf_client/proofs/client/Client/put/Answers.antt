@@ -1,0 +1,4 @@
+use Rattle.cf_client.proofs.client.Client.put.Goals as goal
+
+pub returns-clause-text : goal.returns-clause-text
+returns-clause-text c = c.put_key.ensures.text
