@@ -27,6 +27,11 @@ texts_stand (x ∷ a) b h = refl
 pub info_stands : (w : Who) → 0 < length w.client + length w.user → stands (info w) ≡ true
 info_stands w h = texts_stand w.client w.user h
 
+pub position_stands : (epoch : List ℕ) (offset : ℕ) → 0 < length epoch + offset → stands (("epoch" ⇒ text epoch) ∷ ("offset" ⇒ whole offset) ∷ []) ≡ true
+position_stands (x ∷ epoch) offset h = refl
+position_stands [] zero h = absurd (omega arith)
+position_stands [] (suc offset) h = rw (ne_eqb (suc offset) 0 (omega arith)) refl
+
 pub pub_stands : (channel : List ℕ) (t : Tree) → stands (("channel" ⇒ text channel) ∷ ("pub" ⇒ Some t) ∷ []) ≡ true
 pub_stands [] t = refl
 pub_stands (x ∷ channel) t = refl

@@ -1,9 +1,10 @@
 -- What stands in a table.
-use Rattle.std.proofs.Common.{◌≡◌, ℕ, true, false, cond, List, [], ◌∷◌, length, map, Option, Some, None, option_map, IfSome, refl, sym, ap, ◌∙◌, ◌==◌, String, Global}
+use Rattle.std.proofs.Common.{arith, ◌≡◌, ℕ, true, false, cond, List, [], ◌∷◌, length, map, Option, Some, None, option_map, IfSome, refl, sym, ap, ◌∙◌, ◌==◌, String, Global}
 use Rattle.std.specs.List.{All}
 use Rattle.std.specs.Str.{bytes_eq}
 use Rattle.std.specs.String.{string_bytes}
 use Rattle.std.proofs.lemmas.List.Elements.{All-head, All-tail}
+use Rattle.std.proofs.lemmas.Bool.{eqb-true}
 use Rattle.cf_protocol.specs.Settings.{entry_at, named, in_bytes, user_of, TokenTable}
 
 -- what every value has, the one under a name has
@@ -39,3 +40,8 @@ absent_named es k h = unmapped string_bytes (entry_at (named es) k) (sym (entry_
 pub user_of-looked_up : (t : TokenTable) (k : List ℕ) → (length k == 0) ≡ false → user_of t k ≡ entry_at t k
 user_of-looked_up t [] h = cc
 user_of-looked_up t (b ∷ bs) h = refl
+
+-- the empty one connects the empty user
+pub user_of-empty : (t : TokenTable) (k : List ℕ) → (length k == 0) ≡ true → user_of t k ≡ Some []
+user_of-empty t [] h = refl
+user_of-empty t (b ∷ bs) h = absurd (omega (arith, eqb-true (length (b ∷ bs)) 0 h))

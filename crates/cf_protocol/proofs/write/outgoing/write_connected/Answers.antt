@@ -1,0 +1,5 @@
+use Rattle.cf_protocol.proofs.Writings.{then}
+use Rattle.cf_protocol.proofs.write.outgoing.write_connected.Goals as goal
+
+pub returns : goal.returns
+returns c = then c.in_ok-write_welcome.ensures c.in_ok-write_id.ensures
