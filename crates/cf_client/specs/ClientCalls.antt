@@ -5,7 +5,6 @@ use Rattle.std.specs.Prelude.{option_to_list, Result, Err, IfErr, List, [], â—Œâ
 use Rattle.cf_protocol.specs.Names.{with}
 use Rattle.cf_protocol.specs.Position.{Position}
 use Rattle.cf_protocol.specs.Datum.{Placed}
-use Rattle.cf_protocol.specs.Fields.{max_u32}
 use Rattle.cf_protocol.specs.Outgoing.{Outcome, Connected, Subscribed, Unsubscribed, Published, Present, Counted}
 use Rattle.cf_protocol.specs.Outgoing.{Past, Pinged, Failed, Pushed, Publication, Unsubscribe, Outgoing, Ping, Answer}
 use Rattle.cf_protocol.specs.Outgoing.{Push}
