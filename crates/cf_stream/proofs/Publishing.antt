@@ -1,11 +1,9 @@
 -- What a publish makes of a map's streams, where the channel's stream stood and where it opens.
-use Rattle.std.proofs.Common.{◌≡◌, ℕ, List, Bool, true, false, cond, Option, Some, None, refl, sym, ap, ◌∙◌, subst, BTreeMap, String, Global}
+use Rattle.std.proofs.Common.{◌≡◌, ℕ, List, true, false, cond, Option, Some, None, refl, sym, ap, ◌∙◌, subst, BTreeMap, String, Global}
 use Rattle.std.specs.Prelude.{◌≢◌, is_some, Result, Ok, Err, IfOk, IfErr, OnOk, OnErr}
 use Rattle.std.specs.BTreeMap.{get_by_text}
 use Rattle.std.specs.Option.{option_map}
-use Rattle.std.specs.Str.{bytes_eq}
 use Rattle.std.proofs.lemmas.Result.{IfOk-weaker, on_err_weaker}
-use Rattle.std.proofs.lemmas.Slice.Eq.{bytes_eq-Decides}
 use Rattle.cf_protocol.specs.declared.position.Position.{Position}
 use Rattle.cf_protocol.specs.Datum.{Datum}
 use Rattle.cf_protocol.specs.Settings.{NamespaceTable}
@@ -19,6 +17,7 @@ use Rattle.cf_stream.specs.declared.answer.Published.{Published}
 use Rattle.cf_stream.proofs.Channels.{get-by_channel, kept_by, kept_same}
 use Rattle.cf_stream.proofs.ChannelChanges.{ChangesAt-publish, IfOk-both, PublishesAt-from, newest_set}
 use Rattle.cf_stream.proofs.LogSteps.{Adds-publish}
+use Rattle.cf_stream.proofs.Standing.{set_same}
 use Rattle.cf_stream.specs.declared.refusal.StreamRefusal.{StreamRefusal}
 use Rattle.cf_stream.specs.declared.refusal.StreamRefusal.TheVariants.{AtLastOffset, WrongEpoch, NoEpoch, Memory}
 
@@ -33,16 +32,6 @@ pub record Publishes {E : Type 0} (draws : E → Option (List ℕ) → E → Typ
   pub same : OnErr r ((q : List ℕ) → get_by_text n q ≡ get_by_text m q)
 
 -- ---- where it stood
-
--- a map with the stream at a channel that it had there
-set_same : (m n : BTreeMap (String Global) Shown) (c : List ℕ) (s s' : Shown) → get_by_text m c ≡ Some s → SetsAt m n c (Some s') → s' ≡ s → (q : List ℕ) → get_by_text n q ≡ get_by_text m q
-set_same m n c s s' at sets is q =
-    let cases : (b : Bool) → bytes_eq c q ≡ b → cond b (Some s') (get_by_text m q) ≡ get_by_text m q =
-    λ b. elim b as (λ b. bytes_eq c q ≡ b → cond b (Some s') (get_by_text m q) ≡ get_by_text m q) [
-      | true ↦ λ e. ap Some is ∙ (sym at ∙ ap (get_by_text m) ((bytes_eq-Decides c q).0 e))
-      | false ↦ λ e. refl
-    ] in
-    sets q ∙ cases (bytes_eq c q) refl
 
 answer_epoch : (o : Option ℕ) (e : List ℕ) (top : ℕ) → (answer_by o e top).position.epoch ≡ e
 answer_epoch None e top = refl

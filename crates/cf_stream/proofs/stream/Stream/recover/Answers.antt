@@ -1,5 +1,6 @@
 use Rattle.std.proofs.Common.{ap, ◌∙◌, ◌-◌, take, rules}
 use Rattle.cf_stream.specs.Stream.{after}
+use Rattle.cf_stream.proofs.Giving.{exact_by}
 use Rattle.cf_stream.proofs.Placing.{recovered_run}
 use Rattle.cf_stream.proofs.PublicationLists.{AnswersRead-from, GoesOn-used}
 use Rattle.cf_stream.proofs.stream.Stream.recover.Goals as goal
@@ -7,8 +8,8 @@ use Rattle.cf_stream.proofs.stream.Stream.recover.Goals as goal
 pub returns-clause-answer : goal.returns-clause-answer
 returns-clause-answer c =
     record {
-      at = search rules;
-      exact = search rules;
+      at = c.position-position.ensures;
+      exact = exact_by _ _ _ _ c.missed_since-missed.ensures c.is_some.ensures;
       run = rw c.is_some.ensures
           (c.in_ok-publications.ensures ∙ ap (λ n. take 300 (after c.args.self.now (c.args.self.now.top - n))) c.unwrap_or.ensures
           ∙ recovered_run c.args.self.now c.args.since c.missed_since-missed.result c.missed_since-missed.ensures);
