@@ -1,38 +1,205 @@
-//! A hub's sessions, and what is said to their clients.
-use cf_hub::{Checked, Delivered, Hub, HubRefusal, Queued};
+//! A hub's sessions, and what is said to their clients, as rows of steps and of what comes of them.
+use cf_hub::{Hub, HubRefusal};
 use cf_protocol::{Epoch, Position, Publication};
 use cf_queue::Out;
 use cf_stream::Recovery;
 use std::alloc::{AllocError, Global};
+use std::process::Abort;
 
-const REPLY: &str = r#"{"id":2,"subscribe":{"epoch":"aaaa","positioned":true,"recoverable":true}}"#;
+/// A step, `WORD NUMBER NAME SIZE`, of which what isn't needed is left out at the end.
+#[derive(Clone, Copy)]
+struct Step<'a> {
+    word: &'a str,
+    number: u32,
+    name: &'a str,
+    size: u32,
+}
 
-const FIRST: &str = r#"{"push":{"channel":"news","pub":{"data":1,"offset":1}}}"#;
-
-const END: &str =
-    r#"{"push":{"channel":"news","unsubscribe":{"code":2500,"reason":"insufficient state"}}}"#;
-
-fn place(offset: u64) -> Position {
-    Position {
-        epoch: Epoch::from_text("aaaa"),
-        offset,
+fn step_of(text: &str) -> Step<'_> {
+    let (word, rest) = text.split_once(' ').unwrap_or((text, ""));
+    let (number, rest) = rest.split_once(' ').unwrap_or((rest, ""));
+    let (name, size) = rest.split_once(' ').unwrap_or((rest, ""));
+    Step {
+        word,
+        number: number_of(number),
+        name,
+        size: number_of(size),
     }
 }
 
-fn read(alloc: Global, offset: u64) -> Recovery {
+fn number_of(digits: &str) -> u32 {
+    match digits.parse::<u32>() {
+        Ok(number) => number,
+        Err(_) => 0,
+    }
+}
+
+fn place(offset: u32) -> Position {
+    Position {
+        epoch: Epoch::from_text("aaaa"),
+        offset: u64::from(offset),
+    }
+}
+
+/// What the read of a stream gives that holds nothing.
+fn nothing_read(alloc: Global) -> Recovery {
     Recovery {
-        position: place(offset),
+        position: place(0),
         recovered: false,
         publications: Vec::new(alloc),
     }
 }
 
-fn publication(alloc: Global, offset: u64) -> Result<Publication, AllocError> {
+fn publication(alloc: Global, offset: u32) -> Result<Publication, AllocError> {
     Ok(Publication {
-        offset,
+        offset: u64::from(offset),
         body: String::from_str(alloc, "1")?,
         info: None,
     })
+}
+
+/// A delivery to `news`, by its five numbers.
+fn delivered(hub: &mut Hub, alloc: Global, offset: u32) -> Result<String, AllocError> {
+    let publication = publication(alloc, offset)?;
+    let met = hub.deliver("news", &Epoch::from_text("aaaa"), &publication);
+    format!(in alloc;
+        "{} passed {} kept {} dropped {} ended {} closed",
+        met.passed, met.kept, met.dropped, met.ended, met.closed
+    )
+}
+
+/// The short name of a text for a client.
+fn name_of(text: &str) -> &'static str {
+    match text {
+        r#"{"id":2,"subscribe":{"epoch":"aaaa","positioned":true,"recoverable":true}}"# => "reply",
+        r#"{"push":{"channel":"news","pub":{"data":1,"offset":1}}}"# => "push",
+        r#"{"push":{"channel":"news","unsubscribe":{"code":2500,"reason":"insufficient state"}}}"# =>
+            { "end" }
+        "{}" => "ping",
+        _ => "text",
+    }
+}
+
+/// What a client gets next, and whether its session is closed.
+fn taken(hub: &mut Hub, alloc: Global, session: u32) -> Result<String, AllocError> {
+    let state = if hub.is_closed(session) {
+        " closed"
+    } else {
+        ""
+    };
+    match hub.take(session) {
+        Some(Out::Text(text)) => format!(in alloc; "{}{state}", name_of(text.as_str())),
+        Some(Out::Close(code)) => format!(in alloc; "{code}{state}"),
+        None => format!(in alloc; "nothing{state}"),
+    }
+}
+
+fn attached(hub: &mut Hub, alloc: Global) -> Result<String, AllocError> {
+    match hub.attach(String::from_str(alloc, "ann")?, 0) {
+        Ok(session) => format!(in alloc; "{session}"),
+        Err(refusal) => refusal.to_string(alloc),
+    }
+}
+
+fn begun(hub: &mut Hub, alloc: Global, step: Step<'_>) -> Result<String, AllocError> {
+    match hub.begin(step.number, step.name, 2, None) {
+        Ok(()) => String::from_str(alloc, "begun"),
+        Err(refusal) => refusal.to_string(alloc),
+    }
+}
+
+/// Whether a step that is answered by yes or no, or by nothing, is answered by no.
+fn is_denied(hub: &mut Hub, alloc: Global, step: Step<'_>) -> bool {
+    match step.word {
+        "read" => !hub.read_done(step.number, step.name, nothing_read(alloc)),
+        "finish" => !hub.finish(step.number, step.name),
+        "leave" => !hub.leave(step.number, step.name),
+        "on" => !hub.is_on(step.number, step.name),
+        "close" => {
+            hub.close(step.number, 3001);
+            false
+        }
+        "pong" => {
+            hub.pong(step.number);
+            false
+        }
+        "tick" => {
+            hub.tick(u64::from(step.number));
+            false
+        }
+        _ => true,
+    }
+}
+
+/// What comes of a step.
+fn outcome(hub: &mut Hub, alloc: Global, step: Step<'_>) -> Result<String, AllocError> {
+    match step.word {
+        "attach" => attached(hub, alloc),
+        "begin" => begun(hub, alloc, step),
+        "deliver" => delivered(hub, alloc, step.number),
+        "take" => taken(hub, alloc, step.number),
+        "say" => {
+            let text = step.name.repeat(alloc, step.size as usize)?;
+            format!(in alloc; "{:?}", hub.say(step.number, text))
+        }
+        "check" => {
+            let top = Some(place(step.size));
+            format!(in alloc; "{:?}", hub.check(step.number, step.name, top))
+        }
+        "detach" => format!(in alloc; "{}", hub.detach(step.number)),
+        "turn" => format!(in alloc; "{:?}", hub.next_with_output()),
+        _ => String::from_str(
+            alloc,
+            if is_denied(hub, alloc, step) {
+                "no"
+            } else {
+                "yes"
+            },
+        ),
+    }
+}
+
+/// Adds what comes of a step behind `; `, with `short` where it is the first that memory is refused to.
+fn add_outcome(
+    told: &mut String,
+    hub: &mut Hub,
+    alloc: Global,
+    text: &str,
+) -> Result<(), AllocError> {
+    let was_short = hub.short();
+    let came = outcome(hub, alloc, step_of(text))?;
+    let between = if told.is_empty() { "" } else { "; " };
+    let state = if hub.short() && !was_short {
+        " short"
+    } else {
+        ""
+    };
+    told.push_str(format!(in alloc; "{between}{came}{state}")?.as_str())
+}
+
+/// What comes of steps that are separated by `; `.
+fn outcomes(hub: &mut Hub, alloc: Global, steps: &str) -> Result<String, AllocError> {
+    let mut told = String::new(alloc);
+    for text in steps.split("; ") {
+        add_outcome(&mut told, hub, alloc, text)?;
+    }
+    Ok(told)
+}
+
+/// Whether what comes of the steps of a row stands behind its arrow.
+fn is_so(hub: &mut Hub, alloc: Global, row: &str) -> bool {
+    let (steps, wanted) = row.split_once(" => ").unwrap_or((row, ""));
+    match outcomes(hub, alloc, steps) {
+        Ok(told) => told.as_str() == wanted,
+        Err(_) => false,
+    }
+}
+
+/// On this hub these rows are so, in their order.
+fn go_on(rt: &impl Abort, hub: &mut Hub, alloc: Global, rows: &str) {
+    for row in rows.split('\n') {
+        assert!(rt; is_so(hub, alloc, row), "{row}");
+    }
 }
 
 /// A hub with nobody on it. It lies in a box, since a function that lends a hub of its own is dear to prove.
@@ -40,470 +207,180 @@ fn empty_hub(alloc: Global) -> Result<Box<Hub>, AllocError> {
     Ok(Box::new(alloc, Hub::new(alloc, 0, 1))?)
 }
 
-fn deliver(hub: &mut Hub, alloc: Global, offset: u64) -> Result<Delivered, AllocError> {
-    let epoch = Epoch::from_text("aaaa");
-    Ok(hub.deliver("news", &epoch, &publication(alloc, offset)?))
+/// On an empty hub these rows are so, in their order.
+fn are_so(rt: &impl Abort, alloc: Global, rows: &str) {
+    let mut hub = empty_hub(alloc).expect(rt, "memory");
+    go_on(rt, &mut hub, alloc, rows);
 }
 
-/// Whether a delivery passes this on to so many, closes so many and ends so many.
-fn delivers(
-    hub: &mut Hub,
-    alloc: Global,
-    offset: u64,
-    (passed, closed, ended): (u32, u32, u32),
-) -> bool {
-    match deliver(hub, alloc, offset) {
-        Ok(met) => met.passed == passed && met.closed == closed && met.ended == ended,
-        Err(_) => false,
-    }
-}
+const NOTHING_THERE: &str = "\
+begin 0 news => there is no such session
+attach => 0
+read 0 news; finish 0 news; leave 0 news => no; no; no";
 
-fn newcomer(hub: &mut Hub, alloc: Global) -> Option<u32> {
-    let Ok(name) = String::from_str(alloc, "ann") else {
-        return None;
-    };
-    match hub.attach(name, 0) {
-        Ok(session) => Some(session),
-        Err(_) => None,
-    }
-}
+const ALL_TAKEN: &str = "\
+begin 0 c5 => the session follows the channel already
+begin 0 news => the node or the session has as many as it may have
+leave 0 c7; begin 0 news => yes; begun
+close 0; begin 0 chat => yes; there is no such session
+take 0 => 3001 closed";
 
-/// The session follows `news`, and its reply is taken.
-fn follow(hub: &mut Hub, alloc: Global, session: u32) {
-    if hub.begin(session, "news", 2, None).is_ok() {
-        let _read = hub.read_done(session, "news", read(alloc, 0));
-        let _finished = hub.finish(session, "news");
-        let _reply = hub.take(session);
-    }
-}
-
-/// The next session, which follows `news`.
-fn subscribed(hub: &mut Hub, alloc: Global) -> Option<u32> {
-    let session = newcomer(hub, alloc)?;
-    follow(hub, alloc, session);
-    Some(session)
-}
-
-/// A hub of one session.
-fn hub_of_one(alloc: Global) -> Option<Box<Hub>> {
-    let mut boxed = empty_hub(alloc).ok()?;
-    match newcomer(&mut boxed, alloc) {
-        Some(0) => Some(boxed),
-        _ => None,
-    }
-}
-
-/// Whether this is that text.
-fn is_text(out: &Option<Out>, text: &str) -> bool {
-    match out {
-        Some(Out::Text(found)) => found.as_str() == text,
-        _ => false,
-    }
-}
-
-/// Whether this is the close with that code.
-fn is_close(out: &Option<Out>, code: u16) -> bool {
-    match out {
-        Some(Out::Close(found)) => *found == code,
-        _ => false,
-    }
-}
-
-/// Whether the session's client gets this text next.
-fn gets(hub: &mut Hub, session: u32, text: &str) -> bool {
-    is_text(&hub.take(session), text)
-}
-
-/// Whether nothing waits for the session's client.
-fn gets_nothing(hub: &mut Hub, session: u32) -> bool {
-    hub.take(session).is_none()
-}
-
-/// Whether the close with this code is what the session's client gets next.
-fn gets_close(hub: &mut Hub, session: u32, code: u16) -> bool {
-    is_close(&hub.take(session), code)
-}
-
-/// Whether session 0 may begin with a channel.
-fn begins(hub: &mut Hub, channel: &str) -> bool {
-    hub.begin(0, channel, 2, None).is_ok()
-}
-
-/// Whether session 0 may not begin with a channel.
-fn is_refused(hub: &mut Hub, channel: &str, refusal: HubRefusal) -> bool {
-    match hub.begin(0, channel, 2, None) {
-        Ok(()) => false,
-        Err(found) => found == refusal,
-    }
-}
-
-/// Whether what isn't there isn't read, finished or left.
-fn has_nothing(hub: &mut Hub, alloc: Global) -> bool {
-    !hub.read_done(0, "news", read(alloc, 0)) && !hub.finish(0, "news") && !hub.leave(0, "news")
-}
-
-/// Whether the session begins with a channel of this number, and not twice.
-fn begins_once(hub: &mut Hub, alloc: Global, number: u32) -> bool {
-    match format!(in alloc; "c{number}") {
-        Ok(channel) => {
-            begins(hub, channel.as_str()) && is_refused(hub, channel.as_str(), HubRefusal::Already)
-        }
-        Err(_) => false,
-    }
-}
-
-/// Whether a session begins with 128 channels, and with none of them twice.
+/// Whether session 0 begins with 128 channels.
 fn begins_with_128(hub: &mut Hub, alloc: Global) -> bool {
     for number in 0..128_u32 {
-        if !begins_once(hub, alloc, number) {
-            return false;
+        match format!(in alloc; "begin 0 c{number} => begun") {
+            Ok(row) if is_so(hub, alloc, row.as_str()) => {}
+            _ => return false,
         }
     }
     true
 }
 
-/// Whether a session that has 128 channels begins with another one only once it left one.
-fn begins_with_no_more(hub: &mut Hub) -> bool {
-    is_refused(hub, "news", HubRefusal::TooMany) && hub.leave(0, "c7") && begins(hub, "news")
-}
-
-/// Whether a closed session begins with nothing.
-fn begins_with_none(hub: &mut Hub) -> bool {
-    hub.close(0, 3001);
-    is_refused(hub, "news", HubRefusal::NoSession) && gets_close(hub, 0, 3001) && !hub.short()
-}
-
 #[test]
 fn refusals(rt: HostRuntime) {
-    let alloc = rt.alloc();
-    let mut boxed = empty_hub(alloc).expect(&rt, "memory");
-    let hub = &mut *boxed;
-    assert!(rt; is_refused(hub, "news", HubRefusal::NoSession));
-    assert!(rt; newcomer(hub, alloc) == Some(0));
-    assert!(rt; has_nothing(hub, alloc));
-    assert!(rt; begins_with_128(hub, alloc));
-    assert!(rt; begins_with_no_more(hub));
-    assert!(rt; begins_with_none(hub));
+    let mut hub = empty_hub(rt.alloc()).expect(&rt, "memory");
+    go_on(&rt, &mut hub, rt.alloc(), NOTHING_THERE);
+    assert!(rt; begins_with_128(&mut hub, rt.alloc()));
+    go_on(&rt, &mut hub, rt.alloc(), ALL_TAKEN);
 }
 
-/// Whether session 0 is pinged at 25 seconds.
-fn is_pinged(hub: &mut Hub) -> bool {
-    hub.tick(24);
-    let was_quiet = gets_nothing(hub, 0);
-    hub.tick(25);
-    was_quiet && gets(hub, 0, "{}")
+/// The one refusal that comes by no step.
+#[test]
+fn out_of_memory_in_words(rt: HostRuntime) {
+    let words = HubRefusal::Memory
+        .to_string(rt.alloc())
+        .expect(&rt, "memory");
+    assert!(rt; words.as_str() == "out of memory");
 }
 
-/// Whether session 0, which was pinged at 25 seconds, is closed at 33, unless its client answered by then.
-fn is_closed_at_33(hub: &mut Hub, is_closed: bool) -> bool {
-    hub.tick(32);
-    let was_quiet = gets_nothing(hub, 0);
-    hub.tick(33);
-    let was_closed = hub.is_closed(0);
-    hub.tick(50);
-    was_quiet && was_closed == is_closed
-}
+/// Session 0 answers its ping, and session 1 doesn't.
+const PINGS: &str = "\
+attach; attach => 0; 1
+tick 24; take 0; take 1 => yes; nothing; nothing
+tick 25; take 0; take 1 => yes; ping; ping
+pong 0; tick 32; take 0; take 1 => yes; yes; nothing; nothing
+tick 33; take 0; take 1 => yes; nothing; 3012 closed
+tick 50; take 0; take 1 => yes; ping; nothing closed";
 
 #[test]
 fn pings(rt: HostRuntime) {
-    let mut boxed = hub_of_one(rt.alloc()).expect(&rt, "memory");
-    let hub = &mut *boxed;
-    assert!(rt; is_pinged(hub));
-    hub.pong(0);
-    assert!(rt; is_closed_at_33(hub, false));
-    assert!(rt; gets(hub, 0, "{}"));
+    are_so(&rt, rt.alloc(), PINGS);
 }
 
-#[test]
-fn closes_where_no_pong_comes(rt: HostRuntime) {
-    let mut boxed = hub_of_one(rt.alloc()).expect(&rt, "memory");
-    let hub = &mut *boxed;
-    assert!(rt; is_pinged(hub));
-    assert!(rt; is_closed_at_33(hub, true));
-    assert!(rt; gets_close(hub, 0, 3012));
-}
-
-/// A delivery, a read of the stream, or a finish.
-fn is_stepped(hub: &mut Hub, alloc: Global, step: char) -> bool {
-    match step {
-        'd' => deliver(hub, alloc, 1).is_ok(),
-        'r' => hub.read_done(0, "news", read(alloc, 0)),
-        _ => hub.finish(0, "news"),
-    }
-}
-
-/// Whether the reply comes before the push, each once.
-fn replies_first(hub: &mut Hub) -> bool {
-    hub.is_on(0, "news") && gets(hub, 0, REPLY) && gets(hub, 0, FIRST) && gets_nothing(hub, 0)
-}
-
-/// Whether steps in this order go well.
-fn are_stepped(hub: &mut Hub, alloc: Global, order: &str) -> bool {
-    for step in order.chars() {
-        if !is_stepped(hub, alloc, step) {
-            return false;
-        }
-    }
-    replies_first(hub)
-}
-
-fn goes(alloc: Global, order: &str) -> bool {
-    match hub_of_one(alloc) {
-        Some(mut hub) => begins(&mut hub, "news") && are_stepped(&mut hub, alloc, order),
-        None => false,
-    }
-}
+/// In whatever order a publication, the read and the finish come, also where the publication comes twice.
+const REPLY_FIRST: &str = "\
+attach; begin 0 news; deliver 1; read 0 news; finish 0 news => 0; begun; 0 passed 1 kept 0 dropped 0 ended 0 closed; yes; yes
+on 0 news; take 0; take 0; take 0; detach 0 => yes; reply; push; nothing; 1
+attach; begin 0 news; read 0 news; deliver 1; finish 0 news => 0; begun; yes; 0 passed 1 kept 0 dropped 0 ended 0 closed; yes
+on 0 news; take 0; take 0; take 0; detach 0 => yes; reply; push; nothing; 1
+attach; begin 0 news; read 0 news; finish 0 news; deliver 1 => 0; begun; yes; yes; 1 passed 0 kept 0 dropped 0 ended 0 closed
+on 0 news; take 0; take 0; take 0; detach 0 => yes; reply; push; nothing; 1
+attach; begin 0 news; deliver 1; deliver 1 => 0; begun; 0 passed 1 kept 0 dropped 0 ended 0 closed; 0 passed 1 kept 0 dropped 0 ended 0 closed
+read 0 news; finish 0 news => yes; yes
+on 0 news; take 0; take 0; take 0; detach 0 => yes; reply; push; nothing; 1
+attach; begin 0 news; read 0 news; finish 0 news => 0; begun; yes; yes
+deliver 1; deliver 1 => 1 passed 0 kept 0 dropped 0 ended 0 closed; 0 passed 0 kept 1 dropped 0 ended 0 closed
+on 0 news; take 0; take 0; take 0; detach 0 => yes; reply; push; nothing; 1";
 
 #[test]
 fn reply_before_push(rt: HostRuntime) {
-    for order in "drf rdf rfd ddrf rfdd".split(' ') {
-        assert!(rt; goes(rt.alloc(), order), "{order}");
-    }
+    are_so(&rt, rt.alloc(), REPLY_FIRST);
 }
 
-/// Whether a check that finds a subscription of session 1 behind twice ends it.
-fn is_checked_twice(hub: &mut Hub) -> bool {
-    hub.check(1, "news", Some(place(1))) == Checked::Behind
-        && hub.check(1, "news", Some(place(0))) == Checked::Fine
-        && hub.check(1, "news", Some(place(1))) == Checked::Behind
-        && hub.check(1, "news", Some(place(1))) == Checked::Ended
-        && gets(hub, 1, END)
-}
-
-/// Whether a delivery ends the subscription of session 0, which missed one, and the next drops nothing.
-fn meets_gap(hub: &mut Hub, alloc: Global) -> bool {
-    if !delivers(hub, alloc, 2, (0, 0, 1)) || !gets(hub, 0, END) {
-        return false;
-    }
-    match deliver(hub, alloc, 3) {
-        Ok(met) => met.dropped == 0,
-        Err(_) => false,
-    }
-}
-
-/// A hub of two sessions that follow `news`.
-fn hub_of_two(alloc: Global) -> Option<Box<Hub>> {
-    let mut boxed = empty_hub(alloc).ok()?;
-    let _first = subscribed(&mut boxed, alloc)?;
-    let _second = subscribed(&mut boxed, alloc)?;
-    Some(boxed)
-}
+/// A check that finds a subscription behind twice ends it, and so does a delivery that comes behind a gap.
+const GAPS: &str = "\
+attach; begin 0 news; read 0 news; finish 0 news; take 0 => 0; begun; yes; yes; reply
+attach; begin 1 news; read 1 news; finish 1 news; take 1 => 1; begun; yes; yes; reply
+check 1 chat 1 => Nothing
+check 1 news 1; check 1 news 0; check 1 news 1; check 1 news 1; take 1 => Behind; Fine; Behind; Ended; end
+deliver 2; take 0 => 0 passed 0 kept 0 dropped 1 ended 0 closed; end
+deliver 3 => 0 passed 0 kept 0 dropped 0 ended 0 closed";
 
 #[test]
 fn gap_and_check(rt: HostRuntime) {
-    let mut boxed = hub_of_two(rt.alloc()).expect(&rt, "memory");
-    let hub = &mut *boxed;
-    assert!(rt; hub.check(1, "chat", None) == Checked::Nothing);
-    assert!(rt; is_checked_twice(hub));
-    assert!(rt; meets_gap(hub, rt.alloc()));
+    are_so(&rt, rt.alloc(), GAPS);
 }
 
-/// A text as long as all that may wait for a client.
-fn longest_text(alloc: Global) -> Result<String, AllocError> {
-    let mut long = String::new(alloc);
-    for _ in 0..1_048_576_u32 {
-        long.push('x')?;
-    }
-    Ok(long)
-}
-
-/// Whether session 0 of two that follow `news` has so much waiting that a delivery closes it.
-fn overflows(hub: &mut Hub, alloc: Global) -> bool {
-    match longest_text(alloc) {
-        Ok(long) => hub.say(0, long) == Queued::Kept && delivers(hub, alloc, 1, (1, 1, 0)),
-        Err(_) => false,
-    }
-}
-
-/// Whether the client of session 0, which was too slow, gets what waited, and the close.
-fn is_closed_as_slow(hub: &mut Hub, alloc: Global) -> bool {
-    hub.say(0, String::new(alloc)) == Queued::Closed
-        && hub.take(0).is_some()
-        && gets_close(hub, 0, 3008)
-}
+/// As much waits for session 0 as may.
+const TOO_SLOW: &str = "\
+attach; begin 0 news; read 0 news; finish 0 news; take 0 => 0; begun; yes; yes; reply
+attach; begin 1 news; read 1 news; finish 1 news; take 1 => 1; begun; yes; yes; reply
+say 0 x 1048576; deliver 1 => Kept; 1 passed 0 kept 0 dropped 0 ended 1 closed
+say 0 x 1; take 0; take 0 => Closed; text closed; 3008 closed
+take 1; say 9 x 1 => push; Gone";
 
 #[test]
 fn slow_consumer(rt: HostRuntime) {
-    let mut boxed = hub_of_two(rt.alloc()).expect(&rt, "memory");
-    let hub = &mut *boxed;
-    assert!(rt; overflows(hub, rt.alloc()));
-    assert!(rt; is_closed_as_slow(hub, rt.alloc()));
-    assert!(rt; gets(hub, 1, FIRST));
-    assert!(rt; hub.say(9, String::new(rt.alloc())) == Queued::Gone);
+    are_so(&rt, rt.alloc(), TOO_SLOW);
 }
 
-/// Whether the next three sessions have the numbers 0 to 2, and follow `news`.
-fn are_first_three(hub: &mut Hub, alloc: Global) -> bool {
-    subscribed(hub, alloc) == Some(0)
-        && subscribed(hub, alloc) == Some(1)
-        && subscribed(hub, alloc) == Some(2)
-}
-
-/// Whether the number of a session that ends is given again.
-fn gives_number_again(hub: &mut Hub, alloc: Global) -> bool {
-    hub.detach(1) == 1 && hub.is_closed(1) && subscribed(hub, alloc) == Some(1)
-}
-
-/// Whether each of three that a delivery met gets a turn, in order of their subscribing.
-fn gives_turns(hub: &mut Hub, alloc: Global) -> bool {
-    hub.next_with_output().is_none()
-        && delivers(hub, alloc, 1, (3, 0, 0))
-        && hub.next_with_output() == Some(0)
-        && hub.next_with_output() == Some(2)
-        && hub.next_with_output() == Some(1)
-        && hub.next_with_output().is_none()
-}
+/// A number is given again, and each session that a delivery met gets its turn, in order of their subscribing.
+const TURNS: &str = "\
+attach; begin 0 news; read 0 news; finish 0 news; take 0 => 0; begun; yes; yes; reply
+attach; begin 1 news; read 1 news; finish 1 news; take 1 => 1; begun; yes; yes; reply
+attach; begin 2 news; read 2 news; finish 2 news; take 2 => 2; begun; yes; yes; reply
+detach 1; take 1 => 1; nothing closed
+attach; begin 1 news; read 1 news; finish 1 news; take 1 => 1; begun; yes; yes; reply
+turn => None
+deliver 1; turn; turn; turn; turn => 3 passed 0 kept 0 dropped 0 ended 0 closed; Some(0); Some(2); Some(1); None";
 
 #[test]
 fn numbers_and_output(rt: HostRuntime) {
-    let mut boxed = empty_hub(rt.alloc()).expect(&rt, "memory");
-    let hub = &mut *boxed;
-    assert!(rt; are_first_three(hub, rt.alloc()));
-    assert!(rt; gives_number_again(hub, rt.alloc()));
-    assert!(rt; gives_turns(hub, rt.alloc()));
+    are_so(&rt, rt.alloc(), TURNS);
 }
 
-/// A hub whose sessions 0 to 2 follow `news`. None where memory was refused.
-fn three(alloc: Global) -> Option<Box<Hub>> {
-    let mut boxed = empty_hub(alloc).ok()?;
-    let hub = &mut *boxed;
-    for _ in 0..3 {
-        let session = newcomer(hub, alloc)?;
-        follow(hub, alloc, session);
+/// After the first steps, with memory for each, one of these comes of the others.
+fn comes_one_of(rt: &impl Abort, alloc: Global, first: &str, others: &str, allowed: &str) {
+    let Ok(mut hub) = empty_hub(alloc) else {
+        return;
+    };
+    if outcomes(&mut hub, alloc, first).is_err() || hub.short() {
+        return;
     }
-    if hub.short() {
-        return None;
+    if let Ok(told) = outcomes(&mut hub, alloc, others) {
+        assert!(rt;
+            allowed.split('\n').any(|line| line == told.as_str()),
+            "{told}"
+        );
     }
-    Some(boxed)
 }
 
-/// Whether a delivery passes a publication to so many, or to one less, which is closed for want of memory, and keeps so many.
-fn has_met(hub: &Hub, met: &Delivered, passed: u32, kept: u32) -> bool {
-    let is_whole = met.passed == passed && met.closed == 0;
-    let is_short = met.passed.saturating_add(1) == passed && met.closed == 1 && hub.short();
-    (is_whole || is_short) && met.kept == kept && met.dropped == 0 && met.ended == 0
-}
+const THREE_FOLLOW: &str = "\
+attach; begin 0 news; read 0 news; finish 0 news; take 0; \
+attach; begin 1 news; read 1 news; finish 1 news; take 1; \
+attach; begin 2 news; read 2 news; finish 2 news; take 2";
 
-/// Whether a session's client gets the first publication, or the close where memory was refused.
-fn gets_first_or_close(hub: &mut Hub, session: u32) -> bool {
-    if hub.is_closed(session) {
-        return gets_close(hub, session, 3004);
-    }
-    gets(hub, session, FIRST)
-}
+/// Where memory is refused, one of them is closed; or none, where it was for the one text of all, which each then writes for itself.
+const ALL_BUT_ONE: &str = "\
+3 passed 0 kept 0 dropped 0 ended 0 closed; push; push; push
+3 passed 0 kept 0 dropped 0 ended 0 closed short; push; push; push
+2 passed 0 kept 0 dropped 0 ended 1 closed short; 3004 closed; push; push
+2 passed 0 kept 0 dropped 0 ended 1 closed short; push; 3004 closed; push
+2 passed 0 kept 0 dropped 0 ended 1 closed short; push; push; 3004 closed";
 
 // By `.ci/hub-refused` also with each request for memory refused in turn.
 #[test]
 fn deliver_refused(rt: HostRuntime) {
-    let Some(mut boxed) = three(rt.alloc()) else {
-        return;
-    };
-    let hub = &mut *boxed;
-    let Ok(met) = deliver(hub, rt.alloc(), 1) else {
-        return;
-    };
-    assert!(rt; has_met(hub, &met, 3, 0));
-    for session in 0..3 {
-        assert!(rt; gets_first_or_close(hub, session), "{session}");
-    }
+    let steps = "deliver 1; take 0; take 1; take 2";
+    comes_one_of(&rt, rt.alloc(), THREE_FOLLOW, steps, ALL_BUT_ONE);
 }
 
-/// A hub whose session 0 follows `news`, and whose session 1 asks for it. None where memory was refused.
-fn one_asks(alloc: Global) -> Option<Box<Hub>> {
-    let mut boxed = empty_hub(alloc).ok()?;
-    let hub = &mut *boxed;
-    let follower = newcomer(hub, alloc)?;
-    follow(hub, alloc, follower);
-    let session = newcomer(hub, alloc)?;
-    if hub.begin(session, "news", 2, None).is_err() || hub.short() {
-        return None;
-    }
-    Some(boxed)
-}
+const ONE_ASKS: &str =
+    "attach; begin 0 news; read 0 news; finish 0 news; take 0; attach; begin 1 news";
 
-/// The texts of which one comes behind the reply: what was kept; or an end, where memory was refused and closed nobody, since
-/// that may have been for what was to be kept (or for the one text of both, which each then writes for itself).
-fn behind_reply(hub: &Hub, met: &Delivered) -> (&'static str, &'static str) {
-    if hub.short() && met.closed == 0 {
-        (FIRST, END)
-    } else {
-        (FIRST, FIRST)
-    }
-}
-
-/// Whether what session 1 asked for is read and finished.
-fn is_finished(hub: &mut Hub, alloc: Global) -> bool {
-    hub.read_done(1, "news", read(alloc, 0)) && hub.finish(1, "news")
-}
-
-/// Whether the client of session 1 gets one of these texts, and nothing more.
-fn gets_one_of(hub: &mut Hub, texts: (&str, &str)) -> bool {
-    let out = hub.take(1);
-    (is_text(&out, texts.0) || is_text(&out, texts.1)) && gets_nothing(hub, 1)
-}
-
-/// What the client of session 1 gets next, or behind its reply.
-fn behind(hub: &mut Hub) -> Option<Out> {
-    let out = hub.take(1);
-    if is_text(&out, REPLY) {
-        return hub.take(1);
-    }
-    out
-}
-
-/// Whether the client of session 1, for whose reply or push memory was refused, gets what was said before it, and the close.
-fn gets_given_up(hub: &mut Hub) -> bool {
-    is_close(&behind(hub), 3004) && gets_nothing(hub, 1)
-}
-
-/// Whether session 1, which asked for `news`, has its reply and one of these texts behind it, or is given up where memory is refused
-/// to it.
-fn is_answered(hub: &mut Hub, alloc: Global, texts: (&str, &str)) -> bool {
-    let was_short = hub.short();
-    if !is_finished(hub, alloc) {
-        return false;
-    }
-    if hub.short() && !was_short {
-        return gets_given_up(hub);
-    }
-    gets(hub, 1, REPLY) && gets_one_of(hub, texts)
-}
+/// What was kept comes behind the reply; or an end, where memory was refused for it. Where it is refused for the reply or for what
+/// comes behind it, what was said before goes out, and the close.
+const KEPT_OR_ENDED: &str = "\
+1 passed 1 kept 0 dropped 0 ended 0 closed; yes; yes; reply; push; nothing
+1 passed 1 kept 0 dropped 0 ended 0 closed short; yes; yes; reply; push; nothing
+1 passed 1 kept 0 dropped 0 ended 0 closed short; yes; yes; reply; end; nothing
+0 passed 1 kept 0 dropped 0 ended 1 closed short; yes; yes; reply; push; nothing
+1 passed 1 kept 0 dropped 0 ended 0 closed; yes; yes short; 3004 closed; nothing closed; nothing closed
+1 passed 1 kept 0 dropped 0 ended 0 closed; yes; yes short; reply closed; 3004 closed; nothing closed";
 
 // By `.ci/hub-refused` also with each request for memory refused in turn.
 #[test]
 fn overflow_refused(rt: HostRuntime) {
-    let Some(mut boxed) = one_asks(rt.alloc()) else {
-        return;
-    };
-    let hub = &mut *boxed;
-    let Ok(met) = deliver(hub, rt.alloc(), 1) else {
-        return;
-    };
-    // The publication is kept for session 1.
-    assert!(rt; has_met(hub, &met, 1, 1));
-    let texts = behind_reply(hub, &met);
-    assert!(rt; is_answered(hub, rt.alloc(), texts));
-}
-
-fn says(alloc: Global, refusal: HubRefusal, words: &str) -> bool {
-    match refusal.to_string(alloc) {
-        Ok(said) => said.as_str() == words,
-        Err(_) => false,
-    }
-}
-
-#[test]
-fn refusals_in_words(rt: HostRuntime) {
-    assert!(rt;
-        says(
-            rt.alloc(),
-            HubRefusal::NoSession,
-            "there is no such session"
-        )
-    );
-    let already = "the session follows the channel already";
-    assert!(rt; says(rt.alloc(), HubRefusal::Already, already));
-    let too_many = "the node or the session has as many as it may have";
-    assert!(rt; says(rt.alloc(), HubRefusal::TooMany, too_many));
-    assert!(rt; says(rt.alloc(), HubRefusal::Memory, "out of memory"));
+    let steps = "deliver 1; read 1 news; finish 1 news; take 1; take 1; take 1";
+    comes_one_of(&rt, rt.alloc(), ONE_ASKS, steps, KEPT_OR_ENDED);
 }

@@ -4,13 +4,13 @@
 #[cfg(test)]
 mod handshake;
 #[cfg(test)]
-mod hostile;
-#[cfg(test)]
 mod hub;
 #[cfg(test)]
 mod session;
 #[cfg(test)]
 mod speak;
+#[cfg(test)]
+mod stream;
 #[cfg(test)]
 mod talk;
 #[cfg(test)]
