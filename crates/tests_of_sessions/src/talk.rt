@@ -1,204 +1,50 @@
-//! A client's texts, carried out on a node that stands in for a real one.
-ghost use Rattle.std.specs.Prelude.{◌≡◌};
+//! A client's texts, carried out by turns and line by line on a node of their own.
+ghost use Rattle.std.specs.Prelude.{◌≡◌, IfSome};
 ghost use Rattle.cf_session.specs.Standing.{tables_of};
 ghost use Rattle.cf_session.specs.Turn.{CanGoOn, StaysSetUp};
+ghost use Rattle.cf_speak.specs.Shown.{scene_of};
 
-use cf_presence::Stats;
-use cf_protocol::{
-    CloseCode, ErrorCode, Info, Namespaces, Position, Tokens, read_namespaces, read_tokens,
-};
+use crate::session::tables;
+use cf_protocol::{CloseCode, Namespaces, Tokens};
+use cf_queue::Out;
 use cf_session::{Budget, Node, Session, carry_on, hear_text, serve_lines};
-use cf_stream::History;
+use cf_speak::{GivenEpochs, LocalNode};
 use std::alloc::{AllocError, Global};
-use std::collections::BTreeMap;
 
-/// A node that keeps what is said, refuses what it has no answer for, and closes the session after
-/// so many acts.
-#[derive(Drop)]
-struct Stand<'a> {
-    namespaces: &'a Namespaces,
-    said: String,
-    left: usize,
-    alloc: Global,
+fn local_node(alloc: Global, namespaces: &Namespaces) -> Option<Box<LocalNode>>
+    ensures { IfSome result (λ n. (scene_of n.value).streams.namespaces ≡ namespaces.now) }
+{
+    let epochs = GivenEpochs::read(alloc, "aaaa").ok()?;
+    let node = LocalNode::new(alloc, namespaces, epochs).ok()?;
+    Box::new(alloc, node).ok()
 }
 
-impl Stand<'_> {
-    // One act more is done.
-    fn count(&mut self)
-        ensures { self.new.namespaces.now ≡ self.old.namespaces.now }
-    {
-        self.left = self.left.saturating_sub(1);
-    }
-
-    fn write(&mut self, words: &str) -> Result<(), AllocError>
-        ensures { self.new.namespaces.now ≡ self.old.namespaces.now }
-    {
-        self.said.push_str(words)?;
-        self.said.push('\n')
+/// What is next for a client, as a line.
+fn line_of(alloc: Global, out: Out) -> Result<String, AllocError> {
+    match out {
+        Out::Text(text) => format!(in alloc; "{}\n", text.as_str()),
+        Out::Close(code) => format!(in alloc; "close {code}\n"),
     }
 }
 
-impl Node for Stand<'_> {
-    ghost use Rattle.std.specs.Prelude.{◌==◌};
-
-    ghost namespaces = { λ n. n.namespaces.now };
-
-    ghost closed = { λ n. n.left == 0 };
-
-    ghost does = { λ _ _ _ _. Unit {0} };
-
-    fn is_closed(&self) -> bool {
-        self.left == 0
+/// All that the node has for its client.
+fn said(alloc: Global, node: &mut LocalNode) -> Option<String> {
+    let mut said = String::new(alloc);
+    for _ in 0..100 {
+        let Some(out) = node.take() else {
+            return Some(said);
+        };
+        said.push_str(line_of(alloc, out).ok()?.as_str()).ok()?;
     }
-
-    fn attach(&mut self, _user: String) -> Result<String, ErrorCode> {
-        self.count();
-        String::from_str(self.alloc, "0-1-1").map_err(|_| ErrorCode::Internal)
-    }
-
-    fn begin(
-        &mut self,
-        _channel: &str,
-        _id: u32,
-        _since: Option<Position>,
-    ) -> Result<(), ErrorCode> {
-        self.count();
-        Ok(())
-    }
-
-    fn read(&mut self, _channel: &str, _since: Option<Position>) -> Result<(), ErrorCode> {
-        self.count();
-        Err(ErrorCode::Internal)
-    }
-
-    fn finish(&mut self, _channel: String) {
-        self.count();
-    }
-
-    fn leave(&mut self, _channel: &str) {
-        self.count();
-    }
-
-    fn publish(
-        &mut self,
-        _channel: String,
-        _key: String,
-        _body: String,
-        _info: Info,
-    ) -> Result<(), ErrorCode> {
-        self.count();
-        Ok(())
-    }
-
-    fn history(
-        &mut self,
-        _channel: &str,
-        _limit: i32,
-        _since: Option<Position>,
-    ) -> Result<History, ErrorCode> {
-        self.count();
-        Err(ErrorCode::Internal)
-    }
-
-    fn presence(&mut self, _channel: &str) -> Result<BTreeMap<String, String>, ErrorCode> {
-        self.count();
-        Ok(BTreeMap::new(self.alloc))
-    }
-
-    fn stats(&mut self, _channel: &str) -> Stats {
-        self.count();
-        Stats {
-            clients: 1,
-            users: 1,
-        }
-    }
-
-    fn say(&mut self, text: String) {
-        self.count();
-        let _ = self.write(text.as_str());
-    }
-
-    fn pong(&mut self) {
-        self.count();
-    }
-
-    fn close(&mut self, code: CloseCode) {
-        self.count();
-        let _ = self.write(code.reason());
-    }
+    None
 }
 
-fn tables(alloc: Global) -> Option<(Namespaces, Tokens)> {
-    match (
-        read_namespaces(alloc, "=100,300,phs"),
-        read_tokens(alloc, ""),
-    ) {
-        (Ok(namespaces), Ok(tokens)) => Some((namespaces, tokens)),
-        _ => None,
+/// Whether this is all that the node has for its client.
+fn has_said(alloc: Global, node: &mut LocalNode, wanted: &str) -> bool {
+    match said(alloc, node) {
+        Some(said) => said.as_str() == wanted,
+        None => false,
     }
-}
-
-fn lines_of(alloc: Global, text: &str) -> Option<Vec<String>> {
-    let mut lines = Vec::new(alloc);
-    for line in text.lines() {
-        lines.push(String::from_str(alloc, line).ok()?).ok()?;
-    }
-    Some(lines)
-}
-
-/// What a node that closes the session after so many acts says to these lines.
-fn said(
-    alloc: Global,
-    namespaces: &Namespaces,
-    tokens: &Tokens,
-    lines: &[String],
-    acts: usize,
-) -> String {
-    let mut session = Session::new(alloc, namespaces, tokens);
-    let mut node = Stand {
-        namespaces,
-        said: String::new(alloc),
-        left: acts,
-        alloc,
-    };
-    serve_lines(&mut session, &mut node, lines);
-    node.said
-}
-
-const FRAMES: &str = r#"{"id":1,"connect":{}}
-{"id":2,"subscribe":{"channel":"a"}}{"id":3,"ping":{}}
-{"id":4,"publish":{"channel":"a","data":1}}"#;
-
-/// Whether a node that closes the session after so many acts says this to the frames.
-fn says(alloc: Global, acts: usize, wanted: &str) -> bool {
-    match (tables(alloc), lines_of(alloc, FRAMES)) {
-        (Some((namespaces, tokens)), Some(lines)) => {
-            said(alloc, &namespaces, &tokens, lines.as_slice(), acts).as_str() == wanted
-        }
-        _ => false,
-    }
-}
-
-const CONNECTED: &str =
-    "{\"connect\":{\"client\":\"0-1-1\",\"ping\":25,\"pong\":true,\"version\":\"1.0.0\"},\"id\":1}\n";
-
-const REFUSED: &str =
-    r#"{"connect":{"client":"0-1-1","ping":25,"pong":true,"version":"1.0.0"},"id":1}
-{"error":{"code":100,"message":"internal server error","temporary":true},"id":2}
-"#;
-
-const ALL: &str = r#"{"connect":{"client":"0-1-1","ping":25,"pong":true,"version":"1.0.0"},"id":1}
-{"error":{"code":100,"message":"internal server error","temporary":true},"id":2}
-{"id":3,"ping":{}}
-{"id":4,"publish":{}}
-"#;
-
-/// A conversation of three lines, whole, and broken off where the node has closed the session.
-#[test]
-fn lines(rt: HostRuntime) {
-    assert!(rt; says(rt.alloc(), 100, ALL));
-    assert!(rt; says(rt.alloc(), 6, REFUSED));
-    assert!(rt; says(rt.alloc(), 5, CONNECTED));
 }
 
 const FRAME: &str = r#"{"id":1,"connect":{}}{"id":2,"ping":{}}"#;
@@ -208,73 +54,100 @@ const PONGED: &str =
 {"id":2,"ping":{}}
 "#;
 
-/// Whether a turn of so many units ends so, and this is what the node said by then.
-fn turns(
-    session: &mut Session<'_>,
-    node: &mut Stand<'_>,
-    units: usize,
-    is_done: bool,
-    said: &str,
-) -> bool
-    requires tables { node.old.namespaces.now ≡ (tables_of session.old).namespaces }
+/// Whether a turn of so many units ends so.
+fn turns(session: &mut Session<'_>, node: &mut LocalNode, units: usize, is_done: bool) -> bool
+    requires tables { (scene_of node.old).streams.namespaces ≡ (tables_of session.old).namespaces }
     requires ready { CanGoOn session.old }
     ensures ready { CanGoOn session.new }
     ensures keeps { StaysSetUp session.old session.new }
-    ensures namespaces { node.new.namespaces.now ≡ node.old.namespaces.now }
+    ensures namespaces { (scene_of node.new).streams.namespaces
+        ≡ (scene_of node.old).streams.namespaces }
 {
-    carry_on(session, node, &mut Budget::new(units)) == is_done && node.said.as_str() == said
+    carry_on(session, node, &mut Budget::new(units)) == is_done
 }
 
-/// A frame in four turns: the attach, the reply to it, nothing where no unit is left, and the rest.
-fn goes_in_turns(session: &mut Session<'_>, node: &mut Stand<'_>) -> bool
-    requires tables { node.old.namespaces.now ≡ (tables_of session.old).namespaces }
+/// Whether the frame goes in turns: the attach has four units, each of the two replies one, and none is left behind the first.
+fn goes_in_turns(session: &mut Session<'_>, node: &mut LocalNode) -> bool
+    requires tables { (scene_of node.old).streams.namespaces ≡ (tables_of session.old).namespaces }
     requires ready { CanGoOn session.old }
 {
-    turns(session, node, 4, false, "")
-        && turns(session, node, 1, false, CONNECTED)
-        && turns(session, node, 0, false, CONNECTED)
-        && turns(session, node, 256, true, PONGED)
+    turns(session, node, 5, false)
+        && turns(session, node, 0, false)
+        && turns(session, node, 1, true)
 }
 
-/// Two turns of which neither says anything.
-fn says_nothing(session: &mut Session<'_>, node: &mut Stand<'_>) -> bool
-    requires tables { node.old.namespaces.now ≡ (tables_of session.old).namespaces }
+/// Whether no more of the frame is carried out than the attach, behind which the node closes the session.
+fn is_closed_between(session: &mut Session<'_>, node: &mut LocalNode) -> bool
+    requires tables { (scene_of node.old).streams.namespaces ≡ (tables_of session.old).namespaces }
     requires ready { CanGoOn session.old }
 {
-    turns(session, node, 256, true, "") && turns(session, node, 256, true, "")
+    let was_done = turns(session, node, 4, true);
+    node.close(CloseCode::Shutdown);
+    !was_done && turns(session, node, 256, true) && !session.is_idle()
 }
 
-/// Whether a frame goes in turns, or, where the node closes the session after its first act, no further.
-fn is_carried_out(alloc: Global, namespaces: &Namespaces, tokens: &Tokens, acts: usize) -> bool {
-    let mut session = Session::new(alloc, namespaces, tokens);
-    let mut node = Stand {
-        namespaces,
-        said: String::new(alloc),
-        left: acts,
-        alloc,
+/// Whether the frame is carried out in turns, or up to a close, and the client gets this.
+fn is_carried_out(alloc: Global, is_closed: bool, wanted: &str) -> bool {
+    let Some((namespaces, tokens)) = tables(alloc, "") else {
+        return false;
     };
+    let Some(mut node) = local_node(alloc, &namespaces) else {
+        return false;
+    };
+    let mut session = Session::new(alloc, &namespaces, &tokens);
     hear_text(&mut session, FRAME);
-    if acts > 1 {
-        goes_in_turns(&mut session, &mut node)
+    let is_so = if is_closed {
+        is_closed_between(&mut session, &mut node)
     } else {
-        says_nothing(&mut session, &mut node)
-    }
-}
-
-fn carries_out(alloc: Global, acts: usize) -> bool {
-    match tables(alloc) {
-        Some((namespaces, tokens)) => is_carried_out(alloc, &namespaces, &tokens, acts),
-        None => false,
-    }
+        goes_in_turns(&mut session, &mut node)
+    };
+    is_so && has_said(alloc, &mut node, wanted)
 }
 
 #[test]
 fn in_turns(rt: HostRuntime) {
-    assert!(rt; carries_out(rt.alloc(), 100));
+    assert!(rt; is_carried_out(rt.alloc(), false, PONGED));
+    assert!(rt; is_carried_out(rt.alloc(), true, "close 3001\n"));
 }
 
-/// Where the node has closed the session after the attach, the rest is not carried out.
+const LINES: &str = r#"{"id":1,"connect":{}}
+{"id":2,"subscribe":{"channel":"news"}}{"id":3,"ping":{}}
+{"id":4,"publish":{"channel":"news","data":1}}{"id":5,"connect":{}}{"id":6,"ping":{}}
+{"id":7,"ping":{}}"#;
+
+const ANSWERS: &str =
+    r#"{"connect":{"client":"0-1-1","ping":25,"pong":true,"version":"1.0.0"},"id":1}
+{"id":2,"subscribe":{"epoch":"aaaa","positioned":true,"recoverable":true}}
+{"id":3,"ping":{}}
+{"id":4,"publish":{}}
+{"push":{"channel":"news","pub":{"data":1,"info":{"client":"0-1-1"},"offset":1}}}
+close 3501
+"#;
+
+fn lines_of(alloc: Global, text: &str) -> Option<Vec<String>> {
+    let mut lines = Vec::new(alloc);
+    for line in text.lines() {
+        lines.push(String::from_str(alloc, line).ok()?).ok()?;
+    }
+    Some(lines)
+}
+
+/// Whether lines are carried out, and the client gets this.
+fn are_carried_out(alloc: Global, lines: &[String], wanted: &str) -> bool {
+    let Some((namespaces, tokens)) = tables(alloc, "") else {
+        return false;
+    };
+    let Some(mut node) = local_node(alloc, &namespaces) else {
+        return false;
+    };
+    let mut session = Session::new(alloc, &namespaces, &tokens);
+    serve_lines(&mut session, &mut *node, lines);
+    has_said(alloc, &mut node, wanted)
+}
+
+/// Lines up to one that closes, of which nothing is carried out behind the close, nor any line after it.
 #[test]
-fn closed_between_turns(rt: HostRuntime) {
-    assert!(rt; carries_out(rt.alloc(), 1));
+fn lines(rt: HostRuntime) {
+    let lines = lines_of(rt.alloc(), LINES).expect(&rt, "memory");
+    assert!(rt; are_carried_out(rt.alloc(), lines.as_slice(), ANSWERS));
 }
