@@ -16,7 +16,7 @@ const UPGRADE_REQUIRED: &str =
     "HTTP/1.1 426 Upgrade Required\r\nUpgrade: websocket\r\nSec-WebSocket-Version: 13\r\nContent-Type: text/plain\r\nContent-Length: 17\r\nConnection: close, Upgrade\r\n\r\nupgrade required\n";
 
 /// How heads are answered: the lines of each stand behind the answer, each before a `;`. A line of one letter stands for one of the
-/// example of RFC 6455, section 1.3, and `X` for one that is too long.
+/// example of RFC 6455, section 1.3.
 const ROWS: &str = "\
 open GET /chat HTTP/1.1;H;U;C;K;V;
 open GET /health HTTP/1.1;H;U;C;K;V;
@@ -57,8 +57,7 @@ health GET /health HTTP/1.1;H;
 health GET /health HTTP/1.0;
 health GET /health?of=balancer HTTP/1.1;H;Connection: close;
 fault GET / HTTP/1.1;H;U;C;K;V
-fault GET / HTTP/1.1
-long GET / HTTP/1.1;H;U;C;K;V;X;";
+fault GET / HTTP/1.1";
 
 /// The line for which another stands.
 fn line_of(line: &str) -> &str {
@@ -72,31 +71,33 @@ fn line_of(line: &str) -> &str {
     }
 }
 
-fn head_of(alloc: Global, lines: &str) -> Result<Vec<u8>, AllocError> {
-    let long = "x".repeat(alloc, 16_384)?;
-    let mut head = Vec::new(alloc);
+fn head_of(alloc: Global, lines: &str) -> Result<String, AllocError> {
+    let mut head = String::new(alloc);
     for line in lines.split(';') {
-        let line = if line == "X" {
-            long.as_str()
-        } else {
-            line_of(line)
-        };
-        head.extend_from_slice(line.as_bytes())?;
-        head.extend_from_slice(b"\r\n")?;
+        head.push_str(line_of(line))?;
+        head.push_str("\r\n")?;
     }
     Ok(head)
 }
 
-/// The fault by which there is no wire, and what is written.
-fn answer_of(word: &str) -> (&str, &str) {
+/// The fault by which there is no wire, or nothing where there is one.
+fn fault_of(word: &str) -> &'static str {
     match word {
-        "open" => ("", OPENED),
-        "json" => ("", OPENED_AS_JSON),
-        "bad" => ("no WebSocket handshake", BAD_REQUEST),
-        "upgrade" => ("no WebSocket handshake", UPGRADE_REQUIRED),
-        "long" => ("no WebSocket handshake", ""),
-        "health" => ("no WebSocket, but the node's health is asked for", ""),
-        _ => ("the stream failed", ""),
+        "open" | "json" => "",
+        "health" => "no WebSocket, but the node's health is asked for",
+        "fault" => "the stream failed",
+        _ => "no WebSocket handshake",
+    }
+}
+
+/// What is written.
+fn answer_of(word: &str) -> &'static str {
+    match word {
+        "open" => OPENED,
+        "json" => OPENED_AS_JSON,
+        "bad" => BAD_REQUEST,
+        "upgrade" => UPGRADE_REQUIRED,
+        _ => "",
     }
 }
 
@@ -114,7 +115,7 @@ fn is_told(alloc: Global, fault: WireFault, words: &str) -> bool {
 }
 
 /// Whether a stream is answered so.
-fn is_answered(stream: Pieces, alloc: Global, (fault, answer): (&str, &str)) -> bool {
+fn is_answered(stream: Pieces, alloc: Global, fault: &str, answer: &str) -> bool {
     match Wire::accept(alloc, stream) {
         Ok(wire) => fault.is_empty() && says(wire.stream(), answer),
         Err(refused) => {
@@ -125,11 +126,27 @@ fn is_answered(stream: Pieces, alloc: Global, (fault, answer): (&str, &str)) -> 
     }
 }
 
+fn stream_over(alloc: Global, lines: &str, piece: usize) -> Result<Pieces, AllocError> {
+    let head = head_of(alloc, lines)?;
+    Ok(Pieces::new(alloc, head.as_bytes().to_vec(alloc)?, piece))
+}
+
 /// Whether a row is as it says, by pieces of so many bytes.
 fn is_so(alloc: Global, row: &str, piece: usize) -> bool {
     let (word, lines) = row.split_once(' ').unwrap_or((row, ""));
-    match head_of(alloc, lines) {
-        Ok(head) => is_answered(Pieces::new(alloc, head, piece), alloc, answer_of(word)),
+    match stream_over(alloc, lines, piece) {
+        Ok(stream) => is_answered(stream, alloc, fault_of(word), answer_of(word)),
+        Err(_) => false,
+    }
+}
+
+/// Whether a handshake whose head has a line of 16,384 bytes is none.
+fn is_too_long(alloc: Global) -> bool {
+    match "x".repeat(alloc, 16_384) {
+        Ok(line) => match format!(in alloc; "long GET / HTTP/1.1;H;U;C;K;V;{line};") {
+            Ok(row) => is_so(alloc, row.as_str(), 4096),
+            Err(_) => false,
+        },
         Err(_) => false,
     }
 }
@@ -142,6 +159,7 @@ fn answered_heads(rt: HostRuntime) {
             assert!(rt; is_so(rt.alloc(), row, piece), "{row} by {piece}");
         }
     }
+    assert!(rt; is_too_long(rt.alloc()));
 }
 
 /// The one fault that comes by no head.
@@ -152,10 +170,9 @@ fn out_of_memory_in_words(rt: HostRuntime) {
 
 /// Whether a refusal whose call of this number fails is one all the same, and says that its answer isn't whole.
 fn is_refused_unheard(alloc: Global, call: usize) -> bool {
-    let Ok(head) = head_of(alloc, "no request;") else {
+    let Ok(mut stream) = stream_over(alloc, "no request;", 4096) else {
         return false;
     };
-    let mut stream = Pieces::new(alloc, head, 4096);
     stream.fails = call;
     match Wire::accept(alloc, stream) {
         Ok(_) => false,

@@ -1,5 +1,5 @@
 //! A hub's sessions, and what is said to their clients, as rows of steps and of what comes of them.
-use cf_hub::{Hub, HubRefusal};
+use cf_hub::{Delivered, Hub, HubRefusal};
 use cf_protocol::{Epoch, Position, Publication};
 use cf_queue::Out;
 use cf_stream::Recovery;
@@ -58,14 +58,9 @@ fn publication(alloc: Global, offset: u32) -> Result<Publication, AllocError> {
     })
 }
 
-/// A delivery to `news`, by its five numbers.
-fn delivered(hub: &mut Hub, alloc: Global, offset: u32) -> Result<String, AllocError> {
+fn delivered(hub: &mut Hub, alloc: Global, offset: u32) -> Result<Delivered, AllocError> {
     let publication = publication(alloc, offset)?;
-    let met = hub.deliver("news", &Epoch::from_text("aaaa"), &publication);
-    format!(in alloc;
-        "{} passed {} kept {} dropped {} ended {} closed",
-        met.passed, met.kept, met.dropped, met.ended, met.closed
-    )
+    Ok(hub.deliver("news", &Epoch::from_text("aaaa"), &publication))
 }
 
 /// The short name of a text for a client.
@@ -131,13 +126,9 @@ fn is_denied(hub: &mut Hub, alloc: Global, step: Step<'_>) -> bool {
     }
 }
 
-/// What comes of a step.
-fn outcome(hub: &mut Hub, alloc: Global, step: Step<'_>) -> Result<String, AllocError> {
+/// What comes of a step that is answered by a word or a number.
+fn shown(hub: &mut Hub, alloc: Global, step: Step<'_>) -> Result<String, AllocError> {
     match step.word {
-        "attach" => attached(hub, alloc),
-        "begin" => begun(hub, alloc, step),
-        "deliver" => delivered(hub, alloc, step.number),
-        "take" => taken(hub, alloc, step.number),
         "say" => {
             let text = step.name.repeat(alloc, step.size as usize)?;
             format!(in alloc; "{:?}", hub.say(step.number, text))
@@ -148,18 +139,26 @@ fn outcome(hub: &mut Hub, alloc: Global, step: Step<'_>) -> Result<String, Alloc
         }
         "detach" => format!(in alloc; "{}", hub.detach(step.number)),
         "turn" => format!(in alloc; "{:?}", hub.next_with_output()),
-        _ => String::from_str(
-            alloc,
-            if is_denied(hub, alloc, step) {
-                "no"
-            } else {
-                "yes"
-            },
-        ),
+        _ => String::from_str(alloc, yes_or_no(!is_denied(hub, alloc, step))),
     }
 }
 
-/// Adds what comes of a step behind `; `, with `short` where it is the first that memory is refused to.
+fn yes_or_no(is_so: bool) -> &'static str {
+    if is_so { "yes" } else { "no" }
+}
+
+/// What comes of a step.
+fn outcome(hub: &mut Hub, alloc: Global, step: Step<'_>) -> Result<String, AllocError> {
+    match step.word {
+        "attach" => attached(hub, alloc),
+        "begin" => begun(hub, alloc, step),
+        "deliver" => format!(in alloc; "{:?}", delivered(hub, alloc, step.number)?),
+        "take" => taken(hub, alloc, step.number),
+        _ => shown(hub, alloc, step),
+    }
+}
+
+/// Adds what comes of a step, ended by `; `, with `short` where it is the first that memory is refused to.
 fn add_outcome(
     told: &mut String,
     hub: &mut Hub,
@@ -168,16 +167,15 @@ fn add_outcome(
 ) -> Result<(), AllocError> {
     let was_short = hub.short();
     let came = outcome(hub, alloc, step_of(text))?;
-    let between = if told.is_empty() { "" } else { "; " };
-    let state = if hub.short() && !was_short {
-        " short"
+    told.push_str(came.as_str())?;
+    told.push_str(if hub.short() && !was_short {
+        " short; "
     } else {
-        ""
-    };
-    told.push_str(format!(in alloc; "{between}{came}{state}")?.as_str())
+        "; "
+    })
 }
 
-/// What comes of steps that are separated by `; `.
+/// What comes of steps that are separated by `; `, each ended by it too.
 fn outcomes(hub: &mut Hub, alloc: Global, steps: &str) -> Result<String, AllocError> {
     let mut told = String::new(alloc);
     for text in steps.split("; ") {
@@ -190,7 +188,7 @@ fn outcomes(hub: &mut Hub, alloc: Global, steps: &str) -> Result<String, AllocEr
 fn is_so(hub: &mut Hub, alloc: Global, row: &str) -> bool {
     let (steps, wanted) = row.split_once(" => ").unwrap_or((row, ""));
     match outcomes(hub, alloc, steps) {
-        Ok(told) => told.as_str() == wanted,
+        Ok(told) => told.as_str().strip_suffix("; ") == Some(wanted),
         Err(_) => false,
     }
 }
@@ -269,17 +267,17 @@ fn pings(rt: HostRuntime) {
 
 /// In whatever order a publication, the read and the finish come, also where the publication comes twice.
 const REPLY_FIRST: &str = "\
-attach; begin 0 news; deliver 1; read 0 news; finish 0 news => 0; begun; 0 passed 1 kept 0 dropped 0 ended 0 closed; yes; yes
+attach; begin 0 news; deliver 1; read 0 news; finish 0 news => 0; begun; Delivered { passed: 0, kept: 1, dropped: 0, ended: 0, closed: 0 }; yes; yes
 on 0 news; take 0; take 0; take 0; detach 0 => yes; reply; push; nothing; 1
-attach; begin 0 news; read 0 news; deliver 1; finish 0 news => 0; begun; yes; 0 passed 1 kept 0 dropped 0 ended 0 closed; yes
+attach; begin 0 news; read 0 news; deliver 1; finish 0 news => 0; begun; yes; Delivered { passed: 0, kept: 1, dropped: 0, ended: 0, closed: 0 }; yes
 on 0 news; take 0; take 0; take 0; detach 0 => yes; reply; push; nothing; 1
-attach; begin 0 news; read 0 news; finish 0 news; deliver 1 => 0; begun; yes; yes; 1 passed 0 kept 0 dropped 0 ended 0 closed
+attach; begin 0 news; read 0 news; finish 0 news; deliver 1 => 0; begun; yes; yes; Delivered { passed: 1, kept: 0, dropped: 0, ended: 0, closed: 0 }
 on 0 news; take 0; take 0; take 0; detach 0 => yes; reply; push; nothing; 1
-attach; begin 0 news; deliver 1; deliver 1 => 0; begun; 0 passed 1 kept 0 dropped 0 ended 0 closed; 0 passed 1 kept 0 dropped 0 ended 0 closed
+attach; begin 0 news; deliver 1; deliver 1 => 0; begun; Delivered { passed: 0, kept: 1, dropped: 0, ended: 0, closed: 0 }; Delivered { passed: 0, kept: 1, dropped: 0, ended: 0, closed: 0 }
 read 0 news; finish 0 news => yes; yes
 on 0 news; take 0; take 0; take 0; detach 0 => yes; reply; push; nothing; 1
 attach; begin 0 news; read 0 news; finish 0 news => 0; begun; yes; yes
-deliver 1; deliver 1 => 1 passed 0 kept 0 dropped 0 ended 0 closed; 0 passed 0 kept 1 dropped 0 ended 0 closed
+deliver 1; deliver 1 => Delivered { passed: 1, kept: 0, dropped: 0, ended: 0, closed: 0 }; Delivered { passed: 0, kept: 0, dropped: 1, ended: 0, closed: 0 }
 on 0 news; take 0; take 0; take 0; detach 0 => yes; reply; push; nothing; 1";
 
 #[test]
@@ -293,8 +291,8 @@ attach; begin 0 news; read 0 news; finish 0 news; take 0 => 0; begun; yes; yes; 
 attach; begin 1 news; read 1 news; finish 1 news; take 1 => 1; begun; yes; yes; reply
 check 1 chat 1 => Nothing
 check 1 news 1; check 1 news 0; check 1 news 1; check 1 news 1; take 1 => Behind; Fine; Behind; Ended; end
-deliver 2; take 0 => 0 passed 0 kept 0 dropped 1 ended 0 closed; end
-deliver 3 => 0 passed 0 kept 0 dropped 0 ended 0 closed";
+deliver 2; take 0 => Delivered { passed: 0, kept: 0, dropped: 0, ended: 1, closed: 0 }; end
+deliver 3 => Delivered { passed: 0, kept: 0, dropped: 0, ended: 0, closed: 0 }";
 
 #[test]
 fn gap_and_check(rt: HostRuntime) {
@@ -305,7 +303,7 @@ fn gap_and_check(rt: HostRuntime) {
 const TOO_SLOW: &str = "\
 attach; begin 0 news; read 0 news; finish 0 news; take 0 => 0; begun; yes; yes; reply
 attach; begin 1 news; read 1 news; finish 1 news; take 1 => 1; begun; yes; yes; reply
-say 0 x 1048576; deliver 1 => Kept; 1 passed 0 kept 0 dropped 0 ended 1 closed
+say 0 x 1048576; deliver 1 => Kept; Delivered { passed: 1, kept: 0, dropped: 0, ended: 0, closed: 1 }
 say 0 x 1; take 0; take 0 => Closed; text closed; 3008 closed
 take 1; say 9 x 1 => push; Gone";
 
@@ -322,7 +320,7 @@ attach; begin 2 news; read 2 news; finish 2 news; take 2 => 2; begun; yes; yes; 
 detach 1; take 1 => 1; nothing closed
 attach; begin 1 news; read 1 news; finish 1 news; take 1 => 1; begun; yes; yes; reply
 turn => None
-deliver 1; turn; turn; turn; turn => 3 passed 0 kept 0 dropped 0 ended 0 closed; Some(0); Some(2); Some(1); None";
+deliver 1; turn; turn; turn; turn => Delivered { passed: 3, kept: 0, dropped: 0, ended: 0, closed: 0 }; Some(0); Some(2); Some(1); None";
 
 #[test]
 fn numbers_and_output(rt: HostRuntime) {
@@ -338,10 +336,8 @@ fn comes_one_of(rt: &impl Abort, alloc: Global, first: &str, others: &str, allow
         return;
     }
     if let Ok(told) = outcomes(&mut hub, alloc, others) {
-        assert!(rt;
-            allowed.split('\n').any(|line| line == told.as_str()),
-            "{told}"
-        );
+        let told = told.as_str().strip_suffix("; ").unwrap_or("");
+        assert!(rt; allowed.split('\n').any(|line| line == told), "{told}");
     }
 }
 
@@ -352,11 +348,11 @@ attach; begin 2 news; read 2 news; finish 2 news; take 2";
 
 /// Where memory is refused, one of them is closed; or none, where it was for the one text of all, which each then writes for itself.
 const ALL_BUT_ONE: &str = "\
-3 passed 0 kept 0 dropped 0 ended 0 closed; push; push; push
-3 passed 0 kept 0 dropped 0 ended 0 closed short; push; push; push
-2 passed 0 kept 0 dropped 0 ended 1 closed short; 3004 closed; push; push
-2 passed 0 kept 0 dropped 0 ended 1 closed short; push; 3004 closed; push
-2 passed 0 kept 0 dropped 0 ended 1 closed short; push; push; 3004 closed";
+Delivered { passed: 3, kept: 0, dropped: 0, ended: 0, closed: 0 }; push; push; push
+Delivered { passed: 3, kept: 0, dropped: 0, ended: 0, closed: 0 } short; push; push; push
+Delivered { passed: 2, kept: 0, dropped: 0, ended: 0, closed: 1 } short; 3004 closed; push; push
+Delivered { passed: 2, kept: 0, dropped: 0, ended: 0, closed: 1 } short; push; 3004 closed; push
+Delivered { passed: 2, kept: 0, dropped: 0, ended: 0, closed: 1 } short; push; push; 3004 closed";
 
 // By `.ci/hub-refused` also with each request for memory refused in turn.
 #[test]
@@ -371,12 +367,12 @@ const ONE_ASKS: &str =
 /// What was kept comes behind the reply; or an end, where memory was refused for it. Where it is refused for the reply or for what
 /// comes behind it, what was said before goes out, and the close.
 const KEPT_OR_ENDED: &str = "\
-1 passed 1 kept 0 dropped 0 ended 0 closed; yes; yes; reply; push; nothing
-1 passed 1 kept 0 dropped 0 ended 0 closed short; yes; yes; reply; push; nothing
-1 passed 1 kept 0 dropped 0 ended 0 closed short; yes; yes; reply; end; nothing
-0 passed 1 kept 0 dropped 0 ended 1 closed short; yes; yes; reply; push; nothing
-1 passed 1 kept 0 dropped 0 ended 0 closed; yes; yes short; 3004 closed; nothing closed; nothing closed
-1 passed 1 kept 0 dropped 0 ended 0 closed; yes; yes short; reply closed; 3004 closed; nothing closed";
+Delivered { passed: 1, kept: 1, dropped: 0, ended: 0, closed: 0 }; yes; yes; reply; push; nothing
+Delivered { passed: 1, kept: 1, dropped: 0, ended: 0, closed: 0 } short; yes; yes; reply; push; nothing
+Delivered { passed: 1, kept: 1, dropped: 0, ended: 0, closed: 0 } short; yes; yes; reply; end; nothing
+Delivered { passed: 0, kept: 1, dropped: 0, ended: 0, closed: 1 } short; yes; yes; reply; push; nothing
+Delivered { passed: 1, kept: 1, dropped: 0, ended: 0, closed: 0 }; yes; yes short; 3004 closed; nothing closed; nothing closed
+Delivered { passed: 1, kept: 1, dropped: 0, ended: 0, closed: 0 }; yes; yes short; reply closed; 3004 closed; nothing closed";
 
 // By `.ci/hub-refused` also with each request for memory refused in turn.
 #[test]

@@ -12,6 +12,4 @@ mod speak;
 #[cfg(test)]
 mod stream;
 #[cfg(test)]
-mod talk;
-#[cfg(test)]
 mod wire;

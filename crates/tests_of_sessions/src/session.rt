@@ -12,8 +12,6 @@ use std::alloc::{AllocError, Global};
 use std::collections::BTreeMap;
 use std::process::Abort;
 
-const BAD_REQUEST: &str = "close 3501 bad request";
-
 /// What the node answers each call on this channel.
 fn or_refused(channel: &str) -> Result<(), ErrorCode> {
     match channel {
@@ -183,7 +181,7 @@ fn is_served(alloc: Global, session: &mut Session<'_>, text: &str, wanted: &str)
     }
 }
 
-pub(crate) fn tables(alloc: Global, tokens: &str) -> Option<(Namespaces, Tokens)> {
+fn tables(alloc: Global, tokens: &str) -> Option<(Namespaces, Tokens)> {
     let namespaces = read_namespaces(alloc, "=100,300,phs;bare=1,1,");
     match (namespaces, read_tokens(alloc, tokens)) {
         (Ok(namespaces), Ok(tokens)) => Some((namespaces, tokens)),
@@ -191,15 +189,23 @@ pub(crate) fn tables(alloc: Global, tokens: &str) -> Option<(Namespaces, Tokens)
     }
 }
 
-/// A row in full: between two `~` stands how often a text comes, `*` and the text.
+/// A row in full: between two `~` stands how often a text comes, `*` and the text, or `LF` for a line feed.
 fn in_full(alloc: Global, row: &str) -> Option<String> {
     let mut all = String::new(alloc);
     for part in row.split('~') {
-        let (count, text) = part.split_once('*').unwrap_or(("1", part));
-        let count = count.parse::<usize>().ok()?;
-        all.push_str(text.repeat(alloc, count).ok()?.as_str()).ok()?;
+        add_part(alloc, &mut all, part)?;
     }
     Some(all)
+}
+
+fn add_part(alloc: Global, all: &mut String, part: &str) -> Option<()> {
+    match part.split_once('*') {
+        Some((count, text)) => {
+            let count = count.parse::<usize>().ok()?;
+            all.push_str(text.repeat(alloc, count).ok()?.as_str()).ok()
+        }
+        None => all.push_str(if part == "LF" { "\n" } else { part }).ok(),
+    }
 }
 
 /// Whether a session does what stands behind the arrow of a row, or nothing where there is none.
@@ -214,13 +220,17 @@ fn is_done(alloc: Global, session: &mut Session<'_>, row: &str) -> bool {
     is_served(alloc, session, text, done)
 }
 
-/// A session does what these rows say, in their order.
-fn talks(rt: &impl Abort, alloc: Global, rows: &str) {
-    let (namespaces, tokens) = tables(alloc, "").expect(rt, "tables");
-    let mut session = Session::new(alloc, &namespaces, &tokens);
+fn go_on(rt: &impl Abort, alloc: Global, session: &mut Session<'_>, rows: &str) {
     for row in rows.split('\n') {
-        assert!(rt; is_done(alloc, &mut session, row), "{row}");
+        assert!(rt; is_done(alloc, session, row), "{row}");
     }
+}
+
+/// Where these tokens are set up, a session does what these rows say, in their order.
+fn talks(rt: &impl Abort, alloc: Global, tokens: &str, rows: &str) {
+    let (namespaces, tokens) = tables(alloc, tokens).expect(rt, "tables");
+    let mut session = Session::new(alloc, &namespaces, &tokens);
+    go_on(rt, alloc, &mut session, rows);
 }
 
 const COMMANDS: &str =
@@ -234,7 +244,7 @@ const COMMANDS: &str =
 
 #[test]
 fn each_command(rt: HostRuntime) {
-    talks(&rt, rt.alloc(), COMMANDS);
+    talks(&rt, rt.alloc(), "", COMMANDS);
 }
 
 const KEYS: &str =
@@ -259,7 +269,7 @@ const KEYS: &str =
 /// the namespace.
 #[test]
 fn keys(rt: HostRuntime) {
-    talks(&rt, rt.alloc(), KEYS);
+    talks(&rt, rt.alloc(), "", KEYS);
 }
 
 const PINGS: &str =
@@ -274,7 +284,7 @@ const PINGS: &str =
 /// What isn't answered, and a second connect.
 #[test]
 fn pings_and_sends(rt: HostRuntime) {
-    talks(&rt, rt.alloc(), PINGS);
+    talks(&rt, rt.alloc(), "", PINGS);
 }
 
 const REFUSALS: &str =
@@ -290,7 +300,7 @@ const REFUSALS: &str =
 
 #[test]
 fn speak_refusals(rt: HostRuntime) {
-    talks(&rt, rt.alloc(), REFUSALS);
+    talks(&rt, rt.alloc(), "", REFUSALS);
 }
 
 const REFUSALS_OF_THE_NODE: &str =
@@ -305,56 +315,41 @@ const REFUSALS_OF_THE_NODE: &str =
 /// What the hub and the streams refuse is said, and a connect that is no first closes.
 #[test]
 fn refusals_of_the_node(rt: HostRuntime) {
-    talks(&rt, rt.alloc(), REFUSALS_OF_THE_NODE);
+    talks(&rt, rt.alloc(), "", REFUSALS_OF_THE_NODE);
 }
 
-/// The first text of a client, where these tokens are set up, has the session do this.
-fn begins(rt: &impl Abort, alloc: Global, tokens: &str, text: &str, done: &str) {
-    let (namespaces, tokens) = tables(alloc, tokens).expect(rt, "tables");
-    let mut session = Session::new(alloc, &namespaces, &tokens);
-    assert!(rt; is_served(alloc, &mut session, text, done), "{text}");
-}
-
-const FRAME: &str = r#"{"id":1,"connect":{"name":"js","version":"5","data":{}}}
-{"id":2,"subscribe":{"channel":""}}
-{"id":3,"subscribe":{"channel":"full"}}
-{"id":4,"ping":7}{}{"send":[]}
-{"id":5,"subscribe":{"channel":"spent"}}
-{"id":6,"connect":{}}
-{"id":7,"ping":{}}"#;
-
-const DONE: &str =
-    r#"attach  / {"connect":{"client":"0-1-1","ping":25,"pong":true,"version":"1.0.0"},"id":1} / {"error":{"code":107,"message":"bad request"},"id":2} / begin 3 / {"error":{"code":106,"message":"limit exceeded"},"id":3} / {"id":4,"ping":{}} / pong / begin 5 / read / leave / {"error":{"code":100,"message":"internal server error","temporary":true},"id":5} / close 3501 bad request"#;
+const FRAME: &str =
+    r#"{"id":1,"connect":{"name":"js","version":"5","data":{}}}~LF~{"id":2,"subscribe":{"channel":""}}~LF~{"id":3,"subscribe":{"channel":"full"}}~LF~{"id":4,"ping":7}{}{"send":[]}~LF~{"id":5,"subscribe":{"channel":"spent"}}~LF~{"id":6,"connect":{}}~LF~{"id":7,"ping":{}} => attach  / {"connect":{"client":"0-1-1","ping":25,"pong":true,"version":"1.0.0"},"id":1} / {"error":{"code":107,"message":"bad request"},"id":2} / begin 3 / {"error":{"code":106,"message":"limit exceeded"},"id":3} / {"id":4,"ping":{}} / pong / begin 5 / read / leave / {"error":{"code":100,"message":"internal server error","temporary":true},"id":5} / close 3501 bad request"#;
 
 /// Commands of usual clients, several in a frame and separated by line feeds, with members that are
 /// passed over.
 #[test]
 fn frames_of_commands(rt: HostRuntime) {
-    begins(&rt, rt.alloc(), "", FRAME, DONE);
+    talks(&rt, rt.alloc(), "", FRAME);
 }
 
-const NO_CONNECT: &str = r#"{"id":1,"subscribe":{"channel":"a"}}
-{"id":0,"connect":{}}
-{"id":1,
-
-{}"#;
+const NO_CONNECT: &str = r#"{"id":1,"subscribe":{"channel":"a"}} => close 3501 bad request
+{"id":0,"connect":{}} => close 3501 bad request
+{"id":1, => close 3501 bad request
+ => close 3501 bad request
+{} => close 3501 bad request"#;
 
 #[test]
 fn speak_first_line_closes(rt: HostRuntime) {
-    for text in NO_CONNECT.split('\n') {
-        begins(&rt, rt.alloc(), "", text, BAD_REQUEST);
+    for row in NO_CONNECT.split('\n') {
+        talks(&rt, rt.alloc(), "", row);
     }
 }
 
-const TOKEN: &str = r#"{"id":1,"connect":{"token":"t9"}}"#;
+const NO_USER: &str = r#"{"id":1,"connect":{"token":"t9"}} => close 3500 invalid token"#;
 
-const ANN_CONNECTED: &str =
-    r#"attach ann / {"connect":{"client":"0-1-1","ping":25,"pong":true,"version":"1.0.0"},"id":1}"#;
+const ANN: &str =
+    r#"{"id":1,"connect":{"token":"t9"}} => attach ann / {"connect":{"client":"0-1-1","ping":25,"pong":true,"version":"1.0.0"},"id":1}"#;
 
 #[test]
 fn tokens(rt: HostRuntime) {
-    begins(&rt, rt.alloc(), "", TOKEN, "close 3500 invalid token");
-    begins(&rt, rt.alloc(), "t9=ann", TOKEN, ANN_CONNECTED);
+    talks(&rt, rt.alloc(), "", NO_USER);
+    talks(&rt, rt.alloc(), "t9=ann", ANN);
 }
 
 const DEPTHS: &str =
@@ -367,7 +362,7 @@ const DEPTHS: &str =
 /// Data that are so many brackets, one in another.
 #[test]
 fn data_depth(rt: HostRuntime) {
-    talks(&rt, rt.alloc(), DEPTHS);
+    talks(&rt, rt.alloc(), "", DEPTHS);
 }
 
 const LIMITS: &str =
@@ -380,7 +375,7 @@ const LIMITS: &str =
 /// Names of 255 and 256 bytes. A frame of 65,536 bytes has all its commands carried out, and one byte more closes.
 #[test]
 fn limits(rt: HostRuntime) {
-    talks(&rt, rt.alloc(), LIMITS);
+    talks(&rt, rt.alloc(), "", LIMITS);
 }
 
 /// Behind what a text does otherwise stands what it may do where memory is refused: a connect closes, the other commands are
@@ -420,6 +415,13 @@ fn may_give_up(rt: &impl Abort, alloc: Global, session: &mut Session<'_>, row: &
     Some(())
 }
 
+fn may_all_give_up(rt: &impl Abort, alloc: Global, session: &mut Session<'_>) -> Option<()> {
+    for row in OR_GIVEN_UP.split('\n') {
+        may_give_up(rt, alloc, session, row)?;
+    }
+    Some(())
+}
+
 // By `.ci/hub-refused` also with each request for memory refused in turn.
 #[test]
 fn session_refused(rt: HostRuntime) {
@@ -427,9 +429,5 @@ fn session_refused(rt: HostRuntime) {
         return;
     };
     let mut session = Session::new(rt.alloc(), &namespaces, &tokens);
-    for row in OR_GIVEN_UP.split('\n') {
-        if may_give_up(&rt, rt.alloc(), &mut session, row).is_none() {
-            return;
-        }
-    }
+    let _goes_on = may_all_give_up(&rt, rt.alloc(), &mut session);
 }

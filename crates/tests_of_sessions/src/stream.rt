@@ -16,7 +16,7 @@ pub(crate) struct Pieces {
     piece: usize,
     pub(crate) output: Vec<u8>,
     /// How many bytes of the output were looked at.
-    pub(crate) seen: usize,
+    seen: usize,
     pub(crate) blocked: bool,
     pub(crate) calls: usize,
     pub(crate) fails: usize,
@@ -58,6 +58,16 @@ impl Pieces {
         let rest = self.output.get(self.seen..).unwrap_or(&[]);
         self.seen = self.seen.saturating_add(bytes.len());
         rest.starts_with(bytes)
+    }
+
+    /// Counts all that was written as looked at.
+    pub(crate) fn look_behind(&mut self) {
+        self.seen = self.output.len();
+    }
+
+    /// Whether all that was written was looked at.
+    pub(crate) fn is_seen(&self) -> bool {
+        self.seen == self.output.len()
     }
 
     fn count_call(&mut self) -> io::Result<()> {

@@ -145,21 +145,22 @@ fn wire_over(
     Wire::accept(alloc, stream).map_err(|refused| refused.fault)
 }
 
-/// The rows of a script are so, and all that was written stands in them. The first has what stands behind the request, behind what
-/// it is.
+/// The rows behind the first of a script are so, and all that was written stands in them.
+fn go_on(rt: &impl Abort, wire: &mut Wire<Pieces>, desk: &mut Echo, script: &str) {
+    wire.stream_mut().look_behind();
+    for row in script.split('\n').skip(1) {
+        assert!(rt; is_so(wire, desk, row), "{row}, of: {script}");
+    }
+    assert!(rt; wire.stream().is_seen(), "{script}");
+}
+
+/// A script is so, of which the first row is a title and, behind a colon, what stands behind the request.
 fn plays(rt: &impl Abort, alloc: Global, script: &str, piece: usize) {
-    let (first, rows) = script.split_once('\n').unwrap_or((script, ""));
+    let first = script.split('\n').next().unwrap_or("");
     let (_, behind) = first.split_once(": ").unwrap_or((first, ""));
     let mut wire = wire_over(alloc, behind, piece, usize::MAX).expect(rt, "wire");
     let mut desk = Echo::new(alloc).expect(rt, "memory");
-    wire.stream_mut().seen = wire.stream().output.len();
-    for row in rows.split('\n') {
-        assert!(rt;
-            is_so(&mut wire, &mut desk, row),
-            "{first}, by {piece}: {row}"
-        );
-    }
-    assert!(rt; wire.stream().seen == wire.stream().output.len(), "{first}");
+    go_on(rt, &mut wire, &mut desk, script);
 }
 
 /// The same of scripts with empty lines between them, by pieces of so many bytes.
@@ -390,14 +391,21 @@ fn would_block(gather: &mut Gather<Pieces>, text: &str) -> bool {
     }
 }
 
+/// Whether what a stream that gathers is told to do goes so.
+fn is_carried_out(gather: &mut Gather<Pieces>, word: &str, text: &str) -> bool {
+    match word {
+        "takes" => is_taken(gather, text),
+        "refuses" => would_block(gather, text),
+        "flushes" => gather.flush().is_ok(),
+        "drains" => gather.drain().is_ok(),
+        _ => false,
+    }
+}
+
 /// Whether a row is so of a stream that gathers.
 fn is_gathered(gather: &mut Gather<Pieces>, row: &str) -> bool {
     let (word, rest) = row.split_once(' ').unwrap_or((row, ""));
     match word {
-        "takes" => is_taken(gather, rest),
-        "refuses" => would_block(gather, rest),
-        "flushes" => gather.flush().is_ok(),
-        "drains" => gather.drain().is_ok(),
         "waits" => !gather.is_drained(),
         "empty" => gather.is_drained(),
         "calls" => gather.stream().calls == number_of(rest),
@@ -406,7 +414,7 @@ fn is_gathered(gather: &mut Gather<Pieces>, row: &str) -> bool {
             gather.stream_mut().blocked = rest == "yes";
             true
         }
-        _ => false,
+        _ => is_carried_out(gather, word, rest),
     }
 }
 
@@ -430,11 +438,16 @@ empty
 calls 5
 out fghijk";
 
+/// Of a stream that gathers these rows are so, in their order.
+fn gathers_so(rt: &impl Abort, gather: &mut Gather<Pieces>, rows: &str) {
+    for row in rows.split('\n') {
+        assert!(rt; is_gathered(gather, row), "{row}");
+    }
+}
+
 #[test]
 fn gathers_to_its_limit(rt: HostRuntime) {
     let alloc = rt.alloc();
     let mut gather = Gather::new(alloc, Pieces::new(alloc, Vec::new(alloc), 3), 4);
-    for row in GATHERED.split('\n') {
-        assert!(rt; is_gathered(&mut gather, row), "{row}");
-    }
+    gathers_so(&rt, &mut gather, GATHERED);
 }
