@@ -188,7 +188,7 @@ fn outcomes(hub: &mut Hub, alloc: Global, steps: &str) -> Result<String, AllocEr
 fn is_so(hub: &mut Hub, alloc: Global, row: &str) -> bool {
     let (steps, wanted) = row.split_once(" => ").unwrap_or((row, ""));
     match outcomes(hub, alloc, steps) {
-        Ok(told) => told.as_str().strip_suffix("; ") == Some(wanted),
+        Ok(told) => told.as_str().strip_suffix("; ").unwrap_or("") == wanted,
         Err(_) => false,
     }
 }
