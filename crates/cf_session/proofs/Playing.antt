@@ -1,5 +1,5 @@
 -- A script played step by step.
-use Rattle.std.proofs.Common.{◌≡◌, ◌≢◌, ◌∙◌, ◌||◌, ◌==◌, ℕ, Bool, true, false, not, Option, Some, None, List, [], ◌∷◌, ◌++◌, arith, refl, sym, ap, subst, inl, inr}
+use Rattle.std.proofs.Common.{◌≡◌, ◌≢◌, ◌∙◌, ◌||◌, ◌==◌, ℕ, Bool, true, false, not, Option, Some, None, List, [], ◌∷◌, arith, refl, sym, ap, subst, inl, inr}
 use Rattle.cf_session.specs.Calls.{Answer}
 use Rattle.cf_session.specs.Script.{Script, Served, Over, Close, Say, Pong, Ask}
 use Rattle.cf_protocol.specs.Datum.{Who}
@@ -13,7 +13,7 @@ use Rattle.cf_protocol.specs.Request.{Command}
 use Rattle.cf_session.specs.declared.session.Session.{Session}
 use Rattle.cf_session.specs.declared.stage.Stage.{Stage}
 use Rattle.cf_session.specs.declared.stage.Stage.TheVariants as stage
-use Rattle.cf_session.specs.Played.{asked_kind, ActHasStream, AskStreams, Plays, PlaysOn, Next, Continues, Serves, LeadsOn, Goes, Talks}
+use Rattle.cf_session.specs.Played.{asked_kind, ActHasStream, AskStreams, Plays, PlaysOn, Next, Continues, Serves, LeadsOn, Goes}
 use Rattle.cf_session.specs.Turn.{CanGoOn, IdleCanGoOn}
 
 same_act : (a b : Act) → Some a ≡ Some b → a ≡ b
@@ -147,29 +147,6 @@ module _ {N : Type 0} (closed : N → Bool) (does : N → Act → Option Answer 
   pub serves_gone : (t : Tables) (p0 q : Progress) (n m : N) (text : List ℕ)
       → closed n ≡ false → Goes closed does t p0 n text q m → awaits q ≡ None → (closed m || is_end q) ≡ true → Serves closed does t p0 n text m q
   serves_gone t p0 q n m text c g k e = serves_led t p0 g.heard q n m text c g.hears g.leads k e
-
-  -- one text more
-  pub talks_more : (t : Tables) (p q r : Progress) (n mid m : N) (texts : List (List ℕ)) (text : List ℕ)
-      → closed mid ≡ false → Talks closed does t p n texts mid q → Serves closed does t q mid text m r → Talks closed does t p n (texts ++ text ∷ []) m r
-  talks_more t p q r n mid m [] text c h s =
-      inr (
-        subst (λ (x : N). closed x ≡ false) h.0 c,
-        (m, r, subst (λ (y : Progress). Serves closed does t y n text m r) h.1 (subst (λ (x : N). Serves closed does t q x text m r) h.0 s), (refl, refl)),
-      )
-  talks_more t p q r n mid m (x ∷ xs) text c (inl h) s =
-      let never : closed mid ≡ true = subst (λ (y : N). closed y ≡ true) (sym h.1) h.0 in
-      absurd (cc (never, c))
-  talks_more t p q r n mid m (x ∷ xs) text c (inr h) s =
-      inr (h.0, (h.1.0, h.1.1, h.1.2, talks_more t h.1.1 q r h.1.0 mid m xs text c h.1.3 s))
-
-  -- nothing more is read
-  pub talks_closed : (t : Tables) (p q : Progress) (n m : N) (texts more : List (List ℕ))
-      → closed m ≡ true → Talks closed does t p n texts m q → Talks closed does t p n (texts ++ more) m q
-  talks_closed t p q n m [] [] c h = h
-  talks_closed t p q n m [] (x ∷ xs) c h = inl (subst (λ (y : N). closed y ≡ true) h.0 c, h.0, h.1)
-  talks_closed t p q n m (x ∷ xs) more c (inl h) = inl h
-  talks_closed t p q n m (x ∷ xs) more c (inr h) =
-      inr (h.0, (h.1.0, h.1.1, h.1.2, talks_closed t h.1.1 q h.1.0 m xs more c h.1.3))
 
 -- ---- unless memory was refused
 

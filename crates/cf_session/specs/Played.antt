@@ -1,6 +1,5 @@
--- A session's script played on a node, and a whole conversation. (Centrifugo's client protocol: commands are carried
--- out in order.)
-use Rattle.std.specs.Prelude.{◌≡◌, ◌⊎◌, List, ℕ, [], ◌∷◌, Option, Some, None, Bool, true, false}
+-- A session's script played on a node. (Centrifugo's client protocol: commands are carried out in order.)
+use Rattle.std.specs.Prelude.{◌≡◌, ◌⊎◌, List, ℕ, Option, Some, None, Bool, true, false}
 use Rattle.cf_session.specs.Calls.{Answer, Call, kind_of}
 use Rattle.cf_session.specs.Script.{Script, Served, Over, Close, Say, Pong, Ask}
 use Rattle.cf_session.specs.CommandScripts.{Tables}
@@ -92,12 +91,3 @@ module _ {N : Type 0} (closed : N → Bool) (does : N → Act → Option Answer 
     pub heard : Progress
     pub hears : HearsText t p0 text heard
     pub leads : LeadsOn heard n0 q n
-
-  -- the texts of a conversation, one after another, until the session is closed
-  abbrev pub Talks : Tables → Progress → N → List (List ℕ) → N → Progress → Type 0
-  Talks t p n [] m q = (m ≡ n) × (q ≡ p)
-  Talks t p n (text ∷ texts) m q =
-      ((closed n ≡ true) × (m ≡ n) × (q ≡ p))
-      ⊎
-      ((closed n ≡ false)
-      × ((mid : N) × (between : Progress) × Serves t p n text mid between × Talks t between mid texts m q))

@@ -24,6 +24,6 @@ pub use kind::Kind;
 pub use node::{Node, act};
 pub use refusal::refusal_of;
 pub use refused::{hub_error, presence_error, stream_error};
-pub use serve::{serve_lines, serve_text};
+pub use serve::serve_text;
 pub use session::Session;
 pub use turn::{carry_on, hear_text};

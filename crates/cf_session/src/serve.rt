@@ -1,9 +1,7 @@
-//! The texts of a client, carried out one after another.
-ghost use Rattle.std.specs.Prelude.{◌≡◌, ◌≤◌, true, false, Some, map, string_bytes};
-ghost use Rattle.cf_session.specs.SessionMachine.{Progress, Does, awaits};
-ghost use Rattle.cf_session.specs.Shown.{shown_action};
-ghost use Rattle.cf_session.specs.Standing.{is_idle, is_short, tables_of, progress_of, work_of};
-ghost use Rattle.cf_session.specs.Played.{Serves, Talks, Next, asked_kind, ActHasStream, AskStreams};
+//! A client's text, carried out whole.
+ghost use Rattle.std.specs.Prelude.{◌≡◌, true, false};
+ghost use Rattle.cf_session.specs.Standing.{is_idle, is_short, tables_of, progress_of};
+ghost use Rattle.cf_session.specs.Played.{Serves};
 
 use crate::budget::Budget;
 use crate::node::Node;
@@ -26,20 +24,4 @@ pub fn serve_text<N: Node>(session: &mut Session<'_>, node: &mut N, text: &str)
 {
     hear_text(session, text);
     while !carry_on(session, node, &mut Budget::new(usize::MAX)) {}
-}
-
-/// Carries out the lines of a client in order, until the session is closed.
-pub fn serve_lines<N: Node>(session: &mut Session<'_>, node: &mut N, lines: &[String])
-    requires idle { is_idle session.old ≡ true }
-    requires tables { N.namespaces node.old ≡ (tables_of session.old).namespaces }
-    ensures talks { is_short session.new ≡ false →
-        Talks N.closed N.does (tables_of session.old) (progress_of session.old) node.old
-        (map string_bytes lines.now) node.new (progress_of session.new) }
-{
-    for line in lines {
-        if node.is_closed() {
-            return;
-        }
-        serve_text(session, node, line.as_str());
-    }
 }
