@@ -1,28 +1,18 @@
-//! The program's words, the texts of its faults, and what its parts do in tests of their own.
-mod beats;
+//! What the words of the command line ask for, the texts of faults, and what the parts of a running server do in tests of their own.
 mod connection;
-mod dispatching;
+mod hand;
 mod lines;
 mod losses;
 mod nodes;
 mod peer;
-mod serving;
-mod speaking;
+mod script;
 mod together;
 
 use cf_commands::{
-    DEFAULT_LINK, DEFAULT_NAMESPACES, Fault, Job, Options, ServeOptions, Setting, config_of,
-    read_words,
+    DEFAULT_LINK, DEFAULT_NAMESPACES, Fault, Job, Options, ServeOptions, Setting, read_words,
 };
 use cf_simulate::SimulateFault;
 use std::alloc::Global;
-use std::process::Abort;
-
-const DEFAULTS: Options<'static> = Options {
-    nodes: 1,
-    namespaces: DEFAULT_NAMESPACES,
-    explains: false,
-};
 
 fn is_shown(alloc: Global, fault: &Fault, text: &str) -> bool {
     match fault.to_string(alloc) {
@@ -31,17 +21,11 @@ fn is_shown(alloc: Global, fault: &Fault, text: &str) -> bool {
     }
 }
 
-// A simulation's fault is shown as its own text.
+// A simulation's fault is shown as its own text, and a setting's names its option.
 #[test]
-fn simulation_fault(rt: HostRuntime) {
+fn faults_in_words(rt: HostRuntime) {
     let unreadable = Fault::from(SimulateFault::Unreadable { line: 1 });
     assert!(rt; is_shown(rt.alloc(), &unreadable, "line 1: unreadable"));
-    assert!(rt; is_shown(rt.alloc(), &Fault::NotUtf8, "not UTF-8"));
-}
-
-// A setting's fault names its option.
-#[test]
-fn setting_fault(rt: HostRuntime) {
     let boot = Fault::Setting {
         setting: Setting::Boot,
     };
@@ -58,17 +42,19 @@ fn words_of(alloc: Global, line: &str) -> Option<Vec<String>> {
     Some(words)
 }
 
-// Whether a line's words ask for this job, or, where there is none, can't be used.
-fn asks_for(alloc: Global, line: &str, wanted: Option<Job<'_>>) -> bool {
+// Whether a line's words ask for this job.
+fn asks_for(alloc: Global, line: &str, wanted: Job<'_>) -> bool {
     match words_of(alloc, line) {
-        Some(words) => read_words(alloc, words.as_slice()).ok() == wanted,
+        Some(words) => read_words(alloc, words.as_slice()).ok() == Some(wanted),
         None => false,
     }
 }
 
-fn asks(rt: &impl Abort, alloc: Global, line: &str, wanted: Option<Job<'_>>) {
-    assert!(rt; asks_for(alloc, line, wanted), "{line}");
-}
+const DEFAULTS: Options<'static> = Options {
+    nodes: 1,
+    namespaces: DEFAULT_NAMESPACES,
+    explains: false,
+};
 
 const EIGHT_NODES: Options<'static> = Options {
     nodes: 8,
@@ -91,43 +77,26 @@ const WIDEST_LINK: ServeOptions<'static> = ServeOptions {
     ..SEVENTH_START
 };
 
+const ASKED: [(&str, Job<'static>); 5] = [
+    (
+        "cf_server simulate --explain --ns chat=3,300,ph --nodes 8",
+        Job::Simulate(EIGHT_NODES),
+    ),
+    ("cf_server", Job::Simulate(DEFAULTS)),
+    ("cf_server --version", Job::Version),
+    (
+        "cf_server serve --boot 7 --nodes 2 --tokens t=ann",
+        Job::Serve(SEVENTH_START),
+    ),
+    (
+        "cf_server serve --boot 7 --nodes 2 --tokens t=ann --link 65536",
+        Job::Serve(WIDEST_LINK),
+    ),
+];
+
 #[test]
 fn options(rt: HostRuntime) {
-    let alloc = rt.alloc();
-    let line = "cf_server simulate --explain --ns chat=3,300,ph --nodes 8";
-    asks(&rt, alloc, line, Some(Job::Simulate(EIGHT_NODES)));
-    asks(&rt, alloc, "cf_server", Some(Job::Simulate(DEFAULTS)));
-    asks(&rt, alloc, "cf_server --version", Some(Job::Version));
-    let line = "cf_server serve --boot 7 --nodes 2 --tokens t=ann";
-    asks(&rt, alloc, line, Some(Job::Serve(SEVENTH_START)));
-    let line = "cf_server serve --boot 7 --nodes 2 --tokens t=ann --link 65536";
-    asks(&rt, alloc, line, Some(Job::Serve(WIDEST_LINK)));
-}
-
-#[test]
-fn options_refused(rt: HostRuntime) {
-    let alloc = rt.alloc();
-    asks(&rt, alloc, "cf_server simulate --nodes 9", None);
-    asks(&rt, alloc, "cf_server simulate --nodes 0", None);
-    asks(&rt, alloc, "cf_server --ns =1,1,", None);
-    asks(&rt, alloc, "cf_server serve", None);
-    asks(&rt, alloc, "cf_server serve --boot 0", None);
-    asks(&rt, alloc, "cf_server serve --boot 1 --port 65536", None);
-    asks(&rt, alloc, "cf_server serve --boot 1 --link 0", None);
-    asks(&rt, alloc, "cf_server serve --boot 1 --link 65537", None);
-}
-
-fn are_unusable(alloc: Global, namespaces: &str) -> bool {
-    let options = Options {
-        namespaces,
-        ..DEFAULTS
-    };
-    matches!(&config_of(alloc, options), Err(Fault::Setting { .. }))
-}
-
-#[test]
-fn namespaces_refused(rt: HostRuntime) {
-    assert!(rt; are_unusable(rt.alloc(), ""));
-    assert!(rt; are_unusable(rt.alloc(), "=0,300,phs"));
-    assert!(rt; are_unusable(rt.alloc(), "chat=3,300,ph;"));
+    for (line, job) in ASKED {
+        assert!(rt; asks_for(rt.alloc(), line, job), "{line}");
+    }
 }

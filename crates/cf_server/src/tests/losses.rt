@@ -1,23 +1,26 @@
 //! Publications that are lost on their way to a node: each client gets them all the same, once each and in order.
 use super::connection::{Connection, open};
-use super::nodes::settings_of;
+use super::hand::Hand;
+use super::nodes::default_settings;
+use super::peer::{Peer, connect};
 use super::together::{Task, two_nodes};
 use cf_broker::Words;
 use cf_client::AppEvent;
 use cf_protocol::Position;
-use std::alloc::Global;
 use std::io::{Read, Write};
 use std::marker::Brand;
 use std::net::{Net, SocketAddr};
+use std::process::Abort;
 use std::thread;
+use std::time::Clock;
 
-/// So many turns of one of its three waits, and the test has failed: ten million in all.
-const MOST_TURNS: u64 = 3_333_333;
-
-/// The namespace of `news`.
-const NAMESPACES: &str = "=1000,2592000,phs";
+/// So many turns of one of its two waits, and the test has failed: ten million in all.
+const MOST_TURNS: u64 = 5_000_000;
 
 const NEWS: &str = "news";
+
+/// The epoch of its stream.
+const EPOCH: &str = "7x13x1";
 
 /// How many publications are made.
 const COUNT: u64 = 200;
@@ -25,30 +28,23 @@ const COUNT: u64 = 200;
 /// How many of them are on their way to the node at once.
 const BURST: u64 = 10;
 
-/// A publication that came.
-#[derive(Drop)]
-struct Heard {
-    position: Position,
-    body: String,
-}
-
-/// A client that is subscribed to the news, and what came.
+/// A client that is subscribed to the news.
 #[derive(Drop)]
 struct Reader<S> {
     connection: Connection<S>,
-    heard: Vec<Heard>,
+    // So many came, once each and in order.
+    came: u64,
     // It doesn't wait for the answer to an ask.
     is_live: bool,
 }
 
 // A client that asks for the news of the node at this address.
 fn subscribe<N: Net + AllocGlobal>(rt: &N, address: SocketAddr) -> Option<Reader<N::Stream>> {
-    let alloc = rt.alloc();
-    let mut connection = open(rt, alloc, address).ok()?;
+    let mut connection = open(rt, rt.alloc(), address).ok()?;
     connection.send(|client| client.ask(NEWS)).ok()?;
     Some(Reader {
         connection,
-        heard: Vec::new(alloc),
+        came: 0,
         is_live: false,
     })
 }
@@ -73,14 +69,18 @@ impl<S: Read + Write + Drop> Reader<S> {
                 self.is_live = true;
                 (recovered == was_recovering).then_some(())
             }
-            AppEvent::Published { position, body, .. } => {
-                self.heard.push(Heard { position, body }).ok()
-            }
+            AppEvent::Published { position, body, .. } => self.count(&position, body.as_str()),
             AppEvent::Resubscribing { .. } => self.ask_again(),
             AppEvent::PongDue => Some(()),
-            AppEvent::Refused { .. } => None,
-            AppEvent::Listed { .. } => None,
+            _ => None,
         }
+    }
+
+    // The next publication is the one of the next number.
+    fn count(&mut self, position: &Position, body: &str) -> Option<()> {
+        self.came = self.came.saturating_add(1);
+        let is_next = position.offset == self.came && position.epoch.as_str() == EPOCH;
+        (is_next && body.parse::<u64>() == Ok(self.came)).then_some(())
     }
 
     fn ask_again(&mut self) -> Option<()> {
@@ -95,178 +95,109 @@ impl<S: Read + Write + Drop> Reader<S> {
         }
         self.ask_again()
     }
-
-    // All came, once each and in order.
-    fn has_all(&self) -> bool {
-        let Some(first) = self.heard.first() else {
-            return false;
-        };
-        let epoch = &first.position.epoch;
-        self.heard.len() as u64 == COUNT
-            && self.heard.iter().zip(1..=COUNT).all(|(one, number)| {
-                one.position.epoch == *epoch
-                    && one.position.offset == number
-                    && one.body.as_str().parse::<u64>() == Ok(number)
-            })
-    }
 }
 
-/// The readers.
-#[derive(Drop)]
-struct Audience<S> {
-    readers: Vec<Reader<S>>,
-}
-
-// Two readers at each node, all of them subscribed.
+// Two readers at each node.
 fn gather<N: Net + AllocGlobal>(
     rt: &N,
     addresses: (SocketAddr, SocketAddr),
-) -> Option<Audience<N::Stream>> {
+) -> Option<Vec<Reader<N::Stream>>> {
     let mut readers = Vec::new(rt.alloc());
     for address in [addresses.0, addresses.0, addresses.1, addresses.1] {
         readers.push(subscribe(rt, address)?).ok()?;
     }
-    let mut audience = Audience { readers };
-    audience.settles()?;
-    Some(audience)
+    Some(readers)
 }
 
-impl<S: Read + Write + Drop> Audience<S> {
-    // Each has a turn.
-    fn turn(&mut self) -> Option<()> {
-        for reader in self.readers.iter_mut() {
-            reader.turn()?;
-        }
-        thread::yield_now();
-        Some(())
+// Each has a turn.
+fn turn_all<S: Read + Write + Drop>(readers: &mut [Reader<S>]) -> Option<()> {
+    for reader in readers.iter_mut() {
+        reader.turn()?;
     }
+    thread::yield_now();
+    Some(())
+}
 
-    // All have their answers within so many turns.
-    fn settles(&mut self) -> Option<()> {
-        for _ in 0..MOST_TURNS {
-            if self.readers.iter().all(|reader| reader.is_live) {
-                return Some(());
-            }
-            self.turn()?;
+// All have their answers within so many turns.
+fn settle<S: Read + Write + Drop>(readers: &mut [Reader<S>]) -> Option<()> {
+    for _ in 0..MOST_TURNS {
+        if readers.iter().all(|reader| reader.is_live) {
+            return Some(());
         }
-        None
+        turn_all(readers)?;
     }
+    None
+}
 
-    // Each comes back to the news.
-    fn comes_back(&mut self) -> Option<()> {
-        for reader in self.readers.iter_mut() {
-            reader.come_back()?;
-        }
-        self.settles()
+// Each comes back to the news.
+fn come_back<S: Read + Write + Drop>(readers: &mut [Reader<S>]) -> Option<()> {
+    for reader in readers.iter_mut() {
+        reader.come_back()?;
     }
+    settle(readers)
+}
 
-    fn has_all(&self) -> bool {
-        self.readers.iter().all(Reader::has_all)
+// A client publishes a number, whose answer is awaited later.
+fn publish<R: AllocGlobal, S: Read + Write>(rt: &R, author: &mut Peer<S>, number: u64) -> bool {
+    let text = format!(in rt.alloc();
+        "{{\"id\":2,\"publish\":{{\"channel\":\"{NEWS}\",\"data\":{number}}}}}"
+    );
+    match text {
+        Ok(text) => author.say(text.as_str()),
+        Err(_) => false,
     }
 }
 
-/// A client that publishes the numbers from 1 on.
-#[derive(Drop)]
-struct Author<S> {
-    alloc: Global,
-    connection: Connection<S>,
-    // How many it has put, and how many of them were answered.
-    put: u64,
-    answered: u64,
-}
-
-// A client of the node at this address, which has published nothing yet.
-fn hire<N: Net + AllocGlobal>(rt: &N, address: SocketAddr) -> Option<Author<N::Stream>> {
-    let alloc = rt.alloc();
-    let connection = open(rt, alloc, address).ok()?;
-    Some(Author {
-        alloc,
-        connection,
-        put: 0,
-        answered: 0,
-    })
-}
-
-impl<S: Read + Write + Drop> Author<S> {
-    fn put_next(&mut self) -> Option<()> {
-        self.put = self.put.saturating_add(1);
-        let body = self.put.to_string(self.alloc).ok()?;
-        self.connection
-            .send(|client| client.put(NEWS, body.as_str()))
-            .ok()
-    }
-
-    // It publishes some, and asks where the stream stands: a node answers in the order of the commands.
-    fn put_some(&mut self) -> Option<()> {
-        for _ in 0..BURST {
-            self.put_next()?;
+// It publishes all, some at a time, while the readers take what comes.
+fn publish_all<R: AllocGlobal, S: Read + Write + Drop>(
+    rt: &R,
+    author: &mut Peer<S>,
+    readers: &mut [Reader<S>],
+) -> Option<()> {
+    for number in 1..=COUNT {
+        let mut is_so = publish(rt, author, number);
+        if number.is_multiple_of(BURST) {
+            is_so = is_so && (0..BURST).all(|_| author.hears("{\"id\":2,\"publish\":{}}"));
+            turn_all(readers)?;
         }
-        self.connection.send(|client| client.list(NEWS, 0)).ok()
+        is_so.then_some(())?;
     }
-
-    // It takes what came. None where a command was refused.
-    fn turn(&mut self) -> Option<()> {
-        for event in self.connection.hear().ok()? {
-            self.take(&event)?;
-        }
-        Some(())
-    }
-
-    fn take(&mut self, event: &AppEvent) -> Option<()> {
-        match event {
-            AppEvent::Listed { position, .. } => self.answered = position.offset,
-            AppEvent::Refused { .. } => return None,
-            _ => {}
-        }
-        Some(())
-    }
-
-    // It publishes all, some at a time, within so many turns, while the audience takes what comes.
-    fn publishes_all(&mut self, audience: &mut Audience<S>) -> Option<()> {
-        for _ in 0..MOST_TURNS {
-            if self.answered == COUNT {
-                return Some(());
-            }
-            if self.answered == self.put {
-                self.put_some()?;
-            }
-            self.turn()?;
-            audience.turn()?;
-        }
-        None
-    }
+    Some(())
 }
 
 // Whether the readers have all that a client of the first node published.
-fn all_get_all<N: Net + AllocGlobal>(rt: &N, addresses: (SocketAddr, SocketAddr)) -> Option<bool> {
-    let mut audience = gather(rt, addresses)?;
-    let mut author = hire(rt, addresses.0)?;
-    author.publishes_all(&mut audience)?;
-    audience.comes_back()?;
-    Some(audience.has_all())
+fn all_get_all<R: Net + AllocGlobal>(rt: &R, addresses: (SocketAddr, SocketAddr)) -> Option<bool> {
+    let mut readers = gather(rt, addresses)?;
+    settle(readers.as_mut_slice())?;
+    let mut author = connect(rt, rt.alloc(), addresses.0)?;
+    publish_all(rt, &mut author, readers.as_mut_slice())?;
+    come_back(readers.as_mut_slice())?;
+    Some(readers.iter().all(|reader| reader.came == COUNT))
 }
 
-// The four read and the fifth publishes, while the dispatchers are slow.
+// The four read and the fifth publishes.
 #[derive(Drop)]
 struct Losses;
 
 impl Task for Losses {
-    fn run<R: Net + AllocGlobal>(&self, rt: &R, addresses: (SocketAddr, SocketAddr)) -> bool {
-        all_get_all(rt, addresses) == Some(true)
-    }
-
-    fn pace(&self) -> u64 {
-        1000
+    fn run<R: Net + Clock + Abort + AllocGlobal>(
+        &self,
+        rt: &R,
+        _hand: &Hand,
+        addresses: (SocketAddr, SocketAddr),
+    ) {
+        assert!(rt; all_get_all(rt, addresses) == Some(true));
     }
 }
 
-// Over links with room for one publication some are lost on their way to the nodes. Two clients on each still get all 200,
-// once each and in order, since those that the node tells so, and all in the end, ask again from their positions.
+// Over links with room for one publication, before slow dispatchers, some are lost on their way to the nodes. Two clients on each
+// still get all 200, once each and in order, since those that the node tells so, and all in the end, ask again from their
+// positions.
 #[test]
 fn loopback_two_nodes(rt: HostRuntime) {
-    let settings = settings_of(&rt, NAMESPACES);
+    let settings = default_settings(&rt);
     let words = Words::new(rt.alloc()).expect(&rt, "memory");
-    let outcome = two_nodes::<Brand, HostRuntime, Losses>(&rt, words, &settings, 1, &Losses);
-    assert!(rt; outcome.is_so);
-    assert!(rt; outcome.lost > 0, "nothing was lost");
+    let hand = Hand::new(1000);
+    let lost = two_nodes::<Brand, HostRuntime, Losses>(&rt, words, &settings, 1, &hand, &Losses);
+    assert!(rt; lost > 0, "nothing was lost");
 }

@@ -3,7 +3,6 @@ ghost use Rattle.std.specs.Prelude.{◌≡◌, ◌<◌};
 ghost use Rattle.cf_broker.specs.Shards.{names};
 
 use cf_broker::{Broker, Passes, Words};
-use cf_commands::DEFAULT_NAMESPACES;
 use cf_epochs::{Boot, BootEpochs};
 use cf_link::{Sender, pair};
 use cf_node::{Node, Setup};
@@ -16,6 +15,9 @@ use std::process::Abort;
 /// The number of this start of the program.
 const BOOT: u64 = 7;
 
+/// The namespace of channels without a prefix.
+const NAMESPACES: &str = "=1000,2592000,phs";
+
 /// What nodes are set up with.
 #[derive(Drop)]
 pub(super) struct Settings {
@@ -23,14 +25,9 @@ pub(super) struct Settings {
     pub(super) tokens: Tokens,
 }
 
-/// The default namespaces, and no tokens.
+/// One namespace, and no tokens.
 pub(super) fn default_settings<R: Abort + AllocGlobal>(rt: &R) -> Settings {
-    settings_of(rt, DEFAULT_NAMESPACES)
-}
-
-/// These namespaces, and no tokens.
-pub(super) fn settings_of<R: Abort + AllocGlobal>(rt: &R, namespaces: &str) -> Settings {
-    let namespaces = read_namespaces(rt.alloc(), namespaces).expect(rt, "namespaces");
+    let namespaces = read_namespaces(rt.alloc(), NAMESPACES).expect(rt, "namespaces");
     let tokens = read_tokens(rt.alloc(), "").expect(rt, "tokens");
     Settings { namespaces, tokens }
 }
@@ -49,16 +46,15 @@ pub(super) fn open<'a, N: Naming, R: Net + Abort + AllocGlobal>(
     rt: &R,
     number: u8,
     room: usize,
-    namespaces: &'a Namespaces,
-    tokens: &'a Tokens,
+    settings: &'a Settings,
 ) -> Opened<'a, N>
     requires room { 0 < room }
-    requires namespaces { namespaces.now ≡ N.namespaces }
+    requires namespaces { settings.now.namespaces ≡ N.namespaces }
 {
     let listener = listen(rt);
     let address = listener.local_addr().expect(rt, "its address");
     let (sender, receiver) = pair(rt.alloc(), room).expect(rt, "memory");
-    let setup = Setup::new(number, BOOT, namespaces, tokens);
+    let setup = Setup::new(number, BOOT, &settings.namespaces, &settings.tokens);
     let node = Node::open(rt, setup, receiver, listener).expect(rt, "readiness");
     Opened {
         sender,
@@ -72,20 +68,22 @@ fn listen(rt: &(impl Net + Abort)) -> TcpListener {
     TcpListener::bind(rt, port).expect(rt, "a free port")
 }
 
-/// A broker that sends to nodes over these links. It lies in a box, since a function that lends a broker of its own is dear to
-/// prove.
+/// A broker that sends to nodes over these links, and two passes of each shard. It lies in a box, since a function that lends a
+/// broker of its own is dear to prove.
 pub(super) fn broker_to<N: Naming, R: Abort + AllocGlobal>(
     rt: &R,
     words: Words,
-    namespaces: &Namespaces,
+    settings: &Settings,
     senders: Vec<Sender<Delivery>>,
-) -> (Box<Broker<N, BootEpochs>>, Passes<N>)
+) -> (Box<Broker<N, BootEpochs>>, Passes<N>, Passes<N>)
     requires words { words ≡ names N.words 16 }
-    requires namespaces { namespaces.now ≡ N.namespaces }
+    requires namespaces { settings.now.namespaces ≡ N.namespaces }
 {
     let boot = Boot::new(BOOT).expect(rt, "a boot number");
     let epochs = BootEpochs::of_shards(boot);
-    let opened = Broker::new(rt.alloc(), words, namespaces, epochs, senders);
-    let (broker, passes) = opened.expect(rt, "memory");
-    (Box::new(rt.alloc(), broker).expect(rt, "memory"), passes)
+    let opened = Broker::new(rt.alloc(), words, &settings.namespaces, epochs, senders);
+    let (broker, mut passes) = opened.expect(rt, "memory");
+    let broker = Box::new(rt.alloc(), broker).expect(rt, "memory");
+    let lent = passes.lend(rt.alloc(), &*broker).expect(rt, "memory");
+    (broker, lent, passes)
 }

@@ -93,27 +93,8 @@ impl<S: Read + Write> Peer<S> {
         false
     }
 
-    // The frame that was read has this text.
-    fn has_read(&self, text: &str) -> bool {
-        self.bytes.get(2..) == Some(text.as_bytes())
-    }
-
     /// The next text is this one.
     pub(super) fn hears(&mut self, text: &str) -> bool {
-        self.read_frame() && self.has_read(text)
-    }
-
-    /// This is answered so.
-    pub(super) fn asks(&mut self, text: &str, answer: &str) -> bool {
-        self.say(text) && self.hears(answer)
-    }
-
-    /// The next two texts are these, in either order.
-    pub(super) fn hears_both(&mut self, one: &str, other: &str) -> bool {
-        if self.hears(one) {
-            self.hears(other)
-        } else {
-            self.has_read(other) && self.hears(one)
-        }
+        self.read_frame() && self.bytes.get(2..) == Some(text.as_bytes())
     }
 }

@@ -1,5 +1,5 @@
 use Rattle.cf_broker.specs.Shards.{by_number}
-use Rattle.cf_server.proofs.tests.serving.gate_two_nodes.Given as goal
+use Rattle.cf_server.proofs.tests.script.gate_two_nodes.Given as goal
 
 -- the words that were just made, and the namespaces that were read
 abbrev pub ghosts-two_nodes : goal.ghosts-two_nodes

@@ -1,0 +1,6 @@
+use Rattle.cf_broker.specs.Shards.{by_number}
+use Rattle.cf_server.proofs.tests.script.beats.Given as goal
+
+-- the words that were just made, and the namespaces that were read
+abbrev pub ghosts-two_nodes : goal.ghosts-two_nodes
+ghosts-two_nodes g a = record { words = by_number a.words; namespaces = a.settings.now.namespaces }
