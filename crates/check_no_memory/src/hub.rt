@@ -43,29 +43,40 @@ pub fn calls(report: &Report) {
     };
     report.ready();
     look_calls(report, hub, ann);
+    channel_calls(report, hub, ann);
     output_calls(report, hub, ann);
     end_calls(report, hub, ann);
 }
 
 fn look_calls(report: &Report, hub: &Hub, ann: u32) {
-    let is_known = hub.boot() == 1 && hub.client_id(ann).is_some();
-    let is_open = hub.user(ann) == Some("ann") && !hub.is_closed(ann);
-    report.made(
-        "Hub::boot, client_id, user and is_closed",
-        is_known && is_open,
-    );
-    let is_asked = hub.asked(ann, "chat").is_some() && !hub.is_settled(ann);
-    report.made("Hub::asked and is_settled", is_asked);
-    let is_there = hub.is_on(ann, "news") && hub.has(ann, "chat");
-    let is_so = is_there && hub.place(ann, "news").is_some();
-    report.made("Hub::is_on, has and place", is_so);
+    let boot = hub.boot();
+    let has_id = hub.client_id(ann).is_some();
+    let is_ann = hub.user(ann) == Some("ann");
+    let is_closed = hub.is_closed(ann);
+    let is_so = boot == 1 && has_id && is_ann && !is_closed;
+    report.made("Hub::boot, client_id, user and is_closed", is_so);
+}
+
+fn channel_calls(report: &Report, hub: &Hub, ann: u32) {
+    let is_asked = hub.asked(ann, "chat").is_some();
+    let is_settled = hub.is_settled(ann);
+    report.made("Hub::asked and is_settled", is_asked && !is_settled);
+    let is_on = hub.is_on(ann, "news");
+    let has = hub.has(ann, "chat");
+    let stands = hub.place(ann, "news").is_some();
+    report.made("Hub::is_on, has and place", is_on && has && stands);
 }
 
 fn output_calls(report: &Report, hub: &mut Hub, ann: u32) {
-    let is_so = hub.waiting(ann) == 2 && hub.front(ann).is_some();
-    report.made("Hub::waiting and front", is_so);
-    let is_so = hub.next_with_output() == Some(ann) && hub.take(ann).is_some();
-    report.made("Hub::next_with_output and take", is_so);
+    let waiting = hub.waiting(ann);
+    let has_front = hub.front(ann).is_some();
+    report.made("Hub::waiting and front", waiting == 2 && has_front);
+    let next = hub.next_with_output();
+    let is_taken = hub.take(ann).is_some();
+    report.made(
+        "Hub::next_with_output and take",
+        next == Some(ann) && is_taken,
+    );
     hub.pong(ann);
     report.made("Hub::pong", true);
 }

@@ -1,32 +1,27 @@
-//! What a client is answered.
+//! What a command is refused for.
 
 use crate::report::Report;
-use cf_protocol::{Data, Namespaces, Request, Tokens, read_namespaces, read_tokens};
-use cf_session::{Session, refusal_of};
+use cf_protocol::{Data, Request, read_namespaces};
+use cf_session::refusal_of;
 use std::alloc::Global;
 
-/// What a session stands on, and a publish.
-fn opened(alloc: Global) -> Option<(Namespaces, Tokens, Request)> {
-    let namespaces = read_namespaces(alloc, "=100,300,phs").ok()?;
-    let tokens = read_tokens(alloc, "").ok()?;
+/// A publish to `news`.
+fn publish(alloc: Global) -> Option<Request> {
     let channel = String::from_str(alloc, "news").ok()?;
-    let key = String::new(alloc);
-    let body = Data::Body(String::new(alloc));
-    let request = Request::Publish { channel, key, body };
-    Some((namespaces, tokens, request))
+    let key = String::from_str(alloc, "k").ok()?;
+    let body = Data::Body(String::from_str(alloc, "1").ok()?);
+    Some(Request::Publish { channel, key, body })
 }
 
-/// `short` of a session, and `refusal_of`.
+/// `refusal_of` a publish.
 pub fn calls(report: &Report) {
-    let Some((namespaces, tokens, request)) = opened(report.alloc()) else {
+    let Ok(namespaces) = read_namespaces(report.alloc(), "=100,300,phs") else {
         return report.lacks_memory();
     };
-    let mut session = Session::new(report.alloc(), &namespaces, &tokens);
-    if session.is_idle() {
-        session.on_text("{\"id\":1,\"connect\":{}}");
-    }
+    let Some(request) = publish(report.alloc()) else {
+        return report.lacks_memory();
+    };
     report.ready();
-    report.made("Session::short", !session.short());
     let is_allowed = refusal_of(&namespaces, &request).is_none();
     report.made("cf_session::refusal_of", is_allowed);
 }

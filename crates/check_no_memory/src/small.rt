@@ -70,14 +70,20 @@ fn filled(alloc: Global) -> Option<OutQueue> {
     Some(queue)
 }
 
+fn look_calls(report: &Report, queue: &OutQueue) {
+    let is_open = !queue.is_closed();
+    let has_ten = !queue.is_empty() && queue.len() == 10;
+    let has_front = queue.front().is_some();
+    let is_so = is_open && has_ten && has_front;
+    report.made("OutQueue::is_empty, is_closed, len and front", is_so);
+}
+
 fn queue_calls(report: &Report) {
     let Some(mut queue) = filled(report.alloc()) else {
         return report.lacks_memory();
     };
     report.ready();
-    let has_ten = !queue.is_empty() && !queue.is_closed() && queue.len() == 10;
-    let is_so = has_ten && queue.front().is_some();
-    report.made("OutQueue::is_empty, is_closed, len and front", is_so);
+    look_calls(report, &queue);
     report.made("OutQueue::take", matches!(queue.take(), Some(Out::Text(_))));
     report.made("OutQueue::bytes", queue.bytes() == 36);
     queue.close(3001);

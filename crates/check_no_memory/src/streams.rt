@@ -50,7 +50,8 @@ pub fn calls(report: &Report) {
             report.ready();
             look_calls(report, &streams);
             size_calls(report, &mut streams);
-            end_calls(report, &mut streams);
+            tick_calls(report, &mut streams);
+            forget_calls(report, &mut streams);
         }
         None => report.lacks_memory(),
     }
@@ -87,7 +88,7 @@ fn size_calls(report: &Report, streams: &mut Streams) {
     report.made("Streams::due", due_count(streams, 349) == 49);
 }
 
-fn end_calls(report: &Report, streams: &mut Streams) {
+fn tick_calls(report: &Report, streams: &mut Streams) {
     streams.tick(349);
     report.made("Streams::tick", streams.held("c8") == 0);
     streams.tick(2_592_050);
@@ -95,6 +96,9 @@ fn end_calls(report: &Report, streams: &mut Streams) {
         "Streams::tick that forgets",
         streams.position("c8").is_none(),
     );
+}
+
+fn forget_calls(report: &Report, streams: &mut Streams) {
     streams.forget("c77");
     report.made("Streams::forget", streams.position("c77").is_none());
     streams.forget_all();
