@@ -43,19 +43,25 @@ fn is_too_deep(command: Option<&Command>) -> bool {
     }
 }
 
+/// Whether the data of a text's first command nest too deep.
+fn too_deep(alloc: Global, text: &str) -> Result<String, ReadFault> {
+    let commands = read_commands(alloc, text)?;
+    let is_so = is_too_deep(commands.first());
+    Ok(format!(in alloc; "{is_so}")?)
+}
+
+fn unsubscribe(alloc: Global, code: &str, channel: &str) -> Result<String, ReadFault> {
+    let code = code.parse::<u32>().unwrap_or(0);
+    Ok(write_unsubscribe(alloc, channel, code)?)
+}
+
 /// What a call of this name answers.
 fn answer(alloc: Global, name: &str, passed: &str) -> Result<String, ReadFault> {
     let (first, second) = passed.split_once(' ').unwrap_or((passed, ""));
     match name {
         "lent" => lent(alloc, passed),
-        "too_deep" => {
-            let commands = read_commands(alloc, passed)?;
-            Ok(format!(in alloc; "{}", is_too_deep(commands.first()))?)
-        }
-        "unsubscribe" => {
-            let code = first.parse::<u32>().unwrap_or(0);
-            Ok(write_unsubscribe(alloc, second, code)?)
-        }
+        "too_deep" => too_deep(alloc, passed),
+        "unsubscribe" => unsubscribe(alloc, first, second),
         _ => look_up(alloc, name, first, second),
     }
 }
