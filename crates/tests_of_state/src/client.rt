@@ -52,7 +52,7 @@ fn lines_of(alloc: Global, events: &[AppEvent]) -> Result<String, AllocError> {
     let mut lines = String::new(alloc);
     for event in events {
         lines.push_str(line_of(alloc, event)?.as_str())?;
-        lines.push(';')?;
+        lines.push_str(";")?;
     }
     Ok(lines)
 }
