@@ -34,14 +34,14 @@ pub(crate) fn config_of(alloc: Global, options: Options<'_>) -> Option<Config> {
 }
 
 /// Whether a run ends well, where no words are wanted, or stops with this status and these words.
-fn ends(alloc: Global, done: Result<(), SimulateFault>, status: u8, words: &str) -> bool {
+fn ends(alloc: Global, done: &Result<(), SimulateFault>, status: u8, words: &str) -> bool {
     match done {
         Ok(()) => words.is_empty(),
         Err(fault) => fault.status() == status && is_told(alloc, fault, words),
     }
 }
 
-fn is_told(alloc: Global, fault: SimulateFault, words: &str) -> bool {
+fn is_told(alloc: Global, fault: &SimulateFault, words: &str) -> bool {
     match fault.to_string(alloc) {
         Ok(told) => told.as_str() == words,
         Err(_) => false,
@@ -62,7 +62,7 @@ pub(crate) fn is_so(
     let mut reader = input;
     let mut writer = Vec::new(alloc);
     let done = simulate(alloc, &mut reader, &mut writer, &config, options.explains);
-    ends(alloc, done, 2, words) && is_written(writer.as_slice(), lines)
+    ends(alloc, &done, 2, words) && is_written(writer.as_slice(), lines)
 }
 
 /// Whether these lines were written, each ended.
@@ -235,7 +235,7 @@ fn leaves(alloc: Global, config: &Config, manner: Manner, lines: &str, words: &s
     };
     let mut reader = FIRST_PUBLICATION.as_bytes();
     let done = simulate(alloc, &mut reader, &mut writer, config, false);
-    ends(alloc, done, 4, words) && writer.taken.as_slice() == lines.as_bytes()
+    ends(alloc, &done, 4, words) && writer.taken.as_slice() == lines.as_bytes()
 }
 
 #[test]
@@ -260,5 +260,5 @@ fn failed_input(rt: HostRuntime) {
     let config = config_of(rt.alloc(), DEFAULTS).expect(&rt, "namespaces");
     let mut writer = Vec::new(rt.alloc());
     let done = simulate(rt.alloc(), &mut Failing, &mut writer, &config, false);
-    assert!(rt; ends(rt.alloc(), done, 4, FAILED));
+    assert!(rt; ends(rt.alloc(), &done, 4, FAILED));
 }
