@@ -1,33 +1,30 @@
 //! A hub of many sessions: deliveries to crowds of them, and the attach and detach of one.
-use cf_hub::{Hub, HubRefusal};
+use cf_hub::Hub;
 use cf_protocol::{Epoch, Position, Publication};
 use cf_stream::Recovery;
 use std::alloc::{AllocError, Global};
 use std::io;
-use std::io::Print;
-use std::time::{Clock, Instant};
+use std::time::Instant;
 
-/// How many sessions a hub has, how many crowds of them there are, each on one channel more, how many sessions a crowd has, and how
-/// many deliveries each crowd gets.
-#[derive(Clone, Copy, Debug)]
+/// A hub, and the channels of its crowds. It lies in a box, since a function that lends a hub of its own is dear to prove.
+#[derive(Drop)]
 pub(crate) struct Crowds {
-    pub(crate) sessions: u32,
-    pub(crate) crowds: u32,
-    pub(crate) subscribers: u32,
-    pub(crate) times: u32,
+    hub: Box<Hub>,
+    channels: Vec<String>,
 }
 
 /// A new session, which follows a channel of its own.
-fn join(hub: &mut Hub, alloc: Global, number: u32) -> Result<u32, HubRefusal> {
-    let session = hub.attach(String::from_str(alloc, "ann")?, 0)?;
-    let own = format!(in alloc; "own{number}")?;
+fn join(hub: &mut Hub, alloc: Global, number: u32) -> Option<u32> {
+    let user = String::from_str(alloc, "ann").ok()?;
+    let session = hub.attach(user, 0).ok()?;
+    let own = format!(in alloc; "own{number}").ok()?;
     subscribe(hub, alloc, session, own.as_str())?;
-    Ok(session)
+    Some(session)
 }
 
 /// Takes a session through a whole subscribe, its reply taken too.
-fn subscribe(hub: &mut Hub, alloc: Global, session: u32, channel: &str) -> Result<(), HubRefusal> {
-    hub.begin(session, channel, 2, None)?;
+fn subscribe(hub: &mut Hub, alloc: Global, session: u32, channel: &str) -> Option<()> {
+    hub.begin(session, channel, 2, None).ok()?;
     let recovery = Recovery {
         position: Position {
             epoch: Epoch::from_text("aaaa"),
@@ -39,52 +36,7 @@ fn subscribe(hub: &mut Hub, alloc: Global, session: u32, channel: &str) -> Resul
     hub.read_done(session, channel, recovery);
     hub.finish(session, channel);
     hub.take(session);
-    Ok(())
-}
-
-/// The channels of the crowds.
-fn channels(alloc: Global, crowds: u32) -> Result<Vec<String>, AllocError> {
-    let mut channels = Vec::new(alloc);
-    for number in 0..crowds {
-        channels.push(format!(in alloc; "news{number}")?)?;
-    }
-    Ok(channels)
-}
-
-/// A hub with nobody on it. It lies in a box, since a function that lends a hub of its own is dear to prove.
-fn empty_hub(alloc: Global) -> Result<Box<Hub>, AllocError> {
-    Ok(Box::new(alloc, Hub::new(alloc, 0, 1))?)
-}
-
-/// A hub of so many sessions. Those of the crowds stand apart, one of each crowd after the other.
-fn gather(alloc: Global, crowds: Crowds, channels: &[String]) -> Result<Box<Hub>, HubRefusal> {
-    let mut boxed = empty_hub(alloc)?;
-    let hub = &mut *boxed;
-    let followers = crowds.subscribers.saturating_mul(crowds.crowds);
-    let step = (crowds.sessions / followers.max(1)).max(1);
-    let mut turns = channels.iter().cycle().take(followers as usize);
-    for number in 0..crowds.sessions {
-        let session = join(hub, alloc, number)?;
-        if number % step == 0
-            && let Some(channel) = turns.next()
-        {
-            subscribe(hub, alloc, session, channel.as_str())?;
-        }
-    }
-    Ok(boxed)
-}
-
-/// So many publications, one behind the other.
-fn publications(alloc: Global, times: u32) -> Result<Vec<Publication>, AllocError> {
-    let mut publications = Vec::new(alloc);
-    for number in 0..times {
-        publications.push(Publication {
-            offset: u64::from(number) + 1,
-            body: String::from_str(alloc, "1")?,
-            info: None,
-        })?;
-    }
-    Ok(publications)
+    Some(())
 }
 
 /// So many clients take what waits for them.
@@ -96,91 +48,97 @@ fn drain(hub: &mut Hub, clients: u32) {
     }
 }
 
-/// How many pushes there were, and how many nanoseconds the deliveries alone took.
-#[derive(Clone, Copy, Debug)]
-struct Spent {
-    pushes: u64,
-    nanoseconds: u128,
-}
-
-/// Delivers a publication to each crowd in turn, taken before the next.
+/// Delivers a publication to each crowd in turn, taken before the next. Says how many pushes there were, and how many nanoseconds
+/// the deliveries alone took.
 fn deliver_round(
-    clock: &impl Clock,
+    rt: &HostRuntime,
     hub: &mut Hub,
     channels: &[String],
     publication: &Publication,
-    spent: &mut Spent,
-) -> io::Result<()> {
-    let epoch = Epoch::from_text("aaaa");
+) -> io::Result<(u64, u128)> {
+    let (mut pushes, mut spent) = (0_u64, 0_u128);
     for channel in channels {
-        let start = Instant::now(clock)?;
-        let delivered = hub.deliver(channel.as_str(), &epoch, publication);
-        let passed = start.elapsed(clock)?.as_nanos();
-        spent.nanoseconds = spent.nanoseconds.saturating_add(passed);
-        spent.pushes = spent.pushes.saturating_add(u64::from(delivered.passed));
-        drain(hub, delivered.passed);
+        let start = Instant::now(rt)?;
+        let epoch = Epoch::from_text("aaaa");
+        let passed = hub.deliver(channel.as_str(), &epoch, publication).passed;
+        spent = spent.saturating_add(start.elapsed(rt)?.as_nanos());
+        pushes = pushes.saturating_add(u64::from(passed));
+        drain(hub, passed);
     }
-    Ok(())
+    Ok((pushes, spent))
 }
 
-/// Delivers all publications to all crowds.
-fn deliver(
-    clock: &impl Clock,
-    hub: &mut Hub,
-    channels: &[String],
-    publications: &[Publication],
-) -> io::Result<Spent> {
-    let mut spent = Spent {
-        pushes: 0,
-        nanoseconds: 0,
-    };
-    for publication in publications {
-        deliver_round(clock, hub, channels, publication, &mut spent)?;
+impl Crowds {
+    /// A hub with nobody on it, and no crowd.
+    pub(crate) fn new(alloc: Global) -> Result<Crowds, AllocError> {
+        Ok(Crowds {
+            hub: Box::new(alloc, Hub::new(alloc, 0, 1))?,
+            channels: Vec::new(alloc),
+        })
     }
-    Ok(spent)
-}
 
-/// The last session goes and comes again so often, each time with its row. Says how often it came.
-fn come_and_go(hub: &mut Hub, alloc: Global, last: u32, times: u32) -> Result<u32, HubRefusal> {
-    let mut came: u32 = 0;
-    for _ in 0..times {
-        hub.detach(last);
-        join(hub, alloc, last)?;
-        came = came.saturating_add(1);
+    /// `gather SESSIONS CROWDS SUBSCRIBERS` and `move SESSION TIMES`. Says how many sessions were attached.
+    pub(crate) fn call(
+        &mut self,
+        alloc: Global,
+        name: &str,
+        (first, second, third): (u32, u32, u32),
+    ) -> Option<u64> {
+        if name == "move" {
+            return self.come_and_go(alloc, first, second);
+        }
+        self.name_crowds(alloc, second)?;
+        self.gather(alloc, first, second.saturating_mul(third))
     }
-    Ok(came)
-}
 
-/// Times the crowds, and prints what they took.
-pub(crate) fn run(rt: &(impl Print + Clock), alloc: Global, crowds: Crowds) -> io::Result<()> {
-    let channels = channels(alloc, crowds.crowds)?;
-    let start = Instant::now(rt)?;
-    let Ok(mut hub) = gather(alloc, crowds, channels.as_slice()) else {
-        return println!(rt; "refused");
-    };
-    let gathered = start.elapsed(rt)?.as_nanos();
-    run_gathered(rt, alloc, &mut *hub, channels.as_slice(), crowds, gathered)
-}
+    /// The channels of so many crowds.
+    fn name_crowds(&mut self, alloc: Global, crowds: u32) -> Option<()> {
+        for number in 0..crowds {
+            let channel = format!(in alloc; "news{number}").ok()?;
+            self.channels.push(channel).ok()?;
+        }
+        Some(())
+    }
 
-/// The same of a hub that was gathered in so many nanoseconds.
-fn run_gathered(
-    rt: &(impl Print + Clock),
-    alloc: Global,
-    hub: &mut Hub,
-    channels: &[String],
-    crowds: Crowds,
-    gathered: u128,
-) -> io::Result<()> {
-    let publications = publications(alloc, crowds.times)?;
-    let spent = deliver(rt, hub, channels, publications.as_slice())?;
-    let start = Instant::now(rt)?;
-    let last = crowds.sessions.saturating_sub(1);
-    let Ok(came) = come_and_go(hub, alloc, last, crowds.times) else {
-        return println!(rt; "refused");
-    };
-    let moved = start.elapsed(rt)?.as_nanos();
-    println!(rt;
-        "hub {gathered} pushes {} {} came {came} {moved}",
-        spent.pushes, spent.nanoseconds
-    )
+    /// So many sessions. Those of the crowds, so many in all, stand apart, one of each crowd after the other.
+    fn gather(&mut self, alloc: Global, sessions: u32, followers: u32) -> Option<u64> {
+        let step = (sessions / followers.max(1)).max(1);
+        let mut turns = self.channels.iter().cycle().take(followers as usize);
+        for number in 0..sessions {
+            let session = join(&mut *self.hub, alloc, number)?;
+            if number % step == 0
+                && let Some(channel) = turns.next()
+            {
+                subscribe(&mut *self.hub, alloc, session, channel.as_str())?;
+            }
+        }
+        Some(u64::from(sessions))
+    }
+
+    /// A session goes and comes again so often, each time with its row.
+    fn come_and_go(&mut self, alloc: Global, session: u32, times: u32) -> Option<u64> {
+        for _ in 0..times {
+            self.hub.detach(session);
+            join(&mut *self.hub, alloc, session)?;
+        }
+        Some(u64::from(times))
+    }
+
+    /// Delivers so many publications to each crowd. Says how many pushes there were, and how many nanoseconds the deliveries took.
+    pub(crate) fn deliver(&mut self, rt: &HostRuntime, times: u32) -> io::Result<(u64, u128)> {
+        let (mut pushes, mut spent) = (0_u64, 0_u128);
+        let mut publication = Publication {
+            offset: 0,
+            body: String::from_str(rt.alloc(), "1")?,
+            info: None,
+        };
+        for _ in 0..times {
+            publication.offset = publication.offset.saturating_add(1);
+            let channels = self.channels.as_slice();
+            let round = deliver_round(rt, &mut *self.hub, channels, &publication)?;
+            pushes = pushes.saturating_add(round.0);
+            spent = spent.saturating_add(round.1);
+        }
+        Ok((pushes, spent))
+    }
 }

@@ -1,7 +1,7 @@
 //! Times calls of the libraries, for `bench/hub` and `bench/texts`.
 //!
-//! A line of the input is `hub SESSIONS CROWDS SUBSCRIBERS TIMES`, `rows STEP`, or one of `commands`, `replies` and `write` with how
-//! often it is made and a text. For each line the counts and the nanoseconds are printed.
+//! A line of the input is the name of a call and what it is passed; behind the same name are printed how much was done and the
+//! nanoseconds that it took.
 #![tactic(auto)]
 
 mod crowd;
@@ -11,59 +11,60 @@ mod texts;
 use crowd::Crowds;
 use std::alloc::Global;
 use std::io;
-use table::Removal;
-use texts::Calls;
+use std::time::Instant;
+use table::Rows;
 
-/// What a line asks for.
-#[derive(Clone, Copy, Debug)]
-enum Job<'a> {
-    Hub(Crowds),
-    Rows(Removal),
-    Texts(Calls<'a>),
-}
-
-/// The number of a word, if it is one.
-fn number_of(word: Option<&str>) -> Option<u32> {
-    match word?.parse::<u32>() {
-        Ok(number) => Some(number),
-        Err(_) => None,
+/// The number of a word; 0 where it is none.
+fn number_of(word: Option<&str>) -> u32 {
+    match word {
+        Some(word) => word.parse::<u32>().unwrap_or(0),
+        None => 0,
     }
 }
 
-/// What a line asks for.
-fn job_of(line: &str) -> Option<Job<'_>> {
-    let mut words = line.split(' ');
-    match words.next()? {
-        "hub" => {
-            let sessions = number_of(words.next())?;
-            let crowds = number_of(words.next())?;
-            let subscribers = number_of(words.next())?;
-            let times = number_of(words.next())?;
-            Some(Job::Hub(Crowds {
-                sessions,
-                crowds,
-                subscribers,
-                times,
-            }))
-        }
-        "rows" => {
-            let step = number_of(words.next())?;
-            Some(Job::Rows(Removal { step }))
-        }
-        _ => Some(Job::Texts(texts::calls_of(line)?)),
+/// The numbers that a call is passed; 0 for each that is missing.
+fn numbers_of(passed: &str) -> (u32, u32, u32) {
+    let mut words = passed.split(' ');
+    let first = number_of(words.next());
+    let second = number_of(words.next());
+    (first, second, number_of(words.next()))
+}
+
+/// Makes a call, and says how much was done; none where it was refused, or there is no such call.
+fn call(
+    alloc: Global,
+    crowds: &mut Crowds,
+    rows: &mut Rows,
+    (name, passed): (&str, &str),
+) -> Option<u64> {
+    let numbers = numbers_of(passed);
+    match name {
+        "gather" | "move" => crowds.call(alloc, name, numbers),
+        "commands" | "replies" | "write" => texts::call(alloc, name, passed),
+        _ => rows.call(name, numbers),
+    }
+}
+
+fn run(rt: &HostRuntime, crowds: &mut Crowds, rows: &mut Rows, line: &str) -> io::Result<()> {
+    let (name, passed) = line.split_once(' ').unwrap_or((line, ""));
+    if name == "deliver" {
+        let (pushes, spent) = crowds.deliver(rt, number_of(Some(passed)))?;
+        return println!(rt; "{name} {pushes} {spent}");
+    }
+    let start = Instant::now(rt)?;
+    let done = call(rt.alloc(), crowds, rows, (name, passed));
+    let spent = start.elapsed(rt)?.as_nanos();
+    match done {
+        Some(done) => println!(rt; "{name} {done} {spent}"),
+        None => println!(rt; "unusable line"),
     }
 }
 
 fn main(rt: HostRuntime) -> io::Result<()> {
-    let alloc = rt.alloc();
-    for line in rt.lines(alloc) {
-        let line = line?;
-        match job_of(line.as_str()) {
-            Some(Job::Hub(crowds)) => crowd::run(&rt, alloc, crowds)?,
-            Some(Job::Rows(removal)) => table::run(&rt, alloc, removal)?,
-            Some(Job::Texts(calls)) => texts::run(&rt, alloc, calls)?,
-            None => println!(rt; "unusable line")?,
-        }
+    let mut crowds = Crowds::new(rt.alloc())?;
+    let mut rows = Rows::new(rt.alloc());
+    for line in rt.lines(rt.alloc()) {
+        run(&rt, &mut crowds, &mut rows, line?.as_str())?;
     }
     Ok(())
 }

@@ -1,14 +1,12 @@
-//! A full table of rows: a channel's walk, a session's end, and the removal of all rows in some order.
-use cf_subs::{MOST_ROWS, Row, SubRefusal, SubTable};
-use std::alloc::{AllocError, Global};
-use std::io;
-use std::io::Print;
-use std::time::{Clock, Instant};
+//! A full table of rows, and the same rows in a plain vector: a channel's walk, a session's end, and the removal of all rows.
+use cf_subs::{Row, SubTable};
+use std::alloc::Global;
 
-/// Which row goes next, in steps round all of them.
-#[derive(Clone, Copy, Debug)]
-pub(crate) struct Removal {
-    pub(crate) step: u32,
+/// The same rows twice.
+#[derive(Drop)]
+pub(crate) struct Rows {
+    linked: SubTable,
+    plain: Vec<Row>,
 }
 
 /// The channel and the session of a number, different for each of 65,536: four to a session, and every 65th on one channel.
@@ -23,107 +21,83 @@ fn row_of(number: u32) -> Row {
     }
 }
 
-/// A table of as many rows as it may have.
-fn full(alloc: Global) -> Result<SubTable, SubRefusal> {
-    let mut table = SubTable::new(alloc);
-    for number in 0..65_536 {
-        let row = row_of(number);
-        if !table.has(row.channel, row.session) {
-            table.add(row.channel, row.session)?;
+impl Rows {
+    pub(crate) fn new(alloc: Global) -> Rows {
+        Rows {
+            linked: SubTable::new(alloc),
+            plain: Vec::new(alloc),
         }
     }
-    Ok(table)
-}
 
-/// Removes all rows, and says how many went.
-fn empty(table: &mut SubTable, removal: Removal) -> u32 {
-    let mut gone: u32 = 0;
-    for turn in 0..65_536_u32 {
-        let row = row_of(removal.step.wrapping_mul(turn) % 65_536);
-        if table.remove(row.channel, row.session) {
-            gone = gone.saturating_add(1);
+    /// `fill` and `fill_plain`, `walk CHANNEL` and `search CHANNEL`, `detach SESSION` and `retain SESSION`, and `remove STEP`. Says
+    /// how many rows were put in or went, or the sum of a channel's sessions.
+    pub(crate) fn call(&mut self, name: &str, (passed, _, _): (u32, u32, u32)) -> Option<u64> {
+        match name {
+            "fill" => self.fill(),
+            "fill_plain" => self.fill_plain(),
+            "walk" => Some(self.walk(passed)),
+            "search" => Some(self.search(passed)),
+            "detach" => Some(self.linked.detach(passed) as u64),
+            "retain" => Some(self.retain(passed) as u64),
+            "remove" => Some(self.remove_all(passed)),
+            _ => None,
         }
     }
-    gone
-}
 
-/// The same rows in a plain vector.
-fn plain(alloc: Global) -> Result<Vec<Row>, AllocError> {
-    let mut rows = Vec::with_capacity(alloc, MOST_ROWS)?;
-    for number in 0..65_536 {
-        rows.push(row_of(number))?;
-    }
-    Ok(rows)
-}
-
-/// How often a walk is made.
-const WALKS: u32 = 20;
-
-/// The sum of a channel's sessions, by the linked rows.
-fn walk(table: &SubTable, channel: u32) -> u64 {
-    let mut sum = 0_u64;
-    for session in table.walk(channel) {
-        sum = sum.saturating_add(u64::from(session));
-    }
-    sum
-}
-
-/// The same by a search of all rows.
-fn search(rows: &[Row], channel: u32) -> u64 {
-    let mut sum = 0_u64;
-    for row in rows {
-        if row.channel == channel {
-            sum = sum.saturating_add(u64::from(row.session));
+    /// Fills the table with as many rows as it may have.
+    fn fill(&mut self) -> Option<u64> {
+        for number in 0..65_536 {
+            let row = row_of(number);
+            if !self.linked.has(row.channel, row.session) {
+                self.linked.add(row.channel, row.session).ok()?;
+            }
         }
+        Some(self.linked.len() as u64)
     }
-    sum
-}
 
-/// The sum over many walks.
-fn walks(table: &SubTable, channel: u32) -> u64 {
-    let mut sum = 0_u64;
-    for _ in 0..WALKS {
-        sum = sum.saturating_add(walk(table, channel));
+    fn fill_plain(&mut self) -> Option<u64> {
+        for number in 0..65_536 {
+            self.plain.push(row_of(number)).ok()?;
+        }
+        Some(self.plain.len() as u64)
     }
-    sum
-}
 
-/// The sum over many searches.
-fn searches(rows: &[Row], channel: u32) -> u64 {
-    let mut sum = 0_u64;
-    for _ in 0..WALKS {
-        sum = sum.saturating_add(search(rows, channel));
+    /// The sum of a channel's sessions, by the linked rows.
+    fn walk(&self, channel: u32) -> u64 {
+        let mut sum = 0_u64;
+        for session in self.linked.walk(channel) {
+            sum = sum.saturating_add(u64::from(session));
+        }
+        sum
     }
-    sum
-}
 
-/// Times a full table of rows, linked and plain, and prints what it did.
-pub(crate) fn run(rt: &(impl Print + Clock), alloc: Global, removal: Removal) -> io::Result<()> {
-    let start = Instant::now(rt)?;
-    let Ok(mut table) = full(alloc) else {
-        return println!(rt; "refused");
-    };
-    let filled = start.elapsed(rt)?.as_nanos();
-    let mut rows = plain(alloc)?;
-    let count = table.len();
-    let start = Instant::now(rt)?;
-    let linked = walks(&table, 0);
-    let walked = start.elapsed(rt)?.as_nanos();
-    let start = Instant::now(rt)?;
-    let found = searches(rows.as_slice(), 0);
-    let searched = start.elapsed(rt)?.as_nanos();
-    let start = Instant::now(rt)?;
-    let left = table.detach(8_000);
-    let detached = start.elapsed(rt)?.as_nanos();
-    let start = Instant::now(rt)?;
-    rows.retain(|row| row.session != 8_000);
-    let retained = start.elapsed(rt)?.as_nanos();
-    let start = Instant::now(rt)?;
-    let gone = empty(&mut table, removal);
-    let emptied = start.elapsed(rt)?.as_nanos();
-    println!(rt; "rows {count} {filled} walks {WALKS} {linked} {walked} {found} {searched}")?;
-    println!(rt;
-        "detach {left} {detached} {} {retained} removed {gone} {emptied}",
-        count.saturating_sub(rows.len())
-    )
+    /// The same by a search of all rows.
+    fn search(&self, channel: u32) -> u64 {
+        let mut sum = 0_u64;
+        for row in &self.plain {
+            if row.channel == channel {
+                sum = sum.saturating_add(u64::from(row.session));
+            }
+        }
+        sum
+    }
+
+    /// Takes a session's rows out of the plain ones, and says how many went.
+    fn retain(&mut self, session: u32) -> usize {
+        let count = self.plain.len();
+        self.plain.retain(|row| row.session != session);
+        count.saturating_sub(self.plain.len())
+    }
+
+    /// Removes all linked rows, each so many places behind the last, and says how many went.
+    fn remove_all(&mut self, step: u32) -> u64 {
+        let mut gone = 0_u64;
+        for turn in 0..65_536_u32 {
+            let row = row_of(step.wrapping_mul(turn) % 65_536);
+            if self.linked.remove(row.channel, row.session) {
+                gone = gone.saturating_add(1);
+            }
+        }
+        gone
+    }
 }

@@ -2,13 +2,12 @@
 
 use std::alloc::Global;
 use std::cell::Cell;
-use std::fmt::Display;
 
-/// Prints the name of each call before it, and a full stop after it.
+/// Prints the name of each call once it has been made.
 #[derive(Drop)]
 pub struct Report {
     rt: HostRuntime,
-    // Each line was printed until now.
+    // Each line was printed until now, and nothing was refused for want of memory.
     is_whole: Cell<bool>,
 }
 
@@ -26,24 +25,31 @@ impl Report {
         self.rt.alloc()
     }
 
-    /// Calls of this name come next.
-    pub fn begin(&self, name: &str) {
-        self.say(name);
+    /// What was asked for until now is no call's that comes next.
+    pub fn ready(&self) {
+        self.print(".");
     }
 
-    /// They have been made.
-    pub fn end(&self) {
-        self.say(".");
+    /// Calls of this name have been made since the last line, and answered as they should, or not.
+    pub fn made(&self, name: &str, is_so: bool) {
+        self.print(name);
+        if !is_so {
+            self.print("it answered something else");
+        }
     }
 
-    /// What they answered, or another line. Where it isn't printed, the report isn't whole any more.
-    pub fn say<T: Display + Drop>(&self, line: T) {
+    /// There was no memory for what stands before the calls.
+    pub fn lacks_memory(&self) {
+        self.is_whole.set(false);
+    }
+
+    fn print(&self, line: &str) {
         if self.rt.println(line).is_err() {
             self.is_whole.set(false);
         }
     }
 
-    /// Whether each line was printed.
+    /// Whether each line was printed, and there was memory.
     pub fn is_whole(&self) -> bool {
         self.is_whole.get()
     }

@@ -6,4 +6,4 @@ mod rows;
 #[cfg(test)]
 mod runs;
 #[cfg(test)]
-mod whole;
+mod simulation;

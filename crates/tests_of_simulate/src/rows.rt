@@ -1,77 +1,104 @@
-//! Schedules whose lines are known beforehand.
-use crate::whole::{DEFAULTS, Options, prints};
+//! Schedules beside what they print, or what is said of them. In a schedule ` / ` ends a line too, and `*COUNT*PIECE*` is that
+//! many pieces.
+use crate::simulation::{Options, is_so};
 use std::alloc::Global;
 use std::process::Abort;
 
-/// Ann subscribes to `news`, in epoch `aaaa` and from offset 0, and has taken the reply.
-const START: &str =
-    "epoch aaaa / connect ann 0 / ask ann news / read ann news / finish ann news / take ann";
+/// What stands for longer texts: Ann subscribes to `news`, in epoch `aaaa` and from offset 0, and has taken the reply; she comes
+/// back to `news` from where she was; she gets the first publication after that start; Ann and Bob subscribe to `c`.
+const WORDS: [(&str, &str); 4] = [
+    (
+        "START",
+        "epoch aaaa / connect ann 0 / ask ann news / read ann news / finish ann news / take ann",
+    ),
+    ("BACK", "askfrom ann news / read ann news / finish ann news"),
+    ("FIRST", "publish news {\"t\":1} / deliver 0 1 / take ann"),
+    (
+        "TWO",
+        "epoch aaaa / connect ann 0 / connect bob 0 / ask ann c / read ann c / finish ann c / take ann / ask bob c / read bob c / finish bob c / take bob",
+    ),
+];
 
-/// Ann comes back to `news` from where she was.
-const BACK: &str = "askfrom ann news / read ann news / finish ann news";
-
-/// The publication that Ann gets after `START`.
-const FIRST: &str = "publish news {\"t\":1} / deliver 0 1 / take ann";
-
-/// Ann and Bob subscribe to `c`.
-const TWO: &str =
-    "epoch aaaa / connect ann 0 / connect bob 0 / ask ann c / read ann c / finish ann c / take ann / ask bob c / read bob c / finish bob c / take bob";
+/// A text with each `*COUNT*PIECE*` replaced by as many pieces.
+fn lengthened(alloc: Global, text: &str) -> Option<String> {
+    let mut long = String::new(alloc);
+    let (mut turn, mut times) = (0_u8, 1_usize);
+    for part in text.split('*') {
+        if turn == 1 {
+            times = part.parse::<usize>().ok()?;
+        } else {
+            long.push_str(part.repeat(alloc, times).ok()?.as_str())
+                .ok()?;
+            times = 1;
+        }
+        turn = turn.wrapping_add(1) % 3;
+    }
+    Some(long)
+}
 
 /// A text with these words for what they stand for, and with line ends for ` / `.
 fn written_out(alloc: Global, text: &str) -> Option<String> {
-    let text = text.replace(alloc, "START", START).ok()?;
-    let text = text.as_str().replace(alloc, "BACK", BACK).ok()?;
-    let text = text.as_str().replace(alloc, "FIRST", FIRST).ok()?;
-    let text = text.as_str().replace(alloc, "TWO", TWO).ok()?;
-    let mut text = text.as_str().replace(alloc, " / ", "\n").ok()?;
-    text.push('\n').ok()?;
-    Some(text)
+    let mut text = lengthened(alloc, text)?;
+    for (word, meaning) in WORDS {
+        text = text.as_str().replace(alloc, word, meaning).ok()?;
+    }
+    text.as_str().replace(alloc, " / ", "\n").ok()
 }
 
-/// Whether the schedule before the arrow prints the lines behind it.
-fn is_so(alloc: Global, options: Options<'_>, row: &str) -> bool {
+/// What stands behind `@`: the number of nodes, the namespaces, and whether remarks are printed too.
+fn options_of(line: &str) -> Options<'_> {
+    let mut words = line.split(' ');
+    Options {
+        nodes: if words.next() == Some("@2") { 2 } else { 1 },
+        namespaces: words.next().unwrap_or(""),
+        explains: words.next().is_some(),
+    }
+}
+
+/// Whether the schedule before the arrow prints the lines behind it, with the options of its first line.
+fn row_is_so(alloc: Global, row: &str) -> bool {
+    let (options, row) = match row.split_once('\n') {
+        Some((line, rest)) if line.starts_with('@') => (options_of(line), rest),
+        _ => (options_of("@1 =100,300,phs"), row),
+    };
     let Some((schedule, lines)) = row.split_once("\n=> ") else {
         return false;
     };
     match (written_out(alloc, schedule), written_out(alloc, lines)) {
-        (Some(input), Some(lines)) => prints(alloc, options, input.as_str(), lines.as_str()),
+        (Some(input), Some(wanted)) => {
+            let input = input.as_str().as_bytes();
+            is_so(alloc, options, input, (wanted.as_str(), ""))
+        }
         _ => false,
     }
 }
 
 /// The rows, separated by empty lines, are so.
-fn are_so<R: Abort>(rt: &R, alloc: Global, options: Options<'_>, rows: &str) {
+fn are_so(rt: &impl Abort, alloc: Global, rows: &str) {
     for row in rows.split("\n\n") {
-        assert!(rt; is_so(alloc, options, row), "{row}");
+        assert!(rt; row_is_so(alloc, row), "{row}");
     }
 }
 
-const THREE_HELD: Options<'static> = Options {
-    nodes: 1,
-    namespaces: "=3,300,phs",
-    explains: false,
-};
+const ROWS: &str = r#"# first_publication
+START / publish news {"t":1} / deliver 0 1 / take ann
+=> ann news sub aaaa 0 fresh / ann news pub aaaa 1 {"t":1}
 
-const THREE_HELD_ROWS: &str = r#"# what was missed is among the three
+@1 =3,300,phs
+# recovered_and_lost: what was missed is among the three
 START / publish news 1 / publish news 2 / deliver 0 1 / deliver 0 2 / take ann / take ann
 break ann / publish news 3 / publish news 4 / publish news 5 / connect ann 0 / BACK / take ann
 => ann news sub aaaa 0 fresh / ann news pub aaaa 1 1 / ann news pub aaaa 2 2
 ann news sub aaaa 5 recovered / ann news pub aaaa 3 3 / ann news pub aaaa 4 4
 ann news pub aaaa 5 5
 
+@1 =3,300,phs
 # some of it isn't
 START / publish news 1 / publish news 2 / deliver 0 1 / deliver 0 2 / take ann
 break ann / publish news 3 / publish news 4 / publish news 5 / connect ann 0 / BACK / take ann
-=> ann news sub aaaa 0 fresh / ann news pub aaaa 1 1 / ann news sub aaaa 5 lost"#;
+=> ann news sub aaaa 0 fresh / ann news pub aaaa 1 1 / ann news sub aaaa 5 lost
 
-/// A stream that holds three gives back what was missed where it is among them.
-#[test]
-fn recovered_and_lost(rt: HostRuntime) {
-    are_so(&rt, rt.alloc(), THREE_HELD, THREE_HELD_ROWS);
-}
-
-const ROWS: &str =
-    r#"# buffered_reordering: what comes before the reply is sent behind it, in order and once
+# buffered_reordering: what comes before the reply is sent behind it, in order and once
 epoch aaaa / publish news 1 / publish news 2 / connect ann 0 / ask ann news / read ann news
 publish news 3 / publish news 4 / deliver 0 4 / deliver 0 3 / deliver 0 3
 finish ann news / take ann / take ann / take ann
@@ -130,14 +157,51 @@ START / FIRST / list ann news -1 / take ann / trim news 0 / list ann news -1 / t
 ask ann chat:x / take ann / ask ann chat:x / take ann / put ann news 2 / take ann
 => ann news sub aaaa 0 fresh / ann news pub aaaa 1 {"t":1}
 ann news list aaaa 1 1 / ann news list aaaa 1 0
-ann chat:x refused 102 / ann chat:x refused 102"#;
+ann chat:x refused 102 / ann chat:x refused 102
+
+# a stream that is trimmed goes on in its epoch, and one that is forgotten is opened again in a new one, from offset 0
+trim news 0 / forget news / epoch aaaa / epoch bbbb / publish news 1 / publish news 2 / trim news 1
+trim news 10000 / publish news 3 / connect ann 0 / ask ann news / read ann news / finish ann news / take ann
+forget news / publish news 4 / connect bob 0 / ask bob news / read bob news / finish bob news / take bob
+=> ann news sub aaaa 3 fresh / bob news sub bbbb 1 fresh
+
+# a publish to a channel whose namespace isn't set up changes nothing, and has no number
+epoch aaaa / epoch bbbb / publish chat:x 1 / publish news 2 / connect ann 0 / ask ann news
+read ann news / finish ann news / take ann / publish chat:x 3 / publish news 4
+deliver 0 2 / deliver 0 3 / take ann
+=> ann news sub aaaa 1 fresh / ann news pub aaaa 2 4
+
+@1 =100,300,phs;chat=2,300,
+# and one to a channel whose namespace is set up has one
+epoch aaaa / epoch bbbb / publish chat:x 1 / publish news 2 / connect ann 0 / ask ann news
+read ann news / finish ann news / take ann / publish chat:x 3 / publish news 4
+deliver 0 2 / deliver 0 3 / take ann
+=> ann news sub bbbb 1 fresh
+
+@2 =100,300,phs
+# each client gets what its own node is given
+epoch aaaa / connect ann 0 / connect bob 1 / ask ann news / read ann news / finish ann news
+ask bob news / read bob news / finish bob news / take ann / take bob
+publish news 1 / deliver 1 1 / take ann / take bob
+=> ann news sub aaaa 0 fresh / bob news sub aaaa 0 fresh / bob news pub aaaa 1 1
+
+# slow_consumer: a push of 1,048,576 bytes may wait for a client, and nothing beside it
+TWO / publish c "*1048523*x*" / deliver 0 1 / take bob
+publish c 0 / deliver 0 2 / take bob / take ann / take ann
+=> ann c sub aaaa 0 fresh / bob c sub aaaa 0 fresh / bob c pub aaaa 1 "*1048523*x*"
+bob c pub aaaa 2 0 / ann c pub aaaa 1 "*1048523*x*" / ann closed 3008
+
+# slow_consumer: a push of a byte more can't wait
+TWO / publish c "*1048524*x*" / deliver 0 1 / take ann / take bob
+=> ann c sub aaaa 0 fresh / bob c sub aaaa 0 fresh / ann closed 3008 / bob closed 3008"#;
 
 #[test]
 fn rows(rt: HostRuntime) {
-    are_so(&rt, rt.alloc(), DEFAULTS, ROWS);
+    are_so(&rt, rt.alloc(), ROWS);
 }
 
-const KEYS: &str = r#"# a key that comes again adds nothing: it has no number, and nobody gets it
+const KEYS_AND_SIZES: &str =
+    r#"# a key that comes again adds nothing: it has no number, and nobody gets it
 START / publishkey news k 1 / publishkey news k 2 / publish news 3 / deliver 0 1 / deliver 0 2
 deliver 0 3 / take ann / take ann / take ann / putkey ann news k 4 / take ann
 => ann news sub aaaa 0 fresh / ann news pub aaaa 1 1 / ann news pub aaaa 2 3
@@ -169,40 +233,10 @@ connect ann 0 / ask ann news / read ann news / finish ann news / take ann
 # nor of one that was lost with the broker
 START / break ann / publishkey news k 1 / epoch bbbb / brokerrestart / publishkey news k 2
 connect ann 0 / ask ann news / read ann news / finish ann news / take ann
-=> ann news sub aaaa 0 fresh / ann news sub bbbb 1 fresh"#;
+=> ann news sub aaaa 0 fresh / ann news sub bbbb 1 fresh
 
-/// A publish whose key stands among the last hundred adds nothing.
-#[test]
-fn keys(rt: HostRuntime) {
-    are_so(&rt, rt.alloc(), DEFAULTS, KEYS);
-}
-
-/// The lines that publish under the keys `k1` to `k100`.
-fn hundred(alloc: Global) -> Option<String> {
-    let mut lines = String::new(alloc);
-    for number in 1..101 {
-        let line = format!(in alloc; "publishkey news k{number} 0 / ").ok()?;
-        lines.push_str(line.as_str()).ok()?;
-    }
-    Some(lines)
-}
-
-const HUNDRED_KEYS: &str = r#"START / HUNDREDpublishkey news k1 0 / list ann news 0 / take ann
-publishkey news k101 0 / publishkey news k1 0 / publishkey news k2 0 / publishkey news k4 0
-list ann news 0 / take ann
-=> ann news sub aaaa 0 fresh / ann news list aaaa 100 0 / ann news list aaaa 103 0"#;
-
-/// The hundred-and-first key drives out the first.
-#[test]
-fn hundred_keys(rt: HostRuntime) {
-    let lines = hundred(rt.alloc()).expect(&rt, "memory");
-    let row = HUNDRED_KEYS
-        .replace(rt.alloc(), "HUNDRED", lines.as_str())
-        .expect(&rt, "memory");
-    assert!(rt; is_so(rt.alloc(), DEFAULTS, row.as_str()));
-}
-
-const SIZES: &str = r#"# what was missed is held since the size grew in time
+@1 =3,300,phs
+# what was missed is held since the size grew in time
 START / publish news 1 / publish news 2 / deliver 0 1 / deliver 0 2 / take ann / take ann
 break ann / publish news 3 / size =5 / publish news 4 / publish news 5 / publish news 6
 publish news 7 / connect ann 0 / BACK / take ann
@@ -210,6 +244,7 @@ publish news 7 / connect ann 0 / BACK / take ann
 ann news sub aaaa 7 recovered / ann news pub aaaa 3 3 / ann news pub aaaa 4 4
 ann news pub aaaa 5 5 / ann news pub aaaa 6 6 / ann news pub aaaa 7 7
 
+@1 =3,300,phs
 # it is lost where the size shrinks
 START / publish news 1 / publish news 2 / deliver 0 1 / deliver 0 2 / take ann / take ann
 break ann / publish news 3 / size =5 / publish news 4 / publish news 5 / publish news 6
@@ -217,6 +252,7 @@ publish news 7 / size =2 / connect ann 0 / BACK / take ann
 => ann news sub aaaa 0 fresh / ann news pub aaaa 1 1 / ann news pub aaaa 2 2
 ann news sub aaaa 7 lost
 
+@1 =3,300,phs
 # and a size that grows again brings nothing back
 START / publish news 1 / publish news 2 / deliver 0 1 / deliver 0 2 / take ann / take ann
 break ann / publish news 3 / size =5 / publish news 4 / publish news 5 / publish news 6
@@ -224,6 +260,7 @@ publish news 7 / size =2 / size =5 / connect ann 0 / BACK / take ann
 => ann news sub aaaa 0 fresh / ann news pub aaaa 1 1 / ann news pub aaaa 2 2
 ann news sub aaaa 7 lost
 
+@1 =3,300,phs
 # what was read is in the reply, whatever is held by then
 START / break ann / publish news 1 / publish news 2 / publish news 3 / connect ann 0
 askfrom ann news / read ann news / size =1 / finish ann news / take ann
@@ -231,39 +268,25 @@ list ann news -1 / take ann
 => ann news sub aaaa 0 fresh / ann news sub aaaa 3 recovered / ann news pub aaaa 1 1
 ann news pub aaaa 2 2 / ann news pub aaaa 3 3 / ann news list aaaa 3 1
 
+@1 =3,300,phs
 # a size stays where all streams are lost with the broker
 START / break ann / size =1 / epoch bbbb / brokerrestart / publish news 1 / publish news 2
 connect ann 0 / ask ann news / read ann news / finish ann news / take ann
 list ann news -1 / take ann
 => ann news sub aaaa 0 fresh / ann news sub bbbb 2 fresh / ann news list bbbb 2 1
 
+@1 =3,300,phs
 # a namespace that isn't set up has no size
 START / size chat=1 / publish news 1 / publish news 2 / list ann news -1 / take ann
-=> ann news sub aaaa 0 fresh / ann news list aaaa 2 2"#;
+=> ann news sub aaaa 0 fresh / ann news list aaaa 2 2
 
-/// Streams hold no more than the size that their namespace was given last, and what they lost stays lost.
-#[test]
-fn sizes(rt: HostRuntime) {
-    are_so(&rt, rt.alloc(), THREE_HELD, SIZES);
-}
-
-const TWO_SIZES: Options<'static> = Options {
-    nodes: 1,
-    namespaces: "=3,300,phs;chat=3,300,phs",
-    explains: false,
-};
-
-const OTHER_SIZES: &str = r#"START / epoch bbbb / size chat=1 / publish news 1 / publish news 2
+@1 =3,300,phs;chat=3,300,phs
+# the size of a namespace is none of another's
+START / epoch bbbb / size chat=1 / publish news 1 / publish news 2
 publish chat:x 1 / publish chat:x 2 / list ann news -1 / list ann chat:x -1 / take ann / take ann
-=> ann news sub aaaa 0 fresh / ann news list aaaa 2 2 / ann chat:x list bbbb 2 1"#;
+=> ann news sub aaaa 0 fresh / ann news list aaaa 2 2 / ann chat:x list bbbb 2 1
 
-/// The size of a namespace is none of another's.
-#[test]
-fn sizes_of_two(rt: HostRuntime) {
-    are_so(&rt, rt.alloc(), TWO_SIZES, OTHER_SIZES);
-}
-
-const OUT_OF_PLACE: &str = r#"# of a client that isn't there, waits for a reply or has the channel
+# of a client that isn't there, waits for a reply or has the channel
 ask ann news / read ann news / finish ann news / take ann / leave ann news / put ann news 1
 list ann news 1 / check ann news / break ann / publish news 1 / trim news 0 / forget news
 connect ann 0 / connect ann 0 / leave ann news / finish ann news / ask ann news / read ann news
@@ -277,32 +300,23 @@ publish news 1 / epoch aaaa / publish news 2 / list ann news -1 / connect ann 0 
 read ann news / finish ann news / deliver 0 1 / take ann / take ann / list ann news -1 / take ann
 => ann news sub aaaa 1 fresh / ann news list aaaa 1 1"#;
 
-/// An event that can't happen changes nothing.
+/// A publish whose key stands among the last hundred adds nothing. Streams hold no more than the size that their namespace was
+/// given last, and what they lost stays lost. An event that can't happen changes nothing.
 #[test]
-fn out_of_place(rt: HostRuntime) {
-    are_so(&rt, rt.alloc(), DEFAULTS, OUT_OF_PLACE);
+fn keys_and_sizes(rt: HostRuntime) {
+    are_so(&rt, rt.alloc(), KEYS_AND_SIZES);
 }
 
-const EXPLAINS: Options<'static> = Options {
-    nodes: 1,
-    namespaces: "=100,300,phs",
-    explains: true,
-};
-
-const EXPLAINED: &str = r#"publish news 1 / epoch aaaa / publish news 1 / deliver 0 2 / take ann
+const EXPLAINED: &str = r#"@1 =100,300,phs explain
+publish news 1 / epoch aaaa / publish news 1 / deliver 0 2 / take ann
 => # 1: publish news 1 / #    nothing changed: no epoch waits, so news can have no stream
 # 2: epoch aaaa / #    aaaa waits for the next stream that opens
 # 3: publish news 1 / #    it is publication 1 / #    news: epoch aaaa, top 1, 1 held
 # 4: deliver 0 2 / #    nothing changed: publication 2 doesn't exist
-# 5: take ann / #    nothing changed: ann isn't connected"#;
+# 5: take ann / #    nothing changed: ann isn't connected
 
-/// What an event did, or why nothing, stands beside the lines that are printed without it.
-#[test]
-fn explained(rt: HostRuntime) {
-    are_so(&rt, rt.alloc(), EXPLAINS, EXPLAINED);
-}
-
-const EXPLAINED_KEYS: &str = r#"epoch aaaa / publishkey news k 1 / publishkey news k 2
+@1 =100,300,phs explain
+epoch aaaa / publishkey news k 1 / publishkey news k 2
 publish news 3 / size =1 / size chat=1 / connect ann 0 / putkey ann news k 4 / size =1
 => # 1: epoch aaaa / #    aaaa waits for the next stream that opens
 # 2: publishkey news k 1 / #    it is publication 1 / #    news: epoch aaaa, top 1, 1 held
@@ -315,21 +329,10 @@ publish news 3 / size =1 / size chat=1 / connect ann 0 / putkey ann news k 4 / s
 # 8: putkey ann news k 4
 #    ann sends {"id":2,"publish":{"channel":"news","data":4,"key":"k"}}
 #    it repeats publication 1, which is at aaaa 1 / #    ann: connected as 0-1-1, 1 waiting
-# 9: size =1 / #    a stream of the empty namespace holds 1 at most"#;
+# 9: size =1 / #    a stream of the empty namespace holds 1 at most
 
-/// A repeat is said to be one, and of which publication. Of a size the streams are told that lost something by it.
-#[test]
-fn explained_keys(rt: HostRuntime) {
-    are_so(&rt, rt.alloc(), EXPLAINS, EXPLAINED_KEYS);
-}
-
-const NO_PUBLISH: Options<'static> = Options {
-    nodes: 1,
-    namespaces: "=3,300,hs",
-    explains: true,
-};
-
-const REFUSED_KEY: &str = r#"epoch aaaa / publishkey news k 1 / connect ann 0 / putkey ann news k 2
+@1 =3,300,hs explain
+epoch aaaa / publishkey news k 1 / connect ann 0 / putkey ann news k 2
 take ann
 => # 1: epoch aaaa / #    aaaa waits for the next stream that opens
 # 2: publishkey news k 1 / #    it is publication 1 / #    news: epoch aaaa, top 1, 1 held
@@ -341,35 +344,9 @@ take ann
 #    ann takes {"error":{"code":103,"message":"permission denied"},"id":2}
 #    ann: connected as 0-1-1, 0 waiting / ann news refused 103"#;
 
-/// A publish that isn't allowed is no repeat.
+/// What an event did, or why nothing, stands beside the lines that are printed without it. A repeat is said to be one, and of which
+/// publication; of a size the streams are told that lost something by it; a publish that isn't allowed is no repeat.
 #[test]
-fn explained_refusal(rt: HostRuntime) {
-    are_so(&rt, rt.alloc(), NO_PUBLISH, REFUSED_KEY);
-}
-
-/// Whether a row is so with so many letters in the place of `LETTERS`.
-fn is_so_with(alloc: Global, row: &str, count: usize) -> bool {
-    let Ok(letters) = "x".repeat(alloc, count) else {
-        return false;
-    };
-    match row.replace(alloc, "LETTERS", letters.as_str()) {
-        Ok(row) => is_so(alloc, DEFAULTS, row.as_str()),
-        Err(_) => false,
-    }
-}
-
-const SLOW: &str = r#"TWO / publish c "LETTERS" / deliver 0 1 / take bob
-publish c 0 / deliver 0 2 / take bob / take ann / take ann
-=> ann c sub aaaa 0 fresh / bob c sub aaaa 0 fresh / bob c pub aaaa 1 "LETTERS"
-bob c pub aaaa 2 0 / ann c pub aaaa 1 "LETTERS" / ann closed 3008"#;
-
-const SLOWER: &str = r#"TWO / publish c "LETTERS" / deliver 0 1 / take ann / take bob
-=> ann c sub aaaa 0 fresh / bob c sub aaaa 0 fresh / ann closed 3008 / bob closed 3008"#;
-
-/// A push of 1,048,576 bytes may wait for a client, and nothing beside it. A push of a byte more
-/// can't wait.
-#[test]
-fn slow_consumer(rt: HostRuntime) {
-    assert!(rt; is_so_with(rt.alloc(), SLOW, 1_048_523));
-    assert!(rt; is_so_with(rt.alloc(), SLOWER, 1_048_524));
+fn explained(rt: HostRuntime) {
+    are_so(&rt, rt.alloc(), EXPLAINED);
 }

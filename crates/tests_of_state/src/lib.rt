@@ -10,8 +10,10 @@ mod queue;
 #[cfg(test)]
 mod recovery;
 #[cfg(test)]
-mod shown;
+mod refusals;
 #[cfg(test)]
 mod stream;
+#[cfg(test)]
+mod streams;
 #[cfg(test)]
 mod subs;

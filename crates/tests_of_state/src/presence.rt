@@ -1,33 +1,24 @@
 //! Who is there in each channel.
-use crate::shown::says;
-use cf_presence::{Presence, PresenceRefusal, Stats};
+use cf_presence::{Presence, Stats};
 use std::alloc::Global;
 
 /// A client with this number, of one of ten users, enters a channel.
-fn enter(alloc: Global, presence: &mut Presence, channel: &str, number: u32) -> Option<()> {
+fn enter(alloc: Global, presence: &mut Presence, channel: u32, number: u32) -> Option<()> {
+    let channel = format!(in alloc; "c{channel}").ok()?;
     let client = format!(in alloc; "0-1-{number}").ok()?;
     let user = format!(in alloc; "user{}", number % 10).ok()?;
     presence
-        .enter(channel, client.as_str(), user.as_str(), 0)
+        .enter(channel.as_str(), client.as_str(), user.as_str(), 0)
         .ok()
 }
 
-/// A thousand clients enter `news`.
-fn enter_all(alloc: Global, presence: &mut Presence) -> bool {
+/// A thousand clients enter one channel, and one of them a hundred more.
+fn enter_all(alloc: Global, presence: &mut Presence) -> Option<()> {
     for number in 0..1000 {
-        if enter(alloc, presence, "news", number).is_none() {
-            return false;
-        }
+        enter(alloc, presence, 0, number)?;
+        enter(alloc, presence, number % 100, 7)?;
     }
-    true
-}
-
-/// Whether there are so many clients in `news`, and these users are listed of them.
-fn are_there(presence: &Presence, stats: Stats) -> bool {
-    match presence.list("news") {
-        Ok(users) => users.len() as u64 == stats.clients && presence.stats("news") == stats,
-        Err(_) => false,
-    }
+    Some(())
 }
 
 const THOUSAND: Stats = Stats {
@@ -35,39 +26,20 @@ const THOUSAND: Stats = Stats {
     users: 10,
 };
 
-/// Whether a thousand clients enter `news`, or enter again, and are listed.
-fn is_entered(alloc: Global, presence: &mut Presence) -> bool {
-    enter_all(alloc, presence) && are_there(presence, THOUSAND)
+/// Whether a thousand clients of ten users are in the first channel, and are listed.
+fn are_there(presence: &Presence) -> bool {
+    match presence.list("c0") {
+        Ok(users) => users.len() == 1000 && presence.stats("c0") == THOUSAND,
+        Err(_) => false,
+    }
 }
 
+/// They enter, and enter again.
 #[test]
 fn a_thousand_clients(rt: HostRuntime) {
     let mut presence = Presence::new(rt.alloc());
-    assert!(rt; is_entered(rt.alloc(), &mut presence));
-    assert!(rt; is_entered(rt.alloc(), &mut presence));
-}
-
-/// Whether a client enters a hundred channels.
-fn enters_channels(alloc: Global) -> bool {
-    let mut presence = Presence::new(alloc);
-    for number in 0..100 {
-        let entered = match format!(in alloc; "c{number}") {
-            Ok(channel) => enter(alloc, &mut presence, channel.as_str(), 1).is_some(),
-            Err(_) => false,
-        };
-        if !entered {
-            return false;
-        }
+    for _ in 0..2 {
+        assert!(rt; enter_all(rt.alloc(), &mut presence).is_some());
+        assert!(rt; are_there(&presence));
     }
-    true
-}
-
-#[test]
-fn a_hundred_channels(rt: HostRuntime) {
-    assert!(rt; enters_channels(rt.alloc()));
-}
-
-#[test]
-fn text_of_the_refusal(rt: HostRuntime) {
-    says(&rt, rt.alloc(), &PresenceRefusal::Memory, "out of memory");
 }

@@ -1,12 +1,10 @@
 //! Publications that come while a subscription is being asked for.
-ghost use Rattle.std.specs.Prelude.{◌<◌, ◌≤◌};
-
 use cf_protocol::{Epoch, Info, Position, Publication};
 use cf_recovery::Waiting;
 use std::alloc::Global;
-use std::process::Abort;
 
-fn ann(alloc: Global) -> Option<Info> {
+/// Who published.
+pub(crate) fn ann(alloc: Global) -> Option<Info> {
     let user = String::from_str(alloc, "ann").ok()?;
     let client = String::from_str(alloc, "0-1-1").ok()?;
     Some(Info { user, client })
@@ -19,59 +17,43 @@ fn publication(alloc: Global, offset: u64) -> Option<Publication> {
     Some(Publication { offset, body, info })
 }
 
-/// Keeps this publication of an epoch.
-fn keep(alloc: Global, waiting: &mut Waiting, epoch: &str, offset: u64) -> Option<()> {
-    let publication = publication(alloc, offset)?;
-    waiting.keep(&Epoch::from_text(epoch), &publication);
-    Some(())
-}
-
-/// Keeps the offsets 1 to `last` of an epoch, in a shuffled order.
-fn keep_all(alloc: Global, waiting: &mut Waiting, epoch: &str, last: u64) -> Option<()>
-    requires { last ≤ 1001 }
-{
-    for turn in 0..last {
-        keep(alloc, waiting, epoch, turn * 619 % last + 1)?;
-    }
-    Some(())
-}
-
-/// The same, with memory for each.
-fn keeps(rt: &impl Abort, alloc: Global, waiting: &mut Waiting, epoch: &str, last: u64)
-    requires { last ≤ 1001 }
-{
-    let kept = keep_all(alloc, waiting, epoch, last);
-    assert!(rt; kept.is_some() && !waiting.short(), "{epoch} {last}");
-}
-
-/// Whether so many are released at the start of an epoch, and nothing else came.
-fn is_released(waiting: Waiting, epoch: &str, count: usize, is_all: bool) -> bool {
-    let start = Position {
-        epoch: Epoch::from_text(epoch),
+/// Where the epoch begins.
+fn start() -> Position {
+    Position {
+        epoch: Epoch::from_text("aaaa"),
         offset: 0,
-    };
-    let released = waiting.release(&start);
-    released.run.len() == count && released.insufficient != is_all
+    }
+}
+
+fn keep(alloc: Global, waiting: &mut Waiting, offset: u64) -> Option<()> {
+    let publication = publication(alloc, offset)?;
+    waiting.keep(&start().epoch, &publication);
+    Some(())
+}
+
+/// The offsets from 1 up to this one, which come in a shuffled order.
+fn kept(alloc: Global, last: u32) -> Option<Waiting> {
+    let mut waiting = Waiting::new(alloc);
+    let mut offset = 0_u64;
+    for _ in 0..last {
+        offset = offset.wrapping_add(619) % u64::from(last);
+        keep(alloc, &mut waiting, offset.wrapping_add(1))?;
+    }
+    Some(waiting)
+}
+
+/// How many of so many are released at the start of the epoch, and whether none is missing. None: there was no memory.
+fn released(alloc: Global, last: u32) -> Option<(usize, bool)> {
+    let waiting = kept(alloc, last)?;
+    if waiting.short() {
+        return None;
+    }
+    let released = waiting.release(&start());
+    Some((released.run.len(), !released.insufficient))
 }
 
 #[test]
 fn buffer_limit(rt: HostRuntime) {
-    let mut waiting = Waiting::new(rt.alloc());
-    keeps(&rt, rt.alloc(), &mut waiting, "aaaa", 1000);
-    assert!(rt; is_released(waiting, "aaaa", 1000, true));
-}
-
-#[test]
-fn past_the_limit(rt: HostRuntime) {
-    let mut waiting = Waiting::new(rt.alloc());
-    keeps(&rt, rt.alloc(), &mut waiting, "aaaa", 1001);
-    assert!(rt; is_released(waiting, "aaaa", 0, false));
-}
-
-#[test]
-fn two_epochs_with_info(rt: HostRuntime) {
-    let mut waiting = Waiting::new(rt.alloc());
-    keeps(&rt, rt.alloc(), &mut waiting, "aaaa", 500);
-    keeps(&rt, rt.alloc(), &mut waiting, "bbbb", 500);
-    assert!(rt; is_released(waiting, "bbbb", 500, false));
+    assert!(rt; released(rt.alloc(), 1000) == Some((1000, true)));
+    assert!(rt; released(rt.alloc(), 1001) == Some((0, false)));
 }

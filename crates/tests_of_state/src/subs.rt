@@ -1,108 +1,6 @@
 //! Which session follows which channel.
-use crate::shown::says;
-use cf_subs::{MOST_ROWS, Row, SubRefusal, SubTable};
-use std::alloc::{AllocError, Global};
-
-/// Whether both ways to go over a channel give its sessions, where these are all rows in order of
-/// adding.
-fn walks_channel(table: &SubTable, rows: &[Row], channel: u32) -> bool {
-    let mut sessions = table.walk(channel);
-    let mut next = table.first(channel);
-    for row in rows {
-        if row.channel == channel {
-            if sessions.next() != Some(row.session) || next != Some(row.session) {
-                return false;
-            }
-            next = table.after(channel, row.session);
-        }
-    }
-    sessions.next() == None && next == None
-}
-
-/// Whether a session's walk gives its channels, where these are all rows in order of adding.
-fn walks_session(table: &SubTable, rows: &[Row], session: u32) -> bool {
-    let mut channels = table.walk_session(session);
-    for row in rows {
-        if row.session == session {
-            if channels.next() != Some(row.channel) || !table.has(row.channel, session) {
-                return false;
-            }
-        }
-    }
-    channels.next() == None
-}
-
-/// Whether the channel and the session of this number have what these rows say.
-fn counts(table: &SubTable, rows: &[Row], number: u32) -> bool {
-    let is_followed = rows.iter().any(|row| row.channel == number);
-    let count = rows.iter().filter(|row| row.session == number).count();
-    table.has_channel(number) == is_followed && table.channel_count(number) == count
-}
-
-/// Whether a table gives what these rows say of this number.
-fn gives(table: &SubTable, rows: &[Row], number: u32) -> bool {
-    walks_channel(table, rows, number)
-        && walks_session(table, rows, number)
-        && counts(table, rows, number)
-}
-
-/// Adds a row that may be there, and says whether both had it or neither.
-fn add(table: &mut SubTable, rows: &mut Vec<Row>, row: Row) -> bool {
-    let had = rows.contains(&row);
-    if table.has(row.channel, row.session) {
-        return had;
-    }
-    !had && rows.push(row).is_ok() && table.add(row.channel, row.session).is_ok()
-}
-
-fn remove(table: &mut SubTable, rows: &mut Vec<Row>, row: Row) -> bool {
-    let had = rows.contains(&row);
-    rows.retain(|other| *other != row);
-    table.remove(row.channel, row.session) == had
-}
-
-fn detach(table: &mut SubTable, rows: &mut Vec<Row>, session: u32) -> bool {
-    let count = rows.iter().filter(|row| row.session == session).count();
-    rows.retain(|row| row.session != session);
-    table.detach(session) == count
-}
-
-/// One of ten calls over two channels and two sessions, of the table and of the plain rows: whether
-/// both say the same.
-fn call(table: &mut SubTable, rows: &mut Vec<Row>, which: u32) -> bool {
-    let row = Row {
-        channel: which & 1,
-        session: which >> 1 & 1,
-    };
-    if which < 4 {
-        return add(table, rows, row);
-    }
-    if which < 8 {
-        return remove(table, rows, row);
-    }
-    detach(table, rows, row.channel)
-}
-
-/// Whether a table gives what plain rows give after each call of a sequence, whose calls are the
-/// digits of its number.
-fn is_alike(alloc: Global, number: u32) -> bool {
-    let mut table = SubTable::new(alloc);
-    let mut rows = Vec::new(alloc);
-    for unit in [1000, 100, 10, 1] {
-        let is_called = call(&mut table, &mut rows, number / unit % 10);
-        if !is_called || !gives(&table, &rows, 0) || !gives(&table, &rows, 1) {
-            return false;
-        }
-    }
-    table.len() == rows.len()
-}
-
-#[test]
-fn every_sequence_of_four_calls(rt: HostRuntime) {
-    for number in 0..10_000 {
-        assert!(rt; is_alike(rt.alloc(), number), "at {number}");
-    }
-}
+use cf_subs::{MOST_ROWS, SubRefusal, SubTable};
+use std::alloc::Global;
 
 /// Adds a row, which may be there.
 fn put(table: &mut SubTable, channel: u32, session: u32) -> Result<(), SubRefusal> {
@@ -110,6 +8,79 @@ fn put(table: &mut SubTable, channel: u32, session: u32) -> Result<(), SubRefusa
         return Ok(());
     }
     table.add(channel, session)
+}
+
+/// Whether these are a channel's sessions, in the order in which they were added.
+fn walks(table: &SubTable, channel: u32, sessions: &str) -> bool {
+    let mut wanted = sessions.split_whitespace();
+    for session in table.walk(channel) {
+        match wanted.next() {
+            Some(word) if word.parse::<u32>() == Ok(session) => {}
+            _ => return false,
+        }
+    }
+    wanted.next().is_none()
+}
+
+/// How many rows a call adds or takes out, or how many channels a session has.
+fn call(table: &mut SubTable, name: &str, channel: u32, session: u32) -> usize {
+    match name {
+        "add" => usize::from(put(table, channel, session).is_ok()),
+        "remove" => usize::from(table.remove(channel, session)),
+        "detach" => table.detach(session),
+        _ => table.channel_count(session),
+    }
+}
+
+fn number_of(word: Option<&str>) -> u32 {
+    match word {
+        Some(word) => word.parse::<u32>().unwrap_or(0),
+        None => 0,
+    }
+}
+
+/// Behind the arrow of a channel stand its sessions, and behind that of a call what it answers.
+fn is_so(table: &mut SubTable, row: &str) -> bool {
+    let (done, wanted) = row.split_once(" => ").unwrap_or((row, ""));
+    let mut words = done.split(' ');
+    let name = words.next().unwrap_or("");
+    let channel = number_of(words.next());
+    if name == "walk" {
+        return walks(table, channel, wanted);
+    }
+    let session = number_of(words.next());
+    call(table, name, channel, session) as u64 == u64::from(number_of(Some(wanted)))
+}
+
+const ROWS: &str = "add 1 10 => 1
+add 2 10 => 1
+add 1 11 => 1
+add 1 12 => 1
+walk 1 => 10 11 12
+channels 0 10 => 2
+remove 1 11 => 1
+remove 1 11 => 0
+walk 1 => 10 12
+add 1 11 => 1
+walk 1 => 10 12 11
+detach 0 10 => 2
+walk 1 => 12 11
+walk 2
+channels 0 10 => 0
+add 4294967295 4294967295 => 1
+walk 4294967295 => 4294967295";
+
+/// A value that may go to another thread.
+fn sent<T: Send>(value: T) -> T {
+    value
+}
+
+#[test]
+fn rows_in_order_of_adding(rt: HostRuntime) {
+    let mut table = sent(SubTable::new(rt.alloc()));
+    for row in ROWS.split('\n') {
+        assert!(rt; is_so(&mut table, row), "{row}");
+    }
 }
 
 /// A table of as many rows as it may have, 64 a session.
@@ -132,58 +103,25 @@ fn is_limited(table: &mut SubTable) -> bool {
 
 #[test]
 fn row_65537_is_refused(rt: HostRuntime) {
-    let holds = match full(rt.alloc()) {
-        Some(mut table) => is_limited(&mut table),
-        None => false,
-    };
-    assert!(rt; holds);
+    let mut table = full(rt.alloc()).expect(&rt, "memory");
+    assert!(rt; is_limited(&mut table));
 }
 
 /// Whether each row of a full table goes, where the next one is so many further.
-fn all_go(table: &mut SubTable, step: u32) -> bool {
+fn all_go(alloc: Global, step: u32) -> Option<bool> {
+    let mut table = full(alloc)?;
     for turn in 0..65_536 {
         let number = step.wrapping_mul(turn) % 65_536;
         if !table.remove(number % 1000, number / 64) {
-            return false;
+            return Some(false);
         }
     }
-    table.len() == 0
-}
-
-fn go_by(alloc: Global, step: u32) -> bool {
-    match full(alloc) {
-        Some(mut table) => all_go(&mut table, step),
-        None => false,
-    }
+    Some(table.len() == 0)
 }
 
 #[test]
 fn rows_go_in_three_orders(rt: HostRuntime) {
-    assert!(rt; go_by(rt.alloc(), 1));
-    assert!(rt; go_by(rt.alloc(), 65_535));
-    assert!(rt; go_by(rt.alloc(), 40_503));
-}
-
-/// A value that may go to another thread.
-fn sent<T: Send>(value: T) -> T {
-    value
-}
-
-#[test]
-fn table_may_be_sent(rt: HostRuntime) {
-    let mut table = sent(SubTable::new(rt.alloc()));
-    assert!(rt; put(&mut table, 4_294_967_295, 4_294_967_295).is_ok());
-    assert!(rt; sent(table).first(4_294_967_295) == Some(4_294_967_295));
-}
-
-#[test]
-fn refusals_in_words(rt: HostRuntime) {
-    says(&rt, rt.alloc(), &SubRefusal::Full, "the table is full");
-    says(&rt, rt.alloc(), &SubRefusal::Memory, "out of memory");
-    says(
-        &rt,
-        rt.alloc(),
-        &SubRefusal::from(AllocError),
-        "out of memory",
-    );
+    for step in [1, 65_535, 40_503] {
+        assert!(rt; all_go(rt.alloc(), step) == Some(true), "{step}");
+    }
 }

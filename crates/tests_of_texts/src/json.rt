@@ -1,5 +1,3 @@
 //! JSON values found in a text.
 mod grammar;
-mod large;
-mod strings;
 mod vectors;

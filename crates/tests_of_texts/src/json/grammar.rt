@@ -1,26 +1,59 @@
-//! Texts by the rules of RFC 8259, sections 2 to 7, each with its answer by hand.
+//! Texts by the rules of RFC 8259, sections 2 to 7, each with its answer by hand: values and frames, and texts that are none.
+//!
+//! Marks `^` stand round a value, between the values of a frame, and where a text is refused: at the first byte at which what was
+//! read so far can't go on, or at the text's end. A value without marks is the whole text, and a text without one is refused
+//! anywhere.
 use cf_json::{Fault, Span, scan, split_frame};
 use std::alloc::Global;
 use std::process::Abort;
 
-fn is_not_json<T: Drop>(found: Result<T, Fault>) -> bool {
-    match found {
-        Err(Fault::NotJson(_)) => true,
+/// What the texts of a table are.
+#[derive(Clone, Copy)]
+enum Kind {
+    Value,
+    NoValue,
+    Frame,
+    NoFrame,
+}
+
+/// The span between a row's two marks, or of all of it.
+fn marked(row: &str) -> Span {
+    let (front, rest) = row.split_once('^').unwrap_or(("", row));
+    let (middle, _) = rest.split_once('^').unwrap_or((rest, ""));
+    Span {
+        from: front.len(),
+        to: front.len().saturating_add(middle.len()),
+    }
+}
+
+/// Whether a text is refused where a row has its mark, or anywhere if it has none.
+fn is_refused<T: Drop>(found: Result<T, Fault>, row: &str) -> bool {
+    match (found, row.find('^')) {
+        (Err(Fault::NotJson(place)), Some(mark)) => place == mark,
+        (Err(Fault::NotJson(_)), None) => true,
         _ => false,
     }
 }
 
-fn is_value(text: &str) -> bool {
-    let whole = Span {
-        from: 0,
-        to: text.len(),
+fn is_so(alloc: Global, kind: Kind, row: &str) -> bool {
+    let Ok(text) = row.replace(alloc, '^', "") else {
+        return false;
     };
-    scan(text) == Ok(whole)
+    let text = text.as_str();
+    match kind {
+        Kind::Value => scan(text) == Ok(marked(row)),
+        Kind::NoValue => is_refused(scan(text), row),
+        Kind::Frame => match split_frame(alloc, text) {
+            Ok(found) => found.len() == row.split('^').count(),
+            Err(_) => false,
+        },
+        Kind::NoFrame => is_refused(split_frame(alloc, text), row),
+    }
 }
 
-fn are_values(rt: &impl Abort, texts: &str, parted_by: char) {
-    for text in texts.split(parted_by) {
-        assert!(rt; is_value(text), "{text}");
+fn are_so(rt: &impl Abort, alloc: Global, kind: Kind, rows: &str, parted_by: char) {
+    for row in rows.split(parted_by) {
+        assert!(rt; is_so(alloc, kind, row), "{row}");
     }
 }
 
@@ -80,38 +113,9 @@ null
 {"a":{"b":[1,{"c":"d"}]}}
 [null,true,false,"x",-1.5e2,[],{}]"#;
 
-#[test]
-fn texts_of_one_value(rt: HostRuntime) {
-    are_values(&rt, VALUES, '\n');
-    are_values(
-        &rt,
-        "\"\u{e9}\"|\"\u{7f}\"|\"\u{2028}\"|{\t}|[ 1\n,\r\n2 ]",
-        '|',
-    );
-}
-
-fn stands(rt: &impl Abort, text: &str, from: usize, to: usize) {
-    assert!(rt; scan(text) == Ok(Span { from, to }), "{text}");
-}
-
-#[test]
-fn white_space_around(rt: HostRuntime) {
-    stands(&rt, " 1", 1, 2);
-    stands(&rt, "\t1", 1, 2);
-    stands(&rt, "\n1", 1, 2);
-    stands(&rt, "\r1", 1, 2);
-    stands(&rt, "1 ", 0, 1);
-    stands(&rt, "1\n", 0, 1);
-    stands(&rt, " \t\r\n1 \t\r\n", 4, 5);
-    stands(&rt, " {} ", 1, 3);
-    stands(&rt, " -0.5e+10 ", 1, 9);
-}
-
-fn are_no_values(rt: &impl Abort, texts: &str, parted_by: char) {
-    for text in texts.split(parted_by) {
-        assert!(rt; is_not_json(scan(text)), "{text}");
-    }
-}
+/// With white space, and characters that are none of it.
+const SPACED_VALUES: &str =
+    "\"\u{e9}\"|\"\u{7f}\"|\"\u{2028}\"|{\t}|[ 1\n,\r\n2 ]| ^1^|\t^1^|\n^1^|\r^1^|^1^ |^1^\n| \t\r\n^1^ \t\r\n| ^{}^ | ^-0.5e+10^ ";
 
 const NO_VALUES: &str = r#"-
 +1
@@ -192,36 +196,8 @@ a
 {"a":1]
 {"a"}
 [1] x
-1 // c"#;
-
-// With white space, and characters that are none of it.
-const NO_SPACED_VALUES: &str =
-    "| |\t\r\n|\u{feff}1|\u{b}1|\u{c}1|\u{a0}1|1\u{c}|[1\u{c}]|\"\u{0}\"|\"\u{1f}\"|\"\n\"|\"\t\"|// c\n1";
-
-#[test]
-fn texts_of_no_value(rt: HostRuntime) {
-    are_no_values(&rt, NO_VALUES, '\n');
-    are_no_values(&rt, NO_SPACED_VALUES, '|');
-}
-
-// A row's text is refused where its mark `^` stands.
-fn fails_at_mark(alloc: Global, row: &str) -> bool {
-    let Some((front, back)) = row.split_once('^') else {
-        return false;
-    };
-    match format!(in alloc; "{front}{back}") {
-        Ok(text) => scan(text.as_str()) == Err(Fault::NotJson(front.len())),
-        Err(_) => false,
-    }
-}
-
-fn fail_at_marks(rt: &impl Abort, alloc: Global, rows: &str, parted_by: char) {
-    for row in rows.split(parted_by) {
-        assert!(rt; fails_at_mark(alloc, row), "{row}");
-    }
-}
-
-const FAULTS: &str = r#"^
+1 // c
+^
 nul^x
 nul^
 fals^y
@@ -249,66 +225,26 @@ null^l
 {"a":n^il}
 {"a":1^]"#;
 
-/// Where a text is refused: the first byte at which what was read so far can't go on, or the text's
-/// end.
-#[test]
-fn places_of_faults(rt: HostRuntime) {
-    fail_at_marks(&rt, rt.alloc(), FAULTS, '\n');
-    fail_at_marks(&rt, rt.alloc(), " ^|\t\n ^x| tru^x|\"a^\nb\"", '|');
-}
-
-// The same of a frame.
-fn frame_fails_at_mark(alloc: Global, row: &str) -> bool {
-    let Some((front, back)) = row.split_once('^') else {
-        return false;
-    };
-    match format!(in alloc; "{front}{back}") {
-        Ok(text) => is_at(split_frame(alloc, text.as_str()), front.len()),
-        Err(_) => false,
-    }
-}
-
-fn is_at<T: Drop>(found: Result<T, Fault>, place: usize) -> bool {
-    match found {
-        Err(Fault::NotJson(at)) => at == place,
-        _ => false,
-    }
-}
+/// With white space, and characters that are none of it.
+const NO_SPACED_VALUES: &str =
+    "| |\t\r\n|\u{feff}1|\u{b}1|\u{c}1|\u{a0}1|1\u{c}|[1\u{c}]|\"\u{0}\"|\"\u{1f}\"|\"\n\"|\"\t\"|// c\n1| ^|\t\n ^x| tru^x|\"a^\nb\"";
 
 #[test]
-fn places_in_frames(rt: HostRuntime) {
-    for row in "{}^x|1^-2|1 0^1|1nul^|{}^,{}".split('|') {
-        assert!(rt; frame_fails_at_mark(rt.alloc(), row), "{row}");
-    }
-}
-
-// A row's text is a frame of values that its marks `^` part.
-fn has_values_at_marks(alloc: Global, row: &str) -> bool {
-    let Ok(text) = row.replace(alloc, '^', "") else {
-        return false;
-    };
-    match split_frame(alloc, text.as_str()) {
-        Ok(found) => found.len() == row.split('^').count(),
-        Err(_) => false,
-    }
+fn values(rt: HostRuntime) {
+    are_so(&rt, rt.alloc(), Kind::Value, VALUES, '\n');
+    are_so(&rt, rt.alloc(), Kind::Value, SPACED_VALUES, '|');
+    are_so(&rt, rt.alloc(), Kind::NoValue, NO_VALUES, '\n');
+    are_so(&rt, rt.alloc(), Kind::NoValue, NO_SPACED_VALUES, '|');
 }
 
 const FRAMES: &str =
     "1|{}|{}^{}|{}^ {}|1^true|true^false|\"a\"^\"b\"|1^ 2|[]^1|1^[]|null^1|\"a\"^1|1^\"a\"|1^{}^2|null^null|{}^\n{}\n| {}^{} |1^\n-2|0^ 1.5e2^\r-3^\ttrue";
 
+const NO_FRAMES: &str =
+    "1-2|01|-0-1|1.5.2|00|1e5-1|{},{}|{}]|{}x|1 01|[1][2|true1-|| |\n|{}\u{c}{}|\u{feff}{}|{}^x|1^-2|1 0^1|1nul^|{}^,{}";
+
 #[test]
 fn frames(rt: HostRuntime) {
-    for row in FRAMES.split('|') {
-        assert!(rt; has_values_at_marks(rt.alloc(), row), "{row}");
-    }
-}
-
-const NO_FRAMES: &str =
-    "1-2|01|-0-1|1.5.2|00|1e5-1|{},{}|{}]|{}x|1 01|[1][2|true1-|| |\n|{}\u{c}{}|\u{feff}{}";
-
-#[test]
-fn texts_that_are_no_frame(rt: HostRuntime) {
-    for text in NO_FRAMES.split('|') {
-        assert!(rt; is_not_json(split_frame(rt.alloc(), text)), "{text}");
-    }
+    are_so(&rt, rt.alloc(), Kind::Frame, FRAMES, '|');
+    are_so(&rt, rt.alloc(), Kind::NoFrame, NO_FRAMES, '|');
 }

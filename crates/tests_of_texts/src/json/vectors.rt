@@ -1,15 +1,19 @@
-//! Members, items, compact texts and depths, with answers by hand.
+//! Members, items, strings (RFC 8259, section 7), compact texts and depths, with answers by hand; each call at its largest size, with
+//! ample memory; and what is said of each fault.
 ghost use Rattle.std.specs.Prelude.{◌≡◌, IfSome};
 ghost use Rattle.cf_json.specs.Grammar.{Tree};
 ghost use Rattle.cf_json.specs.Spans.{IsAt};
 ghost use Rattle.cf_json.specs.Kinds.{kind_of};
 
-use crate::pieces::{is_debugged, repeated};
-use cf_json::{Fault, Kind, Span, compact, items, kind, members, read_text, scan, split_frame};
+use crate::pieces::sides_of;
+use cf_json::{
+    Fault, Kind, Span, compact, items, kind, members, quote, read_text, scan, split_frame,
+};
 use std::alloc::Global;
+use std::fmt::Debug;
 use std::process::Abort;
 
-// The span of a text's one value, where that is of the kind.
+/// The span of a text's one value, where that is of the kind.
 fn span_of(text: &str, wanted: Kind) -> Option<Span>
     ensures { IfSome result (λ s. (t : Tree) × IsAt text.now t s × (kind_of t ≡ wanted)) }
 {
@@ -22,136 +26,154 @@ fn span_of(text: &str, wanted: Kind) -> Option<Span>
     None
 }
 
-pub(super) fn members_of(alloc: Global, text: &str) -> Result<Vec<(String, Span)>, Fault> {
+fn members_of(alloc: Global, text: &str) -> Result<Vec<(String, Span)>, Fault> {
     match span_of(text, Kind::Object) {
         Some(span) => members(alloc, text, span),
         None => Err(Fault::Memory),
     }
 }
 
-pub(super) fn items_of(alloc: Global, text: &str) -> Result<Vec<Span>, Fault> {
+fn items_of(alloc: Global, text: &str) -> Result<Vec<Span>, Fault> {
     match span_of(text, Kind::Array) {
         Some(span) => items(alloc, text, span),
         None => Err(Fault::Memory),
     }
 }
 
-pub(super) fn text_of(alloc: Global, text: &str) -> Result<String, Fault> {
+fn text_of(alloc: Global, text: &str) -> Result<String, Fault> {
     match span_of(text, Kind::Text) {
         Some(span) => read_text(alloc, text, span),
         None => Err(Fault::Memory),
     }
 }
 
-fn has_members(rt: &impl Abort, alloc: Global, text: &str, members: &str) {
-    assert!(rt;
-        is_debugged(alloc, &members_of(alloc, text), members),
-        "{text}"
-    );
+/// A text's one value without white space.
+fn compacted(alloc: Global, text: &str) -> Result<String, Fault> {
+    let span = scan(text)?;
+    compact(alloc, text, span)
 }
 
-#[test]
-fn members_by_key(rt: HostRuntime) {
-    let alloc = rt.alloc();
-    has_members(
-        &rt,
-        alloc,
-        "{\"a\":1,\"b\":2,\"a\":3}",
-        "Ok([(\"b\", Span { from: 11, to: 12 }), (\"a\", Span { from: 17, to: 18 })])",
-    );
-    has_members(&rt, alloc, "{ }", "Ok([])");
-    has_members(
-        &rt,
-        alloc,
-        "{\"\\u0061\":1,\"a\":2}",
-        "Ok([(\"a\", Span { from: 16, to: 17 })])",
-    );
-    has_members(&rt, alloc, "{\"\\ud800\":1}", "Err(NotJson(1))");
+/// How many members an object has, and the key of the last.
+fn keys(alloc: Global, text: &str) -> Result<String, Fault> {
+    let found = members_of(alloc, text)?;
+    match found.last() {
+        Some((key, _)) => Ok(format!(in alloc; "{} to {key}", found.len())?),
+        None => Ok(String::new(alloc)),
+    }
 }
 
-fn has_items(rt: &impl Abort, alloc: Global, text: &str, items: &str) {
-    assert!(rt; is_debugged(alloc, &items_of(alloc, text), items), "{text}");
+/// How many values a frame has, or items an array.
+fn count(alloc: Global, name: &str, text: &str) -> Result<usize, Fault> {
+    if name == "values" {
+        return Ok(split_frame(alloc, text)?.len());
+    }
+    Ok(items_of(alloc, text)?.len())
 }
 
-#[test]
-fn items_in_order(rt: HostRuntime) {
-    has_items(
-        &rt,
-        rt.alloc(),
-        "[1, {} ,[]]",
-        "Ok([Span { from: 1, to: 2 }, Span { from: 4, to: 6 }, Span { from: 8, to: 10 }])",
-    );
-    has_items(&rt, rt.alloc(), "[\n]", "Ok([])");
+fn shown<T: Debug>(alloc: Global, value: &T) -> Result<String, Fault> {
+    Ok(format!(in alloc; "{value:?}")?)
 }
 
-// A text's compact text is this one.
-pub(super) fn compacts_to(alloc: Global, text: &str, short: &str) -> bool {
-    let Ok(span) = scan(text) else {
+/// What a call of this name answers of a text.
+fn answer(alloc: Global, name: &str, text: &str) -> Result<String, Fault> {
+    match name {
+        "scan" => shown(alloc, &scan(text)?),
+        "members" => shown(alloc, &members_of(alloc, text)?),
+        "values" | "length" => shown(alloc, &count(alloc, name, text)?),
+        "items" => shown(alloc, &items_of(alloc, text)?),
+        "keys" => keys(alloc, text),
+        "read" => text_of(alloc, text),
+        "compact" => compacted(alloc, text),
+        _ => Ok(quote(alloc, text)?),
+    }
+}
+
+/// Whether a call answers this, or why it is refused.
+fn answers(alloc: Global, call: &str, wanted: &str) -> bool {
+    let Some((name, text)) = call.split_once(' ') else {
         return false;
     };
-    match compact(alloc, text, span) {
-        Ok(found) => found.as_str() == short,
+    match answer(alloc, name, text) {
+        Ok(found) => found.as_str() == wanted,
+        Err(fault) => is_told(alloc, fault, wanted),
+    }
+}
+
+fn is_told(alloc: Global, fault: Fault, words: &str) -> bool {
+    match fault.to_string(alloc) {
+        Ok(told) => told.as_str() == words,
         Err(_) => false,
     }
 }
 
-#[test]
-fn compact_texts(rt: HostRuntime) {
-    let alloc = rt.alloc();
-    assert!(rt; compacts_to(alloc, "[ 1.50 , \"x y\" ]", "[1.50,\"x y\"]"));
-    assert!(rt; compacts_to(alloc, "{ \"a\\u0020\" :\t{ } }", "{\"a\\u0020\":{}}"));
-    assert!(rt; compacts_to(alloc, " \" \\\" \" ", "\" \\\" \""));
-    assert!(rt; compacts_to(alloc, "\n1E+05\r", "1E+05"));
-}
-
-// What the scan answers of so many opening brackets between two texts.
-fn scan_nested(alloc: Global, front: &str, depth: usize, back: &str) -> Result<Span, Fault> {
-    match repeated(alloc, front, "[", depth, back) {
-        Some(text) => scan(text.as_str()),
-        None => Err(Fault::Memory),
+fn is_so(alloc: Global, row: &str) -> bool {
+    match sides_of(alloc, row) {
+        Some((call, wanted)) => answers(alloc, call.as_str(), wanted.as_str()),
+        None => false,
     }
 }
 
-// 64 closing brackets.
-const CLOSING: &str = "]]]]]]]]]]]]]]]]]]]]]]]]]]]]]]]]]]]]]]]]]]]]]]]]]]]]]]]]]]]]]]]]";
-
-fn answers(rt: &impl Abort, found: Result<Span, Fault>, wanted: Result<Span, Fault>) {
-    assert!(rt; found == wanted, "{wanted:?}");
-}
-
-#[test]
-fn depths_allowed(rt: HostRuntime) {
-    let alloc = rt.alloc();
-    let whole = Span { from: 0, to: 128 };
-    answers(&rt, scan_nested(alloc, "", 64, CLOSING), Ok(whole));
-    answers(
-        &rt,
-        scan_nested(alloc, "[", 64, CLOSING),
-        Err(Fault::TooDeep(64)),
-    );
-    answers(&rt, scan_nested(alloc, "", 65, ""), Err(Fault::TooDeep(64)));
-    answers(
-        &rt,
-        scan_nested(alloc, "", 65, "}"),
-        Err(Fault::TooDeep(64)),
-    );
-    answers(
-        &rt,
-        scan_nested(alloc, "[}", 65, "}"),
-        Err(Fault::NotJson(1)),
-    );
-}
-
-// The place at which a frame of such a text is too deep.
-fn too_deep_at(alloc: Global, front: &str, depth: usize, back: &str) -> Option<usize> {
-    let text = repeated(alloc, front, "[", depth, back)?;
-    match split_frame(alloc, text.as_str()) {
-        Err(Fault::TooDeep(place)) => Some(place),
-        _ => None,
+fn are_so(rt: &impl Abort, alloc: Global, rows: &str, parted_by: char) {
+    for row in rows.split(parted_by) {
+        assert!(rt; is_so(alloc, row), "{row}");
     }
 }
 
+const ROWS: &str =
+    r#"members {"a":1,"b":2,"a":3} => [("b", Span { from: 11, to: 12 }), ("a", Span { from: 17, to: 18 })]
+members { } => []
+members {"\u0061":1,"a":2} => [("a", Span { from: 16, to: 17 })]
+members {"\ud800":1} => no JSON at byte 1
+items [1, {} ,[]] => [Span { from: 1, to: 2 }, Span { from: 4, to: 6 }, Span { from: 8, to: 10 }]
+compact [ 1.50 , "x y" ] => [1.50,"x y"]
+compact  " \" "  => " \" "
+read  "\u0061b"  => ab
+read "" => 
+read "\"\\\/" => "\/
+read "\u00E9\u20ac" => é€
+read "\uD834\uDD1E" => 𝄞
+read "\u005C\u0022n" => \"n
+read "\ud83d" => no JSON at byte 0
+read "\ud834" => no JSON at byte 0
+read "\ude00" => no JSON at byte 0
+read "\ud83d\u0061" => no JSON at byte 0
+read "\ud83d\ud83d\ude00" => no JSON at byte 0
+read "\ud83d\n" => no JSON at byte 0
+read "\ud83dude00" => no JSON at byte 0
+quote a"b => "a\"b"
+quote  => ""
+quote \/ => "\\/"
+scan *64*[**64*]* => Span { from: 0, to: 128 }
+scan [*64*[**64*]* => nested too deep at byte 64
+scan *65*[* => nested too deep at byte 64
+scan *65*[*} => nested too deep at byte 64
+scan [}*65*[*} => no JSON at byte 1
+values {}*65*[*} => nested too deep at byte 66"#;
+
+/// With white space and other characters that aren't shown.
+const SPACED_ROWS: &str =
+    "items [\n] => []|compact { \"a\\u0020\" :\t{ } } => {\"a\\u0020\":{}}|compact \n1E+05\r => 1E+05|read \"\\b\\f\\n\\r\\t\" => \u{8}\u{c}\n\r\t|quote \u{8}\u{c}\n\r\t => \"\\b\\f\\n\\r\\t\"|quote \0\u{b}\u{1f}  => \"\\u0000\\u000b\\u001f \"|quote \u{7f}é\u{2028}\u{1d11e} => \"\u{7f}é\u{2028}\u{1d11e}\"|read \"*5416*\\u0009\\n\\\"\\/*\" => *5416*\t\n\"/*|quote *5416*\t\n\"/* => \"*5416*\\t\\n\\\"/*\"";
+
 #[test]
-fn depth_in_frame(rt: HostRuntime) {
-    assert!(rt; too_deep_at(rt.alloc(), "{}", 65, "}") == Some(66));
+fn vectors(rt: HostRuntime) {
+    are_so(&rt, rt.alloc(), ROWS, '\n');
+    are_so(&rt, rt.alloc(), SPACED_ROWS, '|');
+    assert!(rt; is_told(rt.alloc(), Fault::Memory, "out of memory"));
+}
+
+/// Texts of up to 65,536 bytes. Of those that are made compact the first becomes shorter; the others are compact already, without a
+/// space and with one in a string.
+const LONG_ROWS: &str = r#"keys {*5999*"k#":1,*"end":1} => 6000 to end
+keys {*5000*"end":1,*"end":2} => 1 to end
+values *32768*{}* => 32768
+length [*999*1, *1] => 1000
+read "*13000*abcde*" => *13000*abcde*
+quote *13000*abcde* => "*13000*abcde*"
+compact [*10922*" " , *12] => [*10922*" ",*12]
+compact [*16000*1,*12] => [*16000*1,*12]
+compact [*16000*" ",*12] => [*16000*" ",*12]"#;
+
+#[test]
+fn long_texts(rt: HostRuntime) {
+    are_so(&rt, rt.alloc(), LONG_ROWS, '\n');
 }

@@ -1,8 +1,5 @@
 //! Frames of commands, among them those that nobody means well by.
-use super::{Sender, are_as_they_stand, are_refused, is_refused, nested, says};
-use cf_protocol::{Data, Epoch, Position, Request, read_commands};
-use std::alloc::Global;
-use std::process::Abort;
+use super::{Sender, are_kept, are_refused};
 
 /// Frames that are written again as they were read.
 const KEPT: &str = r#"// what clients send
@@ -42,7 +39,17 @@ const KEPT: &str = r#"// what clients send
 // null counts as absent
 {"id":1,"publish":{"channel":"a","data":null}}
 // lone surrogates in what is not read
-{"id":1,"publish":{"channel":"a","data":{"\ud800":"\udc00"}}}"#;
+{"id":1,"publish":{"channel":"a","data":{"\ud800":"\udc00"}}}
+// data nest up to 60 deep
+{"id":1,"publish":{"channel":"a","data":[]}}
+{"id":1,"publish":{"channel":"a","data":*59*[**59*]*}}
+{"id":1,"publish":{"channel":"a","data":*60*[**60*]*}}
+// long frames and texts
+*32768*{}*
+*1300*{"id":7,"publish":{"channel":"news","data":[1]}}*
+{"connect":{"token":"*13000*news *"},"id":1}
+{"id":1,"subscribe":{"channel":"*13000*news *"}}
+{"id":1,"publish":{"data":"*13000*news *"}}"#;
 
 /// Frames, and what is written again of each.
 const REWRITTEN: &str = r#"// what clients send, with keys and white space as they like
@@ -113,7 +120,7 @@ const REWRITTEN: &str = r#"// what clients send, with keys and white space as th
 {"id":5,"ping":{},"ping":7} => {"id":5,"ping":{}}
 {"send":1} => {"send":{}}
 {"id":1,"ping":null,"send":"x"} => {"id":1,"send":{}}
-// several commands in a frame"#;
+{"id":1,"history":{"channel":null,"limit":null,"reverse":null,"since":{"epoch":null,"offset":null}}} => {"history":{},"id":1}"#;
 
 /// The same, separated by bars.
 const REWRITTEN_LINES: &str =
@@ -230,138 +237,25 @@ null
 {}12-3
 {"id":1,"connect":{"token":'a'}}
 {"id":1,"connect":{},}
-{id:1,"connect":{}}"#;
+{id:1,"connect":{}}
+{
+{"id
+{"id":1,"conn
+{"id":1,"connect":{
+{"id":1,"connect":{}
+// data that nest too deep for a frame
+{"id":1,"publish":{"channel":"a","data":[[[[[[[[[[[[[[[[[[[[[[[[[[[[[[[[[[[[[[[[[[[[[[[[[[[[[[[[[[[[[[[]]]]]]]]]]]]]]]]]]]]]]]]]]]]]]]]]]]]]]]]]]]]]]]]]]]]]]]]]]]]]]]}}
+{"id":1,"publish":{"channel":"a","data":[[[[[[[[[[[[[[[[[[[[[[[[[[[[[[[[[[[[[[[[[[[[[[[[[[[[[[[[[[[[[[[[]]]]]]]]]]]]]]]]]]]]]]]]]]]]]]]]]]]]]]]]]]]]]]]]]]]]]]]]]]]]]]]]}}
+{"id":1,"publish":{"channel":"a","data":[[[[[[[[[[[[[[[[[[[[[[[[[[[[[[[[[[[[[[[[[[[[[[[[[[[[[[[[[[[[[[[[[]]]]]]]]]]]]]]]]]]]]]]]]]]]]]]]]]]]]]]]]]]]]]]]]]]]]]]]]]]]]]]]]]}}"#;
 
 /// The same, separated by bars.
 const REFUSED_LINES: &str = "| \n\t|\u{feff}{}|{\"id\":1,\"connect\":{\"token\":\"\n\"}}";
 
 #[test]
 fn frames_of_commands(rt: HostRuntime) {
-    are_as_they_stand(&rt, rt.alloc(), Sender::Client, KEPT, '\n');
-    are_as_they_stand(&rt, rt.alloc(), Sender::Client, REWRITTEN, '\n');
-    are_as_they_stand(&rt, rt.alloc(), Sender::Client, REWRITTEN_LINES, '|');
+    are_kept(&rt, rt.alloc(), Sender::Client, KEPT, '\n');
+    are_kept(&rt, rt.alloc(), Sender::Client, REWRITTEN, '\n');
+    are_kept(&rt, rt.alloc(), Sender::Client, REWRITTEN_LINES, '|');
     are_refused(&rt, rt.alloc(), Sender::Client, REFUSED, '\n');
     are_refused(&rt, rt.alloc(), Sender::Client, REFUSED_LINES, '|');
-}
-
-/// Where a subscribe on the channel `news` goes on, or a history on the empty channel with no
-/// limit.
-fn since_of(request: &Request) -> Option<Position> {
-    match request {
-        Request::Subscribe { channel, since } if channel.as_str() == "news" => *since,
-        Request::History {
-            channel,
-            limit: 0,
-            since,
-            reverse: false,
-        } if channel.is_empty() => *since,
-        _ => None,
-    }
-}
-
-/// Whether a frame is one such command, which goes on from this epoch and offset.
-fn goes_on_from(alloc: Global, text: &str, epoch: &str, offset: u64) -> bool {
-    let position = Position {
-        epoch: Epoch::from_text(epoch),
-        offset,
-    };
-    match read_commands(alloc, text) {
-        Ok(commands) => commands.len() == 1 && since_of(&commands[0].request) == Some(position),
-        Err(_) => false,
-    }
-}
-
-const SUBSCRIBE: &str =
-    "{\"id\":5,\"subscribe\":{\"channel\":\"news\",\"epoch\":\"aaaa\",\"offset\":1,\"recover\":true}}";
-
-const HISTORY: &str =
-    "{\"id\":1,\"history\":{\"channel\":null,\"limit\":null,\"reverse\":null,\"since\":{\"epoch\":null,\"offset\":null}}}";
-
-#[test]
-fn positions(rt: HostRuntime) {
-    assert!(rt; goes_on_from(rt.alloc(), SUBSCRIBE, "aaaa", 1));
-    assert!(rt; goes_on_from(rt.alloc(), HISTORY, "", 0));
-}
-
-const PUBLISH: &str = "{\"id\":1,\"publish\":{\"channel\":\"a\",\"data\":";
-
-fn is_too_deep(request: &Request) -> bool {
-    match request {
-        Request::Publish {
-            channel,
-            body: Data::TooDeep,
-            ..
-        } => channel.as_str() == "a",
-        _ => false,
-    }
-}
-
-/// Whether a frame is one publish to the channel `a`, whose data nest too deep.
-fn says_too_deep(alloc: Global, text: &str) -> bool {
-    match read_commands(alloc, text) {
-        Ok(commands) => commands.len() == 1 && is_too_deep(&commands[0].request),
-        Err(_) => false,
-    }
-}
-
-/// What becomes of data that nest so deep.
-#[derive(Clone, Copy, PartialEq, Eq)]
-enum Fate {
-    Kept,
-    TooDeep,
-    Refused,
-}
-
-fn meets(alloc: Global, text: &str, fate: Fate) -> bool {
-    match fate {
-        Fate::Kept => says(alloc, Sender::Client, text, text),
-        Fate::TooDeep => says_too_deep(alloc, text),
-        Fate::Refused => is_refused(alloc, Sender::Client, text),
-    }
-}
-
-/// A publish to the channel `a`, whose data are this many arrays, one in another.
-fn data_meet(alloc: Global, depth: usize, fate: Fate) -> bool {
-    match nested(alloc, PUBLISH, depth, "}}") {
-        Some(text) => meets(alloc, text.as_str(), fate),
-        None => false,
-    }
-}
-
-fn all_meet(rt: &impl Abort, alloc: Global, depths: &[usize], fate: Fate) {
-    for depth in depths {
-        assert!(rt; data_meet(alloc, *depth, fate), "{depth}");
-    }
-}
-
-#[test]
-fn depth_of_data(rt: HostRuntime) {
-    all_meet(&rt, rt.alloc(), &[1, 59, 60], Fate::Kept);
-    all_meet(&rt, rt.alloc(), &[61, 62], Fate::TooDeep);
-    all_meet(&rt, rt.alloc(), &[63, 64, 65], Fate::Refused);
-}
-
-const WHOLE: &str = "{\"id\":1,\"connect\":{}}";
-
-/// Whether the text's beginning of so many bytes is refused.
-fn is_beginning_refused(alloc: Global, text: &str, len: usize) -> bool {
-    match text.split_at_checked(len) {
-        Some((front, _)) => is_refused(alloc, Sender::Client, front),
-        None => false,
-    }
-}
-
-#[test]
-fn prefixes(rt: HostRuntime) {
-    for len in 0..WHOLE.len() {
-        assert!(rt; is_beginning_refused(rt.alloc(), WHOLE, len), "{len}");
-    }
-    assert!(rt;
-        says(
-            rt.alloc(),
-            Sender::Client,
-            WHOLE,
-            "{\"connect\":{},\"id\":1}"
-        )
-    );
 }

@@ -1,7 +1,5 @@
 //! Frames of replies and pushes, among them those that nobody means well by.
-use super::{Sender, are_as_they_stand, are_refused, is_refused, nested, says};
-use std::alloc::Global;
-use std::process::Abort;
+use super::{Sender, are_kept, are_refused};
 
 /// Frames that are written again as they were read.
 const KEPT: &str = r#"// what the server sends
@@ -38,7 +36,17 @@ const KEPT: &str = r#"// what the server sends
 {"history":{"offset":18446744073709551615},"id":1}
 {"id":1,"presence_stats":{"num_clients":18446744073709551615,"num_users":18446744073709551615}}
 // lone surrogates in what is not read
-{"push":{"channel":"a","pub":{"data":{"\ud800":"\udc00"}}}}"#;
+{"push":{"channel":"a","pub":{"data":{"\ud800":"\udc00"}}}}
+// data nest up to 61 deep in a push, and 60 in a history
+{"push":{"channel":"a","pub":{"data":*61*[**61*]*}}}
+{"history":{"publications":[{"data":*60*[**60*]*}]},"id":1}
+// long frames and texts
+*32768*{}*
+*1500*{"push":{"channel":"a","pub":{"data":1}}}*
+{"id":2,"subscribe":{"epoch":"aaaa","offset":300,"positioned":true,"publications":[*299*{"data":{"t":1},"info":{"client":"0-1-1","user":"ann"},"offset":1},*{"data":1}],"recoverable":true,"recovered":true,"was_recovering":true}}
+{"push":{"channel":"*13000*news *","pub":{"data":1}}}
+{"push":{"pub":{"data":"*13000*news *"}}}
+{"id":6,"presence":{"presence":{*1000*"0-1-#":{"client":"0-1-#","user":"user#"},*"1":{"client":"1"}}}}"#;
 
 /// Frames, and what is written again of each.
 const REWRITTEN: &str = r#"// several in a frame; a push of a kind that is not known is passed over
@@ -76,7 +84,35 @@ const REWRITTEN: &str = r#"// several in a frame; a push of a kind that is not k
 {"id":1,"ping":{"x":"\ud800"},"y":{"\ud800":1}} => {"id":1,"ping":{}}
 {"id":1,"error":{"code":5,"message":"\ud800"}} => {"error":{"code":5},"id":1}
 // an info without members
-{"push":{"channel":"a","pub":{"data":1,"info":{}}}} => {"push":{"channel":"a","pub":{"data":1}}}"#;
+{"push":{"channel":"a","pub":{"data":1,"info":{}}}} => {"push":{"channel":"a","pub":{"data":1}}}
+// one result: whatever unknown member stands beside it, another that is null, or the same before it
+{"id":1,"error":{"code":5},"rpc":{}} => {"error":{"code":5},"id":1}
+{"id":1,"error":{"code":5},"connect":null} => {"error":{"code":5},"id":1}
+{"id":1,"error":{"code":5},"error":{"code":5}} => {"error":{"code":5},"id":1}
+{"id":1,"connect":{},"rpc":{}} => {"connect":{"ping":25,"pong":true,"version":"1.0.0"},"id":1}
+{"id":1,"connect":{},"subscribe":null} => {"connect":{"ping":25,"pong":true,"version":"1.0.0"},"id":1}
+{"id":1,"connect":{},"connect":{}} => {"connect":{"ping":25,"pong":true,"version":"1.0.0"},"id":1}
+{"id":1,"subscribe":{},"rpc":{}} => {"id":1,"subscribe":{"positioned":true,"recoverable":true}}
+{"id":1,"subscribe":{},"unsubscribe":null} => {"id":1,"subscribe":{"positioned":true,"recoverable":true}}
+{"id":1,"subscribe":{},"subscribe":{}} => {"id":1,"subscribe":{"positioned":true,"recoverable":true}}
+{"id":1,"unsubscribe":{},"rpc":{}} => {"id":1,"unsubscribe":{}}
+{"id":1,"unsubscribe":{},"publish":null} => {"id":1,"unsubscribe":{}}
+{"id":1,"unsubscribe":{},"unsubscribe":{}} => {"id":1,"unsubscribe":{}}
+{"id":1,"publish":{},"rpc":{}} => {"id":1,"publish":{}}
+{"id":1,"publish":{},"presence":null} => {"id":1,"publish":{}}
+{"id":1,"publish":{},"publish":{}} => {"id":1,"publish":{}}
+{"id":1,"presence":{},"rpc":{}} => {"id":1,"presence":{}}
+{"id":1,"presence":{},"presence_stats":null} => {"id":1,"presence":{}}
+{"id":1,"presence":{},"presence":{}} => {"id":1,"presence":{}}
+{"id":1,"presence_stats":{},"rpc":{}} => {"id":1,"presence_stats":{}}
+{"id":1,"presence_stats":{},"history":null} => {"id":1,"presence_stats":{}}
+{"id":1,"presence_stats":{},"presence_stats":{}} => {"id":1,"presence_stats":{}}
+{"id":1,"history":{},"rpc":{}} => {"history":{},"id":1}
+{"id":1,"history":{},"ping":null} => {"history":{},"id":1}
+{"id":1,"history":{},"history":{}} => {"history":{},"id":1}
+{"id":1,"ping":{},"rpc":{}} => {"id":1,"ping":{}}
+{"id":1,"ping":{},"error":null} => {"id":1,"ping":{}}
+{"id":1,"ping":{},"ping":{}} => {"id":1,"ping":{}}"#;
 
 /// Frames that are unreadable.
 const REFUSED: &str = r#"// no reply
@@ -170,13 +206,44 @@ null
 {"push":{"channel":"\ud800","pub":{"data":1}}}
 {"push":{"channel":"a","\ud800":1}}
 {"push":{"channel":"a","pub":{"data":1,"\ud800":1}}}
-{"push":{"channel":"a","unsubscribe":{"code":1,"\ud800":1}}}"#;
+{"push":{"channel":"a","unsubscribe":{"code":1,"\ud800":1}}}
+// two results, and none
+{"id":1,"error":{"code":5},"connect":{}}
+{"id":1,"error":{"code":5},"error":null}
+{"id":1,"x":{},"error":1}
+{"id":1,"connect":{},"subscribe":{}}
+{"id":1,"connect":{},"connect":null}
+{"id":1,"x":{},"connect":"a"}
+{"id":1,"subscribe":{},"unsubscribe":{}}
+{"id":1,"subscribe":{},"subscribe":null}
+{"id":1,"x":{},"subscribe":true}
+{"id":1,"unsubscribe":{},"publish":{}}
+{"id":1,"unsubscribe":{},"unsubscribe":null}
+{"id":1,"x":{},"unsubscribe":[]}
+{"id":1,"publish":{},"presence":{}}
+{"id":1,"publish":{},"publish":null}
+{"id":1,"x":{},"publish":null}
+{"id":1,"presence":{},"presence_stats":{}}
+{"id":1,"presence":{},"presence":null}
+{"id":1,"x":{},"presence":1}
+{"id":1,"presence_stats":{},"history":{}}
+{"id":1,"presence_stats":{},"presence_stats":null}
+{"id":1,"x":{},"presence_stats":"a"}
+{"id":1,"history":{},"ping":{}}
+{"id":1,"history":{},"history":null}
+{"id":1,"x":{},"history":true}
+{"id":1,"ping":{},"error":{"code":5}}
+{"id":1,"ping":{},"ping":null}
+{"id":1,"x":{},"ping":[]}
+// data that nest too deep
+{"push":{"channel":"a","pub":{"data":[[[[[[[[[[[[[[[[[[[[[[[[[[[[[[[[[[[[[[[[[[[[[[[[[[[[[[[[[[[[[[]]]]]]]]]]]]]]]]]]]]]]]]]]]]]]]]]]]]]]]]]]]]]]]]]]]]]]]]]]]]]]}}}
+{"history":{"publications":[{"data":[[[[[[[[[[[[[[[[[[[[[[[[[[[[[[[[[[[[[[[[[[[[[[[[[[[[[[[[[[[[[]]]]]]]]]]]]]]]]]]]]]]]]]]]]]]]]]]]]]]]]]]]]]]]]]]]]]]]]]]]]]}]},"id":1}"#;
 
 #[test]
 fn frames_of_replies(rt: HostRuntime) {
-    are_as_they_stand(&rt, rt.alloc(), Sender::Server, KEPT, '\n');
-    are_as_they_stand(&rt, rt.alloc(), Sender::Server, REWRITTEN, '\n');
-    are_as_they_stand(
+    are_kept(&rt, rt.alloc(), Sender::Server, KEPT, '\n');
+    are_kept(&rt, rt.alloc(), Sender::Server, REWRITTEN, '\n');
+    are_kept(
         &rt,
         rt.alloc(),
         Sender::Server,
@@ -185,116 +252,4 @@ fn frames_of_replies(rt: HostRuntime) {
     );
     are_refused(&rt, rt.alloc(), Sender::Server, REFUSED, '\n');
     are_refused(&rt, rt.alloc(), Sender::Server, "| ", '|');
-}
-
-/// Each member of which a reply has exactly one, and the text that is written again of a reply with
-/// it.
-const RESULTS: &str = r#""error":{"code":5} => {"error":{"code":5},"id":1}
-"connect":{} => {"connect":{"ping":25,"pong":true,"version":"1.0.0"},"id":1}
-"subscribe":{} => {"id":1,"subscribe":{"positioned":true,"recoverable":true}}
-"unsubscribe":{} => {"id":1,"unsubscribe":{}}
-"publish":{} => {"id":1,"publish":{}}
-"presence":{} => {"id":1,"presence":{}}
-"presence_stats":{} => {"id":1,"presence_stats":{}}
-"history":{} => {"history":{},"id":1}
-"ping":{} => {"id":1,"ping":{}}"#;
-
-/// A reply with id 1 and these two members.
-fn reply_of(alloc: Global, first: &str, second: &str) -> Option<String> {
-    format!(in alloc; "{{\"id\":1,{first},{second}}}").ok()
-}
-
-/// Whether a reply with these two members is written again as this text, or refused where there is
-/// none.
-fn is_reply(alloc: Global, first: &str, second: &str, again: Option<&str>) -> bool {
-    match (reply_of(alloc, first, second), again) {
-        (Some(text), Some(again)) => says(alloc, Sender::Server, text.as_str(), again),
-        (Some(text), None) => is_refused(alloc, Sender::Server, text.as_str()),
-        (None, _) => false,
-    }
-}
-
-/// Whether a member with this value in the place of its own counts as it should beside another.
-fn counts_with(alloc: Global, member: &str, again: Option<&str>, other: &str, value: &str) -> bool {
-    let Some((key, _)) = other.split_once(':') else {
-        return false;
-    };
-    match format!(in alloc; "{key}:{value}") {
-        Ok(second) => is_reply(alloc, member, second.as_str(), again),
-        Err(_) => false,
-    }
-}
-
-/// A reply with two results is refused, and one that stands twice is read as the second, which
-/// `null` makes absent.
-fn stands_beside(alloc: Global, row: &str, other_row: &str) -> bool {
-    match (row.split_once(" => "), other_row.split_once(" => ")) {
-        (Some((member, again)), Some((other, _))) => {
-            let is_same = member == other;
-            is_reply(
-                alloc,
-                member,
-                other,
-                if is_same { Some(again) } else { None },
-            ) && counts_with(
-                alloc,
-                member,
-                if is_same { None } else { Some(again) },
-                other,
-                "null",
-            )
-        }
-        _ => false,
-    }
-}
-
-fn stands_beside_each(rt: &impl Abort, alloc: Global, row: &str) {
-    for other in RESULTS.split('\n') {
-        assert!(rt; stands_beside(alloc, row, other), "{row} {other}");
-    }
-}
-
-/// A member is an object, whatever unknown one stands beside it.
-fn is_object(alloc: Global, row: &str) -> bool {
-    let Some((member, again)) = row.split_once(" => ") else {
-        return false;
-    };
-    is_reply(alloc, member, "\"rpc\":{}", Some(again))
-        && ["1", "\"a\"", "true", "[]", "null"].iter().all(|wrong| counts_with(
-            alloc, "\"x\":{}", None, member, wrong,
-        ))
-}
-
-#[test]
-fn one_result_key(rt: HostRuntime) {
-    for row in RESULTS.split('\n') {
-        stands_beside_each(&rt, rt.alloc(), row);
-        assert!(rt; is_object(rt.alloc(), row), "{row}");
-    }
-}
-
-/// Whether a frame with this many arrays, one in another, between two texts is kept, and one with
-/// an array more refused.
-fn is_deepest(alloc: Global, front: &str, depth: usize, back: &str) -> bool {
-    let more = depth.saturating_add(1);
-    match (
-        nested(alloc, front, depth, back),
-        nested(alloc, front, more, back),
-    ) {
-        (Some(kept), Some(refused)) => {
-            says(alloc, Sender::Server, kept.as_str(), kept.as_str())
-                && is_refused(alloc, Sender::Server, refused.as_str())
-        }
-        _ => false,
-    }
-}
-
-const PUSH: &str = "{\"push\":{\"channel\":\"a\",\"pub\":{\"data\":";
-
-const HISTORY: &str = "{\"history\":{\"publications\":[{\"data\":";
-
-#[test]
-fn depth_of_replies(rt: HostRuntime) {
-    assert!(rt; is_deepest(rt.alloc(), PUSH, 61, "}}}"));
-    assert!(rt; is_deepest(rt.alloc(), HISTORY, 60, "}]},\"id\":1}"));
 }
