@@ -5,7 +5,10 @@ mod lines;
 mod losses;
 mod nodes;
 mod peer;
+mod runs;
+mod schedules;
 mod script;
+mod simulation;
 mod together;
 
 use cf_commands::{

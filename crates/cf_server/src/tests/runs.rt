@@ -1,5 +1,6 @@
 //! A run of events, by the calls of `cf_schedule`.
-use crate::simulation::{DEFAULTS, config_of};
+use super::DEFAULTS;
+use cf_commands::config_of;
 use cf_schedule::{Event, fresh, run};
 use std::alloc::Global;
 
@@ -14,7 +15,7 @@ fn events_of(alloc: Global, lines: &str) -> Option<Vec<Event>> {
 
 /// How many entries the trace of a run has, and whether no epoch comes twice.
 fn traced(alloc: Global, lines: &str) -> Option<(usize, bool)> {
-    let config = config_of(alloc, DEFAULTS)?;
+    let config = config_of(alloc, DEFAULTS).ok()?;
     let events = events_of(alloc, lines)?;
     let trace = run(alloc, &config, events.as_slice()).ok()?;
     Some((trace.entries.len(), fresh(events.as_slice())))

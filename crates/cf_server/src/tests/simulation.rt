@@ -1,37 +1,13 @@
 //! One simulation: what it writes, or what is said of it.
 ghost use Rattle.std.specs.Prelude.{◌≤◌, length, IfOk};
 
-use cf_protocol::read_namespaces;
+use super::DEFAULTS;
+use cf_commands::{Options, config_of, simulate};
 use cf_schedule::Config;
-use cf_simulate::{SimulateFault, simulate};
+use cf_simulate::SimulateFault;
 use std::alloc::Global;
 use std::io;
 use std::io::{Read, Write};
-
-/// What a simulation runs with.
-#[derive(Clone, Copy)]
-pub(crate) struct Options<'a> {
-    pub(crate) nodes: u8,
-    pub(crate) namespaces: &'a str,
-    pub(crate) explains: bool,
-}
-
-pub(crate) const DEFAULTS: Options<'static> = Options {
-    nodes: 1,
-    namespaces: "=100,300,phs",
-    explains: false,
-};
-
-pub(crate) fn config_of(alloc: Global, options: Options<'_>) -> Option<Config> {
-    let nodes = options.nodes;
-    if nodes < 1 || nodes > 8 {
-        return None;
-    }
-    match read_namespaces(alloc, options.namespaces) {
-        Ok(namespaces) => Some(Config { nodes, namespaces }),
-        Err(_) => None,
-    }
-}
 
 /// Whether a run ends well, where no words are wanted, or stops with this status and these words.
 fn ends(alloc: Global, done: &Result<(), SimulateFault>, status: u8, words: &str) -> bool {
@@ -50,13 +26,13 @@ fn is_told(alloc: Global, fault: &SimulateFault, words: &str) -> bool {
 
 /// Whether a schedule runs to its end and writes these lines; or, where there are words, it can't be used, writes no more than these
 /// lines, and the words are said.
-pub(crate) fn is_so(
+pub(super) fn is_so(
     alloc: Global,
     options: Options<'_>,
     input: &[u8],
     (lines, words): (&str, &str),
 ) -> bool {
-    let Some(config) = config_of(alloc, options) else {
+    let Ok(config) = config_of(alloc, options) else {
         return false;
     };
     let mut reader = input;
@@ -240,7 +216,7 @@ fn leaves(alloc: Global, config: &Config, manner: Manner, lines: &str, words: &s
 
 #[test]
 fn awkward_writers(rt: HostRuntime) {
-    let config = config_of(rt.alloc(), DEFAULTS).expect(&rt, "namespaces");
+    let config = config_of(rt.alloc(), DEFAULTS).expect(&rt, "settings");
     for (manner, lines, words) in [
         (Manner::FailsAtFlush, FIRST_LINES, FAILED),
         (Manner::TakesNothing, "", FAILED),
@@ -257,7 +233,7 @@ fn awkward_writers(rt: HostRuntime) {
 
 #[test]
 fn failed_input(rt: HostRuntime) {
-    let config = config_of(rt.alloc(), DEFAULTS).expect(&rt, "namespaces");
+    let config = config_of(rt.alloc(), DEFAULTS).expect(&rt, "settings");
     let mut writer = Vec::new(rt.alloc());
     let done = simulate(rt.alloc(), &mut Failing, &mut writer, &config, false);
     assert!(rt; ends(rt.alloc(), &done, 4, FAILED));

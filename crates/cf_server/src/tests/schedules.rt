@@ -1,6 +1,7 @@
 //! Schedules beside what they print, or what is said of them. In a schedule ` / ` ends a line too, and `*COUNT*PIECE*` is that
 //! many pieces.
-use crate::simulation::{Options, is_so};
+use super::simulation::is_so;
+use cf_commands::Options;
 use std::alloc::Global;
 use std::process::Abort;
 
