@@ -6,27 +6,49 @@ use std::thread;
 use std::thread::Threads;
 use std::time::{Clock, Duration, Instant};
 
+/// What comes of a step at the two ends of a link: an item or `none`, how many wait, or whether it was sent.
+fn came_of<R: Wait + Clock>(
+    rt: &R,
+    alloc: Global,
+    sender: &mut Sender<u32>,
+    receiver: &mut Receiver<u32>,
+    step: &str,
+) -> Option<String> {
+    let item = match step {
+        "receive" => receiver.receive(rt),
+        "receive within a millisecond" => receiver.receive_within(rt, Duration::from_millis(1)),
+        "waiting" => return sender.waiting(rt).to_string(alloc).ok(),
+        _ => {
+            let is_sent = sender.send(rt, step.parse::<u32>().unwrap_or(0)).is_ok();
+            return String::from_str(alloc, if is_sent { "sent" } else { "full" }).ok();
+        }
+    };
+    match item {
+        Some(item) => item.to_string(alloc).ok(),
+        None => String::from_str(alloc, "none").ok(),
+    }
+}
+
+/// A number is an item that is sent.
+const STEPS: &str = "waiting => 0
+7 => sent
+waiting => 1
+8 => full
+receive => 7
+waiting => 0
+receive => none
+receive within a millisecond => none
+9 => sent
+receive within a millisecond => 9";
+
 #[test]
 fn one_place(rt: HostRuntime) -> Result<(), Fail> {
     let (mut sender, mut receiver) = pair(rt.alloc(), 1)?;
-    assert_eq!(rt; sender.waiting(&rt), 0);
-    assert_eq!(rt; sender.send(&rt, 7u32), Ok(()));
-    assert_eq!(rt; sender.waiting(&rt), 1);
-    assert_eq!(rt; sender.send(&rt, 8), Err(8));
-    assert_eq!(rt; receiver.receive(&rt), Some(7));
-    assert_eq!(rt; sender.waiting(&rt), 0);
-    assert_eq!(rt; receiver.receive(&rt), None);
-    assert_eq!(rt; settle(&rt, sender, receiver), 0);
-    Ok(())
-}
-
-#[test]
-fn one_is_left(rt: HostRuntime) -> Result<(), Fail> {
-    let (mut sender, mut receiver) = pair(rt.alloc(), 1)?;
-    assert_eq!(rt; sender.send(&rt, 7u32), Ok(()));
-    assert_eq!(rt; receiver.receive(&rt), Some(7));
-    assert_eq!(rt; sender.send(&rt, 9), Ok(()));
-    assert_eq!(rt; settle(&rt, sender, receiver), 1);
+    for row in STEPS.lines() {
+        let (step, wanted) = row.split_once(" => ").unwrap_or((row, ""));
+        let came = came_of(&rt, rt.alloc(), &mut sender, &mut receiver, step);
+        assert!(rt; came.is_some_and(|it| it.as_str() == wanted), "{row}");
+    }
     Ok(())
 }
 
@@ -41,21 +63,6 @@ fn send_all(rt: &impl Wait, sender: &mut Sender<u32>, count: u32) {
             thread::yield_now();
         }
     }
-}
-
-#[test]
-fn none_within(rt: HostRuntime) -> Result<(), Fail> {
-    let (mut sender, mut receiver) = pair(rt.alloc(), 1)?;
-    assert_eq!(rt;
-        receiver.receive_within(&rt, Duration::from_millis(1)),
-        None
-    );
-    assert_eq!(rt; sender.send(&rt, 7u32), Ok(()));
-    assert_eq!(rt;
-        receiver.receive_within(&rt, Duration::from_millis(1)),
-        Some(7)
-    );
-    Ok(())
 }
 
 /// What comes over a link, waited for at most three times for five seconds.
@@ -100,35 +107,38 @@ fn woken_by_a_send(rt: HostRuntime) -> Result<(), Fail> {
     Ok(())
 }
 
-/// What a receiver was told to have been sent it gets, before it gets nothing.
+/// What a receiver was told to have been sent it gets; what is left at the end was sent and not received.
 #[test]
-fn told_and_received(rt: HostRuntime) -> Result<(), Fail> {
+fn told_and_left(rt: HostRuntime) -> Result<(), Fail> {
     let (mut sender, mut receiver) = pair(rt.alloc(), 2)?;
     assert_eq!(rt; sender.send(&rt, 7u32), Ok(()));
     receiver.hear(sender.tell());
     assert_eq!(rt; receiver.receive(&rt), Some(7));
-    assert_eq!(rt; receiver.receive(&rt), None);
     sender.hear(receiver.tell());
     assert_eq!(rt; sender.send(&rt, 8), Ok(()));
-    assert_eq!(rt; sender.send(&rt, 9), Ok(()));
-    assert_eq!(rt; sender.send(&rt, 10), Err(10));
+    assert_eq!(rt; settle(&rt, sender, receiver), 1);
     Ok(())
 }
 
-/// A receiver that would sleep for an hour is woken for each of a thousand items.
+/// The next item, for which a receiver would sleep for an hour at a time.
+fn wait_for<R: Wait + Clock>(rt: &R, receiver: &mut Receiver<u32>) -> Option<u32> {
+    for _ in rt.forever() {
+        if let Some(item) = receiver.receive_within(rt, Duration::from_secs(3600)) {
+            return Some(item);
+        }
+    }
+    None
+}
+
+/// It is woken for each of a thousand items.
 #[test]
 fn between_two_threads(rt: HostRuntime) -> Result<(), Fail> {
     let (mut sender, mut receiver) = pair(rt.alloc(), 1)?;
     let child = thread::spawn(&rt, move || send_all(&rt, &mut sender, 1000))?;
     for number in 0..1000 {
-        for _ in rt.forever() {
-            if let Some(item) = receiver.receive_within(&rt, Duration::from_secs(3600)) {
-                assert_eq!(rt; item, number);
-                break;
-            }
-        }
+        assert!(rt; wait_for(&rt, &mut receiver) == Some(number));
     }
     child.join(&rt);
-    assert_eq!(rt; receiver.receive(&rt), None);
+    assert!(rt; receiver.receive(&rt).is_none());
     Ok(())
 }

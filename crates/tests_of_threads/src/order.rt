@@ -1,67 +1,11 @@
-ghost use Rattle.std.specs.Prelude.{◌≡◌, ◌<◌, ◌+◌, ◌^◌, [], length};
+ghost use Rattle.std.specs.Prelude.{◌≡◌};
 
 use cf_order::{Entry, NamedOwner, Naming, Owner, Pass, ShardWord, publish_both};
-use cf_protocol::Epoch;
 use std::marker::Brand;
 use std::process::Abort;
 use std::sync::{Mutex, Wait};
 use std::test::Fail;
 use std::thread::{Threads, join};
-
-/// Opens a channel and publishes to it, and gives owner and pass back.
-fn opened(word: &ShardWord, mut owner: Owner, mut pass: Pass) -> (Owner, Pass)
-    requires owner { (owner.word ≡ word.now) × (owner.log ≡ []) }
-    requires pass { pass.word ≡ word.now }
-    ensures owner { result.0.word ≡ word.now }
-    ensures pass { result.1.word ≡ word.now }
-{
-    word.append(
-        &mut owner,
-        &mut pass,
-        &Entry::Opened("news", Epoch::from_text("aaaa")),
-    );
-    word.append(
-        &mut owner,
-        &mut pass,
-        &Entry::Published("news", "k", "1", Some(("ann", "n0-1"))),
-    );
-    (owner, pass)
-}
-
-/// The same in a thread of its own.
-fn opened_there(rt: &impl Threads, word: &ShardWord, owner: Owner, lent: Pass) -> (Owner, Pass)
-    requires owner { (owner.word ≡ word.now) × (owner.log ≡ []) }
-    requires pass { lent.word ≡ word.now }
-    ensures owner { result.0.word ≡ word.now }
-    ensures pass { result.1.word ≡ word.now }
-{
-    let (made, ()) = join(
-        rt,
-        || -> (Owner, Pass)
-            requires { (owner.word ≡ word.now) × (owner.log ≡ []) × (lent.word ≡ word.now) }
-            ensures { (result.0.word ≡ word.entry.now) × (result.1.word ≡ word.entry.now) }
-        { opened(word, owner, lent) },
-        || (),
-    );
-    made
-}
-
-/// A pass is lent to a thread, which appends under it and hands it back: it is met, and then joined.
-#[test]
-fn pass_handed_over(rt: HostRuntime) -> Result<(), Fail> {
-    let (word, owner, mut pass) = ShardWord::new(rt.alloc())?;
-    let lent = word.lend(&mut pass);
-    let (mut owner, mut lent) = opened_there(&rt, &word, owner, lent);
-    assert_eq!(&rt; owner.count(), 2);
-    assert_eq!(&rt; (pass.share(), lent.share()), (0, 1));
-    assert_eq!(&rt; word.look(&mut pass), 2);
-    word.meet(&mut pass, &mut lent);
-    assert_eq!(&rt; (pass.share(), lent.share()), (0, 1));
-    word.follow(&mut owner, &mut lent);
-    word.join(&mut pass, lent);
-    assert_eq!(&rt; (pass.share(), word.look(&mut pass)), (1, 2));
-    Ok(())
-}
 
 /// Publishes 100 times.
 fn publish_often<N: Naming, R: Wait>(

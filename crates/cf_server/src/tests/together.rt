@@ -45,12 +45,12 @@ where
     let _ = node.run(rt, broker, passes, hand, stop);
 }
 
-// Runs two nodes while the task is done, after which they are to stop.
-fn run_two<N, R, T>(
+// Runs nodes while the task is done, after which they are to stop.
+fn run_all<N, R, T>(
     rt: &R,
     broker: &Broker<N, BootEpochs>,
     hand: &Hand,
-    nodes: (Ready<'_, N>, Ready<'_, N>),
+    nodes: Vec<Ready<'_, N>>,
     task: &T,
     addresses: (SocketAddr, SocketAddr),
 )
@@ -59,13 +59,12 @@ where
     R: Threads + Wait + Clock + Net + Abort + AllocGlobal + Sync,
     T: Task,
 {
-    let (ours, theirs) = nodes;
     let stop = AtomicU64::new(0);
     let stop = &stop;
     thread::scope(thread::scope_env(), rt, |scope| {
-        let ours = scope.spawn(move || serve(rt, broker, hand, ours, stop));
-        let theirs = scope.spawn(move || serve(rt, broker, hand, theirs, stop));
-        assert!(rt; ours.is_ok() && theirs.is_ok());
+        for ready in nodes {
+            let _ = scope.spawn(move || serve(rt, broker, hand, ready, stop));
+        }
         task.run(rt, hand, addresses);
         stop.store(1, Ordering::SeqCst);
     });
@@ -102,8 +101,9 @@ where
     let senders = Vec::from_array(rt.alloc(), [to_ours, to_theirs]).expect(rt, "memory");
     let (broker, lent, passes) = broker_to::<N, R>(rt, words, settings, senders);
     let broker = &*broker;
-    let nodes = ((ours, lent), (theirs, passes));
-    run_two(rt, broker, hand, nodes, task, (first, second));
+    let nodes = Vec::from_array(rt.alloc(), [(ours, lent), (theirs, passes)]);
+    let nodes = nodes.expect(rt, "memory");
+    run_all(rt, broker, hand, nodes, task, (first, second));
     assert!(rt; hand.have_met());
     broker.lost(0).saturating_add(broker.lost(1))
 }

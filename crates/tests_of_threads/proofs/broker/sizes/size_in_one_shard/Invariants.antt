@@ -1,6 +1,0 @@
-use Rattle.cf_broker.specs.Shards.{by_number}
-use Rattle.tests_of_threads.proofs.broker.sizes.size_in_one_shard.Given as goal
-
--- the words that were just made, and the namespaces that were read
-abbrev pub ghosts-shrunk : goal.ghosts-shrunk
-ghosts-shrunk g a = record { words = by_number a.words; namespaces = a.namespaces.now }

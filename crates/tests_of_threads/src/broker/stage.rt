@@ -1,0 +1,314 @@
+//! A broker with two links, who calls it, and the rows that are played on it.
+ghost use Rattle.std.specs.Prelude.{◌≡◌, ◌<◌};
+ghost use Rattle.cf_broker.specs.Shards.{names};
+
+use super::calls::{call, next_over};
+use cf_broker::{Broker, Passes, Words, shard_of};
+use cf_link::{Receiver, Sender, pair};
+use cf_protocol::{Epoch, Namespaces, read_namespaces};
+use cf_shard::{Delivery, Naming};
+use cf_stream::Epochs;
+use std::alloc::Global;
+use std::process::Abort;
+use std::sync::Wait;
+use std::sync::atomic::{AtomicU64, Ordering};
+use std::thread;
+use std::thread::Threads;
+
+/// A flag for each of two threads.
+#[derive(Drop)]
+pub(super) struct Flags {
+    first: AtomicU64,
+    second: AtomicU64,
+}
+
+impl Flags {
+    pub(super) fn new() -> Flags {
+        Flags {
+            first: AtomicU64::new(0),
+            second: AtomicU64::new(0),
+        }
+    }
+
+    /// These rows. In those of `two_shards` the epochs of shard 2 and those of the others wait for one another.
+    pub(super) fn part<'a>(&'a self, rows: &'a str) -> Part<'a> {
+        let mut epochs = [Draws::Alone; 16];
+        if rows.starts_with("# two_shards") {
+            epochs = [Draws::Meeting {
+                mine: &self.first,
+                other: &self.second,
+            }; 16];
+            epochs[2] = Draws::Meeting {
+                mine: &self.second,
+                other: &self.first,
+            };
+        }
+        Part { epochs, rows }
+    }
+}
+
+/// Rows, and the epochs of the shards of the broker on which they are played.
+#[derive(Drop)]
+pub(super) struct Part<'a> {
+    epochs: [Draws<'a>; 16],
+    rows: &'a str,
+}
+
+/// The epoch `aaaa`, again and again.
+#[derive(Clone, Copy)]
+pub(super) enum Draws<'d> {
+    Alone,
+    /// It is drawn only once another thread draws one too.
+    Meeting {
+        mine: &'d AtomicU64,
+        other: &'d AtomicU64,
+    },
+}
+
+impl<'d> Epochs for Draws<'d> {
+    ghost use Rattle.std.specs.Prelude.{⊤};
+
+    ghost draws = { λ old r new. ⊤ };
+
+    fn draw(&mut self) -> Option<Epoch> {
+        let Draws::Meeting { mine, other } = *self else {
+            return Some(Epoch::from_text("aaaa"));
+        };
+        mine.store(1, Ordering::SeqCst);
+        for _ in 0..100_000_000 {
+            if other.load(Ordering::SeqCst) == 1 {
+                return Some(Epoch::from_text("aaaa"));
+            }
+            thread::yield_now();
+        }
+        None
+    }
+}
+
+/// What is called.
+#[derive(Drop)]
+pub(super) struct Stage<'a, 'd, N: Naming> {
+    pub(super) alloc: Global,
+    pub(super) broker: &'a Broker<N, Draws<'d>>,
+    pub(super) namespaces: &'a Namespaces,
+    ghost named: { namespaces.now ≡ N.namespaces },
+}
+
+/// Who calls it, and at which moment.
+#[derive(Drop)]
+pub(super) struct Caller<N: Naming> {
+    pub(super) passes: Passes<N>,
+    pub(super) now: u64,
+}
+
+/// Ours and theirs, and the ends of the links that receive.
+#[derive(Drop)]
+struct Cast<N: Naming> {
+    ours: Caller<N>,
+    theirs: Caller<N>,
+    links: Vec<Receiver<Delivery>>,
+}
+
+/// Whether a step is so: what stands behind its arrow comes of it, or where there is none `done`.
+fn is_so<N: Naming, R: Wait>(
+    rt: &R,
+    stage: &Stage<'_, '_, N>,
+    caller: &mut Caller<N>,
+    row: &str,
+) -> bool {
+    let (step, wanted) = row.split_once(" => ").unwrap_or((row, "done"));
+    match call(rt, stage, caller, step) {
+        Some(came) => came.as_str() == wanted,
+        None => false,
+    }
+}
+
+/// Whether two steps are so that are taken at once, the second by another thread.
+fn are_both<N: Naming + Send + Sync, R: Threads + Wait + Sync>(
+    rt: &R,
+    stage: &Stage<'_, '_, N>,
+    ours: &mut Caller<N>,
+    theirs: &mut Caller<N>,
+    rows: &str,
+) -> bool {
+    let (our_row, their_row) = rows.split_once(" | ").unwrap_or((rows, ""));
+    let (our, their) = thread::join(
+        rt,
+        || is_so(rt, stage, ours, our_row),
+        || is_so(rt, stage, theirs, their_row),
+    );
+    our && their
+}
+
+/// Both passes of a channel's shard have seen what either has.
+fn meet<N: Naming>(
+    stage: &Stage<'_, '_, N>,
+    ours: &mut Passes<N>,
+    theirs: &mut Passes<N>,
+    channel: &str,
+) {
+    let shard = shard_of(channel);
+    let mut our = ours.take(stage.broker, shard);
+    let mut their = theirs.take(stage.broker, shard);
+    stage.broker.word(shard).meet(&mut our, &mut their);
+    ours.put(shard, our);
+    theirs.put(shard, their);
+}
+
+/// Our pass of a channel's shard takes theirs in.
+fn join<N: Naming>(
+    stage: &Stage<'_, '_, N>,
+    ours: &mut Passes<N>,
+    theirs: &mut Passes<N>,
+    channel: &str,
+) {
+    let shard = shard_of(channel);
+    let mut our = ours.take(stage.broker, shard);
+    let their = theirs.take(stage.broker, shard);
+    stage.broker.word(shard).join(&mut our, their);
+    ours.put(shard, our);
+}
+
+/// `receive I`: what comes next over the link to node I; `lost I`: how much that node lost; `crowded I`: whether any is behind.
+fn offered<N: Naming, R: Wait>(
+    rt: &R,
+    stage: &Stage<'_, '_, N>,
+    links: &mut [Receiver<Delivery>],
+    asked: &str,
+) -> Option<String> {
+    let (name, node) = asked.split_once(' ')?;
+    let node = node.parse::<usize>().unwrap_or(0);
+    match name {
+        "lost" => stage.broker.lost(node).to_string(stage.alloc).ok(),
+        "crowded" => stage.broker.is_crowded(rt).to_string(stage.alloc).ok(),
+        _ => next_over(rt, stage.alloc, links.get_mut(node)?),
+    }
+}
+
+/// Whether that is as the row says.
+fn is_offered<N: Naming, R: Wait>(
+    rt: &R,
+    stage: &Stage<'_, '_, N>,
+    links: &mut [Receiver<Delivery>],
+    row: &str,
+) -> bool {
+    let (asked, wanted) = row.split_once(" => ").unwrap_or((row, ""));
+    match offered(rt, stage, links, asked) {
+        Some(came) => came.as_str() == wanted,
+        None => false,
+    }
+}
+
+/// Whether a row is so. One that begins with `#` is a remark.
+fn is_row<N: Naming + Send + Sync, R: Threads + Wait + Sync>(
+    rt: &R,
+    stage: &Stage<'_, '_, N>,
+    cast: &mut Cast<N>,
+    row: &str,
+) -> bool {
+    let (word, rest) = row.split_once(' ').unwrap_or((row, ""));
+    match word {
+        "#" => {}
+        "both" => return are_both(rt, stage, &mut cast.ours, &mut cast.theirs, rest),
+        "they" => return is_so(rt, stage, &mut cast.theirs, rest),
+        "meet" => meet(stage, &mut cast.ours.passes, &mut cast.theirs.passes, rest),
+        "join" => join(stage, &mut cast.ours.passes, &mut cast.theirs.passes, rest),
+        "receive" | "lost" | "crowded" => {
+            return is_offered(rt, stage, cast.links.as_mut_slice(), row);
+        }
+        _ => return is_so(rt, stage, &mut cast.ours, row),
+    }
+    true
+}
+
+/// These rows are so, in their order.
+fn are_rows<N: Naming + Send + Sync, R: Threads + Wait + Abort + Sync>(
+    rt: &R,
+    stage: &Stage<'_, '_, N>,
+    mut cast: Cast<N>,
+    rows: &str,
+) {
+    for row in rows.lines() {
+        assert!(rt; is_row(rt, stage, &mut cast, row), "{row}");
+    }
+}
+
+/// The ends of links, those that send and those that receive.
+#[derive(Drop)]
+struct Links {
+    senders: Vec<Sender<Delivery>>,
+    receivers: Vec<Receiver<Delivery>>,
+}
+
+impl Links {
+    /// One more, with so many places.
+    fn add(&mut self, alloc: Global, room: usize) -> bool
+        requires { 0 < room }
+    {
+        match pair(alloc, room) {
+            Ok((sender, receiver)) => {
+                self.senders.push(sender).is_ok() && self.receivers.push(receiver).is_ok()
+            }
+            Err(_) => false,
+        }
+    }
+}
+
+/// A broker and its passes. It lies in a box, since a function that lends a broker of its own is dear to prove.
+fn opened<'d, N: Naming>(
+    alloc: Global,
+    words: Words,
+    namespaces: &Namespaces,
+    epochs: [Draws<'d>; 16],
+    links: Vec<Sender<Delivery>>,
+) -> Option<(Box<Broker<N, Draws<'d>>>, Passes<N>)>
+    requires words { words ≡ names N.words 16 }
+    requires namespaces { namespaces.now ≡ N.namespaces }
+{
+    let opened = Broker::<N, Draws<'d>>::new(alloc, words, namespaces, epochs, links);
+    let (broker, passes) = opened.ok()?;
+    let broker = Box::new(alloc, broker).ok()?;
+    Some((broker, passes))
+}
+
+/// The rows of a part are so of a broker over these words.
+pub(super) fn play<N: Naming + Send + Sync, R: Threads + Wait + Abort + AllocGlobal + Sync>(
+    rt: &R,
+    words: Words,
+    namespaces: &Namespaces,
+    part: Part<'_>,
+)
+    requires words { words ≡ names N.words 16 }
+    requires namespaces { namespaces.now ≡ N.namespaces }
+{
+    let alloc = rt.alloc();
+    let Part { epochs, rows } = part;
+    let mut links = Links {
+        senders: Vec::new(alloc),
+        receivers: Vec::new(alloc),
+    };
+    assert!(rt; links.add(alloc, 1) && links.add(alloc, 20));
+    let opened = opened::<N>(alloc, words, namespaces, epochs, links.senders);
+    let (broker, mut passes) = opened.expect(rt, "memory");
+    let broker = &*broker;
+    let lent = passes.lend(alloc, broker).expect(rt, "memory");
+    let stage = Stage {
+        alloc,
+        broker,
+        namespaces,
+    };
+    let cast = Cast {
+        ours: Caller { passes, now: 0 },
+        theirs: Caller {
+            passes: lent,
+            now: 0,
+        },
+        links: links.receivers,
+    };
+    are_rows(rt, &stage, cast, rows);
+}
+
+/// The namespace of all channels without a prefix.
+pub(super) fn namespaces(alloc: Global) -> Option<Namespaces> {
+    read_namespaces(alloc, "=100,100,phs").ok()
+}
