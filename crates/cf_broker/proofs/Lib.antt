@@ -1,4 +1,2 @@
-pub mod Seen
 pub mod Numbers
 pub mod Refusals
-pub mod Sizing

@@ -1,3 +1,2 @@
 pub mod Nodes
 pub mod Shards
-pub mod Sizes

@@ -7,37 +7,21 @@ ghost use Rattle.cf_shard.specs.LogAnswer.{Follows, IsPosition, IsPublished, IsR
 ghost use Rattle.std.specs.String.{string_bytes};
 ghost use Rattle.cf_shard.specs.Shard.{datum_of};
 ghost use Rattle.cf_broker.specs.Nodes.{node_count};
-ghost use Rattle.cf_broker.specs.Shards.{number_of, names, first_passes};
+ghost use Rattle.cf_shard.specs.Shards.{number_of, names, first_passes};
 
 use crate::links::NodeLink;
 use crate::parts::parts_of;
 use crate::quarter::{Quarter, last_quarter};
-use crate::words::{Passes, Words};
+use crate::words::Words;
 use cf_link::Sender;
 use cf_order::{Pass, ShardWord};
 use cf_presence::Stats;
 use cf_protocol::{Info, Namespaces, Position};
-use cf_shard::{Delivery, Naming, ReadAnswer, Refused};
+use cf_shard::{Delivery, Naming, Passes, ReadAnswer, Refused, SHARDS, ShardWords, shard_of};
 use cf_stream::{Epochs, History, LARGEST_SIZE, Published};
 use std::alloc::{AllocError, Global};
 use std::collections::BTreeMap;
-use std::marker::PhantomData;
 use std::sync::Wait;
-
-/// How many shards there are.
-pub const SHARDS: usize = 16;
-
-/// The number of a channel's shard: the sum of the channel's bytes, modulo 16.
-pub fn shard_of(channel: &str) -> usize
-    ensures number { result ≡ number_of channel.now }
-    ensures within { result < SHARDS }
-{
-    let mut number = 0;
-    for byte in channel.as_bytes() {
-        number = (number + *byte as usize) % SHARDS;
-    }
-    number
-}
 
 /// Sixteen shards of channels under their locks, and the links to the nodes. A channel's shard is locked first, and then, while
 /// it is held, one link after another.
@@ -77,7 +61,6 @@ macro_rules! at_place {
 impl<N: Naming, E: Epochs + Drop> Broker<N, E> {
     /// A broker without streams, over these words and namespaces, and the first pass of each shard. The first shard draws from
     /// the first epochs, and the first node is sent to by the first of the senders. An `AllocError` where memory was refused.
-    #[tactic(auto, using(crate::proofs::Numbers::firsts_named))]
     pub fn new(
         alloc: Global,
         words: Words,
@@ -105,13 +88,7 @@ impl<N: Naming, E: Epochs + Drop> Broker<N, E> {
             fourth,
             links,
         };
-        Ok((
-            broker,
-            Passes {
-                list: passes,
-                of: PhantomData,
-            },
-        ))
+        Ok((broker, Passes::new(passes)))
     }
 
     /// How many nodes it has a link to.
@@ -326,7 +303,6 @@ impl<N: Naming, E: Epochs + Drop> Broker<N, E> {
 
     /// Whether the log of a channel's shard has no more entries than a mark, by one load: it waits for nobody and takes no
     /// memory. Where it says so to a pass that has seen as many entries as the mark, the log then was what the pass had seen.
-    #[tactic(auto, using(crate::proofs::Seen::still_that))]
     pub fn quiet_since(&self, pass: &mut Pass, channel: &str, mark: u64) -> bool
         requires { pass.old.word ≡ N.words (number_of channel.now) }
         ensures looked { pass.new ≡
@@ -336,7 +312,7 @@ impl<N: Naming, E: Epochs + Drop> Broker<N, E> {
         ensures rises { IsPrefix pass.old.found pass.new.found }
         ensures still { IsTrue result → length pass.old.log ≡ mark → pass.new.found ≡ pass.old.log }
     {
-        self.word(shard_of(channel)).look(pass) <= mark
+        self.word(shard_of(channel)).is_quiet_since(pass, mark)
     }
 
     /// A client of a user enters a channel at a moment in seconds, again or for the first time. `Memory` where a growth was
@@ -369,6 +345,12 @@ impl<N: Naming, E: Epochs + Drop> Broker<N, E> {
     /// How many clients are there in a channel, and how many different users. It takes no memory.
     pub fn stats<R: Wait>(&self, rt: &R, channel: &str) -> Stats {
         at_place!(self, shard_of(channel) => stats(rt, channel))
+    }
+}
+
+impl<N: Naming, E: Epochs + Drop> ShardWords<N> for Broker<N, E> {
+    fn shard_word(&self, shard: usize) -> &ShardWord {
+        self.word(shard)
     }
 }
 

@@ -11,9 +11,8 @@ mod links;
 mod parts;
 mod place;
 mod quarter;
-mod sizes;
 mod words;
 
-pub use broker::{Broker, SHARDS, shard_of};
-pub use sizes::set_size_in_all;
-pub use words::{Passes, Words};
+pub use broker::Broker;
+pub use cf_shard::{Passes, SHARDS, shard_of};
+pub use words::Words;

@@ -1,7 +1,7 @@
 //! What shards are made of, and how.
 ghost use Rattle.std.specs.Prelude.{◌≡◌, ◌+◌, IfOk, vec_len};
 ghost use Rattle.cf_shard.specs.Shard.{no_streams};
-ghost use Rattle.cf_broker.specs.Shards.{names};
+ghost use Rattle.cf_shard.specs.Shards.{names};
 
 use crate::place::Place;
 use crate::words::NewWord;

@@ -1,6 +1,6 @@
 //! Four shards of the sixteen.
 ghost use Rattle.std.specs.Prelude.{◌≡◌, ◌+◌, vec_len};
-ghost use Rattle.cf_broker.specs.Shards.{names};
+ghost use Rattle.cf_shard.specs.Shards.{names};
 
 use crate::parts::{Part, last_place};
 use crate::place::Place;

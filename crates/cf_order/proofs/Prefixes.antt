@@ -37,6 +37,10 @@ prefix_whole (x ∷ xs) [] p le = absurd (cc (p.1))
 prefix_whole (x ∷ xs) (y ∷ ys) p le =
     let rest = prefix_whole xs ys (p.0, cc (p.1)) (omega arith) in cc (p.1, rest)
 
+-- a log that is no longer than what was seen of it is that
+pub still_that : (seen log : List Entry) (count mark : ℕ) → IsPrefix seen log → count ≡ length log → count ≤ mark → length seen ≡ mark → log ≡ seen
+still_that seen log count mark p is le at = sym (prefix_whole seen log p (omega arith))
+
 pub prefix_length : {A : Type 0} (xs ys : List A) → IsPrefix xs ys → length xs ≤ length ys
 prefix_length xs ys p = omega (arith, sym (ap length p.1) ∙ length-append xs p.0)
 

@@ -1,5 +1,5 @@
 // The word, and the tokens that step on it.
-ghost use Rattle.std.specs.Prelude.{◌≡◌, ◌+◌, ◌^◌, ◌<◌, ◌≤◌, [], ◌∷◌, ◌++◌, length, true, false, IfOk};
+ghost use Rattle.std.specs.Prelude.{◌≡◌, ◌+◌, ◌^◌, ◌<◌, ◌≤◌, ◌↔◌, [], ◌∷◌, ◌++◌, length, true, false, IfOk, IsTrue};
 ghost use mathlib.Core.List.{IsPrefix};
 ghost use Rattle.cf_order.specs.Passes.{first_pass, met, caught_up, publishes, published, entry_of};
 ghost use Rattle.cf_order.specs.ShardStep.{IsBehind, Knows, Looked, added, compared, joined, given, with_share};
@@ -125,6 +125,21 @@ impl ShardWord {
         ensures share { (pass.old.share ≤ published pass.new.found) × (pass.old.share ≤ result) }
     {
         load_count(&self.table.shared, &mut pass.seat)
+    }
+
+    /// Whether the log has no more entries than a mark, by one load. Where it says so to a pass that has seen as many entries
+    /// as the mark, the log then was what the pass had seen.
+    pub fn is_quiet_since(&self, pass: &mut Pass, mark: u64) -> bool
+        requires { pass.old.word ≡ self.now }
+        ensures looked { pass.new
+            ≡ record pass.old { found = pass.new.found; looks = pass.old.looks + 1 } }
+        ensures answer { IsTrue result ↔ length pass.new.found ≤ mark }
+        ensures seen { IsPrefix pass.old.log pass.new.found }
+        ensures rises { IsPrefix pass.old.found pass.new.found }
+        ensures still { IsTrue result → length pass.old.log ≡ mark → pass.new.found ≡ pass.old.log }
+    {
+        let count = self.look(pass);
+        count <= mark
     }
 
     /// A pass that has seen what the lender has, with no share of its own.

@@ -2,3 +2,4 @@ pub mod Offers
 pub mod Logs
 pub mod Calls
 pub mod Resizing
+pub mod Named

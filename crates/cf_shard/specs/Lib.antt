@@ -4,3 +4,4 @@ pub mod Delivery
 pub mod Shard
 pub mod Naming
 pub mod Calls
+pub mod Shards

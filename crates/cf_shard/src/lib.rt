@@ -6,10 +6,14 @@
 mod delivery;
 mod entries;
 mod naming;
+mod numbers;
+mod passes;
 mod refusal;
 mod shard;
 
 pub use delivery::{Delivery, Links};
 pub use naming::Naming;
+pub use numbers::{SHARDS, shard_of};
+pub use passes::{Passes, ShardWords};
 pub use refusal::Refused;
 pub use shard::{ReadAnswer, Shard};

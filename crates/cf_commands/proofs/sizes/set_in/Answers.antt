@@ -1,5 +1,5 @@
-use Rattle.cf_broker.proofs.Sizing.{put_over, took}
-use Rattle.cf_broker.proofs.sizes.set_in.Goals as goal
+use Rattle.cf_commands.proofs.Sizing.{put_over, took}
+use Rattle.cf_commands.proofs.sizes.set_in.Goals as goal
 
 pub returns-clause-one : goal.returns-clause-one
 returns-clause-one g c = put_over _ _ _ c.args.shard _ _ c.take-pass.ensures.left c.put.ensures.put c.put.ensures.at

@@ -1,7 +1,7 @@
 use Rattle.std.proofs.Common.{◌≡◌, ◌<◌, arith, ap, sym, subst, ◌∙◌, length}
-use Rattle.cf_broker.specs.Shards.{AreOfShards, lent, pass_at}
-use Rattle.cf_broker.proofs.Numbers.{lent_all, lent_step, named_lent, named_length}
-use Rattle.cf_broker.proofs.words.Passes.lend.Goals as goal
+use Rattle.cf_shard.specs.Shards.{AreOfShards, lent, pass_at}
+use Rattle.cf_shard.proofs.Named.{lent_all, lent_step, named_lent, named_length}
+use Rattle.cf_shard.proofs.passes.Passes.lend.Goals as goal
 
 pub lend_at-pass-requires : goal.lend_at-pass-requires
 lend_at-pass-requires g c =

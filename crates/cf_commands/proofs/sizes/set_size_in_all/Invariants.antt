@@ -1,5 +1,5 @@
-use Rattle.cf_broker.proofs.Sizing.{IsUpTo}
-use Rattle.cf_broker.proofs.sizes.set_size_in_all.Given as goal
+use Rattle.cf_commands.proofs.Sizing.{IsUpTo}
+use Rattle.cf_commands.proofs.sizes.set_size_in_all.Given as goal
 
 abbrev pub invariant-loop-shard : goal.invariant-loop-shard
 invariant-loop-shard g l = IsUpTo l.initial.passes l.passes l.name l.size l.shard l.all

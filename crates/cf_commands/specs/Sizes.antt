@@ -1,6 +1,6 @@
 -- What becomes of the shards where a namespace gets another size. (This project's own profile.)
 use Rattle.std.specs.Prelude.{ℕ, ◌<◌, List, [], ◌∷◌}
-use Rattle.cf_broker.specs.Shards.{pass_at}
+use Rattle.cf_shard.specs.Shards.{pass_at}
 use Rattle.cf_order.specs.Passes.{PassState}
 use Rattle.cf_protocol.specs.LogEntry.Entry.{Size}
 use Rattle.cf_shard.specs.LogAnswer.{IsSized}

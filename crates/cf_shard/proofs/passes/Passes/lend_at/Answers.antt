@@ -1,11 +1,11 @@
 use Rattle.std.proofs.Common.{sym, ap, ◌∙◌}
 use Rattle.cf_order.specs.Passes.{PassState}
-use Rattle.cf_broker.proofs.Numbers.{named_get}
-use Rattle.cf_broker.proofs.words.Passes.lend_at.Goals as goal
+use Rattle.cf_shard.proofs.Named.{named_get}
+use Rattle.cf_shard.proofs.passes.Passes.lend_at.Goals as goal
 
 pub lend-requires : goal.lend-requires
 lend-requires g c =
-    named_get g.N.Naming.words c.self.inside.list.items c.args.shard _ _ c.self.invariant c.requires c.index_mut-pass.ensures.value ∙ sym c.word.ensures
+    named_get g.N.Naming.words c.self.inside.list.items c.args.shard _ _ c.self.invariant c.requires c.index_mut-pass.ensures.value ∙ sym c.shard_word.ensures
 
 pub returns-clause-word : goal.returns-clause-word
 returns-clause-word g c =

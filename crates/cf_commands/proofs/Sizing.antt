@@ -4,8 +4,8 @@ use Rattle.std.specs.Prelude.{◌&&◌, MatchBool, slice_set, ◌≢◌, Result,
 use Rattle.std.proofs.lemmas.List.{get_or-set_other}
 use mathlib.Core.Logic.{dite}
 use native.Mathlib.Decide.{dec_le}
-use Rattle.cf_broker.specs.Shards.{pass_at}
-use Rattle.cf_broker.specs.Sizes.{AreSized, HasFull, IsFullFor}
+use Rattle.cf_shard.specs.Shards.{pass_at}
+use Rattle.cf_commands.specs.Sizes.{AreSized, HasFull, IsFullFor}
 use Rattle.cf_order.specs.Passes.{PassState, first_pass}
 use Rattle.cf_protocol.specs.LogEntry.{Entry}
 use Rattle.cf_protocol.specs.LogEntry.Entry.{Size}
