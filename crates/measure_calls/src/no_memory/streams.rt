@@ -1,6 +1,6 @@
 //! The streams of all channels.
 
-use crate::report::Report;
+use super::report::Report;
 use cf_protocol::{Epoch, read_namespaces};
 use cf_stream::{Due, Epochs, Streams};
 use std::alloc::Global;
@@ -44,7 +44,7 @@ fn filled(alloc: Global) -> Option<Streams> {
 
 /// `position`, `last`, `held`, `repeat_of`, `set_size`, `trim`, `due`, `tick`, `forget` and `forget_all` of the streams of all
 /// channels.
-pub fn calls(report: &Report) {
+pub(crate) fn calls(report: &Report<'_>) {
     match filled(report.alloc()) {
         Some(mut streams) => {
             report.ready();
@@ -57,7 +57,7 @@ pub fn calls(report: &Report) {
     }
 }
 
-fn look_calls(report: &Report, streams: &Streams) {
+fn look_calls(report: &Report<'_>, streams: &Streams) {
     report.made("Streams::held", streams.held("c7") == 2);
     report.made("Streams::position", streams.position("c7").is_some());
     report.made("Streams::last", streams.last("c7").is_some());
@@ -78,7 +78,7 @@ fn due_count(streams: &Streams, now: u64) -> u64 {
     count
 }
 
-fn size_calls(report: &Report, streams: &mut Streams) {
+fn size_calls(report: &Report<'_>, streams: &mut Streams) {
     if streams.has_namespace("") {
         streams.set_size("", 1);
     }
@@ -88,7 +88,7 @@ fn size_calls(report: &Report, streams: &mut Streams) {
     report.made("Streams::due", due_count(streams, 349) == 49);
 }
 
-fn tick_calls(report: &Report, streams: &mut Streams) {
+fn tick_calls(report: &Report<'_>, streams: &mut Streams) {
     streams.tick(349);
     report.made("Streams::tick", streams.held("c8") == 0);
     streams.tick(2_592_050);
@@ -98,7 +98,7 @@ fn tick_calls(report: &Report, streams: &mut Streams) {
     );
 }
 
-fn forget_calls(report: &Report, streams: &mut Streams) {
+fn forget_calls(report: &Report<'_>, streams: &mut Streams) {
     streams.forget("c77");
     report.made("Streams::forget", streams.position("c77").is_none());
     streams.forget_all();

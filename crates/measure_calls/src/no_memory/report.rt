@@ -5,15 +5,15 @@ use std::cell::Cell;
 
 /// Prints the name of each call once it has been made.
 #[derive(Drop)]
-pub struct Report {
-    rt: HostRuntime,
+pub(crate) struct Report<'a> {
+    rt: &'a HostRuntime,
     // Each line was printed until now, and nothing was refused for want of memory.
     is_whole: Cell<bool>,
 }
 
-impl Report {
+impl<'a> Report<'a> {
     /// A report to standard output, of which nothing was printed yet. It takes no memory.
-    pub fn new(rt: HostRuntime) -> Report {
+    pub(crate) fn new(rt: &'a HostRuntime) -> Report<'a> {
         Report {
             rt,
             is_whole: Cell::new(true),
@@ -21,17 +21,17 @@ impl Report {
     }
 
     /// What gives memory to those that take some.
-    pub fn alloc(&self) -> Global {
+    pub(crate) fn alloc(&self) -> Global {
         self.rt.alloc()
     }
 
     /// What was asked for until now is no call's that comes next.
-    pub fn ready(&self) {
+    pub(crate) fn ready(&self) {
         self.print(".");
     }
 
     /// Calls of this name have been made since the last line, and answered as they should, or not.
-    pub fn made(&self, name: &str, is_so: bool) {
+    pub(crate) fn made(&self, name: &str, is_so: bool) {
         self.print(name);
         if !is_so {
             self.print("it answered something else");
@@ -39,7 +39,7 @@ impl Report {
     }
 
     /// There was no memory for what stands before the calls.
-    pub fn lacks_memory(&self) {
+    pub(crate) fn lacks_memory(&self) {
         self.is_whole.set(false);
     }
 
@@ -50,7 +50,7 @@ impl Report {
     }
 
     /// Whether each line was printed, and there was memory.
-    pub fn is_whole(&self) -> bool {
+    pub(crate) fn is_whole(&self) -> bool {
         self.is_whole.get()
     }
 }

@@ -1,10 +1,12 @@
-//! Times calls of the libraries, for `bench/hub` and `bench/texts`.
+//! Times calls of the libraries, for `bench/hub` and `bench/texts`, and makes those that are promised to take no memory, for
+//! `.ci/no-memory`.
 //!
 //! A line of the input is the name of a call and what it is passed; behind the same name are printed how much was done and the
-//! nanoseconds that it took.
+//! nanoseconds that it took. Behind `no_memory` alone are printed the names of calls.
 #![tactic(auto)]
 
 mod crowd;
+mod no_memory;
 mod table;
 mod texts;
 
@@ -45,18 +47,42 @@ fn call(
     }
 }
 
-fn run(rt: &HostRuntime, crowds: &mut Crowds, rows: &mut Rows, line: &str) -> io::Result<()> {
-    let (name, passed) = line.split_once(' ').unwrap_or((line, ""));
-    if name == "deliver" {
-        let (pushes, spent) = crowds.deliver(rt, number_of(Some(passed)))?;
-        return println!(rt; "{name} {pushes} {spent}");
-    }
+/// Makes a call, and prints how much was done and how long it took.
+fn time(
+    rt: &HostRuntime,
+    crowds: &mut Crowds,
+    rows: &mut Rows,
+    (name, passed): (&str, &str),
+) -> io::Result<()> {
     let start = Instant::now(rt)?;
     let done = call(rt.alloc(), crowds, rows, (name, passed));
     let spent = start.elapsed(rt)?.as_nanos();
     match done {
         Some(done) => println!(rt; "{name} {done} {spent}"),
         None => println!(rt; "unusable line"),
+    }
+}
+
+/// `deliver TIMES`, whose deliveries alone are timed.
+fn deliver(rt: &HostRuntime, crowds: &mut Crowds, times: u32) -> io::Result<()> {
+    let (pushes, spent) = crowds.deliver(rt, times)?;
+    println!(rt; "deliver {pushes} {spent}")
+}
+
+/// Makes the calls that are promised to take no memory.
+fn make_all(rt: &HostRuntime) -> io::Result<()> {
+    if no_memory::calls(rt) {
+        return Ok(());
+    }
+    println!(rt; "unusable line")
+}
+
+fn run(rt: &HostRuntime, crowds: &mut Crowds, rows: &mut Rows, line: &str) -> io::Result<()> {
+    let (name, passed) = line.split_once(' ').unwrap_or((line, ""));
+    match name {
+        "deliver" => deliver(rt, crowds, number_of(Some(passed))),
+        "no_memory" => make_all(rt),
+        _ => time(rt, crowds, rows, (name, passed)),
     }
 }
 

@@ -1,6 +1,6 @@
 //! What begins with nothing, what comes before a subscription's reply, a session's output, who is there, and a client's number.
 
-use crate::report::Report;
+use super::report::Report;
 use bytes::ByteStr;
 use cf_client::Client;
 use cf_hub::Hub;
@@ -13,7 +13,7 @@ use cf_subscribers::Subscribers;
 use std::alloc::Global;
 
 /// The calls of what is small.
-pub fn calls(report: &Report) {
+pub(crate) fn calls(report: &Report<'_>) {
     new_calls(report);
     waiting_calls(report);
     queue_calls(report);
@@ -21,7 +21,7 @@ pub fn calls(report: &Report) {
     client_call(report);
 }
 
-fn new_calls(report: &Report) {
+fn new_calls(report: &Report<'_>) {
     let alloc = report.alloc();
     let is_empty = SubTable::new(alloc).len() == 0
         && Subscribers::new(alloc).len() == 0
@@ -32,7 +32,7 @@ fn new_calls(report: &Report) {
 }
 
 /// A publication without info.
-pub fn publication(alloc: Global, offset: u64) -> Option<Publication> {
+pub(crate) fn publication(alloc: Global, offset: u64) -> Option<Publication> {
     Some(Publication {
         offset,
         body: String::from_str(alloc, "1").ok()?,
@@ -49,7 +49,7 @@ fn kept(alloc: Global, epoch: &Epoch) -> Option<Waiting> {
     Some(waiting)
 }
 
-fn waiting_calls(report: &Report) {
+fn waiting_calls(report: &Report<'_>) {
     let epoch = Epoch::from_text("aaaa");
     let at = Position { epoch, offset: 0 };
     report.made("cf_recovery::check", check(&at, &epoch, 1) == Verdict::Pass);
@@ -70,7 +70,7 @@ fn filled(alloc: Global) -> Option<OutQueue> {
     Some(queue)
 }
 
-fn look_calls(report: &Report, queue: &OutQueue) {
+fn look_calls(report: &Report<'_>, queue: &OutQueue) {
     let is_open = !queue.is_closed();
     let has_ten = !queue.is_empty() && queue.len() == 10;
     let has_front = queue.front().is_some();
@@ -78,7 +78,7 @@ fn look_calls(report: &Report, queue: &OutQueue) {
     report.made("OutQueue::is_empty, is_closed, len and front", is_so);
 }
 
-fn queue_calls(report: &Report) {
+fn queue_calls(report: &Report<'_>) {
     let Some(mut queue) = filled(report.alloc()) else {
         return report.lacks_memory();
     };
@@ -100,7 +100,7 @@ fn entered(alloc: Global) -> Option<Presence> {
     Some(presence)
 }
 
-fn presence_calls(report: &Report) {
+fn presence_calls(report: &Report<'_>) {
     let Some(mut presence) = entered(report.alloc()) else {
         return report.lacks_memory();
     };
@@ -115,7 +115,7 @@ fn presence_calls(report: &Report) {
 }
 
 /// The number of the next command of a client that is connected.
-fn client_call(report: &Report) {
+fn client_call(report: &Report<'_>) {
     let mut client = Client::new(report.alloc());
     if client.connect("").is_err() {
         return report.lacks_memory();

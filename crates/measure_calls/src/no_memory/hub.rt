@@ -1,7 +1,7 @@
 //! A hub and its sessions.
 
-use crate::report::Report;
-use crate::small::publication;
+use super::report::Report;
+use super::small::publication;
 use cf_hub::Hub;
 use cf_protocol::{Epoch, Position};
 use cf_stream::Recovery;
@@ -33,7 +33,7 @@ fn asking(alloc: Global, hub: &mut Hub) -> Option<u32> {
 }
 
 /// The calls that look at a hub, those that take what waits, `pong`, `leave`, `close`, `detach` and `short`.
-pub fn calls(report: &Report) {
+pub(crate) fn calls(report: &Report<'_>) {
     let Ok(mut boxed) = Box::new(report.alloc(), Hub::new(report.alloc(), 0, 1)) else {
         return report.lacks_memory();
     };
@@ -48,7 +48,7 @@ pub fn calls(report: &Report) {
     end_calls(report, hub, ann);
 }
 
-fn look_calls(report: &Report, hub: &Hub, ann: u32) {
+fn look_calls(report: &Report<'_>, hub: &Hub, ann: u32) {
     let boot = hub.boot();
     let has_id = hub.client_id(ann).is_some();
     let is_ann = hub.user(ann) == Some("ann");
@@ -57,7 +57,7 @@ fn look_calls(report: &Report, hub: &Hub, ann: u32) {
     report.made("Hub::boot, client_id, user and is_closed", is_so);
 }
 
-fn channel_calls(report: &Report, hub: &Hub, ann: u32) {
+fn channel_calls(report: &Report<'_>, hub: &Hub, ann: u32) {
     let is_asked = hub.asked(ann, "chat").is_some();
     let is_settled = hub.is_settled(ann);
     report.made("Hub::asked and is_settled", is_asked && !is_settled);
@@ -67,7 +67,7 @@ fn channel_calls(report: &Report, hub: &Hub, ann: u32) {
     report.made("Hub::is_on, has and place", is_on && has && stands);
 }
 
-fn output_calls(report: &Report, hub: &mut Hub, ann: u32) {
+fn output_calls(report: &Report<'_>, hub: &mut Hub, ann: u32) {
     let waiting = hub.waiting(ann);
     let has_front = hub.front(ann).is_some();
     report.made("Hub::waiting and front", waiting == 2 && has_front);
@@ -81,7 +81,7 @@ fn output_calls(report: &Report, hub: &mut Hub, ann: u32) {
     report.made("Hub::pong", true);
 }
 
-fn end_calls(report: &Report, hub: &mut Hub, ann: u32) {
+fn end_calls(report: &Report<'_>, hub: &mut Hub, ann: u32) {
     report.made("Hub::leave", hub.leave(ann, "news"));
     hub.close(ann, 3001);
     report.made("Hub::close", hub.is_closed(ann));

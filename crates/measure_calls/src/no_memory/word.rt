@@ -1,12 +1,12 @@
 //! A shard's word.
 ghost use Rattle.std.specs.Prelude.{◌≡◌, []};
 
-use crate::report::Report;
+use super::report::Report;
 use cf_order::{Entry, Owner, Pass, ShardWord};
 use cf_protocol::Epoch;
 
 /// The calls of a word, its owner and its passes.
-pub fn calls(report: &Report) {
+pub(crate) fn calls(report: &Report<'_>) {
     let Ok((word, mut owner, mut pass)) = ShardWord::new(report.alloc()) else {
         return report.lacks_memory();
     };
@@ -18,7 +18,7 @@ pub fn calls(report: &Report) {
 }
 
 /// `append` to a log that is empty.
-fn append_calls(report: &Report, word: &ShardWord, owner: &mut Owner, pass: &mut Pass)
+fn append_calls(report: &Report<'_>, word: &ShardWord, owner: &mut Owner, pass: &mut Pass)
     requires owner { owner.old ≡ record { word = word.now; log = [] } }
     requires pass { pass.old.word ≡ word.now }
     ensures owner { owner.new.word ≡ word.now }
@@ -32,7 +32,7 @@ fn append_calls(report: &Report, word: &ShardWord, owner: &mut Owner, pass: &mut
 }
 
 /// The calls of a pass that is lent.
-fn lent_calls(report: &Report, word: &ShardWord, owner: &mut Owner, pass: &mut Pass)
+fn lent_calls(report: &Report<'_>, word: &ShardWord, owner: &mut Owner, pass: &mut Pass)
     requires owner { owner.old.word ≡ word.now }
     requires pass { pass.old.word ≡ word.now }
 {

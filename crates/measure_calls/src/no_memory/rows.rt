@@ -1,12 +1,12 @@
 //! Who follows what, by numbers and by the names of channels.
 
-use crate::report::Report;
+use super::report::Report;
 use cf_subs::SubTable;
 use cf_subscribers::Subscribers;
 use std::alloc::Global;
 
 /// The calls of both kinds of rows.
-pub fn calls(report: &Report) {
+pub(crate) fn calls(report: &Report<'_>) {
     match numbered(report.alloc()) {
         Some(mut table) => table_calls(report, &mut table),
         None => report.lacks_memory(),
@@ -59,7 +59,7 @@ fn walked_session(table: &SubTable, session: u32) -> u64 {
     count
 }
 
-fn table_calls(report: &Report, table: &mut SubTable) {
+fn table_calls(report: &Report<'_>, table: &mut SubTable) {
     report.ready();
     report.made("SubTable::has", table.has(1, 50));
     report.made("SubTable::walk", walked(table, 1) == 100);
@@ -72,7 +72,7 @@ fn table_calls(report: &Report, table: &mut SubTable) {
     report.made("SubTable::detach", table.detach(51) == 2);
 }
 
-fn rows_calls(report: &Report, rows: &mut Subscribers) {
+fn rows_calls(report: &Report<'_>, rows: &mut Subscribers) {
     report.ready();
     report.made("Subscribers::len", rows.len() == 200);
     let is_so = rows.has("news", 50) && rows.count(50) == 2;

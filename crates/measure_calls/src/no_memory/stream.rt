@@ -1,6 +1,6 @@
 //! One stream.
 
-use crate::report::Report;
+use super::report::Report;
 use cf_protocol::Epoch;
 use cf_stream::{LARGEST_SIZE, Stream};
 use std::alloc::Global;
@@ -27,7 +27,7 @@ fn filled(alloc: Global) -> Option<Stream> {
 }
 
 /// `publish` of a repeat, `position`, `resize`, `trim` and `tick` of a stream.
-pub fn calls(report: &Report) {
+pub(crate) fn calls(report: &Report<'_>) {
     match filled(report.alloc()) {
         Some(mut stream) => {
             repeat_call(report, &mut stream);
@@ -37,7 +37,7 @@ pub fn calls(report: &Report) {
     }
 }
 
-fn repeat_call(report: &Report, stream: &mut Stream) {
+fn repeat_call(report: &Report<'_>, stream: &mut Stream) {
     let body = String::new(report.alloc());
     let Ok(key) = String::from_str(report.alloc(), "k1") else {
         return report.lacks_memory();
@@ -50,7 +50,7 @@ fn repeat_call(report: &Report, stream: &mut Stream) {
     report.made("Stream::publish of a repeat", is_repeat);
 }
 
-fn size_calls(report: &Report, stream: &mut Stream) {
+fn size_calls(report: &Report<'_>, stream: &mut Stream) {
     stream.resize(8);
     report.made("Stream::resize", stream.held() == 8);
     stream.resize(LARGEST_SIZE);

@@ -1,7 +1,5 @@
 //! The calls that are promised to take no memory. The name of each is printed once it has been made, and a full stop once what it
 //! needs stands ready. What the C library is asked for between a name and the line before it is counted by `.ci/no-memory`.
-#![tactic(auto)]
-
 mod hub;
 mod report;
 mod rows;
@@ -11,10 +9,10 @@ mod stream;
 mod streams;
 mod word;
 
-use crate::report::Report;
-use std::process::ExitCode;
+use report::Report;
 
-fn main(rt: HostRuntime) -> ExitCode {
+/// Makes each call. Says whether each line was printed, and there was memory for what stands before the calls.
+pub(crate) fn calls(rt: &HostRuntime) -> bool {
     let report = Report::new(rt);
     report.ready();
     // What does take memory.
@@ -26,9 +24,5 @@ fn main(rt: HostRuntime) -> ExitCode {
     hub::calls(&report);
     session::calls(&report);
     word::calls(&report);
-    if report.is_whole() {
-        ExitCode::SUCCESS
-    } else {
-        ExitCode::FAILURE
-    }
+    report.is_whole()
 }

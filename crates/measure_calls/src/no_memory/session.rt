@@ -1,6 +1,6 @@
 //! What a command is refused for.
 
-use crate::report::Report;
+use super::report::Report;
 use cf_protocol::{Data, Request, read_namespaces};
 use cf_session::refusal_of;
 use std::alloc::Global;
@@ -14,7 +14,7 @@ fn publish(alloc: Global) -> Option<Request> {
 }
 
 /// `refusal_of` a publish.
-pub fn calls(report: &Report) {
+pub(crate) fn calls(report: &Report<'_>) {
     let Ok(namespaces) = read_namespaces(report.alloc(), "=100,300,phs") else {
         return report.lacks_memory();
     };
