@@ -14,7 +14,7 @@ use Rattle.cf_protocol.specs.Datum.{Datum, Placed}
 use Rattle.cf_protocol.specs.LogEntry.{Entry}
 use Rattle.cf_protocol.specs.LogEntry.Entry.{Publish}
 use Rattle.cf_protocol.specs.Settings.{NamespaceTable}
-use Rattle.cf_order.specs.Passes.{OwnerState, PassState, caught_up}
+use Rattle.cf_order.specs.Passes.{OwnerState, PassState, caught_up, publishes}
 use Rattle.cf_stream.specs.Stream.{position_of, Shown, answer_by, answer_to, given, pushed, repeated_by, used_at}
 use Rattle.cf_model.specs.Keys.{is_no_key}
 use Rattle.cf_stream.specs.Streams.{StreamMap, repeat_at, stream_of, size_at, stood_or, stood_or_opened}
@@ -146,6 +146,13 @@ none_noted k c x log after none is = is ∙ (sym (append-nil log) ∙ ap (λ (o 
 pub noted : (o o1 o2 : OwnerState) (es es' : List Entry) → o1 ≡ o → o2 ≡ record o1 { log = o1.log ++ es } → es ≡ es' → (o2.word ≡ o.word) × (o2.log ≡ o.log ++ es')
 noted o o1 o2 es es' at is same =
     (ap (λ (x : OwnerState). x.word) is ∙ ap (λ (x : OwnerState). x.word) at, ap (λ (x : OwnerState). x.log) is ∙ (λ i. (at i).log ++ same i))
+
+-- the pass after an entry
+pub passed : (mid new : PassState) (log : List Entry) (x : Entry) → new ≡ record (caught_up mid log) { share = mid.share + publishes x } → HasWhole new log × KeepsShare mid new (publishes x)
+passed mid new log x is = (
+  (ap (λ (p : PassState). p.log) is, ap (λ (p : PassState). p.found) is),
+  (ap (λ (p : PassState). p.word) is, ap (λ (p : PassState). p.looks) is, ap (λ (p : PassState). p.share) is),
+)
 
 -- the pass after a call
 pub follows : (old mid new : PassState) (log es after : List Entry) (own : ℕ) → IsPrefix old.log log → mid ≡ caught_up old log → after ≡ log ++ es → HasWhole new after → KeepsShare mid new own → Follows old new own

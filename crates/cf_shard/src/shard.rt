@@ -1,5 +1,5 @@
 //! What lies under a shard's lock.
-ghost use Rattle.std.specs.Prelude.{◌≡◌, ◌≤◌, [], length, if◌then◌else◌, MatchBool, IfOk, IfErr, OnOk, IsSome, Ok};
+ghost use Rattle.std.specs.Prelude.{◌≡◌, ◌≢◌, ◌↔◌, ◌+◌, ◌^◌, ◌<◌, ◌≤◌, [], length, vec_len, if◌then◌else◌, MatchBool, IfOk, IfErr, OnOk, IsErrOf, IsSome, Ok, Some};
 ghost use Rattle.std.specs.FinMap as fin;
 ghost use Rattle.std.specs.String.{string_bytes};
 ghost use Rattle.cf_protocol.specs.Settings.{settings_of, entry_at};
@@ -7,12 +7,12 @@ ghost use Rattle.cf_protocol.specs.Shown.{shown_users};
 ghost use Rattle.cf_presence.specs.Presence.{clients_of, entered, left, users_of, user_count};
 ghost use Rattle.cf_stream.specs.ChannelLists.{ReadsAt, ListsAt, StandsAt};
 ghost use Rattle.cf_shard.specs.Calls.{AnswersPublishOn, HasForgotten, HasPublished, HasSized, HasTicked, HasTrimmed, HasUsed, Leaves, LeavesAll, RefusalsOfHistory, RefusalsOfPublish, RefusalsOfRead, Stays};
-ghost use Rattle.cf_shard.specs.Delivery.{OfferedToAll, carried};
+ghost use Rattle.cf_shard.specs.Delivery.{AreCopies, OfferedToAll, carried};
 ghost use Rattle.cf_shard.specs.LogAnswer.{Follows, IsPosition, IsPublished, IsReadAnswer, IsHistoryAnswer, IsTrimmed, IsForgotten, IsSized, IsTicked};
 ghost use Rattle.cf_shard.specs.Shard.{no_streams, datum_of, LacksRoom};
-ghost use Rattle.cf_shard.specs.ShardLog.{entries_of_trim, entries_of_forget, entries_of_size, entries_of_tick};
+ghost use Rattle.cf_shard.specs.ShardLog.{HasRoomForTwo, entries_of_trim, entries_of_forget, entries_of_size, entries_of_tick, to_open};
 
-use crate::delivery::{Links, copies_of, offer_all};
+use crate::delivery::{Delivery, Links, copies_of, offer_all};
 use crate::entries::{
     fits, has_room, has_room_on, note_due, note_on, note_opening, note_publish, room_to_publish,
     top_of,
@@ -22,7 +22,7 @@ use crate::refusal::Refused;
 use cf_order::{Entry, MOST_ENTRIES, Owner, Pass, ShardWord};
 use cf_presence::{Presence, Stats};
 use cf_protocol::{Info, Position, Publication};
-use cf_stream::{Epochs, History, LARGEST_SIZE, Published, Recovery, Streams};
+use cf_stream::{Epochs, History, LARGEST_SIZE, LAST_OFFSET, Published, Recovery, Streams};
 use std::alloc::Global;
 use std::collections::BTreeMap;
 use std::marker::{Model, PhantomData};
@@ -124,16 +124,21 @@ impl<N: Naming, E: Epochs, const I: usize> Shard<N, E, I> {
             return Ok(repeated);
         }
         let stood = top_of(self.streams.position(channel));
-        if let Err(refusal) = room_to_publish(stood, self.owner.count()) {
-            return Err(refusal);
-        }
         let publication = Publication {
             offset: 0,
             body,
             info,
         };
-        let copies = copies_of(self.alloc, links.count(), channel, &publication)?;
-        let lent = key.clone()?;
+        let count = self.owner.count();
+        let (copies, lent) = copies_to_publish(
+            self.alloc,
+            links.count(),
+            stood,
+            count,
+            channel,
+            &publication,
+            &key,
+        )?;
         let published = self.streams.publish(
             &mut *self.epochs,
             channel,
@@ -419,4 +424,29 @@ fn full_for_history(after: bool) -> Refused
     } else {
         Refused::AtLastCount
     }
+}
+
+/// Where a stream with this top, and a log of this length, have room for a publish: a copy of it for each of so many nodes, and
+/// one of its key.
+fn copies_to_publish(
+    alloc: Global,
+    nodes: usize,
+    stood: Option<u64>,
+    count: u64,
+    channel: &str,
+    publication: &Publication,
+    key: &String,
+) -> Result<(Vec<Delivery>, String), Refused>
+    ensures room { OnOk result (HasRoomForTwo stood count × (stood ≢ Some LAST_OFFSET)) }
+    ensures copies { IfOk result (λ r. (vec_len r.0 ≡ nodes)
+        × AreCopies channel.now publication.now.datum r.0.items) }
+    ensures key { IfOk result (λ r. string_bytes r.1 ≡ string_bytes key.now) }
+    ensures last { IsErrOf result Refused.AtLastOffset ↔ (stood ≡ Some LAST_OFFSET) }
+    ensures count { IsErrOf result Refused.AtLastCount → 2 ^ 62 < count + to_open stood + 1 }
+    ensures other { IfErr result (λ e. (e ≢ Refused.WrongEpoch) × (e ≢ Refused.NoEpoch)) }
+{
+    room_to_publish(stood, count)?;
+    let copies = copies_of(alloc, nodes, channel, publication)?;
+    let lent = key.clone()?;
+    Ok((copies, lent))
 }

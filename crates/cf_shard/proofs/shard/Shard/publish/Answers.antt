@@ -97,4 +97,4 @@ returns-clause-offered g c =
     let after = c.offer_all.new.links in
     let fresh : p.repeated ≡ false = is_fresh k channel (string_bytes c.args.key) p c.in_ok-published.ensures.answer (is_new g c) in
     subst (λ (b : Bool). MatchBool b (after ≡ before) (OfferedToAll g.L.Links.offers (g.L.Links.nodes before) (carried channel p.position d) before after)) (sym fresh)
-    (c.offer_all.ensures channel d c.in_ok-copies.ensures.copies)
+    (c.offer_all.ensures channel d c.in_ok-copies.ensures.copies.1)
