@@ -1,4 +1,3 @@
-use Rattle.std.proofs.Common.{◌≡◌, ◌≤◌, ◌+◌, length, sum_by}
 use Rattle.cf_dispatch.proofs.Taking.{TakesSoFar}
 use Rattle.cf_dispatch.proofs.outlet.take_for.Given as goal
 

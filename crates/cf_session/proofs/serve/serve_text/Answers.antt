@@ -1,7 +1,18 @@
-use Rattle.std.proofs.Common.{◌∙◌, sym}
+use Rattle.std.proofs.Common.{◌∙◌, refl, sym}
 use Rattle.cf_session.specs.Standing.{tables_of, progress_of, is_short}
-use Rattle.cf_session.proofs.Playing.{done_ends, goes_on, serves_gone, still_long}
+use Rattle.cf_session.proofs.Playing.{done_ends, goes_first, goes_on, serves_gone, still_long}
 use Rattle.cf_session.proofs.serve.serve_text.Goals as goal
+
+pub loop-init : goal.loop-init
+loop-init g c =
+    record {
+      goes = λ long.
+          goes_first g.N.Node.closed g.N.Node.does (tables_of c.args.session.now) (progress_of c.args.session.now) (progress_of c.hear_text.new.session)
+          c.args.node.now c.args.text.now (c.hear_text.ensures.hears long);
+      ready = c.hear_text.ensures.ready;
+      keeps = c.hear_text.ensures.keeps;
+      namespaces = refl;
+    }
 
 pub loop-preserved : goal.loop-preserved
 loop-preserved g c =

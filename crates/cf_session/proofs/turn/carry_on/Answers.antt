@@ -1,5 +1,5 @@
-use Rattle.std.proofs.Common.{◌∙◌, ◌<◌, refl, inl, inr, arith}
-use Rattle.cf_session.specs.Standing.{progress_of, is_short, work_of}
+use Rattle.std.proofs.Common.{◌∙◌, ◌<◌, ◌||◌, Bool, ap, sym, refl, inl, inr, arith}
+use Rattle.cf_session.specs.Standing.{progress_of, is_idle, is_short, work_of}
 use Rattle.cf_session.specs.Turn.{rests, units_left}
 use Rattle.cf_session.proofs.Playing.{leads_more, still_long}
 use Rattle.cf_session.proofs.turn.carry_on.Goals as goal
@@ -36,3 +36,9 @@ loop-session-preserved g c =
       down = omega (arith, less, before.down);
       work = inl (omega (arith, less, before.down));
     }
+
+pub returns-then-is_spent-clause-done : goal.returns-then-is_spent-clause-done
+returns-then-is_spent-clause-done g c =
+    let s = c.loop-session.session in
+    let stands = sym c.is_closed.ensures ∙ c.loop-session-test.true in
+    sym (ap (λ (b : Bool). b || is_idle s) stands ∙ (sym c.is_idle.ensures ∙ c.if-not-is_idle.true))

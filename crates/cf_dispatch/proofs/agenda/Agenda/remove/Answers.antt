@@ -1,4 +1,4 @@
-use Rattle.std.proofs.Common.{rules, arith, ◌≡◌, ◌∙◌, ◌==◌, not, true, false, slice_set, sym, subst, List, ℕ}
+use Rattle.std.proofs.Common.{rules, ◌≡◌, ◌∙◌, ◌==◌, not, true, false, slice_set, sym, subst, List, ℕ}
 use Rattle.std.specs.VecDeque.{deque_capacity}
 use Rattle.std.proofs.lemmas.Fn.{filter_same}
 use Rattle.cf_hub.specs.Marks.{AreMarked, is_marked}

@@ -1,5 +1,4 @@
-use Rattle.std.proofs.Common.{rules}
 use Rattle.cf_session.proofs.session.Session.answered.Goals as goal
 
 pub returns-clause-goes : goal.returns-clause-goes
-returns-clause-goes c = search rules depth 1
+returns-clause-goes c = c.take.ensures.goes
