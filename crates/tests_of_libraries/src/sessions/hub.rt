@@ -1,0 +1,372 @@
+//! A hub's sessions, and what is said to their clients, as rows of steps and of what comes of them.
+use crate::publications::place;
+use crate::rows::{is_shown, number_of};
+use cf_hub::{Hub, HubRefusal};
+use cf_protocol::{Epoch, Publication};
+use cf_queue::Out;
+use cf_stream::Recovery;
+use std::alloc::{AllocError, Global};
+use std::process::Abort;
+
+/// A step, `WORD NUMBER NAME SIZE`, of which what isn't needed is left out at the end.
+#[derive(Clone, Copy)]
+struct Step<'a> {
+    word: &'a str,
+    number: u32,
+    name: &'a str,
+    size: u32,
+}
+
+fn step_of(text: &str) -> Step<'_> {
+    let (word, rest) = text.split_once(' ').unwrap_or((text, ""));
+    let (number, rest) = rest.split_once(' ').unwrap_or((rest, ""));
+    let (name, size) = rest.split_once(' ').unwrap_or((rest, ""));
+    Step {
+        word,
+        number: number_of(number),
+        name,
+        size: number_of(size),
+    }
+}
+
+/// What the read of a stream gives that holds nothing.
+fn nothing_read(alloc: Global) -> Recovery {
+    Recovery {
+        position: place(0),
+        recovered: false,
+        publications: Vec::new(alloc),
+    }
+}
+
+fn publication(alloc: Global, offset: u32) -> Result<Publication, AllocError> {
+    Ok(Publication {
+        offset: u64::from(offset),
+        body: String::from_str(alloc, "1")?,
+        info: None,
+    })
+}
+
+fn delivered(hub: &mut Hub, alloc: Global, offset: u32) -> Result<String, AllocError> {
+    let publication = publication(alloc, offset)?;
+    let came = hub.deliver("news", &Epoch::from_text("aaaa"), &publication);
+    format!(in alloc; "{came:?}")
+}
+
+/// The short name of a text for a client.
+fn name_of(text: &str) -> &'static str {
+    match text {
+        r#"{"id":2,"subscribe":{"epoch":"aaaa","positioned":true,"recoverable":true}}"# => "reply",
+        r#"{"push":{"channel":"news","pub":{"data":1,"offset":1}}}"# => "push",
+        r#"{"push":{"channel":"news","unsubscribe":{"code":2500,"reason":"insufficient state"}}}"# =>
+            { "end" }
+        "{}" => "ping",
+        _ => "text",
+    }
+}
+
+/// What a client gets next, and whether its session is closed.
+fn taken(hub: &mut Hub, alloc: Global, session: u32) -> Result<String, AllocError> {
+    let state = if hub.is_closed(session) {
+        " closed"
+    } else {
+        ""
+    };
+    match hub.take(session) {
+        Some(Out::Text(text)) => format!(in alloc; "{}{state}", name_of(text.as_str())),
+        Some(Out::Close(code)) => format!(in alloc; "{code}{state}"),
+        None => format!(in alloc; "nothing{state}"),
+    }
+}
+
+fn attached(hub: &mut Hub, alloc: Global) -> Result<String, AllocError> {
+    match hub.attach(String::from_str(alloc, "ann")?, 0) {
+        Ok(session) => format!(in alloc; "{session}"),
+        Err(refusal) => refusal.to_string(alloc),
+    }
+}
+
+fn begun(hub: &mut Hub, alloc: Global, step: Step<'_>) -> Result<String, AllocError> {
+    match hub.begin(step.number, step.name, 2, None) {
+        Ok(()) => String::from_str(alloc, "begun"),
+        Err(refusal) => refusal.to_string(alloc),
+    }
+}
+
+/// Whether a step that is answered by yes or no, or by nothing, is answered by no.
+fn is_denied(hub: &mut Hub, alloc: Global, step: Step<'_>) -> bool {
+    match step.word {
+        "read" => !hub.read_done(step.number, step.name, nothing_read(alloc)),
+        "finish" => !hub.finish(step.number, step.name),
+        "leave" => !hub.leave(step.number, step.name),
+        "on" => !hub.is_on(step.number, step.name),
+        "close" => {
+            hub.close(step.number, 3001);
+            false
+        }
+        "pong" => {
+            hub.pong(step.number);
+            false
+        }
+        "tick" => {
+            hub.tick(u64::from(step.number));
+            false
+        }
+        _ => true,
+    }
+}
+
+fn said(hub: &mut Hub, alloc: Global, step: Step<'_>) -> Result<String, AllocError> {
+    let text = step.name.repeat(alloc, step.size as usize)?;
+    format!(in alloc; "{:?}", hub.say(step.number, text))
+}
+
+fn checked(hub: &mut Hub, alloc: Global, step: Step<'_>) -> Result<String, AllocError> {
+    let top = Some(place(u64::from(step.size)));
+    format!(in alloc; "{:?}", hub.check(step.number, step.name, top))
+}
+
+/// What comes of a step that is answered by a word or a number.
+fn shown(hub: &mut Hub, alloc: Global, step: Step<'_>) -> Result<String, AllocError> {
+    match step.word {
+        "say" => said(hub, alloc, step),
+        "check" => checked(hub, alloc, step),
+        "detach" => format!(in alloc; "{}", hub.detach(step.number)),
+        "turn" => format!(in alloc; "{:?}", hub.next_with_output()),
+        _ => String::from_str(alloc, yes_or_no(!is_denied(hub, alloc, step))),
+    }
+}
+
+fn yes_or_no(is_so: bool) -> &'static str {
+    if is_so { "yes" } else { "no" }
+}
+
+/// What comes of a step.
+fn outcome(hub: &mut Hub, alloc: Global, step: Step<'_>) -> Result<String, AllocError> {
+    match step.word {
+        "attach" => attached(hub, alloc),
+        "begin" => begun(hub, alloc, step),
+        "deliver" => delivered(hub, alloc, step.number),
+        "take" => taken(hub, alloc, step.number),
+        _ => shown(hub, alloc, step),
+    }
+}
+
+/// Adds what comes of a step, ended by `; `, with `short` where it is the first that memory is refused to.
+fn add_outcome(
+    told: &mut String,
+    hub: &mut Hub,
+    alloc: Global,
+    text: &str,
+) -> Result<(), AllocError> {
+    let was_short = hub.short();
+    let came = outcome(hub, alloc, step_of(text))?;
+    told.push_str(came.as_str())?;
+    told.push_str(if hub.short() && !was_short {
+        " short; "
+    } else {
+        "; "
+    })
+}
+
+/// What comes of steps that are separated by `; `, each ended by it too.
+fn outcomes(hub: &mut Hub, alloc: Global, steps: &str) -> Result<String, AllocError> {
+    let mut told = String::new(alloc);
+    for text in steps.split("; ") {
+        add_outcome(&mut told, hub, alloc, text)?;
+    }
+    Ok(told)
+}
+
+/// Whether what comes of the steps of a row stands behind its arrow.
+fn is_so(hub: &mut Hub, alloc: Global, row: &str) -> bool {
+    let (steps, wanted) = row.split_once(" => ").unwrap_or((row, ""));
+    match outcomes(hub, alloc, steps) {
+        Ok(told) => told.as_str().strip_suffix("; ").unwrap_or("") == wanted,
+        Err(_) => false,
+    }
+}
+
+/// On this hub these rows are so, in their order.
+fn go_on(rt: &impl Abort, hub: &mut Hub, alloc: Global, rows: &str) {
+    for row in rows.split('\n') {
+        assert!(rt; is_so(hub, alloc, row), "{row}");
+    }
+}
+
+/// A hub with nobody on it. It lies in a box, since a function that lends a hub of its own is dear to prove.
+fn empty_hub(alloc: Global) -> Result<Box<Hub>, AllocError> {
+    Ok(Box::new(alloc, Hub::new(alloc, 0, 1))?)
+}
+
+/// On an empty hub these rows are so, in their order.
+fn are_so(rt: &impl Abort, alloc: Global, rows: &str) {
+    let mut hub = empty_hub(alloc).expect(rt, "memory");
+    go_on(rt, &mut hub, alloc, rows);
+}
+
+const NOTHING_THERE: &str = "\
+begin 0 news => there is no such session
+attach => 0
+read 0 news; finish 0 news; leave 0 news => no; no; no";
+
+const ALL_TAKEN: &str = "\
+begin 0 c5 => the session follows the channel already
+begin 0 news => the node or the session has as many as it may have
+leave 0 c7; begin 0 news => yes; begun
+close 0; begin 0 chat => yes; there is no such session
+take 0 => 3001 closed";
+
+/// Whether session 0 begins with 128 channels.
+fn begins_with_128(hub: &mut Hub, alloc: Global) -> bool {
+    for number in 0..128_u32 {
+        match format!(in alloc; "begin 0 c{number} => begun") {
+            Ok(row) if is_so(hub, alloc, row.as_str()) => {}
+            _ => return false,
+        }
+    }
+    true
+}
+
+#[test]
+fn refusals(rt: HostRuntime) {
+    let mut hub = empty_hub(rt.alloc()).expect(&rt, "memory");
+    go_on(&rt, &mut hub, rt.alloc(), NOTHING_THERE);
+    assert!(rt; begins_with_128(&mut hub, rt.alloc()));
+    go_on(&rt, &mut hub, rt.alloc(), ALL_TAKEN);
+}
+
+/// The one refusal that comes by no step.
+#[test]
+fn out_of_memory_in_words(rt: HostRuntime) {
+    assert!(rt; is_shown(rt.alloc(), &HubRefusal::Memory, "out of memory"));
+}
+
+/// Session 0 answers its ping, and session 1 doesn't.
+const PINGS: &str = "\
+attach; attach => 0; 1
+tick 24; take 0; take 1 => yes; nothing; nothing
+tick 25; take 0; take 1 => yes; ping; ping
+pong 0; tick 32; take 0; take 1 => yes; yes; nothing; nothing
+tick 33; take 0; take 1 => yes; nothing; 3012 closed
+tick 50; take 0; take 1 => yes; ping; nothing closed";
+
+#[test]
+fn pings(rt: HostRuntime) {
+    are_so(&rt, rt.alloc(), PINGS);
+}
+
+/// In whatever order a publication, the read and the finish come, also where the publication comes twice.
+const REPLY_FIRST: &str = "\
+attach; begin 0 news; deliver 1; read 0 news; finish 0 news => 0; begun; Delivered { passed: 0, kept: 1, dropped: 0, ended: 0, closed: 0 }; yes; yes
+on 0 news; take 0; take 0; take 0; detach 0 => yes; reply; push; nothing; 1
+attach; begin 0 news; read 0 news; deliver 1; finish 0 news => 0; begun; yes; Delivered { passed: 0, kept: 1, dropped: 0, ended: 0, closed: 0 }; yes
+on 0 news; take 0; take 0; take 0; detach 0 => yes; reply; push; nothing; 1
+attach; begin 0 news; read 0 news; finish 0 news; deliver 1 => 0; begun; yes; yes; Delivered { passed: 1, kept: 0, dropped: 0, ended: 0, closed: 0 }
+on 0 news; take 0; take 0; take 0; detach 0 => yes; reply; push; nothing; 1
+attach; begin 0 news; deliver 1; deliver 1 => 0; begun; Delivered { passed: 0, kept: 1, dropped: 0, ended: 0, closed: 0 }; Delivered { passed: 0, kept: 1, dropped: 0, ended: 0, closed: 0 }
+read 0 news; finish 0 news => yes; yes
+on 0 news; take 0; take 0; take 0; detach 0 => yes; reply; push; nothing; 1
+attach; begin 0 news; read 0 news; finish 0 news => 0; begun; yes; yes
+deliver 1; deliver 1 => Delivered { passed: 1, kept: 0, dropped: 0, ended: 0, closed: 0 }; Delivered { passed: 0, kept: 0, dropped: 1, ended: 0, closed: 0 }
+on 0 news; take 0; take 0; take 0; detach 0 => yes; reply; push; nothing; 1";
+
+#[test]
+fn reply_before_push(rt: HostRuntime) {
+    are_so(&rt, rt.alloc(), REPLY_FIRST);
+}
+
+/// A check that finds a subscription behind twice ends it, and so does a delivery that comes behind a gap.
+const GAPS: &str = "\
+attach; begin 0 news; read 0 news; finish 0 news; take 0 => 0; begun; yes; yes; reply
+attach; begin 1 news; read 1 news; finish 1 news; take 1 => 1; begun; yes; yes; reply
+check 1 chat 1 => Nothing
+check 1 news 1; check 1 news 0; check 1 news 1; check 1 news 1; take 1 => Behind; Fine; Behind; Ended; end
+deliver 2; take 0 => Delivered { passed: 0, kept: 0, dropped: 0, ended: 1, closed: 0 }; end
+deliver 3 => Delivered { passed: 0, kept: 0, dropped: 0, ended: 0, closed: 0 }";
+
+#[test]
+fn gap_and_check(rt: HostRuntime) {
+    are_so(&rt, rt.alloc(), GAPS);
+}
+
+/// As much waits for session 0 as may.
+const TOO_SLOW: &str = "\
+attach; begin 0 news; read 0 news; finish 0 news; take 0 => 0; begun; yes; yes; reply
+attach; begin 1 news; read 1 news; finish 1 news; take 1 => 1; begun; yes; yes; reply
+say 0 x 1048576; deliver 1 => Kept; Delivered { passed: 1, kept: 0, dropped: 0, ended: 0, closed: 1 }
+say 0 x 1; take 0; take 0 => Closed; text closed; 3008 closed
+take 1; say 9 x 1 => push; Gone";
+
+#[test]
+fn slow_consumer(rt: HostRuntime) {
+    are_so(&rt, rt.alloc(), TOO_SLOW);
+}
+
+/// A number is given again, and each session that a delivery met gets its turn, in order of their subscribing.
+const TURNS: &str = "\
+attach; begin 0 news; read 0 news; finish 0 news; take 0 => 0; begun; yes; yes; reply
+attach; begin 1 news; read 1 news; finish 1 news; take 1 => 1; begun; yes; yes; reply
+attach; begin 2 news; read 2 news; finish 2 news; take 2 => 2; begun; yes; yes; reply
+detach 1; take 1 => 1; nothing closed
+attach; begin 1 news; read 1 news; finish 1 news; take 1 => 1; begun; yes; yes; reply
+turn => None
+deliver 1; turn; turn; turn; turn => Delivered { passed: 3, kept: 0, dropped: 0, ended: 0, closed: 0 }; Some(0); Some(2); Some(1); None";
+
+#[test]
+fn numbers_and_output(rt: HostRuntime) {
+    are_so(&rt, rt.alloc(), TURNS);
+}
+
+/// After the first steps, with memory for each, one of these comes of the others.
+fn comes_one_of(rt: &impl Abort, alloc: Global, first: &str, others: &str, allowed: &str) {
+    let Ok(mut hub) = empty_hub(alloc) else {
+        return;
+    };
+    if outcomes(&mut hub, alloc, first).is_err() || hub.short() {
+        return;
+    }
+    if let Ok(told) = outcomes(&mut hub, alloc, others) {
+        let told = told.as_str().strip_suffix("; ").unwrap_or("");
+        assert!(rt; allowed.split('\n').any(|line| line == told), "{told}");
+    }
+}
+
+const THREE_FOLLOW: &str = "\
+attach; begin 0 news; read 0 news; finish 0 news; take 0; \
+attach; begin 1 news; read 1 news; finish 1 news; take 1; \
+attach; begin 2 news; read 2 news; finish 2 news; take 2";
+
+/// Where memory is refused, one of them is closed; or none, where it was for the one text of all, which each then writes for itself.
+const ALL_BUT_ONE: &str = "\
+Delivered { passed: 3, kept: 0, dropped: 0, ended: 0, closed: 0 }; push; push; push
+Delivered { passed: 3, kept: 0, dropped: 0, ended: 0, closed: 0 } short; push; push; push
+Delivered { passed: 2, kept: 0, dropped: 0, ended: 0, closed: 1 } short; 3004 closed; push; push
+Delivered { passed: 2, kept: 0, dropped: 0, ended: 0, closed: 1 } short; push; 3004 closed; push
+Delivered { passed: 2, kept: 0, dropped: 0, ended: 0, closed: 1 } short; push; push; 3004 closed";
+
+// By `.ci/hub-refused` also with each request for memory refused in turn.
+#[test]
+fn deliver_refused(rt: HostRuntime) {
+    let steps = "deliver 1; take 0; take 1; take 2";
+    comes_one_of(&rt, rt.alloc(), THREE_FOLLOW, steps, ALL_BUT_ONE);
+}
+
+const ONE_ASKS: &str =
+    "attach; begin 0 news; read 0 news; finish 0 news; take 0; attach; begin 1 news";
+
+/// What was kept comes behind the reply; or an end, where memory was refused for it. Where it is refused for the reply or for what
+/// comes behind it, what was said before goes out, and the close.
+const KEPT_OR_ENDED: &str = "\
+Delivered { passed: 1, kept: 1, dropped: 0, ended: 0, closed: 0 }; yes; yes; reply; push; nothing
+Delivered { passed: 1, kept: 1, dropped: 0, ended: 0, closed: 0 } short; yes; yes; reply; push; nothing
+Delivered { passed: 1, kept: 1, dropped: 0, ended: 0, closed: 0 } short; yes; yes; reply; end; nothing
+Delivered { passed: 0, kept: 1, dropped: 0, ended: 0, closed: 1 } short; yes; yes; reply; push; nothing
+Delivered { passed: 1, kept: 1, dropped: 0, ended: 0, closed: 0 }; yes; yes short; 3004 closed; nothing closed; nothing closed
+Delivered { passed: 1, kept: 1, dropped: 0, ended: 0, closed: 0 }; yes; yes short; reply closed; 3004 closed; nothing closed";
+
+// By `.ci/hub-refused` also with each request for memory refused in turn.
+#[test]
+fn overflow_refused(rt: HostRuntime) {
+    let steps = "deliver 1; read 1 news; finish 1 news; take 1; take 1; take 1";
+    comes_one_of(&rt, rt.alloc(), ONE_ASKS, steps, KEPT_OR_ENDED);
+}

@@ -1,0 +1,9 @@
+//! What a node or a client knows.
+mod client;
+mod presence;
+mod queue;
+mod recovery;
+mod refusals;
+mod stream;
+mod streams;
+mod subs;

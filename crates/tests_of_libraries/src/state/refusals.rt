@@ -1,0 +1,61 @@
+//! What a refusal says.
+use crate::rows::is_shown;
+use cf_client::ClientFault;
+use cf_presence::PresenceRefusal;
+use cf_queue::QueueRefusal;
+use cf_stream::StreamRefusal;
+use cf_subs::SubRefusal;
+use std::alloc::Global;
+use std::fmt::Display;
+use std::process::Abort;
+
+/// Values are shown as these texts.
+fn say<T: Display>(rt: &impl Abort, alloc: Global, values: &[(T, &str)]) {
+    for (value, text) in values {
+        assert!(rt; is_shown(alloc, value, text), "{text}");
+    }
+}
+
+const OF_STREAM: [(StreamRefusal, &str); 4] = [
+    (
+        StreamRefusal::AtLastOffset,
+        "the stream is at its last offset",
+    ),
+    (
+        StreamRefusal::WrongEpoch,
+        "the position is of another epoch",
+    ),
+    (StreamRefusal::NoEpoch, "there is no epoch for a new stream"),
+    (StreamRefusal::Memory, "out of memory"),
+];
+
+const OF_CLIENT: [(ClientFault, &str); 4] = [
+    (ClientFault::Bad, "unreadable"),
+    (ClientFault::NotNow, "not now"),
+    (ClientFault::AtLastId, "no command id is left"),
+    (ClientFault::Memory, "out of memory"),
+];
+
+const OF_QUEUE: [(QueueRefusal, &str); 3] = [
+    (QueueRefusal::Closed, "the queue is closed"),
+    (QueueRefusal::Slow, "the queue is at its limit"),
+    (QueueRefusal::Memory, "out of memory"),
+];
+
+const OF_SUBS: [(SubRefusal, &str); 2] = [
+    (SubRefusal::Full, "the table is full"),
+    (SubRefusal::Memory, "out of memory"),
+];
+
+#[test]
+fn refusals_in_words(rt: HostRuntime) {
+    say(&rt, rt.alloc(), &OF_STREAM);
+    say(&rt, rt.alloc(), &OF_CLIENT);
+    say(&rt, rt.alloc(), &OF_QUEUE);
+    say(&rt, rt.alloc(), &OF_SUBS);
+    say(
+        &rt,
+        rt.alloc(),
+        &[(PresenceRefusal::Memory, "out of memory")],
+    );
+}

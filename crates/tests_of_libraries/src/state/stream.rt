@@ -1,0 +1,170 @@
+//! One stream, by rows: behind the arrow of a call stands the number that it answers, or a word where it answers none.
+use crate::publications::ann;
+use crate::rows::number_of;
+use cf_protocol::{Epoch, Position};
+use cf_stream::{LARGEST_SIZE, LAST_OFFSET, Published, Stream};
+use std::alloc::Global;
+use std::process::Abort;
+
+/// A stream of epoch aaaa and of this size, which has given so many offsets.
+fn started(alloc: Global, size: usize, top: u64) -> Option<Box<Stream>> {
+    let epoch = Epoch::from_text("aaaa");
+    if epoch.is_empty() || size == 0 || size > LARGEST_SIZE || top > LAST_OFFSET {
+        return None;
+    }
+    let stream = Stream::start_at(alloc, epoch, size, top).ok()?;
+    Box::new(alloc, stream).ok()
+}
+
+/// A publication of ann under a key; the empty one is none.
+fn publish(alloc: Global, stream: &mut Stream, key: &str) -> Option<Published> {
+    let info = Some(ann(alloc)?);
+    let body = String::from_str(alloc, "1").ok()?;
+    let key = String::from_str(alloc, key).ok()?;
+    stream.publish(body, key, info, 0).ok()
+}
+
+/// So many publications without a key. Answers the last one's offset.
+fn publish_all(alloc: Global, stream: &mut Stream, count: u64) -> Option<u64> {
+    for _ in 0..count {
+        publish(alloc, stream, "")?;
+    }
+    Some(stream.position().offset)
+}
+
+/// So many publications, the first under `k1`, the second under `k2`. Answers the last one's offset.
+fn publish_keys(alloc: Global, stream: &mut Stream, count: u64) -> Option<u64> {
+    for before in 0..count {
+        let key = format!(in alloc; "k{}", before + 1).ok()?;
+        publish(alloc, stream, key.as_str())?;
+    }
+    Some(stream.position().offset)
+}
+
+/// The offset of a publication that repeats one, or doesn't.
+fn offset_of(published: Option<Published>, repeated: bool) -> Option<u64> {
+    match published {
+        Some(answer) if answer.repeated == repeated => Some(answer.position.offset),
+        _ => None,
+    }
+}
+
+/// How many publications are recovered from an offset on.
+fn recover(stream: &mut Stream, offset: u64) -> Option<u64> {
+    let since = Position {
+        epoch: stream.position().epoch,
+        offset,
+    };
+    let found = stream.recover(Some(since), 0).ok()?;
+    if found.recovered {
+        Some(found.publications.len() as u64)
+    } else {
+        None
+    }
+}
+
+/// How many publications are listed.
+fn list(stream: &mut Stream, limit: &str) -> Option<u64> {
+    let limit = limit.parse::<i32>().ok()?;
+    Some(stream.history(None, limit, 0).ok()?.publications.len() as u64)
+}
+
+/// Leaves a stream so many publications, or room for so many. Answers how many it holds then.
+fn shrink(stream: &mut Stream, name: &str, count: usize) -> Option<u64> {
+    match name {
+        "trim" => stream.trim(count),
+        "resize" if count > 0 && count <= LARGEST_SIZE => stream.resize(count),
+        _ => return None,
+    }
+    Some(stream.held() as u64)
+}
+
+fn call(alloc: Global, stream: &mut Stream, name: &str, passed: &str) -> Option<u64> {
+    let number = number_of(passed);
+    match name {
+        "publish" => publish_all(alloc, stream, u64::from(number)),
+        "keys" => publish_keys(alloc, stream, u64::from(number)),
+        "new" => offset_of(publish(alloc, stream, passed), false),
+        "repeat" => offset_of(publish(alloc, stream, passed), true),
+        "known" => Some(stream.repeat_of(passed)?.offset),
+        "recover" => recover(stream, u64::from(number)),
+        "list" => list(stream, passed),
+        _ => shrink(stream, name, number as usize),
+    }
+}
+
+fn is_so(alloc: Global, stream: &mut Stream, row: &str) -> bool {
+    let (done, answer) = row.split_once(" => ").unwrap_or((row, ""));
+    let (name, passed) = done.split_once(' ').unwrap_or((done, ""));
+    call(alloc, stream, name, passed) == answer.parse::<u64>().ok()
+}
+
+/// With a new stream these rows are so, in their order.
+fn are_so(rt: &impl Abort, alloc: Global, (size, top): (usize, u64), rows: &str) {
+    let mut stream = started(alloc, size, top).expect(rt, "a stream");
+    for row in rows.split('\n') {
+        assert!(rt; is_so(alloc, &mut *stream, row), "{row}");
+    }
+}
+
+const THOUSAND: &str = "publish 1000 => 1000
+recover 1000 => 0
+recover 999 => 1
+recover 701 => 299
+recover 700 => 300
+recover 699 => lost
+recover 1001 => lost
+list -2147483648 => 300
+list -1 => 300
+list 0 => 0
+list 1 => 1
+list 300 => 300
+list 2147483647 => 300";
+
+#[test]
+fn recovery_limit(rt: HostRuntime) {
+    are_so(&rt, rt.alloc(), (1000, 0), THOUSAND);
+}
+
+/// A repeat is answered at the last offset too, and after a trim to nothing.
+const LAST: &str = "new k1 => 9007199254740991
+publish 1 => refused
+repeat k1 => 9007199254740991
+new k2 => refused
+trim 0 => 0
+repeat k1 => 9007199254740991";
+
+#[test]
+fn last_offset(rt: HostRuntime) {
+    are_so(&rt, rt.alloc(), (1000, LAST_OFFSET - 1), LAST);
+}
+
+/// A stream of three knows the last hundred keys.
+const KEYS: &str = "keys 100 => 100
+repeat k1 => 1
+new k101 => 101
+new k1 => 102
+new k2 => 103
+repeat k4 => 4
+known k4 => 4
+known k3 => none
+trim 3 => 3";
+
+#[test]
+fn keys_are_remembered(rt: HostRuntime) {
+    are_so(&rt, rt.alloc(), (3, 0), KEYS);
+}
+
+/// A stream of 10,000 publications keeps two where it is made smaller, also once it is larger again.
+const GREAT: &str = "publish 10000 => 10000
+recover 9700 => 300
+recover 9699 => lost
+list -1 => 300
+resize 2 => 2
+resize 5 => 2
+recover 9997 => lost";
+
+#[test]
+fn great_stream(rt: HostRuntime) {
+    are_so(&rt, rt.alloc(), (10_000, 0), GREAT);
+}

@@ -1,0 +1,78 @@
+//! The streams of all channels.
+use crate::publications::place;
+use cf_protocol::{Epoch, read_namespaces};
+use cf_stream::{Epochs, Streams};
+use std::alloc::Global;
+
+/// Each new stream gets the same epoch.
+#[derive(Drop)]
+struct Same;
+
+impl Epochs for Same {
+    ghost use Rattle.std.specs.Prelude.{⊤};
+
+    ghost draws = { λ old r new. ⊤ };
+
+    fn draw(&mut self) -> Option<Epoch> {
+        Some(Epoch::from_text("aaaa"))
+    }
+}
+
+/// The streams of one namespace, of 1,000 publications each.
+fn opened(alloc: Global) -> Option<Box<Streams>> {
+    let namespaces = read_namespaces(alloc, "=1000,300,phs").ok()?;
+    let streams = Streams::new(alloc, &namespaces).ok()?;
+    Box::new(alloc, streams).ok()
+}
+
+/// Publishes an empty body to a channel, and answers its offset.
+fn publish(alloc: Global, streams: &mut Streams, channel: &str) -> Option<u64> {
+    if !streams.is_set_up(channel) {
+        return None;
+    }
+    let (body, key) = (String::new(alloc), String::new(alloc));
+    let answer = streams.publish(&mut Same, channel, body, key, None, 0);
+    Some(answer.ok()?.position.offset)
+}
+
+/// How many publications of a channel are recovered from offset 700 on.
+fn read(streams: &mut Streams, channel: &str) -> Option<usize> {
+    if !streams.is_set_up(channel) {
+        return None;
+    }
+    let answer = streams.read(&mut Same, channel, Some(place(700)), 0);
+    Some(answer.ok()?.publications.len())
+}
+
+/// How many publications of a channel are listed.
+fn list(streams: &mut Streams, channel: &str) -> Option<usize> {
+    if !streams.is_set_up(channel) {
+        return None;
+    }
+    let answer = streams.history(&mut Same, channel, None, -1, 0);
+    Some(answer.ok()?.publications.len())
+}
+
+/// Whether a channel takes a thousand empty bodies, and gives the last 300 and the first.
+fn takes_and_gives(alloc: Global, streams: &mut Streams, channel: &str) -> bool {
+    for offset in 1..1001 {
+        if publish(alloc, streams, channel) != Some(offset) {
+            return false;
+        }
+    }
+    read(streams, channel) == Some(300) && list(streams, channel) == Some(300)
+}
+
+/// Whether a channel opens by a history, another by a read, and a third, with so long a name, by a publish.
+fn take_long_name(alloc: Global, length: usize) -> Option<bool> {
+    let mut streams = opened(alloc)?;
+    let streams = &mut *streams;
+    let are_empty = list(streams, "a") == Some(0) && read(streams, "b") == Some(0);
+    let name = "x".repeat(alloc, length).ok()?;
+    Some(are_empty && takes_and_gives(alloc, streams, name.as_str()))
+}
+
+#[test]
+fn long_names_and_empty_bodies(rt: HostRuntime) {
+    assert!(rt; take_long_name(rt.alloc(), 65_536) == Some(true));
+}

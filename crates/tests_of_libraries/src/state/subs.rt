@@ -1,0 +1,121 @@
+//! Which session follows which channel.
+use crate::rows::number_of;
+use cf_subs::{MOST_ROWS, SubRefusal, SubTable};
+use std::alloc::Global;
+
+/// Adds a row, which may be there.
+fn put(table: &mut SubTable, channel: u32, session: u32) -> Result<(), SubRefusal> {
+    if table.has(channel, session) {
+        return Ok(());
+    }
+    table.add(channel, session)
+}
+
+/// Whether these are a channel's sessions, in the order in which they were added.
+fn walks(table: &SubTable, channel: u32, sessions: &str) -> bool {
+    let mut wanted = sessions.split_whitespace();
+    for session in table.walk(channel) {
+        match wanted.next() {
+            Some(word) if word.parse::<u32>() == Ok(session) => {}
+            _ => return false,
+        }
+    }
+    wanted.next().is_none()
+}
+
+/// How many rows a call adds or takes out, or how many channels a session has.
+fn call(table: &mut SubTable, name: &str, channel: u32, session: u32) -> usize {
+    match name {
+        "add" => usize::from(put(table, channel, session).is_ok()),
+        "remove" => usize::from(table.remove(channel, session)),
+        "detach" => table.detach(session),
+        _ => table.channel_count(session),
+    }
+}
+
+/// Behind the arrow of a channel stand its sessions, and behind that of a call what it answers.
+fn is_so(table: &mut SubTable, row: &str) -> bool {
+    let (done, wanted) = row.split_once(" => ").unwrap_or((row, ""));
+    let mut words = done.split(' ');
+    let name = words.next().unwrap_or("");
+    let channel = number_of(words.next().unwrap_or(""));
+    if name == "walk" {
+        return walks(table, channel, wanted);
+    }
+    let session = number_of(words.next().unwrap_or(""));
+    call(table, name, channel, session) as u64 == u64::from(number_of(wanted))
+}
+
+const ROWS: &str = "add 1 10 => 1
+add 2 10 => 1
+add 1 11 => 1
+add 1 12 => 1
+walk 1 => 10 11 12
+channels 0 10 => 2
+remove 1 11 => 1
+remove 1 11 => 0
+walk 1 => 10 12
+add 1 11 => 1
+walk 1 => 10 12 11
+detach 0 10 => 2
+walk 1 => 12 11
+walk 2
+channels 0 10 => 0
+add 4294967295 4294967295 => 1
+walk 4294967295 => 4294967295";
+
+/// A value that may go to another thread.
+fn sent<T: Send>(value: T) -> T {
+    value
+}
+
+#[test]
+fn rows_in_order_of_adding(rt: HostRuntime) {
+    let mut table = sent(SubTable::new(rt.alloc()));
+    for row in ROWS.split('\n') {
+        assert!(rt; is_so(&mut table, row), "{row}");
+    }
+}
+
+/// A table of as many rows as it may have, 64 a session.
+fn full(alloc: Global) -> Option<SubTable> {
+    let mut table = SubTable::new(alloc);
+    for number in 0..65_536 {
+        put(&mut table, number % 1000, number / 64).ok()?;
+    }
+    Some(table)
+}
+
+/// Whether a full table takes a row more only where one went.
+fn is_limited(table: &mut SubTable) -> bool {
+    table.len() == MOST_ROWS
+        && put(table, 7, 5000) == Err(SubRefusal::Full)
+        && table.remove(5, 0)
+        && put(table, 7, 5000) == Ok(())
+        && put(table, 8, 5000) == Err(SubRefusal::Full)
+}
+
+#[test]
+fn row_65537_is_refused(rt: HostRuntime) {
+    let mut table = full(rt.alloc()).expect(&rt, "memory");
+    assert!(rt; is_limited(&mut table));
+}
+
+/// Whether each row of a full table goes, where the next one is so many further.
+fn all_go(alloc: Global, step: u32) -> Option<bool> {
+    let mut table = full(alloc)?;
+    for turn in 0..65_536 {
+        let number = step.wrapping_mul(turn) % 65_536;
+        if !table.remove(number % 1000, number / 64) {
+            return Some(false);
+        }
+    }
+    Some(table.len() == 0)
+}
+
+#[test]
+fn rows_go_in_three_orders(rt: HostRuntime) {
+    for step in [1, 65_535, 40_503] {
+        assert!(rt; all_go(rt.alloc(), step) == Some(true), "{step}");
+    }
+}

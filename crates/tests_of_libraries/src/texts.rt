@@ -1,0 +1,3 @@
+//! Texts that are read and written.
+mod json;
+mod protocol;
