@@ -42,3 +42,6 @@ returns-then-is_spent-clause-done g c =
     let s = c.loop-session.session in
     let stands = sym c.is_closed.ensures ∙ c.loop-session-test.true in
     sym (ap (λ (b : Bool). b || is_idle s) stands ∙ (sym c.is_idle.ensures ∙ c.if-not-is_idle.true))
+
+pub step-requires-clause-stands : goal.step-requires-clause-stands
+step-requires-clause-stands g c = sym c.is_closed.ensures ∙ c.loop-session-test.true
