@@ -41,15 +41,30 @@ receive within a millisecond => none
 9 => sent
 receive within a millisecond => 9";
 
-#[test]
-fn one_place(rt: HostRuntime) -> Result<(), Fail> {
-    let (mut sender, mut receiver) = pair(rt.alloc(), 1)?;
-    for row in STEPS.lines() {
-        let (step, wanted) = row.split_once(" => ").unwrap_or((row, ""));
-        let came = came_of(&rt, rt.alloc(), &mut sender, &mut receiver, step);
-        assert!(rt; came.is_some_and(|it| it.as_str() == wanted), "{row}");
+/// Whether a row is so at the two ends of a link.
+fn is_so<R: Wait + Clock>(
+    rt: &R,
+    alloc: Global,
+    sender: &mut Sender<u32>,
+    receiver: &mut Receiver<u32>,
+    row: &str,
+) -> bool {
+    let (step, wanted) = row.split_once(" => ").unwrap_or((row, ""));
+    match came_of(rt, alloc, sender, receiver, step) {
+        Some(came) => came.as_str() == wanted,
+        None => false,
     }
-    Ok(())
+}
+
+#[test]
+fn one_place(rt: HostRuntime) {
+    let (mut sender, mut receiver) = pair(rt.alloc(), 1).expect(&rt, "memory");
+    for row in STEPS.lines() {
+        assert!(rt;
+            is_so(&rt, rt.alloc(), &mut sender, &mut receiver, row),
+            "{row}"
+        );
+    }
 }
 
 /// Sends the numbers below `count`, each until it is taken.
@@ -75,49 +90,57 @@ fn hear<R: Wait + Clock>(rt: &R, receiver: &mut Receiver<u32>) -> Option<u32> {
     None
 }
 
+/// Sends an item after a fiftieth of a second, and rings. Whether it was sent.
+fn send_later<R: Wait + Clock>(rt: &R, sender: &mut Sender<u32>) -> bool {
+    thread::sleep(rt, Duration::from_millis(20));
+    let sent = sender.send(rt, 7).is_ok();
+    sender.ring();
+    sent
+}
+
 /// How long a receiver that would sleep for five seconds waits for what another thread sends after a fiftieth of one.
 fn time_to_hear<R: Threads + Wait + Clock + Copy + Send + 'static>(
     rt: R,
     alloc: Global,
-) -> Result<Duration, Fail> {
-    let (mut sender, mut receiver) = pair(alloc, 1)?;
-    let start = Instant::now(&rt)?;
-    let child = thread::spawn(&rt, move || {
-        thread::sleep(&rt, Duration::from_millis(20));
-        let sent = sender.send(&rt, 7u32).is_ok();
-        sender.ring();
-        sent
-    })?;
+) -> Option<Duration> {
+    let (mut sender, mut receiver) = pair(alloc, 1).ok()?;
+    let start = Instant::now(&rt).ok()?;
+    let child = thread::spawn(&rt, move || send_later(&rt, &mut sender)).ok()?;
     let item = hear(&rt, &mut receiver);
-    let waited = start.elapsed(&rt)?;
-    if child.join(&rt) && item == Some(7) {
-        Ok(waited)
-    } else {
-        Ok(Duration::from_secs(5))
+    let waited = start.elapsed(&rt).ok()?;
+    let is_sent = child.join(&rt);
+    (is_sent && item == Some(7)).then_some(waited)
+}
+
+fn is_quick<R: Threads + Wait + Clock + Copy + Send + 'static>(rt: R, alloc: Global) -> bool {
+    match time_to_hear(rt, alloc) {
+        Some(waited) => waited < Duration::from_millis(250),
+        None => false,
     }
 }
 
 /// A send wakes a receiver that sleeps, and not the end of its sleep: of three times one is quick on any machine.
 #[test]
-fn woken_by_a_send(rt: HostRuntime) -> Result<(), Fail> {
-    let first = time_to_hear(rt, rt.alloc())?;
-    let second = time_to_hear(rt, rt.alloc())?;
-    let third = time_to_hear(rt, rt.alloc())?;
-    assert!(rt; first.min(second).min(third) < Duration::from_millis(250));
-    Ok(())
+fn woken_by_a_send(rt: HostRuntime) {
+    let alloc = rt.alloc();
+    assert!(rt; is_quick(rt, alloc) || is_quick(rt, alloc) || is_quick(rt, alloc));
 }
 
-/// What a receiver was told to have been sent it gets; what is left at the end was sent and not received.
-#[test]
-fn told_and_left(rt: HostRuntime) -> Result<(), Fail> {
-    let (mut sender, mut receiver) = pair(rt.alloc(), 2)?;
-    assert_eq!(rt; sender.send(&rt, 7u32), Ok(()));
+/// Whether what a receiver was told to have been sent it gets, and what is left at the end was sent and not received.
+fn is_told_and_left<R: Wait>(rt: &R, alloc: Global) -> Option<bool> {
+    let (mut sender, mut receiver) = pair(alloc, 2).ok()?;
+    let is_first_sent = sender.send(rt, 7u32).is_ok();
     receiver.hear(sender.tell());
-    assert_eq!(rt; receiver.receive(&rt), Some(7));
+    let is_received = receiver.receive(rt) == Some(7);
     sender.hear(receiver.tell());
-    assert_eq!(rt; sender.send(&rt, 8), Ok(()));
-    assert_eq!(rt; settle(&rt, sender, receiver), 1);
-    Ok(())
+    let is_next_sent = sender.send(rt, 8).is_ok();
+    let left = settle(rt, sender, receiver);
+    Some(is_first_sent && is_received && is_next_sent && left == 1)
+}
+
+#[test]
+fn told_and_left(rt: HostRuntime) {
+    assert!(rt; is_told_and_left(&rt, rt.alloc()) == Some(true));
 }
 
 /// The next item, for which a receiver would sleep for an hour at a time.

@@ -4,7 +4,6 @@ use cf_order::{Entry, NamedOwner, Naming, Owner, Pass, ShardWord, publish_both};
 use std::marker::Brand;
 use std::process::Abort;
 use std::sync::{Mutex, Wait};
-use std::test::Fail;
 use std::thread::{Threads, join};
 
 /// Publishes 100 times.
@@ -32,7 +31,7 @@ fn add_up<N: Naming + Send + Sync, R: Threads + Wait + Abort + Sync>(
     word: &ShardWord,
     owner: Owner,
     mut pass: Pass,
-) -> Result<(), Fail>
+)
     requires word { word.now ≡ N.word }
     requires owner { owner.word ≡ N.word }
     requires pass { pass.word ≡ N.word }
@@ -53,14 +52,13 @@ fn add_up<N: Naming + Send + Sync, R: Threads + Wait + Abort + Sync>(
     );
     word.join(&mut pass, one);
     word.join(&mut pass, two);
-    assert_eq!(rt; (pass.share(), word.look(&mut pass)), (200, 200));
+    assert!(rt; pass.share() == 200 && word.look(&mut pass) == 200);
     assert!(rt; publish_both(rt, word, &owner, &mut pass, "news", "2", "3"));
-    assert_eq!(rt; (pass.share(), word.look(&mut pass)), (202, 202));
-    Ok(())
+    assert!(rt; pass.share() == 202 && word.look(&mut pass) == 202);
 }
 
 #[test]
-fn shares_add_up(rt: HostRuntime) -> Result<(), Fail> {
-    let (word, owner, pass) = ShardWord::new(rt.alloc())?;
-    add_up::<Brand, _>(&rt, &word, owner, pass)
+fn shares_add_up(rt: HostRuntime) {
+    let (word, owner, pass) = ShardWord::new(rt.alloc()).expect(&rt, "memory");
+    add_up::<Brand, _>(&rt, &word, owner, pass);
 }

@@ -1,6 +1,6 @@
 //! Whole conversations of a client, by rows: behind the arrow of a call stands its text, and behind that of a text what the
 //! application gets from it, or why it is refused; nothing where there is no arrow.
-use crate::rows::sides_of;
+use crate::rows::{is_shown, sides_of};
 use cf_client::{AppEvent, Client, ClientFault};
 use std::alloc::{AllocError, Global};
 use std::process::Abort;
@@ -89,16 +89,16 @@ fn answer(
         "leave" => client.leave(passed),
         "list" => client.list(passed, -1),
         "on_text" => told(alloc, client, passed),
+        "reconnect" => {
+            client.reconnect();
+            Ok(String::new(alloc))
+        }
         _ => put(client, name, passed),
     }
 }
 
-/// Whether a call has this answer. A text alone is one that the client hears.
+/// Whether a call has this answer, or is refused in these words. A text alone is one that the client hears.
 fn answers(alloc: Global, client: &mut Client, call: &str, wanted: &str) -> bool {
-    if call == "reconnect" {
-        client.reconnect();
-        return wanted.is_empty();
-    }
     let (name, passed) = if call.starts_with('{') {
         ("on_text", call)
     } else {
@@ -106,9 +106,7 @@ fn answers(alloc: Global, client: &mut Client, call: &str, wanted: &str) -> bool
     };
     match answer(alloc, client, name, passed) {
         Ok(text) => text.as_str() == wanted,
-        Err(ClientFault::Bad) => wanted == "unreadable",
-        Err(ClientFault::NotNow) => wanted == "not now",
-        Err(_) => false,
+        Err(fault) => is_shown(alloc, &fault, wanted),
     }
 }
 
