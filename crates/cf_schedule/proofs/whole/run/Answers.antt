@@ -49,6 +49,11 @@ returns-then-is_err-clause-stopped c =
     let kept : c.append.new.self.items ≡ a = c.append.ensures.items ∙ ap (λ t. cond t (a ++ b) a) c.if-is_err.ensures.negation in
     carries c.safe_always.ensures cfg es c.loop-done.done (record { entries = c.append.new.self }) c.loop-done-test.true (ap (map shown_entry) kept ∙ c.loop-done.invariant.told)
 
+pub returns-clause-whole : goal.returns-clause-whole
+returns-clause-whole c =
+    let past : length c.args.events.now ≤ c.loop-done.done = search rules in
+    c.loop-done.invariant.told ∙ ap (trace (shown_config c.args.config.now) 1 start) (all-seen c.args.events.now c.loop-done.done past)
+
 pub returns-clause-safe : goal.returns-clause-safe
 returns-clause-safe c =
     let cfg : Config = shown_config c.args.config.now in

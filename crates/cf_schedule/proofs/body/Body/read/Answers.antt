@@ -29,3 +29,9 @@ invariant_of-result c =
         shallow = omega (arith, c.depth.ensures t found.2);
       },
     )
+
+pub returns-in-Ok-compact-clause-ok : goal.returns-in-Ok-compact-clause-ok
+returns-in-Ok-compact-clause-ok c =
+    let found = c.in-Ok.ensures.found in
+    let shallow = c.depth.ensures found.0 found.2 in
+    (found.0, c.in-Ok.span, found.1, omega (arith, shallow, c.if-depth-gt-MAX_BODY_DEPTH.false), c.in-Ok-compact.ensures.ok found.0 found.2)
