@@ -1,10 +1,11 @@
-use Rattle.std.proofs.Common.{◌≡◌, [], arith, sym, subst, ◌∙◌, Ok}
+use Rattle.std.proofs.Common.{◌≡◌, ◌≤◌, ℕ, [], arith, sym, subst, ◌∙◌, Ok}
 use Rattle.cf_json.specs.Spans.{Span, Document}
 use Rattle.cf_schedule.proofs.Data.{document_is_at}
 use Rattle.cf_json.specs.Grammar.{Tree, Value}
 use Rattle.cf_json.specs.Compact.{compact_text}
 use Rattle.std.specs.String.{string_bytes}
 use Rattle.std.proofs.lemmas.List.{append-nil}
+use Rattle.cf_schedule.specs.ScheduleLine.{max_data_depth}
 use Rattle.cf_schedule.proofs.body.Body.read.Goals as goal
 
 pub returns-then-depth-gt-MAX_BODY_DEPTH-clause-err : goal.returns-then-depth-gt-MAX_BODY_DEPTH-clause-err
@@ -26,12 +27,12 @@ invariant_of-result c =
       record {
         value = subst (λ v. Value t v []) (append-nil (compact_text t) ∙ sym text) (c.compact_reads_back.ensures.back t [] regular);
         compact = sym text;
-        shallow = omega (arith, c.depth.ensures t found.2);
+        shallow = subst (λ (n : ℕ). n ≤ max_data_depth) (c.depth.ensures t found.2) c.if-depth-gt-MAX_BODY_DEPTH.false;
       },
     )
 
 pub returns-in-Ok-compact-clause-ok : goal.returns-in-Ok-compact-clause-ok
 returns-in-Ok-compact-clause-ok c =
     let found = c.in-Ok.ensures.found in
-    let shallow = c.depth.ensures found.0 found.2 in
-    (found.0, c.in-Ok.span, found.1, omega (arith, shallow, c.if-depth-gt-MAX_BODY_DEPTH.false), c.in-Ok-compact.ensures.ok found.0 found.2)
+    let shallow = subst (λ (n : ℕ). n ≤ max_data_depth) (c.depth.ensures found.0 found.2) c.if-depth-gt-MAX_BODY_DEPTH.false in
+    (found.0, c.in-Ok.span, found.1, shallow, c.in-Ok-compact.ensures.ok found.0 found.2)
