@@ -24,7 +24,7 @@ pub(crate) struct Accepted {
 }
 
 /// What became of a publish.
-#[derive(Clone, Copy, PartialEq, Eq)]
+#[derive(Clone, Copy)]
 pub(crate) enum Published {
     Accepted,
     /// It repeats a publication that stands: its key is among the last hundred of the stream.

@@ -111,8 +111,7 @@ pub(crate) fn answer_in(
     let Some(hub) = hubs.get_mut(seat.node as usize) else {
         return Ok(());
     };
-    answer(hub, alloc, seat.session, id, outcome)?;
-    Ok(())
+    answer(hub, alloc, seat.session, id, outcome)
 }
 
 /// A command is refused with an error.
@@ -129,8 +128,7 @@ pub(crate) fn refuse_in(
     let Some(hub) = hubs.get_mut(seat.node as usize) else {
         return Ok(());
     };
-    refuse(hub, alloc, seat.session, id, code)?;
-    Ok(())
+    refuse(hub, alloc, seat.session, id, code)
 }
 
 /// A subscription is begun, or its ask refused.
@@ -148,8 +146,7 @@ pub(crate) fn ask_in(
     let Some(hub) = hubs.get_mut(seat.node as usize) else {
         return Ok(());
     };
-    ask(hub, alloc, seat.session, id, channel, since)?;
-    Ok(())
+    ask(hub, alloc, seat.session, id, channel, since)
 }
 
 fn ask(
@@ -188,8 +185,7 @@ pub(crate) fn lose_in(
     let Some(hub) = hubs.get_mut(seat.node as usize) else {
         return Ok(());
     };
-    lose(hub, alloc, seat.session, id, channel)?;
-    Ok(())
+    lose(hub, alloc, seat.session, id, channel)
 }
 
 fn lose(hub: &mut Hub, alloc: Global, session: u32, id: u32, channel: &str) -> Result<(), Short>
