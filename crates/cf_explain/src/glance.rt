@@ -6,7 +6,7 @@ use cf_protocol::Position;
 use cf_schedule::{Event, World};
 
 /// What stands at the client and the channel of an event.
-#[derive(Clone, Copy, PartialEq, Eq, Debug)]
+#[derive(Clone, Copy)]
 pub(crate) struct Glance {
     /// The id of the client's next command, if it can send one.
     pub id: Option<u32>,
