@@ -99,8 +99,8 @@ impl<'a> Schedule<'a> {
             → RefusesLine nodes line.now number read.given f) }
     {
         note_epoch(alloc, &mut self.epochs, &event, number)?;
-        self.lines.push(Line { number, text: line })?;
         self.events.push(event)?;
+        self.lines.push(Line { number, text: line })?;
         Ok(())
     }
 
