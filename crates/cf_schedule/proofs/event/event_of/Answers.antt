@@ -54,6 +54,15 @@ returns-in-check c = answers_at c.args.nodes c.args.line.now c.in-Some.word.now 
 pub returns-in-list : goal.returns-in-list
 returns-in-list c = answers_at c.args.nodes c.args.line.now c.in-Some.word.now (codes "list") c.in-Some.rest.now c.list.result c.in-Some.ensures c.in-list.is (c.list.ensures c.args.nodes)
 
+pub returns-in-connect : goal.returns-in-connect
+returns-in-connect c = answers_at c.args.nodes c.args.line.now c.in-Some.word.now (codes "connect") c.in-Some.rest.now c.connect.result c.in-Some.ensures c.in-connect.is c.connect.ensures
+
+pub returns-in-deliver : goal.returns-in-deliver
+returns-in-deliver c = answers_at c.args.nodes c.args.line.now c.in-Some.word.now (codes "deliver") c.in-Some.rest.now c.deliver.result c.in-Some.ensures c.in-deliver.is c.deliver.ensures
+
+pub returns-in-restart : goal.returns-in-restart
+returns-in-restart c = answers_at c.args.nodes c.args.line.now c.in-Some.word.now (codes "restart") c.in-Some.rest.now c.restart.result c.in-Some.ensures c.in-restart.is c.restart.ensures
+
 pub returns-in_default : goal.returns-in_default
 returns-in_default c = c.one_word.ensures c.args.nodes c.in_default.ensures
 
