@@ -2,6 +2,7 @@
 //! application gets from it, or why it is refused; nothing where there is no arrow.
 use crate::rows::{is_shown, sides_of};
 use cf_client::{AppEvent, Client, ClientFault};
+use cf_protocol::Position;
 use std::alloc::{AllocError, Global};
 use std::process::Abort;
 
@@ -12,27 +13,20 @@ fn line_of(alloc: Global, event: &AppEvent) -> Result<String, AllocError> {
             channel,
             was_recovering,
             recovered,
-            position,
+            position: Position { epoch, offset },
         } => {
-            let (epoch, offset) = (position.epoch, position.offset);
             format!(in alloc; "subscribed {channel} {was_recovering} {recovered} {epoch} {offset}")
         }
         AppEvent::Published {
             channel,
-            position,
+            position: Position { epoch, offset },
             body,
-        } => {
-            let (epoch, offset) = (position.epoch, position.offset);
-            format!(in alloc; "published {channel} {epoch} {offset} {body}")
-        }
+        } => format!(in alloc; "published {channel} {epoch} {offset} {body}"),
         AppEvent::Listed {
             channel,
-            position,
+            position: Position { epoch, offset },
             count,
-        } => {
-            let (epoch, offset) = (position.epoch, position.offset);
-            format!(in alloc; "listed {channel} {epoch} {offset} {count}")
-        }
+        } => format!(in alloc; "listed {channel} {epoch} {offset} {count}"),
         _ => short_line_of(alloc, event),
     }
 }
@@ -48,23 +42,15 @@ fn short_line_of(alloc: Global, event: &AppEvent) -> Result<String, AllocError> 
     }
 }
 
-/// The events' lines, each ended by a semicolon.
-fn lines_of(alloc: Global, events: &[AppEvent]) -> Result<String, AllocError> {
+/// What the application gets from a text: the events' lines, each ended by a semicolon.
+fn told(alloc: Global, client: &mut Client, text: &str) -> Result<String, ClientFault> {
+    let events = client.on_text(text)?;
     let mut lines = String::new(alloc);
-    for event in events {
+    for event in &events {
         lines.push_str(line_of(alloc, event)?.as_str())?;
         lines.push_str(";")?;
     }
     Ok(lines)
-}
-
-/// What the application gets from a text.
-fn told(alloc: Global, client: &mut Client, text: &str) -> Result<String, ClientFault> {
-    let events = client.on_text(text)?;
-    match lines_of(alloc, events.as_slice()) {
-        Ok(lines) => Ok(lines),
-        Err(_) => Err(ClientFault::Memory),
-    }
 }
 
 /// The text of a publish to `news`, or of one under a key, which stands before the data.

@@ -16,7 +16,7 @@ fn walks(table: &SubTable, channel: u32, sessions: &str) -> bool {
     let mut wanted = sessions.split_whitespace();
     for session in table.walk(channel) {
         match wanted.next() {
-            Some(word) if word.parse::<u32>() == Ok(session) => {}
+            Some(word) if number_of(word) == session => {}
             _ => return false,
         }
     }
@@ -36,14 +36,13 @@ fn call(table: &mut SubTable, name: &str, channel: u32, session: u32) -> usize {
 /// Behind the arrow of a channel stand its sessions, and behind that of a call what it answers.
 fn is_so(table: &mut SubTable, row: &str) -> bool {
     let (done, wanted) = row.split_once(" => ").unwrap_or((row, ""));
-    let mut words = done.split(' ');
-    let name = words.next().unwrap_or("");
-    let channel = number_of(words.next().unwrap_or(""));
+    let (name, passed) = done.split_once(' ').unwrap_or((done, ""));
+    let (channel, session) = passed.split_once(' ').unwrap_or((passed, ""));
+    let channel = number_of(channel);
     if name == "walk" {
         return walks(table, channel, wanted);
     }
-    let session = number_of(words.next().unwrap_or(""));
-    call(table, name, channel, session) as u64 == u64::from(number_of(wanted))
+    call(table, name, channel, number_of(session)) as u64 == u64::from(number_of(wanted))
 }
 
 const ROWS: &str = "add 1 10 => 1

@@ -15,6 +15,13 @@ enum Sender {
     Server,
 }
 
+/// What becomes of the frames of a table's rows.
+#[derive(Clone, Copy)]
+enum Fate {
+    Kept,
+    Refused,
+}
+
 /// The commands of a frame, written again one behind another.
 fn commands_again(alloc: Global, text: &str) -> Result<String, ReadFault> {
     let commands = read_commands(alloc, text)?;
@@ -70,14 +77,22 @@ fn is_refused(alloc: Global, sender: Sender, row: &str) -> bool {
     }
 }
 
-fn are_kept(rt: &impl Abort, alloc: Global, sender: Sender, rows: &str, parted_by: char) {
-    for row in rows.split(parted_by) {
-        assert!(rt; is_kept(alloc, sender, row), "{row}");
+/// Whether that becomes of a row's frame.
+fn is_so(alloc: Global, sender: Sender, fate: Fate, row: &str) -> bool {
+    match fate {
+        Fate::Kept => is_kept(alloc, sender, row),
+        Fate::Refused => is_refused(alloc, sender, row),
     }
 }
 
-fn are_refused(rt: &impl Abort, alloc: Global, sender: Sender, rows: &str, parted_by: char) {
+fn are_so(
+    rt: &impl Abort,
+    alloc: Global,
+    (sender, fate): (Sender, Fate),
+    rows: &str,
+    parted_by: char,
+) {
     for row in rows.split(parted_by) {
-        assert!(rt; is_refused(alloc, sender, row), "{row}");
+        assert!(rt; is_so(alloc, sender, fate, row), "{row}");
     }
 }

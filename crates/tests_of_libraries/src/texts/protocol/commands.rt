@@ -1,5 +1,5 @@
 //! Frames of commands, among them those that nobody means well by.
-use super::{Sender, are_kept, are_refused};
+use super::{Fate, Sender, are_so};
 
 /// Frames that are written again as they were read.
 const KEPT: &str = r#"// what clients send
@@ -253,9 +253,33 @@ const REFUSED_LINES: &str = "| \n\t|\u{feff}{}|{\"id\":1,\"connect\":{\"token\":
 
 #[test]
 fn frames_of_commands(rt: HostRuntime) {
-    are_kept(&rt, rt.alloc(), Sender::Client, KEPT, '\n');
-    are_kept(&rt, rt.alloc(), Sender::Client, REWRITTEN, '\n');
-    are_kept(&rt, rt.alloc(), Sender::Client, REWRITTEN_LINES, '|');
-    are_refused(&rt, rt.alloc(), Sender::Client, REFUSED, '\n');
-    are_refused(&rt, rt.alloc(), Sender::Client, REFUSED_LINES, '|');
+    are_so(&rt, rt.alloc(), (Sender::Client, Fate::Kept), KEPT, '\n');
+    are_so(
+        &rt,
+        rt.alloc(),
+        (Sender::Client, Fate::Kept),
+        REWRITTEN,
+        '\n',
+    );
+    are_so(
+        &rt,
+        rt.alloc(),
+        (Sender::Client, Fate::Kept),
+        REWRITTEN_LINES,
+        '|',
+    );
+    are_so(
+        &rt,
+        rt.alloc(),
+        (Sender::Client, Fate::Refused),
+        REFUSED,
+        '\n',
+    );
+    are_so(
+        &rt,
+        rt.alloc(),
+        (Sender::Client, Fate::Refused),
+        REFUSED_LINES,
+        '|',
+    );
 }

@@ -1,5 +1,5 @@
 //! Frames of replies and pushes, among them those that nobody means well by.
-use super::{Sender, are_kept, are_refused};
+use super::{Fate, Sender, are_so};
 
 /// Frames that are written again as they were read.
 const KEPT: &str = r#"// what the server sends
@@ -241,15 +241,27 @@ null
 
 #[test]
 fn frames_of_replies(rt: HostRuntime) {
-    are_kept(&rt, rt.alloc(), Sender::Server, KEPT, '\n');
-    are_kept(&rt, rt.alloc(), Sender::Server, REWRITTEN, '\n');
-    are_kept(
+    are_so(&rt, rt.alloc(), (Sender::Server, Fate::Kept), KEPT, '\n');
+    are_so(
         &rt,
         rt.alloc(),
-        Sender::Server,
+        (Sender::Server, Fate::Kept),
+        REWRITTEN,
+        '\n',
+    );
+    are_so(
+        &rt,
+        rt.alloc(),
+        (Sender::Server, Fate::Kept),
         " {}{ }\r\n\t{}  => {}{}{}",
         '|',
     );
-    are_refused(&rt, rt.alloc(), Sender::Server, REFUSED, '\n');
-    are_refused(&rt, rt.alloc(), Sender::Server, "| ", '|');
+    are_so(
+        &rt,
+        rt.alloc(),
+        (Sender::Server, Fate::Refused),
+        REFUSED,
+        '\n',
+    );
+    are_so(&rt, rt.alloc(), (Sender::Server, Fate::Refused), "| ", '|');
 }
