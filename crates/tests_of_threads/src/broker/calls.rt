@@ -148,48 +148,27 @@ fn stands<N: Naming, R: Wait>(
     }
 }
 
-/// `trim C COUNT`, or `forget C`.
-fn cut<N: Naming, R: Wait>(
+/// `trim C COUNT`, `forget C`, `tick C` of its shard, or `size C`, by which its namespace holds three in its shard.
+fn change<N: Naming, R: Wait>(
     rt: &R,
     stage: &Stage<'_, '_, N>,
     pass: &mut Pass,
     name: &str,
     channel: &str,
     with: &str,
-) -> Option<String>
-    requires pass { pass.old.word ≡ N.words (number_of channel.now) }
-    ensures { pass.new.word ≡ pass.old.word }
-{
-    let end = if name == "trim" {
-        let count = with.parse::<usize>().unwrap_or(0);
-        stage.broker.trim(rt, pass, channel, count)
-    } else {
-        stage.broker.forget(rt, pass, channel)
-    };
-    ended(stage.alloc, end)
-}
-
-/// `tick C` of its shard, or `size C`, by which its namespace holds three in its shard.
-fn tick_or_size<N: Naming, R: Wait>(
-    rt: &R,
-    stage: &Stage<'_, '_, N>,
-    pass: &mut Pass,
-    name: &str,
-    channel: &str,
     now: u64,
-) -> Option<String>
+) -> Result<(), Refused>
     requires pass { pass.old.word ≡ N.words (number_of channel.now) }
     requires set_up { IsSome (settings_of N.namespaces channel.now) }
     ensures { pass.new.word ≡ pass.old.word }
 {
-    let shard = shard_of(channel);
-    let end = if name == "tick" {
-        stage.broker.tick(rt, pass, shard, now)
-    } else {
-        let namespace = namespace_of(channel);
-        stage.broker.set_size(rt, pass, shard, namespace, 3)
-    };
-    ended(stage.alloc, end)
+    let broker = stage.broker;
+    match name {
+        "trim" => broker.trim(rt, pass, channel, with.parse::<usize>().unwrap_or(0)),
+        "forget" => broker.forget(rt, pass, channel),
+        "tick" => broker.tick(rt, pass, shard_of(channel), now),
+        _ => broker.set_size(rt, pass, shard_of(channel), namespace_of(channel), 3),
+    }
 }
 
 /// A call that says something of a channel, or of its shard, and changes nothing.
@@ -239,8 +218,10 @@ fn call_on<N: Naming, R: Wait>(
             history(rt, stage, pass, channel, None, limit, now)
         }
         "after" => history(rt, stage, pass, channel, position(with), -1, now),
-        "trim" | "forget" => cut(rt, stage, pass, name, channel, with),
-        "tick" | "size" => tick_or_size(rt, stage, pass, name, channel, now),
+        "trim" | "forget" | "tick" | "size" => {
+            let end = change(rt, stage, pass, name, channel, with, now);
+            ended(stage.alloc, end)
+        }
         _ => ask(rt, stage, pass, name, channel, with),
     }
 }
@@ -286,13 +267,14 @@ fn user<N: Naming, R: Wait>(
     client: &str,
 ) -> Option<String> {
     let users = stage.broker.list(rt, channel).ok()?;
-    match users.get(client) {
-        Some(user) => word(stage.alloc, user.as_str()),
-        None => word(stage.alloc, "none"),
-    }
+    let user = match users.get(client) {
+        Some(user) => user.as_str(),
+        None => "none",
+    };
+    word(stage.alloc, user)
 }
 
-/// `enter C CLIENT USER`, `user C CLIENT`, or `stats C`: how many clients are there, and how many users.
+/// `enter C CLIENT USER`, `leave C CLIENT`, `user C CLIENT`, or `stats C`: how many clients are there, and how many users.
 fn call_on_presence<N: Naming, R: Wait>(
     rt: &R,
     stage: &Stage<'_, '_, N>,
@@ -308,6 +290,10 @@ fn call_on_presence<N: Naming, R: Wait>(
                 stage.alloc,
                 stage.broker.enter(rt, channel, client, user, now),
             )
+        }
+        "leave" => {
+            stage.broker.leave(rt, channel, with);
+            word(stage.alloc, "done")
         }
         "user" => user(rt, stage, channel, with),
         _ => {
@@ -328,15 +314,16 @@ pub(super) fn call<N: Naming, R: Wait>(
     let (name, passed) = words.split_once(' ')?;
     let (channel, with) = passed.split_once(' ').unwrap_or((passed, ""));
     match name {
-        "at" => caller.now = passed.parse::<u64>().unwrap_or(0),
-        "leave" => stage.broker.leave(rt, channel, with),
-        "enter" | "user" | "stats" => {
-            return call_on_presence(rt, stage, name, channel, with, caller.now);
+        "at" => {
+            caller.now = passed.parse::<u64>().unwrap_or(0);
+            word(stage.alloc, "done")
         }
-        "often" => return publish_often(rt, stage, caller, channel, with),
-        _ => return call_with_pass(rt, stage, caller, name, channel, with),
+        "enter" | "leave" | "user" | "stats" => {
+            call_on_presence(rt, stage, name, channel, with, caller.now)
+        }
+        "often" => publish_often(rt, stage, caller, channel, with),
+        _ => call_with_pass(rt, stage, caller, name, channel, with),
     }
-    word(stage.alloc, "done")
 }
 
 /// A publication in words, and whose it is.
@@ -348,6 +335,12 @@ fn shown(alloc: Global, publication: &Publication) -> Option<String> {
     }
 }
 
+/// A delivery in words.
+fn brought(alloc: Global, delivery: &Delivery) -> Option<String> {
+    let publication = shown(alloc, &delivery.publication)?;
+    format!(in alloc; "{} {} {publication}", delivery.channel, delivery.epoch).ok()
+}
+
 /// What comes next over a link.
 pub(super) fn next_over(
     rt: &impl Wait,
@@ -355,10 +348,7 @@ pub(super) fn next_over(
     link: &mut Receiver<Delivery>,
 ) -> Option<String> {
     match link.receive(rt) {
-        Some(delivery) => {
-            let publication = shown(alloc, &delivery.publication)?;
-            format!(in alloc; "{} {} {publication}", delivery.channel, delivery.epoch).ok()
-        }
+        Some(delivery) => brought(alloc, &delivery),
         None => word(alloc, "nothing"),
     }
 }

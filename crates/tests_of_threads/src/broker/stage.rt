@@ -254,6 +254,15 @@ impl Links {
     }
 }
 
+/// A link of one place, and one of twenty.
+fn both_links(alloc: Global) -> Option<Links> {
+    let mut links = Links {
+        senders: Vec::new(alloc),
+        receivers: Vec::new(alloc),
+    };
+    (links.add(alloc, 1) && links.add(alloc, 20)).then_some(links)
+}
+
 /// A broker and its passes. It lies in a box, since a function that lends a broker of its own is dear to prove.
 fn opened<'d, N: Naming>(
     alloc: Global,
@@ -283,29 +292,33 @@ pub(super) fn play<N: Naming + Send + Sync, R: Threads + Wait + Abort + AllocGlo
 {
     let alloc = rt.alloc();
     let Part { epochs, rows } = part;
-    let mut links = Links {
-        senders: Vec::new(alloc),
-        receivers: Vec::new(alloc),
-    };
-    assert!(rt; links.add(alloc, 1) && links.add(alloc, 20));
-    let opened = opened::<N>(alloc, words, namespaces, epochs, links.senders);
-    let (broker, mut passes) = opened.expect(rt, "memory");
-    let broker = &*broker;
-    let lent = passes.lend(alloc, broker).expect(rt, "memory");
+    let Links { senders, receivers } = both_links(alloc).expect(rt, "memory");
+    let opened = opened::<N>(alloc, words, namespaces, epochs, senders);
+    let (broker, passes) = opened.expect(rt, "memory");
     let stage = Stage {
         alloc,
-        broker,
+        broker: &*broker,
         namespaces,
     };
-    let cast = Cast {
+    let cast = cast_of(&stage, passes, receivers).expect(rt, "memory");
+    are_rows(rt, &stage, cast, rows);
+}
+
+/// Ours with these passes, and theirs with some that are lent to them.
+fn cast_of<N: Naming>(
+    stage: &Stage<'_, '_, N>,
+    mut passes: Passes<N>,
+    links: Vec<Receiver<Delivery>>,
+) -> Option<Cast<N>> {
+    let lent = passes.lend(stage.alloc, stage.broker).ok()?;
+    Some(Cast {
         ours: Caller { passes, now: 0 },
         theirs: Caller {
             passes: lent,
             now: 0,
         },
-        links: links.receivers,
-    };
-    are_rows(rt, &stage, cast, rows);
+        links,
+    })
 }
 
 /// The namespace of all channels without a prefix.
