@@ -10,9 +10,7 @@ use cf_protocol::Position;
 use std::io::{Read, Write};
 use std::marker::Brand;
 use std::net::{Net, SocketAddr};
-use std::process::Abort;
 use std::thread;
-use std::time::Clock;
 
 /// So many turns of one of its two waits, and the test has failed: ten million in all.
 const MOST_TURNS: u64 = 5_000_000;
@@ -165,29 +163,17 @@ fn publish_all<R: AllocGlobal, S: Read + Write + Drop>(
     Some(())
 }
 
-// Whether the readers have all that a client of the first node published.
-fn all_get_all<R: Net + AllocGlobal>(rt: &R, addresses: (SocketAddr, SocketAddr)) -> Option<bool> {
+/// Whether the readers have all that a client of the first node published.
+pub(super) fn all_get_all<R: Net + AllocGlobal>(
+    rt: &R,
+    addresses: (SocketAddr, SocketAddr),
+) -> Option<bool> {
     let mut readers = gather(rt, addresses)?;
     settle(readers.as_mut_slice())?;
     let mut author = connect(rt, rt.alloc(), addresses.0)?;
     publish_all(rt, &mut author, readers.as_mut_slice())?;
     come_back(readers.as_mut_slice())?;
     Some(readers.iter().all(|reader| reader.came == COUNT))
-}
-
-// The four read and the fifth publishes.
-#[derive(Drop)]
-struct Losses;
-
-impl Task for Losses {
-    fn run<R: Net + Clock + Abort + AllocGlobal>(
-        &self,
-        rt: &R,
-        _hand: &Hand,
-        addresses: (SocketAddr, SocketAddr),
-    ) {
-        assert!(rt; all_get_all(rt, addresses) == Some(true));
-    }
 }
 
 // Over links with room for one publication, before slow dispatchers, some are lost on their way to the nodes. Two clients on each
@@ -198,6 +184,6 @@ fn loopback_two_nodes(rt: HostRuntime) {
     let settings = default_settings(&rt);
     let words = Words::new(rt.alloc()).expect(&rt, "memory");
     let hand = Hand::new(1000);
-    let lost = two_nodes::<Brand, HostRuntime, Losses>(&rt, words, &settings, 1, &hand, &Losses);
+    let lost = two_nodes::<Brand, HostRuntime>(&rt, words, &settings, 1, &hand, Task::Losses);
     assert!(rt; lost > 0, "nothing was lost");
 }

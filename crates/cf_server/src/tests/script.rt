@@ -105,26 +105,19 @@ fn is_said<S: Read + Write>(hand: &Hand, peers: &mut [Peer<S>], row: &str) -> bo
     true
 }
 
-// Rows that are so, in their order, once the three clients are connected.
-#[derive(Drop)]
-struct Script {
-    rows: &'static str,
-}
-
-impl Task for Script {
-    fn run<R: Net + Clock + Abort + AllocGlobal>(
-        &self,
-        rt: &R,
-        hand: &Hand,
-        addresses: (SocketAddr, SocketAddr),
-    ) {
-        let mut peers = connect_all(rt, addresses).expect(rt, "connections");
-        for row in self.rows.lines() {
-            assert!(rt;
-                is_row(rt, hand, addresses.0, peers.as_mut_slice(), row),
-                "{row}"
-            );
-        }
+/// The rows are so, in their order, once the three clients are connected.
+pub(super) fn play<R: Net + Clock + Abort + AllocGlobal>(
+    rt: &R,
+    hand: &Hand,
+    rows: &str,
+    addresses: (SocketAddr, SocketAddr),
+) {
+    let mut peers = connect_all(rt, addresses).expect(rt, "connections");
+    for row in rows.lines() {
+        assert!(rt;
+            is_row(rt, hand, addresses.0, peers.as_mut_slice(), row),
+            "{row}"
+        );
     }
 }
 
@@ -142,9 +135,9 @@ ann < {"push":{"channel":"news","pub":{"data":"hello","info":{"client":"0-7-2"},
 fn gate_two_nodes(rt: HostRuntime) {
     let settings = default_settings(&rt);
     let words = Words::new(rt.alloc()).expect(&rt, "memory");
-    let script = Script { rows: MEETING };
     let hand = Hand::new(1);
-    two_nodes::<Brand, HostRuntime, Script>(&rt, words, &settings, 1024, &hand, &script);
+    let task = Task::Rows(MEETING);
+    two_nodes::<Brand, HostRuntime>(&rt, words, &settings, 1024, &hand, task);
 }
 
 const SECONDS: &str = r#"ann > {"id":2,"subscribe":{"channel":"news"}}
@@ -194,7 +187,7 @@ let go"#;
 fn beats(rt: HostRuntime) {
     let settings = default_settings(&rt);
     let words = Words::new(rt.alloc()).expect(&rt, "memory");
-    let script = Script { rows: SECONDS };
     let hand = Hand::new(1);
-    two_nodes::<Brand, HostRuntime, Script>(&rt, words, &settings, 1, &hand, &script);
+    let task = Task::Rows(SECONDS);
+    two_nodes::<Brand, HostRuntime>(&rt, words, &settings, 1, &hand, task);
 }

@@ -29,16 +29,35 @@ fn is_told(alloc: Global, fault: &SimulateFault, words: &str) -> bool {
 pub(super) fn is_so(
     alloc: Global,
     options: Options<'_>,
-    input: &[u8],
+    bytes: &[u8],
     (lines, words): (&str, &str),
 ) -> bool {
     let Ok(config) = config_of(alloc, options) else {
         return false;
     };
-    let mut reader = input;
-    let mut writer = Vec::new(alloc);
-    let done = simulate(alloc, &mut reader, &mut writer, &config, options.explains);
-    ends(alloc, &done, 2, words) && is_written(writer.as_slice(), lines)
+    let input = Input {
+        bytes,
+        fails: false,
+    };
+    let (done, written) = run(alloc, &config, options.explains, input, Manner::TakesAll);
+    ends(alloc, &done, 2, words) && is_written(written.as_slice(), lines)
+}
+
+/// A run from this input into a writer of this manner: how it ends, and what the writer took.
+fn run(
+    alloc: Global,
+    config: &Config,
+    explains: bool,
+    mut input: Input<'_>,
+    manner: Manner,
+) -> (Result<(), SimulateFault>, Vec<u8>) {
+    let mut writer = Awkward {
+        manner,
+        taken: Vec::new(alloc),
+        is_interrupted: false,
+    };
+    let done = simulate(alloc, &mut input, &mut writer, config, explains);
+    (done, writer.taken)
 }
 
 /// Whether these lines were written, each ended.
@@ -110,19 +129,27 @@ fn schedule_faults(rt: HostRuntime) {
     assert!(rt; is_so(rt.alloc(), DEFAULTS, input, ("", "not UTF-8")));
 }
 
-/// An input that fails.
+/// What a run reads: these bytes, or an input that fails.
 #[derive(Drop)]
-struct Failing;
+struct Input<'a> {
+    bytes: &'a [u8],
+    fails: bool,
+}
 
-impl Read for Failing {
-    fn read(&mut self, _buf: &mut [u8]) -> io::Result<usize> {
-        Err(io::Error::from(io::ErrorKind::ConnectionReset))
+impl<'a> Read for Input<'a> {
+    fn read(&mut self, buf: &mut [u8]) -> io::Result<usize> {
+        if self.fails {
+            return Err(io::Error::from(io::ErrorKind::ConnectionReset));
+        }
+        self.bytes.read(buf)
     }
 }
 
 /// How a writer takes bytes.
 #[derive(Clone, Copy, PartialEq, Eq)]
 enum Manner {
+    /// It takes them all.
+    TakesAll,
     /// It takes them, and fails when it is flushed.
     FailsAtFlush,
     /// It takes none, and says so.
@@ -169,7 +196,7 @@ impl Write for Awkward {
             Manner::TakesOneWrite if !self.taken.is_empty() => {
                 Err(io::Error::from(io::ErrorKind::BrokenPipe))
             }
-            Manner::FailsAtFlush | Manner::TakesOneWrite => {
+            Manner::TakesAll | Manner::FailsAtFlush | Manner::TakesOneWrite => {
                 self.taken.extend_from_slice(bytes)?;
                 Ok(bytes.len())
             }
@@ -204,14 +231,12 @@ const FAILED: &str = "input or output failed";
 
 /// Whether a run into such a writer ends with these words, or well, after it took these lines.
 fn leaves(alloc: Global, config: &Config, manner: Manner, lines: &str, words: &str) -> bool {
-    let mut writer = Awkward {
-        manner,
-        taken: Vec::new(alloc),
-        is_interrupted: false,
+    let input = Input {
+        bytes: FIRST_PUBLICATION.as_bytes(),
+        fails: false,
     };
-    let mut reader = FIRST_PUBLICATION.as_bytes();
-    let done = simulate(alloc, &mut reader, &mut writer, config, false);
-    ends(alloc, &done, 4, words) && writer.taken.as_slice() == lines.as_bytes()
+    let (done, written) = run(alloc, config, false, input, manner);
+    ends(alloc, &done, 4, words) && written.as_slice() == lines.as_bytes()
 }
 
 #[test]
@@ -234,7 +259,10 @@ fn awkward_writers(rt: HostRuntime) {
 #[test]
 fn failed_input(rt: HostRuntime) {
     let config = config_of(rt.alloc(), DEFAULTS).expect(&rt, "settings");
-    let mut writer = Vec::new(rt.alloc());
-    let done = simulate(rt.alloc(), &mut Failing, &mut writer, &config, false);
+    let input = Input {
+        bytes: b"",
+        fails: true,
+    };
+    let (done, _) = run(rt.alloc(), &config, false, input, Manner::TakesAll);
     assert!(rt; ends(rt.alloc(), &done, 4, FAILED));
 }

@@ -3,7 +3,9 @@ ghost use Rattle.std.specs.Prelude.{◌≡◌, ◌<◌};
 ghost use Rattle.cf_broker.specs.Shards.{names};
 
 use super::hand::Hand;
+use super::losses::all_get_all;
 use super::nodes::{Opened, Settings, broker_to, open};
+use super::script::play;
 use cf_broker::{Broker, Passes, Words};
 use cf_epochs::BootEpochs;
 use cf_node::Node;
@@ -17,14 +19,25 @@ use std::thread::Threads;
 use std::time::Clock;
 
 /// What is done while two nodes run.
-pub(super) trait Task {
-    /// It is done with clients of the nodes at these addresses, while a hand leads the nodes' workers.
-    fn run<R: Net + Clock + Abort + AllocGlobal>(
-        &self,
-        rt: &R,
-        hand: &Hand,
-        addresses: (SocketAddr, SocketAddr),
-    );
+#[derive(Clone, Copy)]
+pub(super) enum Task {
+    /// These rows are so, once three clients are connected.
+    Rows(&'static str),
+    /// Four clients get all that a fifth publishes, though some of it is lost on its way.
+    Losses,
+}
+
+// It is done with clients of the nodes at these addresses, while a hand leads the nodes' workers.
+fn carry_out<R: Net + Clock + Abort + AllocGlobal>(
+    rt: &R,
+    hand: &Hand,
+    task: Task,
+    addresses: (SocketAddr, SocketAddr),
+) {
+    match task {
+        Task::Rows(rows) => play(rt, hand, rows, addresses),
+        Task::Losses => assert!(rt; all_get_all(rt, addresses) == Some(true)),
+    }
 }
 
 // A node with its passes.
@@ -46,18 +59,17 @@ where
 }
 
 // Runs nodes while the task is done, after which they are to stop.
-fn run_all<N, R, T>(
+fn run_all<N, R>(
     rt: &R,
     broker: &Broker<N, BootEpochs>,
     hand: &Hand,
     nodes: Vec<Ready<'_, N>>,
-    task: &T,
+    task: Task,
     addresses: (SocketAddr, SocketAddr),
 )
 where
     N: Naming + Send + Sync,
     R: Threads + Wait + Clock + Net + Abort + AllocGlobal + Sync,
-    T: Task,
 {
     let stop = AtomicU64::new(0);
     let stop = &stop;
@@ -65,25 +77,24 @@ where
         for ready in nodes {
             let _ = scope.spawn(move || serve(rt, broker, hand, ready, stop));
         }
-        task.run(rt, hand, addresses);
+        carry_out(rt, hand, task, addresses);
         stop.store(1, Ordering::SeqCst);
     });
 }
 
 /// Two nodes at one broker over these words, whose links have room for so many publications, run while the task is done. All four
 /// workers are there. How many publications the links had no room for.
-pub(super) fn two_nodes<N, R, T>(
+pub(super) fn two_nodes<N, R>(
     rt: &R,
     words: Words,
     settings: &Settings,
     room: usize,
     hand: &Hand,
-    task: &T,
+    task: Task,
 ) -> u64
 where
     N: Naming + Send + Sync,
     R: Threads + Wait + Clock + Net + Abort + AllocGlobal + Sync,
-    T: Task,
     requires room { 0 < room }
     requires words { words ≡ names N.words 16 }
     requires namespaces { settings.now.namespaces ≡ N.namespaces }
