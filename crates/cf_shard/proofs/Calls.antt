@@ -1,6 +1,6 @@
 -- What a call makes of a shard's log and of the caller's pass.
 use Rattle.std.proofs.Common.{◌≡◌, ℕ, ◌+◌, List, [], ◌∷◌, ◌++◌, Option, Some, None, refl, sym, ap, ◌∙◌, subst, append_assoc, append-nil}
-use Rattle.std.specs.Prelude.{ℤ, Bool, true, false, is_some, IsSomeAnd, IsErrOf, Err}
+use Rattle.std.specs.Prelude.{ℤ, Bool, true, false, is_some}
 use Rattle.std.proofs.Common.{cond}
 use Rattle.std.proofs.lemmas.Slice.Eq.{bytes_eq-Decides}
 use Rattle.cf_stream.specs.declared.answer.Published.{Published}
@@ -169,23 +169,6 @@ none_mapped : {X Y : Type 0} (f : X → Y) (o : Option X) → option_map f o ≡
 none_mapped f None e = refl
 none_mapped f (Some x) e = absurd (cc (e))
 
-top_is : (o : Option Shown) (n : ℕ) (key : List ℕ) → repeat_at o key ≡ None → option_map (λ (p : Position). p.offset) (option_map position_of o) ≡ Some n
-    → IsSomeAnd o (λ s. (repeated_by s key ≡ None) × (s.top ≡ n))
-top_is None n key new e = absurd (cc (e))
-top_is (Some s) n key new e = (none_mapped _ (repeated_by s key) new, cc (e))
-
-top_was : (o : Option Shown) (n : ℕ) (key : List ℕ) → IsSomeAnd o (λ s. (repeated_by s key ≡ None) × (s.top ≡ n)) → option_map (λ (p : Position). p.offset) (option_map position_of o) ≡ Some n
-top_was None n key h = absurd h
-top_was (Some s) n key h = ap Some h.1
-
--- the channel's stream has this top, and the key repeats nothing
-pub stood_at : (k : StreamMap) (c key : List ℕ) (position : Option Position) (stood : Option ℕ) (n : ℕ) → position ≡ option_map position_of (stream_of k c) → stood ≡ option_map (λ (p : Position). p.offset) position
-    → repeat_at (stream_of k c) key ≡ None
-    → (stood ≡ Some n → IsSomeAnd (stream_of k c) (λ s. (repeated_by s key ≡ None) × (s.top ≡ n))) × (IsSomeAnd (stream_of k c) (λ s. (repeated_by s key ≡ None) × (s.top ≡ n)) → stood ≡ Some n)
-stood_at k c key position stood n at is new =
-    let same : stood ≡ option_map (λ (p : Position). p.offset) (option_map position_of (stream_of k c)) = is ∙ ap (option_map (λ (p : Position). p.offset)) at in
-    (λ e. top_is (stream_of k c) n key new (sym same ∙ e), λ h. same ∙ top_was (stream_of k c) n key h)
-
 -- a stream that opens remembers nothing
 opened_new : (o : Option Shown) (e key : List ℕ) (size : ℕ) → repeat_at o key ≡ None → repeated_by (stood_or o e size) key ≡ None
 opened_new None e key size new = elim (is_no_key key) as (λ b. cond {A = Option ℕ} b None None ≡ None) [ true ↦ refl | false ↦ refl ]
@@ -210,7 +193,3 @@ publish_noted k o o1 o2 c lent key d position stood p at made from is answer new
     ∙ (opening_stood k c position stood p.position.epoch (Publish c key d ∷ []) from is ∙ ap (λ b. cond b [] es) (sym fresh)) in
     let owner = noted o o1 o2 _ _ at (made fresh) entries in
     (fresh, owner.0, owner.1)
-
--- the same refusal of two calls
-pub refused_alike : {X Y E : Type 0} (a b : E) → IsErrOf {T = X} (Err a) b → IsErrOf {T = Y} (Err a) b
-refused_alike a b e = let same : a ≡ b = cc (e) in ap Err same

@@ -1,15 +1,41 @@
-use Rattle.std.proofs.Common.{◌∙◌}
-use Rattle.cf_shard.proofs.Calls.{opening_stood, noted, read_by_log}
+use Rattle.std.proofs.Common.{rules, ap, ◌∙◌}
+use Rattle.cf_shard.specs.Shard.{Lent}
+use Rattle.cf_shard.proofs.Calls.{opening_stood, noted, kept, read_by_log, follows}
 use Rattle.cf_shard.proofs.Resizing.{stays_up}
 use Rattle.cf_shard.proofs.shard.Shard.read.Goals as goal
 
 pub read-requires : goal.read-requires
 read-requires g c = stays_up _ _ _ c.args.channel.now c.self.invariant.state c.requires.set_up
 
+pub invariant_of-self-2 : goal.invariant_of-self-2
+invariant_of-self-2 g c =
+    let owner = noted _ _ _ _ _ c.follow.ensures.owner c.note_opening.ensures.owner (opening_stood c.self.inside.streams c.args.channel.now _ _ _ _ c.position.ensures.position c.top_of-stood.ensures) in
+    kept _ _ _ _ _ _ _ c.self.invariant c.in_ok-recovery.ensures.log owner.0 owner.1
+
+pub returns-clause-makes : goal.returns-clause-makes
+returns-clause-makes g c =
+    let owner = noted _ _ _ _ _ c.follow.ensures.owner c.note_opening.ensures.owner (opening_stood c.self.inside.streams c.args.channel.now _ _ _ _ c.position.ensures.position c.top_of-stood.ensures) in record {
+      streams = rw (← c.self.view_is) c.in_ok-recovery.ensures.makes;
+      log = rw (← c.self.view_is) owner.1;
+      drawn = search rules;
+    }
+
+pub returns-clause-answer : goal.returns-clause-answer
+returns-clause-answer g c = rw (← c.self.view_is) c.in_ok-recovery.ensures.lists.answer
+
 pub returns-clause-by_log : goal.returns-clause-by_log
 returns-clause-by_log g c =
     let owner = noted _ _ _ _ _ c.follow.ensures.owner c.note_opening.ensures.owner (opening_stood c.self.inside.streams c.args.channel.now _ _ _ _ c.position.ensures.position c.top_of-stood.ensures) in
     read_by_log _ _ _ _ _ _ _ _ _ _ _ c.self.invariant c.in_ok-recovery.ensures.lists.answer c.follow.ensures.seen.0 (c.note_opening.ensures.whole.0 ∙ owner.1)
 
-pub returns-clause-answer : goal.returns-clause-answer
-returns-clause-answer g c = rw (← c.self.view_is) c.in_ok-recovery.ensures.lists.answer
+pub returns-clause-seen : goal.returns-clause-seen
+returns-clause-seen g c =
+    let owner = noted _ _ _ _ _ c.follow.ensures.owner c.note_opening.ensures.owner (opening_stood c.self.inside.streams c.args.channel.now _ _ _ _ c.position.ensures.position c.top_of-stood.ensures) in
+    follows _ _ _ _ _ _ 0 c.follow.ensures.seen.0 c.follow.ensures.pass owner.1 c.note_opening.ensures.whole c.note_opening.ensures.share
+
+pub returns-clause-stays : goal.returns-clause-stays
+returns-clause-stays g c = record {
+  presence = ap (λ (s : Lent g.row.E.Denot). s.presence) c.self.view_is;
+  whole = c.note_opening.ensures.whole.0;
+  state = rw (← c.self.view_is) c.self.invariant.state;
+}
