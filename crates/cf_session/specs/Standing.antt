@@ -15,7 +15,8 @@ use Rattle.cf_session.specs.Script.{Script, Over, Close, Say, Ask}
 use Rattle.cf_session.specs.CommandScripts.{Tables, frame_script, first_script, replies, after_attach, after_begin}
 use Rattle.cf_session.specs.CommandScripts.{after_read, after_finish, after_leave, after_lost}
 use Rattle.cf_session.specs.SessionMachine.{Act, Says, Closes, Progress, Todo, Out, Acts, GoesOn, Hears, failed_text}
-use Rattle.cf_session.specs.Shown.{shown_action, shown_answer}
+use Rattle.cf_session.specs.SessionMachine.{awaits, answered_progress}
+use Rattle.cf_session.specs.Shown.{shown_action, shown_answer, answer_kind}
 use Rattle.cf_session.specs.declared.kind.Kind.TheVariants as kind
 use Rattle.cf_session.specs.declared.action.Action.{Action}
 use Rattle.cf_session.specs.declared.action.Answer.{Answer as CodeAnswer}
@@ -166,3 +167,15 @@ abbrev pub RepliesAt : ℕ → CodeAnswer → Stage → Type 0
 RepliesAt id a s =
     (t : Tables) (ks : List Command) (who : Option Who)
     → progress_at t ks who s ≡ Todo (replies id (frame_script t ks who) (shown_answer a))
+
+abbrev pub is_attaching : Stage → Bool
+is_attaching (stage.Attaching id user) = true
+is_attaching other = false
+
+-- after the answer to a call that is out, and no attach, this is next, whatever else is left to do
+abbrev pub AnswersAt : Stage → CodeAnswer → Stage → Type 0
+AnswersAt old a new =
+    is_attaching old ≡ false
+    → (t : Tables) (ks : List Command) (who : Option Who)
+    → awaits (progress_at t ks who old) ≡ Some (answer_kind a)
+    → progress_at t ks who new ≡ answered_progress (shown_answer a) (progress_at t ks who old)

@@ -1,20 +1,23 @@
 //! What is next once a call was answered.
-ghost use Rattle.std.specs.Prelude.{◌≡◌, ◌≤◌, None};
+ghost use Rattle.std.specs.Prelude.{◌≡◌, ◌≤◌, List, None, Option, string_bytes};
 ghost use Rattle.cf_protocol.specs.Codes.{code_of};
+ghost use Rattle.cf_protocol.specs.Datum.{Who};
+ghost use Rattle.cf_protocol.specs.Request.{Command};
 ghost use Rattle.cf_protocol.specs.Shown.{shown_outcome};
-ghost use Rattle.cf_session.specs.SessionMachine.{is_connected};
+ghost use Rattle.cf_session.specs.CommandScripts.{Tables, after_begin, after_read, frame_script};
+ghost use Rattle.cf_session.specs.SessionMachine.{Todo, is_connected};
 ghost use Rattle.cf_session.specs.Shown.{shown_answer};
-ghost use Rattle.cf_session.specs.Standing.{RepliesAt, refused_code, found_by, work_at};
+ghost use Rattle.cf_session.specs.Standing.{AnswersAt, RepliesAt, refused_code, found_by, progress_at, work_at};
 
 use crate::action::Answer;
 use crate::stage::Stage;
 use cf_presence::Stats;
-use cf_protocol::{ErrorCode, Outcome};
+use cf_protocol::{ErrorCode, Outcome, Position};
 use cf_stream::History;
 use std::collections::BTreeMap;
 
 /// The error with which a call was refused.
-pub(crate) fn refused_with(answer: &Answer) -> Option<ErrorCode>
+fn refused_with(answer: &Answer) -> Option<ErrorCode>
     ensures { result ≡ refused_code (shown_answer answer.now) }
 {
     match answer {
@@ -28,12 +31,77 @@ pub(crate) fn refused_with(answer: &Answer) -> Option<ErrorCode>
     }
 }
 
-pub(crate) fn refused(id: u32, code: ErrorCode) -> Stage
+fn refused(id: u32, code: ErrorCode) -> Stage
     ensures { result ≡ Stage.Says id (Outcome.Failed (code_of code)) }
 {
     Stage::Says {
         id,
         outcome: Outcome::Failed { code: code.code() },
+    }
+}
+
+/// What comes of the answer to a call that is no attach.
+pub(crate) fn after_answer(stage: Stage, answer: Answer) -> Stage
+    ensures goes { AnswersAt stage answer result }
+    ensures work { work_at result ≤ work_at stage }
+{
+    match stage {
+        Stage::Beginning {
+            id,
+            read,
+            channel,
+            since,
+        } => begun(id, read, channel, since, &answer),
+        Stage::Reading { id, channel } => was_read(id, channel, &answer),
+        Stage::Finishing => Stage::Ready,
+        Stage::Losing { id, code } => refused(id, code),
+        Stage::Leaving { id } => Stage::Says {
+            id,
+            outcome: Outcome::Unsubscribed,
+        },
+        Stage::Calling { id, .. } => replied(id, answer),
+        // No such call is out.
+        Stage::Attaching { .. } => Stage::Ready,
+        Stage::Ready => Stage::Ready,
+        Stage::Reads { .. } => Stage::Ready,
+        Stage::Finishes { .. } => Stage::Ready,
+        Stage::Loses { .. } => Stage::Ready,
+        Stage::Says { .. } => Stage::Ready,
+        Stage::Closes(_) => Stage::Ready,
+        Stage::Closed => Stage::Ready,
+    }
+}
+
+/// The begin of a subscription was answered: its read is next.
+fn begun(id: u32, read: String, channel: String, since: Option<Position>, answer: &Answer) -> Stage
+    ensures goes { (t : Tables) (ks : List Command) (who : Option Who)
+        → progress_at t ks who result
+        ≡ Todo (after_begin id (string_bytes read) (string_bytes channel) since
+        (frame_script t ks who) (shown_answer answer.now)) }
+    ensures work { work_at result ≤ 5 }
+{
+    match refused_with(answer) {
+        Some(code) => refused(id, code),
+        None => Stage::Reads {
+            id,
+            read,
+            channel,
+            since,
+        },
+    }
+}
+
+/// The read of a subscription was answered: its finish is next, or its leave.
+fn was_read(id: u32, channel: String, answer: &Answer) -> Stage
+    ensures goes { (t : Tables) (ks : List Command) (who : Option Who)
+        → progress_at t ks who result
+        ≡ Todo (after_read id (string_bytes channel) (frame_script t ks who)
+        (shown_answer answer.now)) }
+    ensures work { work_at result ≤ 3 }
+{
+    match refused_with(answer) {
+        Some(code) => Stage::Loses { id, channel, code },
+        None => Stage::Finishes { channel },
     }
 }
 
@@ -45,7 +113,7 @@ pub(crate) fn is_connected(outcome: &Outcome) -> bool
 }
 
 /// The reply to a command of one call is next.
-pub(crate) fn replied(id: u32, answer: Answer) -> Stage
+fn replied(id: u32, answer: Answer) -> Stage
     ensures goes { RepliesAt id answer result }
     ensures work { work_at result ≤ 1 }
 {

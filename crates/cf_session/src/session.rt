@@ -15,7 +15,7 @@ ghost use Rattle.cf_session.specs.declared.kind.Kind.TheVariants as kind;
 use crate::action::{Action, Answer};
 use crate::kind::Kind;
 use crate::refusal::refusal_of;
-use crate::replied::{is_connected, refused, refused_with, replied};
+use crate::replied::{after_answer, is_connected};
 use crate::stage::Stage;
 use cf_protocol::{
     CloseCode, Command, Data, ErrorCode, Info, Namespaces, Outcome, Outgoing, Position, ReadFault,
@@ -227,45 +227,7 @@ impl<'a> Session<'a> {
     {
         match mem::replace(&mut self.stage, Stage::Ready) {
             Stage::Attaching { id, user } => self.attached(id, user, answer),
-            Stage::Beginning {
-                id,
-                read,
-                channel,
-                since,
-            } => {
-                self.stage = match refused_with(&answer) {
-                    Some(code) => refused(id, code),
-                    None => Stage::Reads {
-                        id,
-                        read,
-                        channel,
-                        since,
-                    },
-                };
-            }
-            Stage::Reading { id, channel } => {
-                self.stage = match refused_with(&answer) {
-                    Some(code) => Stage::Loses { id, channel, code },
-                    None => Stage::Finishes { channel },
-                };
-            }
-            Stage::Finishing => {}
-            Stage::Losing { id, code } => self.stage = refused(id, code),
-            Stage::Leaving { id } => {
-                self.stage = Stage::Says {
-                    id,
-                    outcome: Outcome::Unsubscribed,
-                };
-            }
-            Stage::Calling { id, .. } => self.stage = replied(id, answer),
-            // No call is out.
-            Stage::Ready => {}
-            Stage::Reads { .. } => {}
-            Stage::Finishes { .. } => {}
-            Stage::Loses { .. } => {}
-            Stage::Says { .. } => {}
-            Stage::Closes(_) => {}
-            Stage::Closed => {}
+            stage => self.stage = after_answer(stage, answer),
         }
     }
 
