@@ -253,33 +253,11 @@ const REFUSED_LINES: &str = "| \n\t|\u{feff}{}|{\"id\":1,\"connect\":{\"token\":
 
 #[test]
 fn frames_of_commands(rt: HostRuntime) {
-    are_so(&rt, rt.alloc(), (Sender::Client, Fate::Kept), KEPT, '\n');
-    are_so(
-        &rt,
-        rt.alloc(),
-        (Sender::Client, Fate::Kept),
-        REWRITTEN,
-        '\n',
-    );
-    are_so(
-        &rt,
-        rt.alloc(),
-        (Sender::Client, Fate::Kept),
-        REWRITTEN_LINES,
-        '|',
-    );
-    are_so(
-        &rt,
-        rt.alloc(),
-        (Sender::Client, Fate::Refused),
-        REFUSED,
-        '\n',
-    );
-    are_so(
-        &rt,
-        rt.alloc(),
-        (Sender::Client, Fate::Refused),
-        REFUSED_LINES,
-        '|',
-    );
+    let kept = (Sender::Client, Fate::Kept);
+    let refused = (Sender::Client, Fate::Refused);
+    are_so(&rt, rt.alloc(), kept, KEPT, '\n');
+    are_so(&rt, rt.alloc(), kept, REWRITTEN, '\n');
+    are_so(&rt, rt.alloc(), kept, REWRITTEN_LINES, '|');
+    are_so(&rt, rt.alloc(), refused, REFUSED, '\n');
+    are_so(&rt, rt.alloc(), refused, REFUSED_LINES, '|');
 }

@@ -241,27 +241,11 @@ null
 
 #[test]
 fn frames_of_replies(rt: HostRuntime) {
-    are_so(&rt, rt.alloc(), (Sender::Server, Fate::Kept), KEPT, '\n');
-    are_so(
-        &rt,
-        rt.alloc(),
-        (Sender::Server, Fate::Kept),
-        REWRITTEN,
-        '\n',
-    );
-    are_so(
-        &rt,
-        rt.alloc(),
-        (Sender::Server, Fate::Kept),
-        " {}{ }\r\n\t{}  => {}{}{}",
-        '|',
-    );
-    are_so(
-        &rt,
-        rt.alloc(),
-        (Sender::Server, Fate::Refused),
-        REFUSED,
-        '\n',
-    );
-    are_so(&rt, rt.alloc(), (Sender::Server, Fate::Refused), "| ", '|');
+    let kept = (Sender::Server, Fate::Kept);
+    let refused = (Sender::Server, Fate::Refused);
+    are_so(&rt, rt.alloc(), kept, KEPT, '\n');
+    are_so(&rt, rt.alloc(), kept, REWRITTEN, '\n');
+    are_so(&rt, rt.alloc(), kept, " {}{ }\r\n\t{}  => {}{}{}", '|');
+    are_so(&rt, rt.alloc(), refused, REFUSED, '\n');
+    are_so(&rt, rt.alloc(), refused, "| ", '|');
 }
