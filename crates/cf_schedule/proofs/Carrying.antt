@@ -1,5 +1,5 @@
 -- An event by the method of its kind.
-use Rattle.std.proofs.Common.{◌≡◌, ℕ, Bool, true, false, if◌then◌else◌, List, [], map, refl, sym, ap, subst, ◌∙◌, Result, Ok, OnOk}
+use Rattle.std.proofs.Common.{◌≡◌, ℕ, Bool, true, false, if◌then◌else◌, List, [], map, refl, sym, ap, subst, ◌∙◌}
 use Rattle.cf_machine.specs.Config.{Config}
 use Rattle.cf_machine.specs.Event.{Event, Epoch, Connect, Ask, AskFrom, Read, Finish, Publish, PublishBy, Deliver, Take, Break, Leave, Trim, Forget, BrokerRestart, SetSize, Restart, Check, ListHistory}
 use Rattle.cf_machine.specs.IntervalMachine.{allows}
@@ -9,15 +9,10 @@ use Rattle.cf_machine.specs.World.{World}
 use Rattle.cf_world.specs.Entries.{shown_entry}
 use Rattle.cf_world.specs.Tie.{GoesOn}
 use Rattle.cf_world.specs.declared.entry.Entry.{Entry as CodeEntry}
-use Rattle.cf_world.specs.declared.short.Short.{Short}
 use Rattle.cf_world.specs.declared.world.World.{World as Parts}
 
 pub goes-so : {e f : Event} (old : Parts) {new now : Parts} → f ≡ e → now ≡ new → GoesOn e old new → GoesOn f old now
 goes-so {e} {f} old {new} {now} same is h = subst (λ (v : Parts). GoesOn f old v) (sym is) (subst (λ (x : Event). GoesOn x old new) (sym same) h)
-
-pub goes-ok : {e f : Event} (old : Parts) {new now : Parts} {r : Result (Unit {0}) Short} {u : Unit {0}} → f ≡ e → now ≡ new → r ≡ Ok u
-    → OnOk r (GoesOn e old new) → GoesOn f old now
-goes-ok {e} {f} old {new} {now} {r} {u} same is ok h = goes-so old same is (subst (λ (x : Result (Unit {0}) Short). OnOk x (GoesOn e old new)) ok h)
 
 -- an event that tells nobody anything
 abbrev pub IsQuiet : Event → Type 0

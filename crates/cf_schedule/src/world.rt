@@ -114,15 +114,15 @@ fn carry_out(
     ensures ok { OnOk result (GoesOn (seen event.now) parts.old parts.new) }
     ensures writes { IfOk result (λ es. Writes at (seen event.now) parts.old es.items) }
 {
-    let done = match event {
-        Event::Epoch { epoch } => parts.epoch(*epoch),
-        Event::Connect { client, node } => parts.connect(client.as_str(), *node),
-        Event::Ask { client, channel } => parts.ask(client.as_str(), channel.as_str()),
-        Event::AskFrom { client, channel } => parts.ask_from(client.as_str(), channel.as_str()),
-        Event::Read { client, channel } => parts.read(client.as_str(), channel.as_str()),
-        Event::Finish { client, channel } => parts.finish(client.as_str(), channel.as_str()),
+    match event {
+        Event::Epoch { epoch } => parts.epoch(*epoch)?,
+        Event::Connect { client, node } => parts.connect(client.as_str(), *node)?,
+        Event::Ask { client, channel } => parts.ask(client.as_str(), channel.as_str())?,
+        Event::AskFrom { client, channel } => parts.ask_from(client.as_str(), channel.as_str())?,
+        Event::Read { client, channel } => parts.read(client.as_str(), channel.as_str())?,
+        Event::Finish { client, channel } => parts.finish(client.as_str(), channel.as_str())?,
         Event::Publish { channel, key, body } => {
-            parts.publish(channel.as_str(), key_text(key), body.as_str())
+            parts.publish(channel.as_str(), key_text(key), body.as_str())?
         }
         Event::PublishBy {
             client,
@@ -134,38 +134,22 @@ fn carry_out(
             channel.as_str(),
             key_text(key),
             body.as_str(),
-        ),
-        Event::Deliver { node, publication } => parts.deliver(*node, *publication),
+        )?,
+        Event::Deliver { node, publication } => parts.deliver(*node, *publication)?,
         Event::Take { client } => return parts.take(at, client.as_str()),
-        Event::Break { client } => {
-            parts.break_off(client.as_str());
-            Ok(())
-        }
-        Event::Leave { client, channel } => parts.leave(client.as_str(), channel.as_str()),
-        Event::Trim { channel, count } => {
-            parts.trim(channel.as_str(), *count);
-            Ok(())
-        }
-        Event::Forget { channel } => {
-            parts.forget(channel.as_str());
-            Ok(())
-        }
-        Event::BrokerRestart => {
-            parts.restart_broker();
-            Ok(())
-        }
-        Event::SetSize { namespace, size } => {
-            parts.set_size(namespace.as_str(), size.count());
-            Ok(())
-        }
-        Event::Restart { node } => parts.restart(*node),
-        Event::Check { client, channel } => parts.check(client.as_str(), channel.as_str()),
+        Event::Break { client } => parts.break_off(client.as_str()),
+        Event::Leave { client, channel } => parts.leave(client.as_str(), channel.as_str())?,
+        Event::Trim { channel, count } => parts.trim(channel.as_str(), *count),
+        Event::Forget { channel } => parts.forget(channel.as_str()),
+        Event::BrokerRestart => parts.restart_broker(),
+        Event::SetSize { namespace, size } => parts.set_size(namespace.as_str(), size.count()),
+        Event::Restart { node } => parts.restart(*node)?,
+        Event::Check { client, channel } => parts.check(client.as_str(), channel.as_str())?,
         Event::ListHistory {
             client,
             channel,
             limit,
-        } => parts.list(client.as_str(), channel.as_str(), *limit),
-    };
-    done?;
+        } => parts.list(client.as_str(), channel.as_str(), *limit)?,
+    }
     Ok(Vec::new(alloc))
 }
