@@ -58,12 +58,12 @@ read_subscribe : JsonLaws → (channel : List ℕ) (p : Option Position) → IsF
 unfolding nowhere
 read_subscribe j channel None h =
     read_object reading.subscribe (("channel" ⇒ written.text channel) ∷ []) (Some (request.Subscribe channel None)) refl (λ r at.
-    reads _ (read_text j r "channel" channel (at (codes "channel"))) (reads _ (read_flag r "recover" false (at (codes "recover")))
-    (reads _ (read_position j r nowhere (at (codes "epoch")) (at (codes "offset")) (record { epoch = refl; offset = omega arith })) refl)))
+    reads _ (read_flag r "recover" false (at (codes "recover"))) (reads _ (read_position j r nowhere (at (codes "epoch")) (at (codes "offset")) (record { epoch = refl; offset = omega arith }))
+    (reads _ (read_text j r "channel" channel (at (codes "channel"))) refl)))
 read_subscribe j channel (Some p) h =
     read_object reading.subscribe (("channel" ⇒ written.text channel) ∷ from (Some p)) (Some (request.Subscribe channel (Some p))) refl (λ r at.
-    reads _ (read_text j r "channel" channel (at (codes "channel"))) (reads _ (read_flag r "recover" true (at (codes "recover")))
-    (reads _ (read_position j r p (at (codes "epoch")) (at (codes "offset")) h) refl)))
+    reads _ (read_flag r "recover" true (at (codes "recover"))) (reads _ (read_position j r p (at (codes "epoch")) (at (codes "offset")) h)
+    (reads _ (read_text j r "channel" channel (at (codes "channel"))) refl)))
 
 data_is : (tree : List ℕ → Tree) (d : Data) → IsData (Bodies tree) d → data_of (body_of tree d) ≡ d
 data_is tree Absent h = refl
@@ -98,8 +98,8 @@ read_history : JsonLaws → (channel : List ℕ) (limit : ℤ) (p : Option Posit
     → object_as reading.history (object_of (history_members channel limit p reverse)) ≡ Some (request.History channel limit p reverse)
 read_history j channel limit p reverse l h =
     read_object reading.history (history_members channel limit p reverse) (Some (request.History channel limit p reverse)) refl (λ r at.
-    reads _ (read_text j r "channel" channel (at (codes "channel"))) (reads _ (read_signed r "limit" limit (at (codes "limit")) l)
-    (reads _ (read_since j p h r (at (codes "since"))) (reads _ (read_flag r "reverse" reverse (at (codes "reverse"))) refl))))
+    reads _ (read_signed r "limit" limit (at (codes "limit")) l) (reads _ (read_since j p h r (at (codes "since")))
+    (reads _ (read_flag r "reverse" reverse (at (codes "reverse"))) (reads _ (read_text j r "channel" channel (at (codes "channel"))) refl))))
 
 pub read_command : JsonLaws → (tree : List ℕ → Tree) (id : ℕ) (q : Request) → IsRegularRequest (Bodies tree) id q → command_of (object_of (command tree id q)) ≡ Some (record { id = id; request = q })
 read_command j tree id request.Pong h = ap (λ n. Some (record { id = n; request = request.Pong })) (sym h)

@@ -99,9 +99,13 @@ read_signed r k (negsuc n) e h =
 pub reads : {A B : Type 0} {o : Option A} {x : A} {y : Option B} (f : A → Option B) → o ≡ Some x → f x ≡ y → (o >>= f) ≡ y
 reads f e g = ap (λ p. p >>= f) e ∙ g
 
+pub in_turn : {A B C : Type 0} (o : Option A) (f : A → Option B) (g : B → Option C) → (o >>= λ x. f x >>= g) ≡ ((o >>= f) >>= g)
+in_turn None f g = refl
+in_turn (Some x) f g = refl
+
 pub read_position : JsonLaws → (r : Fields) (p : Position) → look_up (codes "epoch") r ≡ written.text p.epoch → look_up (codes "offset") r ≡ written.whole p.offset → IsPosition p → fields.position r ≡ Some p
 read_position j r p e f h =
-    reads _ (read_text j r "epoch" p.epoch e) (reads _ (read_whole r "offset" max_u64 p.offset f h.offset (le_refl max_u64)) (ap (λ x. Some (record { epoch = x; offset = p.offset })) (sym (epoch_of-epoch p.epoch h.epoch))))
+    reads _ (read_whole r "offset" max_u64 p.offset f h.offset (le_refl max_u64)) (reads _ (read_text j r "epoch" p.epoch e) (ap (λ x. Some (record { epoch = x; offset = p.offset })) (sym (epoch_of-epoch p.epoch h.epoch))))
 
 -- ---- objects and lists
 

@@ -1,5 +1,5 @@
 -- The tree of a regular reply or push is that of its text, and is read as the reply or push.
-use Rattle.std.proofs.Common.{◌≡◌, ℕ, zero, suc, ◌≤◌, Bool, true, false, ◌||◌, List, [], ◌∷◌, length, flat_map, Option, Some, None, is_some, option_map, refl, ap, ◌∙◌, arith, ne_eqb, codes, le_refl}
+use Rattle.std.proofs.Common.{◌≡◌, ℕ, zero, suc, ◌≤◌, Bool, true, false, ◌||◌, List, [], ◌∷◌, length, map, flat_map, Option, Some, None, is_some, option_map, refl, ap, ◌∙◌, arith, ne_eqb, codes, le_refl}
 use Rattle.std.proofs.lemmas.Bool.{or_right, false≢true}
 use Prim.Native.String.{String as Name}
 use Rattle.cf_json.specs.Grammar.{Tree}
@@ -17,7 +17,7 @@ use Rattle.cf_protocol.specs.Regular.{IsPosition, IsInfo, IsPlaced, ArePlaced, I
 use Rattle.cf_protocol.proofs.JsonLaws.{JsonLaws}
 use Rattle.cf_protocol.proofs.Bodies.{Bodies}
 use Rattle.cf_protocol.proofs.Lookups.{slot, are_plain, read_object, each_found, each_is}
-use Rattle.cf_protocol.proofs.Readings.{reads, read_text, read_flag, read_whole, read_code, read_position, read_or_none, read_none, read_list}
+use Rattle.cf_protocol.proofs.Readings.{in_turn, reads, read_text, read_flag, read_whole, read_code, read_position, read_or_none, read_none, read_list}
 use Rattle.cf_protocol.proofs.Presences.{read_who, read_present}
 use Rattle.cf_protocol.proofs.Writings.{stands, inner_stands}
 
@@ -41,7 +41,7 @@ read_publication j tree p h =
     let ms = ("data" ⇒ Some (tree p.datum.body)) ∷ ("info" ⇒ info_or_none p.datum.info) ∷ ("offset" ⇒ written.whole p.offset) ∷ [] in
     let b = h.body in
     read_object reading.publication ms (Some p) refl (λ r at.
-    reads _ (at (codes "data")) (reads _ (read_info j p.datum.info h.info r (at (codes "info"))) (reads _ (read_whole r "offset" max_u64 p.offset (at (codes "offset")) h.offset (le_refl max_u64))
+    reads _ (at (codes "data")) (reads _ (read_whole r "offset" max_u64 p.offset (at (codes "offset")) h.offset (le_refl max_u64)) (reads _ (read_info j p.datum.info h.info r (at (codes "info")))
     (ap (λ s. Some (record { offset = p.offset; datum = record { body = s; info = p.datum.info } })) b.compact))))
 
 read_placed : JsonLaws → (tree : List ℕ → Tree) (ps : List Placed) → ArePlaced (Bodies tree) ps → (r : Fields) → look_up (codes "publications") r ≡ written.publications tree ps → objects reading.publication r "publications" ≡ Some ps
@@ -57,8 +57,8 @@ read_subscribed : JsonLaws → (tree : List ℕ → Tree) (p : Position) (ps : L
     → object_as reading.subscribed (object_of (written.subscribed tree p ps recovered was)) ≡ Some (Subscribed p ps recovered was)
 read_subscribed j tree p ps recovered was h hs =
     read_object reading.subscribed (written.subscribed tree p ps recovered was) (Some (Subscribed p ps recovered was)) refl (λ r at.
-    reads _ (read_position j r p (at (codes "epoch")) (at (codes "offset")) h) (reads _ (read_placed j tree ps hs r (at (codes "publications")))
-    (reads _ (read_flag r "recovered" recovered (at (codes "recovered"))) (reads _ (read_flag r "was_recovering" was (at (codes "was_recovering"))) refl))))
+    reads _ (read_position j r p (at (codes "epoch")) (at (codes "offset")) h) (reads _ (read_flag r "recovered" recovered (at (codes "recovered")))
+    (reads _ (read_flag r "was_recovering" was (at (codes "was_recovering"))) (reads _ (read_placed j tree ps hs r (at (codes "publications"))) refl))))
 
 read_counted : (clients users : ℕ) → clients ≤ max_u64 → users ≤ max_u64 → object_as reading.counted (object_of (written.counted clients users)) ≡ Some (Counted clients users)
 read_counted clients users h g =
@@ -80,10 +80,6 @@ read_failed code h =
 some_fields : (k : List ℕ) (t : Tree) (r : Fields) → look_up k r ≡ Some t → reply_from r ≡ push_or (answer_from r) (present r "push")
 some_fields k t [] e = absurd (false≢true (ap is_some e))
 some_fields k t (g ∷ gs) e = refl
-
-in_turn : {A B C : Type 0} (o : Option A) (f : A → Option B) (g : B → Option C) → (o >>= λ x. f x >>= g) ≡ ((o >>= f) >>= g)
-in_turn None f g = refl
-in_turn (Some x) f g = refl
 
 answered : (r : Fields) (ms : List Member) (id : ℕ) (x : Outcome) → ((k : List ℕ) → look_up k r ≡ slot k ms) → slot (codes "id") ms ≡ written.whole id → IsCode id
     → the_only (each_found results (λ k. slot k ms)) ≡ Some x → answer_from r ≡ Some (Answer id x ∷ [])
@@ -141,8 +137,8 @@ read_pub j tree channel p h =
     let ms = ("channel" ⇒ written.text channel) ∷ ("pub" ⇒ Some t) ∷ [] in
     some_push ms (Push channel (Publication p)) (push_stands channel "pub" t)
     (read_object push_from ms (Some (Push channel (Publication p) ∷ [])) refl (λ r at.
-    reads _ (read_text j r "channel" channel (at (codes "channel"))) (reads _ (read_or_none reading.publication r "pub" t p (at (codes "pub")) refl (read_publication j tree p h))
-    (reads _ (read_none code_in r "unsubscribe" (at (codes "unsubscribe"))) refl))))
+    reads _ (read_text j r "channel" channel (at (codes "channel"))) (ap (option_map (map (Push channel)))
+    (reads _ (read_none code_in r "unsubscribe" (at (codes "unsubscribe"))) (reads _ (read_or_none reading.publication r "pub" t p (at (codes "pub")) refl (read_publication j tree p h)) refl)))))
 
 unsubscribed_stands : (code : ℕ) → IsCode code → stands (unsubscribed code) ≡ true
 unsubscribed_stands zero h = absurd (omega (arith, h.0))
@@ -155,9 +151,9 @@ read_unsubscribe j tree channel code h =
     ap (λ o. reply_of (object_of (("push" ⇒ inner (("channel" ⇒ written.text channel) ∷ ("unsubscribe" ⇒ o) ∷ [])) ∷ []))) (inner_stands (unsubscribed code) (unsubscribed_stands code h))
     ∙ some_push ms (Push channel (Unsubscribe code)) (push_stands channel "unsubscribe" t)
     (read_object push_from ms (Some (Push channel (Unsubscribe code) ∷ [])) refl (λ r at.
-    reads _ (read_text j r "channel" channel (at (codes "channel"))) (reads _ (read_none reading.publication r "pub" (at (codes "pub")))
-    (reads _ (read_or_none code_in r "unsubscribe" t code (at (codes "unsubscribe")) refl
-    (read_object code_in (unsubscribed code) (Some code) refl (λ q there. read_code q "code" code (there (codes "code")) h))) refl))))
+    reads _ (read_text j r "channel" channel (at (codes "channel"))) (ap (option_map (map (Push channel)))
+    (reads _ (read_or_none code_in r "unsubscribe" t code (at (codes "unsubscribe")) refl (read_object code_in (unsubscribed code) (Some code) refl (λ q there. read_code q "code" code (there (codes "code")) h)))
+    (reads _ (read_none reading.publication r "pub" (at (codes "pub"))) refl)))))
 
 pub read_outgoing : JsonLaws → (tree : List ℕ → Tree) (o : Outgoing) → IsRegularOutgoing (Bodies tree) o → reply_of (object_of (written.outgoing tree o)) ≡ Some (o ∷ [])
 read_outgoing j tree Ping h = refl

@@ -1,11 +1,13 @@
 -- One step of writing after another.
 use Rattle.std.proofs.Common.{◌≡◌, ℕ, List, [], ◌∷◌, ◌++◌, Bool, true, false, Some, None, refl, sym, ap, ◌∙◌, append_assoc}
-use Rattle.std.specs.Prelude.{string_bytes, is_some, ◌||◌}
+use Rattle.std.specs.Prelude.{Result, Ok, Err, IfOk, String, string_bytes, is_some, ◌||◌}
+use Rattle.std.specs.declared.alloc.AllocError.{AllocError}
+use Rattle.std.specs.declared.alloc.Global.{Global}
 use Rattle.std.proofs.lemmas.Bool.{false≢true}
 use Rattle.cf_json.specs.Grammar.{Tree}
 use Rattle.cf_json.specs.Compact.{compact_text, key_text, first_text}
 use Rattle.cf_protocol.specs.Written.{Member, parts_of, object_of, inner}
-use Rattle.cf_protocol.specs.Writing.{Adds, AddsKey, AddsValue, Opens, OpensMember, AddsItems, comma, members_text, items_text, fresh_with, fresh_after, fresh_items}
+use Rattle.cf_protocol.specs.Writing.{Grows, Adds, AddsKey, AddsValue, Opens, OpensMember, AddsItems, comma, members_text, items_text, fresh_with, fresh_after, fresh_items}
 use Rattle.cf_protocol.specs.declared.write.writer.Writer.{Writer}
 
 -- ---- lists
@@ -16,10 +18,6 @@ three a b c d = simp append_assoc
 append_nil : (s : List ℕ) → s ++ [] ≡ s
 append_nil [] = refl
 append_nil (x ∷ xs) = ap (λ s. x ∷ s) (append_nil xs)
-
--- one piece after another
-join : (a b c x y z : List ℕ) → b ≡ a ++ x → c ≡ b ++ y → x ++ y ≡ z → c ≡ a ++ z
-join a b c x y z f g e = g ∙ ap (λ s. s ++ y) f ∙ append_assoc a x y ∙ ap (λ s. a ++ s) e
 
 -- ---- members
 
@@ -58,47 +56,62 @@ object_text fresh k ms =
 
 -- ---- steps
 
+-- one piece after another
+pub join : (a b c : Writer) (x y z : List ℕ) → Grows a b x → Grows b c y → x ++ y ≡ z → Grows a c z
+join a b c x y z f g e sound =
+    let later = g sound in
+    let sooner = f later.0 in
+    (sooner.0, later.1 ∙ ap (λ s. s ++ y) sooner.1 ∙ append_assoc (string_bytes a.text) x y ∙ ap (λ s. string_bytes a.text ++ s) e)
+
+stays : (a : Writer) (x : List ℕ) → x ≡ [] → Grows a a x
+stays a x e sound = (sound, sym (ap (λ s. string_bytes a.text ++ s) e ∙ append_nil (string_bytes a.text)))
+
 pub then : {a b c : Writer} {ms ns : List Member} → Adds a b ms → Adds b c ns → Adds a c (ms ++ ns)
 then {a} {b} {c} {ms} {ns} f g =
     record {
       text =
-          join (string_bytes a.text) (string_bytes b.text) (string_bytes c.text) (members_text a.fresh ms) (members_text b.fresh ns) (members_text a.fresh (ms ++ ns)) f.text g.text
+          join a b c (members_text a.fresh ms) (members_text b.fresh ns) (members_text a.fresh (ms ++ ns)) f.text g.text
           (ap (λ h. members_text a.fresh ms ++ members_text h ns) f.fresh ∙ sym (members_text-append a.fresh ms ns));
       fresh = g.fresh ∙ ap (λ h. fresh_after h ns) f.fresh ∙ sym (fresh_after-append a.fresh ms ns);
     }
 
 pub nothing : (a : Writer) → Adds a a []
-nothing a = record { text = sym (ap (λ s. string_bytes a.text ++ s) (none_text a.fresh) ∙ append_nil (string_bytes a.text)); fresh = refl }
+nothing a = record { text = stays a (members_text a.fresh []) (none_text a.fresh); fresh = refl }
 
 pub absent : (a : Writer) (k : List ℕ) → Adds a a ((k, None) ∷ [])
-absent a k = record { text = sym (ap (λ s. string_bytes a.text ++ s) (absent_text a.fresh k) ∙ append_nil (string_bytes a.text)); fresh = refl }
+absent a k = record { text = stays a (members_text a.fresh ((k, None) ∷ [])) (absent_text a.fresh k); fresh = refl }
 
 pub member : {a b c : Writer} {k : List ℕ} (t : Tree) → AddsKey a b k → AddsValue b c (compact_text t) → Adds a c ((k, Some t) ∷ [])
 member {a} {b} {c} {k} t f g =
     record {
       text =
-          join (string_bytes a.text) (string_bytes b.text) (string_bytes c.text) (comma a.fresh ++ key_text true k) (compact_text t) (members_text a.fresh ((k, Some t) ∷ [])) f.text g.text
+          join a b c (comma a.fresh ++ key_text true k) (compact_text t) (members_text a.fresh ((k, Some t) ∷ [])) f.text g.text
           (append_assoc (comma a.fresh) (key_text true k) (compact_text t) ∙ one_text a.fresh k t);
       fresh = g.fresh;
     }
 
 -- what stands between the brackets, and the closing one
-closed : {b c d : Writer} {ms : List Member} → b.fresh ≡ true → Adds b c ms → AddsValue c d (125 ∷ []) → string_bytes d.text ≡ string_bytes b.text ++ (first_text true (parts_of ms) ++ 125 ∷ [])
-closed {b} {c} {d} {ms} e g h =
-    join (string_bytes b.text) (string_bytes c.text) (string_bytes d.text) (members_text b.fresh ms) (125 ∷ []) (first_text true (parts_of ms) ++ 125 ∷ []) g.text h.text (ap (λ f. members_text f ms ++ 125 ∷ []) e)
+closed : {b c d : Writer} {ms : List Member} → b.fresh ≡ true → Adds b c ms → AddsValue c d (125 ∷ []) → Grows b d (first_text true (parts_of ms) ++ 125 ∷ [])
+closed {b} {c} {d} {ms} e g h = join b c d (members_text b.fresh ms) (125 ∷ []) (first_text true (parts_of ms) ++ 125 ∷ []) g.text h.text (ap (λ f. members_text f ms ++ 125 ∷ []) e)
 
 pub inside : {a b c d : Writer} {k : List ℕ} {ms : List Member} → OpensMember a b k (123 ∷ []) → Adds b c ms → AddsValue c d (125 ∷ []) → Adds a d ((k, Some (object_of ms)) ∷ [])
 inside {a} {b} {c} {d} {k} {ms} f g h =
     record {
       text =
-          join (string_bytes a.text) (string_bytes b.text) (string_bytes d.text) (comma a.fresh ++ (key_text true k ++ 123 ∷ [])) (first_text true (parts_of ms) ++ 125 ∷ [])
-          (members_text a.fresh ((k, Some (object_of ms)) ∷ [])) f.text (closed f.fresh g h) (object_text a.fresh k ms);
+          join a b d (comma a.fresh ++ (key_text true k ++ 123 ∷ [])) (first_text true (parts_of ms) ++ 125 ∷ []) (members_text a.fresh ((k, Some (object_of ms)) ∷ [])) f.text (closed f.fresh g h)
+          (object_text a.fresh k ms);
       fresh = h.fresh;
     }
 
-pub whole : {a b c d : Writer} {ms : List Member} → Opens a b (123 ∷ []) → Adds b c ms → AddsValue c d (125 ∷ []) → string_bytes d.text ≡ string_bytes a.text ++ compact_text (object_of ms)
-whole {a} {b} {c} {d} {ms} f g h =
-    join (string_bytes a.text) (string_bytes b.text) (string_bytes d.text) (123 ∷ []) (first_text true (parts_of ms) ++ 125 ∷ []) (compact_text (object_of ms)) f.text (closed f.fresh g h) refl
+pub as_value : {a b c d : Writer} {ms : List Member} → Opens a b (123 ∷ []) → Adds b c ms → AddsValue c d (125 ∷ []) → AddsValue a d (compact_text (object_of ms))
+as_value {a} {b} {c} {d} {ms} f g h =
+    record { text = join a b d (123 ∷ []) (first_text true (parts_of ms) ++ 125 ∷ []) (compact_text (object_of ms)) f.text (closed f.fresh g h) refl; fresh = h.fresh }
+
+-- the text that a writer gives where no call lacked memory, from an empty one on
+pub whole : {a b c d : Writer} {ms : List Member} (r : Result (String Global) AllocError) → string_bytes a.text ≡ [] → Opens a b (123 ∷ []) → Adds b c ms → AddsValue c d (125 ∷ [])
+    → IfOk r (λ s. (d.failed ≡ false) × (string_bytes s ≡ string_bytes d.text)) → IfOk r (λ s. string_bytes s ≡ compact_text (object_of ms))
+whole {a} {b} {c} {d} {ms} (Ok s) e f g h told = told.1 ∙ ((as_value f g h).text told.0).1 ∙ ap (λ t. t ++ compact_text (object_of ms)) e
+whole (Err x) e f g h told = tt
 
 -- ---- members of an object that may be left out
 
@@ -130,15 +143,11 @@ fresh_items-push : (fresh : Bool) (ts : List Tree) (t : Tree) → fresh_items fr
 fresh_items-push fresh [] t = refl
 fresh_items-push fresh (u ∷ ts) t = refl
 
-pub one_more : {a b c d : Writer} {ts : List Tree} (t : Tree) → AddsItems a b ts → string_bytes c.text ≡ string_bytes b.text ++ comma b.fresh → AddsValue c d (compact_text t) → AddsItems a d (ts ++ t ∷ [])
+pub one_more : {a b c d : Writer} {ts : List Tree} (t : Tree) → AddsItems a b ts → Grows b c (comma b.fresh) → AddsValue c d (compact_text t) → AddsItems a d (ts ++ t ∷ [])
 one_more {a} {b} {c} {d} {ts} t f e g =
     record {
       text =
-          join (string_bytes a.text) (string_bytes b.text) (string_bytes d.text) (items_text a.fresh ts) (comma b.fresh ++ compact_text t) (items_text a.fresh (ts ++ t ∷ [])) f.text
-          (join (string_bytes b.text) (string_bytes c.text) (string_bytes d.text) (comma b.fresh) (compact_text t) (comma b.fresh ++ compact_text t) e g.text refl)
+          join a b d (items_text a.fresh ts) (comma b.fresh ++ compact_text t) (items_text a.fresh (ts ++ t ∷ [])) f.text (join b c d (comma b.fresh) (compact_text t) (comma b.fresh ++ compact_text t) e g.text refl)
           (ap (λ h. items_text a.fresh ts ++ (comma h ++ compact_text t)) f.fresh ∙ sym (items_text-push a.fresh ts t));
       fresh = g.fresh ∙ sym (fresh_items-push a.fresh ts t);
     }
-
-pub as_value : {a b c d : Writer} {ms : List Member} → Opens a b (123 ∷ []) → Adds b c ms → AddsValue c d (125 ∷ []) → AddsValue a d (compact_text (object_of ms))
-as_value f g h = record { text = whole f g h; fresh = h.fresh }

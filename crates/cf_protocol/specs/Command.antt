@@ -28,7 +28,7 @@ connect r = text r "token" >>= λ token. Some (Connect token)
 -- the position counts only where `recover` is true
 abbrev pub subscribe : Fields → Option Request
 subscribe r =
-    text r "channel" >>= λ channel. flag r "recover" >>= λ recover. position r >>= λ from. Some
+    flag r "recover" >>= λ recover. position r >>= λ from. text r "channel" >>= λ channel. Some
     (Subscribe channel (if recover then Some from else None))
 
 abbrev pub unsubscribe : Fields → Option Request
@@ -46,8 +46,8 @@ presence_stats r = text r "channel" >>= λ channel. Some (PresenceStats channel)
 
 abbrev pub history : Fields → Option Request
 history r =
-    text r "channel" >>= λ channel. limit r "limit" >>= λ most. object_or_none position r "since" >>= λ since. flag r
-    "reverse" >>= λ reverse. Some (History channel most since reverse)
+    limit r "limit" >>= λ most. object_or_none position r "since" >>= λ since. flag r "reverse" >>= λ reverse. text r
+    "channel" >>= λ channel. Some (History channel most since reverse)
 
 -- whatever members it has, or whatever value it is
 abbrev pub always : {A : Type 0} → Request → A → Option Request

@@ -115,7 +115,7 @@ object_or_none f r k = read_or None (λ t. option_map Some (object_as f t)) (pre
 -- what is no epoch is read as the empty one
 abbrev pub position : Fields → Option Position
 position r =
-    text r "epoch" >>= λ epoch. whole max_u64 r "offset" >>= λ offset. Some
+    whole max_u64 r "offset" >>= λ offset. text r "epoch" >>= λ epoch. Some
     (record { epoch = epoch_of epoch; offset = offset })
 
 -- ---- one of several keys

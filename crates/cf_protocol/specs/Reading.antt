@@ -1,13 +1,15 @@
 -- What the reading calls answer, beside what the definitions have.
-use Rattle.std.specs.Prelude.{◌≡◌, ⊤, List, ℕ, Result, Ok, Err, Option, Some, None, option_and_then, option_map, []}
+use Rattle.std.specs.Prelude.{◌≡◌, ⊤, List, ℕ, Result, Ok, Err, Option, Some, None, option_and_then, []}
 use Rattle.std.specs.List.{AllZip}
-use Rattle.std.specs.Option.{IsSomeAnd, MatchOption}
-use Rattle.std.specs.String.{string_bytes}
+use Rattle.std.specs.Option.{IsSomeAnd}
+use Rattle.std.specs.BTreeMap.{BTreeMap, insert_entry}
+use Rattle.std.specs.String.{string_bytes, string_cmp}
 use Rattle.std.specs.declared.string.String.{String}
 use Rattle.std.specs.declared.alloc.Global.{Global}
 use Rattle.cf_json.specs.Grammar.{Tree}
 use Rattle.cf_json.specs.Spans.{Span, IsAt}
-use Rattle.cf_protocol.specs.Fields.{Fields, look_up, unless_null, read_or, as_object, as_items}
+use Rattle.cf_protocol.specs.Datum.{Who}
+use Rattle.cf_protocol.specs.Fields.{Fields, look_up, unless_null, read_or, as_items}
 use Rattle.cf_protocol.specs.declared.read.members.Members.{Members}
 use Rattle.cf_protocol.specs.declared.fault.ReadFault.{ReadFault}
 use Rattle.cf_protocol.specs.declared.fault.ReadFault.TheVariants.{Bad, Memory}
@@ -56,10 +58,6 @@ Finds text (Some s) o = IsSomeAnd o (λ t. IsAt text t s)
 abbrev pub present_at : List ℕ → Fields → Option Tree
 present_at k fs = option_and_then unless_null (look_up k fs)
 
--- an object's members, where it is there
-abbrev pub object_at : List ℕ → Fields → Option (Option Fields)
-object_at k fs = read_or None (λ t. option_map Some (as_object t)) (present_at k fs)
-
 -- the items of a list, none where it isn't there
 abbrev pub items_at : List ℕ → Fields → Option (List Tree)
 items_at k fs = read_or [] as_items (present_at k fs)
@@ -75,13 +73,18 @@ HaveValues text spans = (ts : List Tree) × Stand text spans ts
 abbrev pub OfValues : List ℕ → List Span → (List Tree → Type 0) → Type 0
 OfValues text spans P = (ts : List Tree) → Stand text spans ts → P ts
 
--- the members of an object, where one is there
-abbrev pub IsObject : Option Members → Option Fields → Type 0
-IsObject o r = MatchOption o (r ≡ None) (λ m. IsSomeAnd r (λ fs. Reads m.text.now m.found.items fs))
-
 -- one key of several that has a value, where it stands, and what it is read as; Bad where nothing is read
 abbrev pub Chooses : {K A : Type 0} → List ℕ → (K → Tree → Option A) → Result (K × Span) ReadFault
     → Option A → Type 0
 Chooses text read (Ok r) o = (t : Tree) × IsAt text t r.1 × (o ≡ read r.0 t)
 Chooses text read (Err Bad) o = o ≡ None
 Chooses text read (Err Memory) o = ⊥
+
+-- a user more in the map, under this id; Bad only where none is there
+abbrev pub AddsUser : BTreeMap (String Global) (String Global) → BTreeMap (String Global) (String Global) → List ℕ
+    → Result ⊤ ReadFault → Option Who → Type 0
+AddsUser old new id (Ok u) o =
+    IsSomeAnd o (λ who. (k : String Global) × (v : String Global) × (string_bytes k ≡ id)
+    × (string_bytes v ≡ who.user) × (new.entries ≡ insert_entry string_cmp old.entries k v))
+AddsUser old new id (Err Bad) o = o ≡ None
+AddsUser old new id (Err Memory) o = ⊤

@@ -21,7 +21,7 @@ info r = text r "client" >>= λ client. text r "user" >>= λ user. Some (record 
 -- the value of `data` may be `null`, but it stands
 abbrev pub publication : Fields → Option Placed
 publication r =
-    member r "data" >>= λ t. object_or_none info r "info" >>= λ who. whole max_u64 r "offset" >>= λ offset. Some
+    member r "data" >>= λ t. whole max_u64 r "offset" >>= λ offset. object_or_none info r "info" >>= λ who. Some
     (record { offset = offset; datum = record { body = compact_text t; info = who } })
 
 abbrev pub connected : Fields → Option Outcome
@@ -29,8 +29,8 @@ connected r = text r "client" >>= λ client. Some (Connected client)
 
 abbrev pub subscribed : Fields → Option Outcome
 subscribed r =
-    position r >>= λ at. objects publication r "publications" >>= λ publications. flag r "recovered" >>=
-    λ recovered. flag r "was_recovering" >>= λ was. Some (Subscribed at publications recovered was)
+    position r >>= λ at. flag r "recovered" >>= λ recovered. flag r "was_recovering" >>= λ was. objects publication r
+    "publications" >>= λ publications. Some (Subscribed at publications recovered was)
 
 -- the user of a client, whose id is the key
 abbrev pub user_at : List ℕ × Tree → Option (List ℕ × List ℕ)
@@ -80,10 +80,14 @@ pushed (Some p) None = Some (Publication p ∷ [])
 pushed None (Some code) = Some (Unsubscribe code ∷ [])
 pushed (Some p) (Some code) = None
 
+-- what is pushed, whatever the channel
+abbrev pub pushes_of : Fields → Option (List Pushed)
+pushes_of r =
+    object_or_none code_in r "unsubscribe" >>= λ of_unsubscribe. object_or_none publication r "pub" >>= λ of_pub. pushed
+    of_pub of_unsubscribe
+
 abbrev pub push_from : Fields → Option (List Outgoing)
-push_from r =
-    text r "channel" >>= λ channel. object_or_none publication r "pub" >>= λ of_pub. object_or_none code_in r
-    "unsubscribe" >>= λ of_unsubscribe. option_map (map (Push channel)) (pushed of_pub of_unsubscribe)
+push_from r = text r "channel" >>= λ channel. option_map (map (Push channel)) (pushes_of r)
 
 abbrev pub result_of : Fields → Option Outcome
 result_of r = the_only (each_of results r)

@@ -70,3 +70,7 @@ shown_outgoing (code_outgoing.Push channel push) = outgoing.Push (string_bytes c
 -- what a push that was read, or passed over, is to the application
 abbrev pub told : Option CodeOutgoing → List outgoing.Outgoing
 told o = option_to_list (option_map shown_outgoing o)
+
+-- the same of what was pushed
+abbrev pub told_pushed : Option CodePushed → List outgoing.Pushed
+told_pushed o = option_to_list (option_map shown_pushed o)

@@ -7,6 +7,10 @@ use Rattle.cf_json.specs.Compact.{key_text, first_text, more_text}
 use Rattle.cf_protocol.specs.Written.{Member, parts_of, items_of}
 use Rattle.cf_protocol.specs.declared.write.writer.Writer.{Writer}
 
+-- where no call lacked memory so far, the text is the one before with this piece behind it
+abbrev pub Grows : Writer → Writer → List ℕ → Type 0
+Grows old new piece = new.failed ≡ false → (old.failed ≡ false) × (string_bytes new.text ≡ string_bytes old.text ++ piece)
+
 -- a byte that stands for itself in a string
 abbrev pub is_plain : ℕ → Bool
 is_plain x = nat_le 32 x && not (x == 34) && not (x == 92)
@@ -34,7 +38,7 @@ fresh_after fresh [] = fresh
 fresh_after fresh (m ∷ ms) = fresh_after (fresh_with fresh m.1) ms
 
 pub record Adds (old new : Writer) (ms : List Member) : Type 0 where
-  pub text : string_bytes new.text ≡ string_bytes old.text ++ members_text old.fresh ms
+  pub text : Grows old new (members_text old.fresh ms)
   pub fresh : new.fresh ≡ fresh_after old.fresh ms
 
 -- whether nothing stands, after these items
@@ -43,24 +47,24 @@ fresh_items fresh [] = fresh
 fresh_items fresh (t ∷ ts) = false
 
 pub record AddsItems (old new : Writer) (ts : List Tree) : Type 0 where
-  pub text : string_bytes new.text ≡ string_bytes old.text ++ items_text old.fresh ts
+  pub text : Grows old new (items_text old.fresh ts)
   pub fresh : new.fresh ≡ fresh_items old.fresh ts
 
 pub record AddsKey (old new : Writer) (key : List ℕ) : Type 0 where
-  pub text : string_bytes new.text ≡ string_bytes old.text ++ (comma old.fresh ++ key_text true key)
+  pub text : Grows old new (comma old.fresh ++ key_text true key)
 
 pub record AddsValue (old new : Writer) (value : List ℕ) : Type 0 where
-  pub text : string_bytes new.text ≡ string_bytes old.text ++ value
+  pub text : Grows old new value
   pub fresh : new.fresh ≡ false
 
 -- the bracket of an object or array is the last that stands
 pub record Opens (old new : Writer) (opening : List ℕ) : Type 0 where
-  pub text : string_bytes new.text ≡ string_bytes old.text ++ opening
+  pub text : Grows old new opening
   pub fresh : new.fresh ≡ true
 
 -- a member's key, and the bracket of its value
 pub record OpensMember (old new : Writer) (key bracket : List ℕ) : Type 0 where
-  pub text : string_bytes new.text ≡ string_bytes old.text ++ (comma old.fresh ++ (key_text true key ++ bracket))
+  pub text : Grows old new (comma old.fresh ++ (key_text true key ++ bracket))
   pub fresh : new.fresh ≡ true
 
 -- a list of pairs of texts, as their bytes

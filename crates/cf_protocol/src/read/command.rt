@@ -1,7 +1,7 @@
 //! Commands.
-ghost use Rattle.std.specs.Prelude.{◌≡◌, Some, codes};
+ghost use Rattle.std.specs.Prelude.{Some, codes};
 ghost use Rattle.cf_protocol.specs.Fields.{look_up};
-ghost use Rattle.cf_protocol.specs.Command.{command_of, command_from, named_command, needs_id, connect, subscribe, publish, history, data_of};
+ghost use Rattle.cf_protocol.specs.Command.{command_of, command_from, named_command, connect, subscribe, publish, history, data_of};
 ghost use Rattle.cf_protocol.specs.Methods.{request_as, served};
 ghost use Rattle.cf_protocol.specs.Reading.{Answers, AreMembers, HasValue, OfFields, OfValue};
 ghost use Rattle.cf_protocol.specs.Shown.{shown_command, shown_request, shown_data};
@@ -22,8 +22,7 @@ pub fn read_command(alloc: Global, text: &str, span: Span) -> Result<Command, Re
     ensures { OfValue text.now span (λ t. Answers shown_command result (command_of t)) }
 {
     let members = Members::of(alloc, text, span)?;
-    let command = read_from(alloc, &members)?;
-    Ok(command)
+    read_from(alloc, &members)
 }
 
 /// The command that has these members. Without any it is the pong.
@@ -47,18 +46,11 @@ fn read_named(alloc: Global, members: &Members<'_>) -> Result<Command, ReadFault
 {
     let id = members.whole("id", u64::from(u32::MAX))? as u32;
     let (method, value) = the_method(members)?;
-    let request = read_request(alloc, members.text, method, value)?;
-    if id == 0 && needs_id(&request) {
+    if id == 0 && method.is_answered() {
         return Err(ReadFault::Bad);
     }
+    let request = read_request(alloc, members.text, method, value)?;
     Ok(Command { id, request })
-}
-
-/// Whether a command with this request has an id, by which it is answered.
-fn needs_id(request: &Request) -> bool
-    ensures { result ≡ needs_id (shown_request request.now) }
-{
-    !matches!(request, Request::Send)
 }
 
 /// The request of a method. The value is an object, but for those of which nothing is read: there it may be any.
@@ -77,8 +69,7 @@ fn read_request(
         Method::Rpc | Method::Refresh | Method::SubRefresh => Ok(Request::Other),
         _ => {
             let members = Members::of(alloc, text, value)?;
-            let request = read_served(alloc, method, &members)?;
-            Ok(request)
+            read_served(alloc, method, &members)
         }
     }
 }
@@ -123,9 +114,9 @@ fn read_subscribe(alloc: Global, members: &Members<'_>) -> Result<Request, ReadF
     requires { AreMembers members.now }
     ensures { OfFields members.now (λ fs. Answers shown_request result (subscribe fs)) }
 {
-    let channel = members.text(alloc, "channel")?;
     let recover = members.flag("recover")?;
     let from = members.position(alloc)?;
+    let channel = members.text(alloc, "channel")?;
     let since = if recover { Some(from) } else { None };
     Ok(Request::Subscribe { channel, since })
 }
@@ -144,10 +135,10 @@ fn read_history(alloc: Global, members: &Members<'_>) -> Result<Request, ReadFau
     requires { AreMembers members.now }
     ensures { OfFields members.now (λ fs. Answers shown_request result (history fs)) }
 {
-    let channel = members.text(alloc, "channel")?;
     let limit = members.limit("limit")?;
     let since = members.since(alloc)?;
     let reverse = members.flag("reverse")?;
+    let channel = members.text(alloc, "channel")?;
     Ok(Request::History {
         channel,
         limit,

@@ -1,7 +1,7 @@
 //! The members of an object, read by their keys.
 ghost use Rattle.std.specs.Prelude.{option_and_then, ◌≡◌, [], false, pos, IfOk, ◌≤◌, is_some, string_bytes, if◌then◌else◌, Some, None};
 ghost use Rattle.cf_protocol.specs.Fields.{look_up, unless_null, read_or, as_object, as_text, as_flag, as_whole, as_limit, is_limit, position, object_or_none};
-ghost use Rattle.cf_protocol.specs.Reading.{Tells, Answers, Reads, Finds, Stand, AreMembers, HasValue, IsObject, OfFields, OfValue, present_at, object_at, items_at};
+ghost use Rattle.cf_protocol.specs.Reading.{Tells, Answers, Reads, Finds, Stand, AreMembers, HasValue, OfFields, OfValue, present_at, items_at};
 
 use crate::epoch::Epoch;
 use crate::fault::ReadFault;
@@ -86,8 +86,7 @@ impl<'a> Members<'a> {
         if kind(self.text, span) != Kind::Text {
             return Err(ReadFault::Bad);
         }
-        let text = read_text(alloc, self.text, span)?;
-        Ok(text)
+        read_text(alloc, self.text, span).map_err(ReadFault::from)
     }
 
     /// A flag; false where it is absent.
@@ -149,21 +148,6 @@ impl<'a> Members<'a> {
         }
     }
 
-    /// The members of an object, where one stands.
-    pub fn object(&self, alloc: Global, key: &str) -> Result<Option<Members<'a>>, ReadFault>
-        requires { AreMembers self.now }
-        ensures { OfFields self.now (λ fs.
-            Tells IsObject result (object_at key.now fs)) }
-    {
-        match self.present(key) {
-            Some(span) => {
-                let found = Members::of(alloc, self.text, span)?;
-                Ok(Some(found))
-            }
-            None => Ok(None),
-        }
-    }
-
     /// The items of a list; none where it is absent.
     pub fn list(&self, alloc: Global, key: &str) -> Result<Vec<Span>, ReadFault>
         requires { AreMembers self.now }
@@ -176,8 +160,7 @@ impl<'a> Members<'a> {
         if kind(self.text, span) != Kind::Array {
             return Err(ReadFault::Bad);
         }
-        let found = items(alloc, self.text, span)?;
-        Ok(found)
+        items(alloc, self.text, span).map_err(ReadFault::from)
     }
 
     /// A whole number from 1 to so much, which is there.
@@ -199,8 +182,8 @@ impl<'a> Members<'a> {
         requires { AreMembers self.now }
         ensures { OfFields self.now (λ fs. Answers (λ p. p) result (position fs)) }
     {
-        let epoch = self.text(alloc, "epoch")?;
         let offset = self.whole("offset", u64::MAX)?;
+        let epoch = self.text(alloc, "epoch")?;
         Ok(Position {
             epoch: Epoch::from_text(epoch.as_str()),
             offset,
@@ -213,12 +196,10 @@ impl<'a> Members<'a> {
         ensures { OfFields self.now (λ fs.
             Answers (λ p. p) result (object_or_none position fs "since")) }
     {
-        match self.object(alloc, "since")? {
-            Some(found) => {
-                let position = found.position(alloc)?;
-                Ok(Some(position))
-            }
-            None => Ok(None),
-        }
+        let Some(span) = self.present("since") else {
+            return Ok(None);
+        };
+        let found = Members::of(alloc, self.text, span)?;
+        found.position(alloc).map(Some)
     }
 }

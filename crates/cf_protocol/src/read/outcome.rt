@@ -1,11 +1,11 @@
 //! The results of replies.
 ghost use Rattle.std.specs.FinMap.{from_entries};
-ghost use Rattle.std.specs.Prelude.{◌≡◌, Some, option_map};
+ghost use Rattle.std.specs.Prelude.{◌≡◌, Some, option_map, string_bytes};
 ghost use Rattle.cf_json.specs.Grammar.{Tree};
 ghost use Rattle.cf_protocol.specs.Fields.{Fields, as_object, object_as};
 ghost use Rattle.cf_protocol.specs.Methods.{result_key, outcome_of};
-ghost use Rattle.cf_protocol.specs.Reading.{Answers, AreMembers, Chooses, HasValue, OfFields, OfValue, Reads};
-ghost use Rattle.cf_protocol.specs.Reply.{code_in, connected, counted, past, present_users, result_of, subscribed, users_of};
+ghost use Rattle.cf_protocol.specs.Reading.{AddsUser, Answers, AreMembers, Chooses, HasValue, OfFields, OfValue, Reads};
+ghost use Rattle.cf_protocol.specs.Reply.{code_in, connected, counted, info, past, present_users, result_of, subscribed, users_of};
 ghost use Rattle.cf_protocol.specs.Shown.{shown_outcome, shown_users};
 
 use crate::fault::ReadFault;
@@ -94,8 +94,7 @@ pub fn read_result(
         Answers shown_outcome result (object_as (outcome_of key) t)) }
 {
     let members = Members::of(alloc, text, span)?;
-    let outcome = read_outcome(alloc, key, &members)?;
-    Ok(outcome)
+    read_outcome(alloc, key, &members)
 }
 
 /// The result of a key that has these members.
@@ -147,9 +146,9 @@ fn read_subscribed(alloc: Global, members: &Members<'_>) -> Result<Outcome, Read
     ensures { OfFields members.now (λ fs. Answers shown_outcome result (subscribed fs)) }
 {
     let position = members.position(alloc)?;
-    let publications = read_publications(alloc, members)?;
     let recovered = members.flag("recovered")?;
     let was_recovering = members.flag("was_recovering")?;
+    let publications = read_publications(alloc, members)?;
     Ok(Outcome::Subscribed {
         position,
         publications,
@@ -184,16 +183,13 @@ fn read_present(alloc: Global, members: &Members<'_>) -> Result<Outcome, ReadFau
     requires { AreMembers members.now }
     ensures { OfFields members.now (λ fs. Answers shown_outcome result (present_users fs)) }
 {
-    match members.object(alloc, "presence")? {
-        Some(clients) => {
-            let users = read_users(alloc, &clients)?;
-            Ok(Outcome::Present { users })
-        }
-        None => {
-            let users = BTreeMap::new(alloc);
-            Ok(Outcome::Present { users })
-        }
-    }
+    let Some(span) = members.present("presence") else {
+        let users = BTreeMap::new(alloc);
+        return Ok(Outcome::Present { users });
+    };
+    let clients = Members::of(alloc, members.text, span)?;
+    let users = read_users(alloc, &clients)?;
+    Ok(Outcome::Present { users })
 }
 
 /// The user of each of these clients, by the client's id, which is the key of its info. One whose info is `null` counts as absent.
@@ -208,8 +204,23 @@ fn read_users(alloc: Global, clients: &Members<'_>) -> Result<BTreeMap<String, S
         if !is_present(clients.text, client.1) {
             continue;
         }
-        let info = read_client(alloc, clients.text, client.1)?;
-        users.insert(client.0.clone()?, info.user)?;
+        add_client(&mut users, alloc, clients.text, client)?;
     }
     Ok(users)
+}
+
+/// The user of a client more, under the client's id.
+fn add_client(
+    users: &mut BTreeMap<String, String>,
+    alloc: Global,
+    text: &str,
+    client: &(String, Span),
+) -> Result<(), ReadFault>
+    requires { HasValue text.now client.now.1 }
+    ensures { OfValue text.now client.now.1 (λ t.
+        AddsUser users.old users.new (string_bytes client.now.0) result (object_as info t)) }
+{
+    let info = read_client(alloc, text, client.1)?;
+    users.insert(client.0.clone()?, info.user)?;
+    Ok(())
 }

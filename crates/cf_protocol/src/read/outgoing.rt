@@ -2,15 +2,14 @@
 ghost use Rattle.std.specs.Prelude.{[], ◌∷◌};
 ghost use Rattle.cf_protocol.specs.Fields.{object_or_none};
 ghost use Rattle.cf_protocol.specs.Reading.{Answers, AreMembers, HasValue, OfFields, OfValue};
-ghost use Rattle.cf_protocol.specs.Reply.{answer_from, code_in, publication, push_from, reply_from, reply_of};
-ghost use Rattle.cf_protocol.specs.Shown.{shown_outgoing, told};
+ghost use Rattle.cf_protocol.specs.Reply.{answer_from, code_in, push_from, pushes_of, reply_from, reply_of};
+ghost use Rattle.cf_protocol.specs.Shown.{shown_outgoing, told, told_pushed};
 
 use crate::fault::ReadFault;
 use crate::outgoing::{Outgoing, Pushed};
-use crate::publication::Publication;
 use crate::read::members::Members;
 use crate::read::outcome::{read_code, read_result, the_result};
-use crate::read::publication::read_publication;
+use crate::read::publication::read_published;
 use cf_json::Span;
 use std::alloc::Global;
 
@@ -20,8 +19,7 @@ pub fn read_outgoing(alloc: Global, text: &str, span: Span) -> Result<Option<Out
     ensures { OfValue text.now span (λ t. Answers told result (reply_of t)) }
 {
     let members = Members::of(alloc, text, span)?;
-    let outgoing = read_from(alloc, &members)?;
-    Ok(outgoing)
+    read_from(alloc, &members)
 }
 
 /// The reply or push that has these members. An object without members is the ping.
@@ -32,31 +30,11 @@ fn read_from(alloc: Global, members: &Members<'_>) -> Result<Option<Outgoing>, R
     if members.found.is_empty() {
         return Ok(Some(Outgoing::Ping));
     }
-    match members.object(alloc, "push")? {
-        Some(push) => {
-            let found = read_push(alloc, &push)?;
-            Ok(found)
-        }
-        None => {
-            let answer = read_answer(alloc, members)?;
-            Ok(Some(answer))
-        }
-    }
-}
-
-/// The publication of a push, where it has one.
-fn read_pushed(alloc: Global, members: &Members<'_>) -> Result<Option<Publication>, ReadFault>
-    requires { AreMembers members.now }
-    ensures { OfFields members.now (λ fs.
-        Answers (λ p. p) result (object_or_none publication fs "pub")) }
-{
-    match members.object(alloc, "pub")? {
-        Some(found) => {
-            let publication = read_publication(alloc, &found)?;
-            Ok(Some(publication))
-        }
-        None => Ok(None),
-    }
+    let Some(span) = members.present("push") else {
+        return read_answer(alloc, members).map(Some);
+    };
+    let push = Members::of(alloc, members.text, span)?;
+    read_push(alloc, &push)
 }
 
 /// The code of a push that ends a subscription.
@@ -65,12 +43,27 @@ fn read_end(alloc: Global, members: &Members<'_>) -> Result<Option<u32>, ReadFau
     ensures { OfFields members.now (λ fs.
         Answers (λ c. c) result (object_or_none code_in fs "unsubscribe")) }
 {
-    match members.object(alloc, "unsubscribe")? {
-        Some(found) => {
-            let code = read_code(&found)?;
-            Ok(Some(code))
+    let Some(span) = members.present("unsubscribe") else {
+        return Ok(None);
+    };
+    let found = Members::of(alloc, members.text, span)?;
+    read_code(&found).map(Some)
+}
+
+/// What is pushed; none where it is of a kind that isn't known.
+fn read_pushed(alloc: Global, members: &Members<'_>) -> Result<Option<Pushed>, ReadFault>
+    requires { AreMembers members.now }
+    ensures { OfFields members.now (λ fs. Answers told_pushed result (pushes_of fs)) }
+{
+    let code = read_end(alloc, members)?;
+    match (members.present("pub"), code) {
+        (None, None) => Ok(None),
+        (Some(span), None) => {
+            let publication = read_published(alloc, members.text, span)?;
+            Ok(Some(Pushed::Publication(publication)))
         }
-        None => Ok(None),
+        (None, Some(code)) => Ok(Some(Pushed::Unsubscribe { code })),
+        (Some(_), Some(_)) => Err(ReadFault::Bad),
     }
 }
 
@@ -80,20 +73,10 @@ fn read_push(alloc: Global, members: &Members<'_>) -> Result<Option<Outgoing>, R
     ensures { OfFields members.now (λ fs. Answers told result (push_from fs)) }
 {
     let channel = members.text(alloc, "channel")?;
-    let publication = read_pushed(alloc, members)?;
-    let code = read_end(alloc, members)?;
-    match (publication, code) {
-        (None, None) => Ok(None),
-        (Some(publication), None) => {
-            let push = Pushed::Publication(publication);
-            Ok(Some(Outgoing::Push { channel, push }))
-        }
-        (None, Some(code)) => {
-            let push = Pushed::Unsubscribe { code };
-            Ok(Some(Outgoing::Push { channel, push }))
-        }
-        (Some(_), Some(_)) => Err(ReadFault::Bad),
-    }
+    let Some(push) = read_pushed(alloc, members)? else {
+        return Ok(None);
+    };
+    Ok(Some(Outgoing::Push { channel, push }))
 }
 
 /// The reply that has these members.

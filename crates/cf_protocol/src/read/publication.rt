@@ -26,8 +26,7 @@ pub fn read_client(alloc: Global, text: &str, span: Span) -> Result<Info, ReadFa
     ensures { OfValue text.now span (λ t. Answers (λ w. w) result (object_as info t)) }
 {
     let members = Members::of(alloc, text, span)?;
-    let info = read_info(alloc, &members)?;
-    Ok(info)
+    read_info(alloc, &members)
 }
 
 /// The info of a publication, where a client published it.
@@ -35,37 +34,33 @@ fn read_publisher(alloc: Global, members: &Members<'_>) -> Result<Option<Info>, 
     requires { AreMembers members.now }
     ensures { OfFields members.now (λ fs. Answers (λ w. w) result (object_or_none info fs "info")) }
 {
-    match members.object(alloc, "info")? {
-        Some(found) => {
-            let info = read_info(alloc, &found)?;
-            Ok(Some(info))
-        }
-        None => Ok(None),
-    }
+    let Some(span) = members.present("info") else {
+        return Ok(None);
+    };
+    read_client(alloc, members.text, span).map(Some)
 }
 
 /// A publication. Its data is there, and may be `null`.
-pub fn read_publication(alloc: Global, members: &Members<'_>) -> Result<Publication, ReadFault>
+fn read_publication(alloc: Global, members: &Members<'_>) -> Result<Publication, ReadFault>
     requires { AreMembers members.now }
     ensures { OfFields members.now (λ fs. Answers (λ p. p) result (publication fs)) }
 {
     let Some(span) = members.get("data") else {
         return Err(ReadFault::Bad);
     };
-    let info = read_publisher(alloc, members)?;
     let offset = members.whole("offset", u64::MAX)?;
     let body = compact(alloc, members.text, span)?;
+    let info = read_publisher(alloc, members)?;
     Ok(Publication { offset, body, info })
 }
 
-/// A publication of a list.
-fn read_published(alloc: Global, text: &str, span: Span) -> Result<Publication, ReadFault>
+/// The publication that stands there.
+pub fn read_published(alloc: Global, text: &str, span: Span) -> Result<Publication, ReadFault>
     requires { HasValue text.now span }
     ensures { OfValue text.now span (λ t. Answers (λ p. p) result (object_as publication t)) }
 {
     let members = Members::of(alloc, text, span)?;
-    let publication = read_publication(alloc, &members)?;
-    Ok(publication)
+    read_publication(alloc, &members)
 }
 
 /// The publications at these places.
@@ -96,6 +91,5 @@ pub fn read_publications(
         Answers (λ v. v.items) result (objects publication fs "publications")) }
 {
     let spans = members.list(alloc, "publications")?;
-    let publications = read_each_published(alloc, members.text, &spans)?;
-    Ok(publications)
+    read_each_published(alloc, members.text, &spans)
 }

@@ -19,38 +19,33 @@ pub fn write_command(alloc: Global, command: &Command) -> Result<String, AllocEr
     ensures { IfOk result (λ s. string_bytes s ≡ command_text (shown_command command.now)) }
 {
     let mut writer = Writer::new(alloc);
-    writer.begin("{")?;
-    write_members(&mut writer, command.id, &command.request)?;
-    writer.value("}")?;
-    Ok(writer.into_text())
+    writer.begin("{");
+    write_members(&mut writer, command.id, &command.request);
+    writer.value("}");
+    writer.into_text()
 }
 
 /// The members of a command. Its request stands also where it is an empty object.
-fn write_members(writer: &mut Writer, id: u32, request: &Request) -> Result<(), AllocError>
-    ensures { IfOk result (λ _. Adds writer.old writer.new
-        (command_members as_it_is id (shown_request request.now))) }
+fn write_members(writer: &mut Writer, id: u32, request: &Request)
+    ensures { Adds writer.old writer.new (command_members as_it_is id (shown_request request.now)) }
 {
     match request {
-        Request::Pong => Ok(()),
+        Request::Pong => {}
         Request::Connect { token } => write_connect(writer, id, token.as_str()),
         Request::Subscribe { channel, since } => {
-            write_id(writer, id)?;
-            write_subscribe(writer, channel.as_str(), since)?;
-            Ok(())
+            write_subscribe(writer, id, channel.as_str(), since);
         }
         Request::Unsubscribe { channel } => {
-            write_on_channel(writer, id, "unsubscribe", channel.as_str())
+            write_on_channel(writer, id, "unsubscribe", channel.as_str());
         }
         Request::Publish { channel, key, body } => {
-            write_id(writer, id)?;
-            write_publish(writer, channel.as_str(), key.as_str(), body)?;
-            Ok(())
+            write_publish(writer, id, channel.as_str(), key.as_str(), body);
         }
         Request::Presence { channel } => {
-            write_on_channel(writer, id, "presence", channel.as_str())
+            write_on_channel(writer, id, "presence", channel.as_str());
         }
         Request::PresenceStats { channel } => {
-            write_on_channel(writer, id, "presence_stats", channel.as_str())
+            write_on_channel(writer, id, "presence_stats", channel.as_str());
         }
         Request::History {
             channel,
@@ -58,9 +53,8 @@ fn write_members(writer: &mut Writer, id: u32, request: &Request) -> Result<(), 
             since,
             reverse,
         } => {
-            write_history(writer, channel.as_str(), limit, since, *reverse)?;
-            write_id(writer, id)?;
-            Ok(())
+            write_history(writer, channel.as_str(), limit, since, *reverse);
+            write_id(writer, id);
         }
         Request::Ping => write_bare(writer, id, "ping"),
         Request::Send => write_bare(writer, id, "send"),
@@ -69,146 +63,97 @@ fn write_members(writer: &mut Writer, id: u32, request: &Request) -> Result<(), 
 }
 
 /// The id of a command or a reply.
-pub fn write_id(writer: &mut Writer, id: u32) -> Result<(), AllocError>
-    ensures { IfOk result (λ _. Adds writer.old writer.new (("id" ⇒ written.whole id) ∷ [])) }
+pub fn write_id(writer: &mut Writer, id: u32)
+    ensures { Adds writer.old writer.new (("id" ⇒ written.whole id) ∷ []) }
 {
-    writer.whole_member("id", u64::from(id))?;
-    Ok(())
-}
-
-/// An object without members.
-fn write_empty(writer: &mut Writer, key: &str) -> Result<(), AllocError>
-    ensures { IfOk result (λ _. Adds writer.old writer.new ((key.now, Some (object_of [])) ∷ [])) }
-{
-    writer.open(key, "{")?;
-    writer.value("}")?;
-    Ok(())
+    writer.whole_member("id", u64::from(id));
 }
 
 /// An id, and an object without members.
-pub fn write_bare(writer: &mut Writer, id: u32, key: &str) -> Result<(), AllocError>
-    ensures { IfOk result (λ _. Adds writer.old writer.new
-        (("id" ⇒ written.whole id) ∷ (key.now, Some (object_of [])) ∷ [])) }
+pub fn write_bare(writer: &mut Writer, id: u32, key: &str)
+    ensures { Adds writer.old writer.new
+        (("id" ⇒ written.whole id) ∷ (key.now, Some (object_of [])) ∷ []) }
 {
-    write_id(writer, id)?;
-    write_empty(writer, key)?;
-    Ok(())
+    write_id(writer, id);
+    writer.open(key, "{");
+    writer.value("}");
 }
 
 /// The members of a position.
-pub fn write_position(writer: &mut Writer, position: &Position) -> Result<(), AllocError>
-    ensures { IfOk result (λ _. Adds writer.old writer.new (written.position position.now)) }
+pub fn write_position(writer: &mut Writer, position: &Position)
+    ensures { Adds writer.old writer.new (written.position position.now) }
 {
-    writer.text_member("epoch", position.epoch.as_str())?;
-    writer.whole_member("offset", position.offset)?;
-    Ok(())
+    writer.text_member("epoch", position.epoch.as_str());
+    writer.whole_member("offset", position.offset);
 }
 
-fn write_connect(writer: &mut Writer, id: u32, token: &str) -> Result<(), AllocError>
-    ensures { IfOk result (λ _. Adds writer.old writer.new
+fn write_connect(writer: &mut Writer, id: u32, token: &str)
+    ensures { Adds writer.old writer.new
         (("connect" ⇒ Some (object_of (("token" ⇒ written.text token.now) ∷ [])))
-        ∷ ("id" ⇒ written.whole id) ∷ [])) }
+        ∷ ("id" ⇒ written.whole id) ∷ []) }
 {
-    write_token(writer, token)?;
-    write_id(writer, id)?;
-    Ok(())
-}
-
-fn write_token(writer: &mut Writer, token: &str) -> Result<(), AllocError>
-    ensures { IfOk result (λ _. Adds writer.old writer.new
-        (("connect" ⇒ Some (object_of (("token" ⇒ written.text token.now) ∷ []))) ∷ [])) }
-{
-    writer.open("connect", "{")?;
-    writer.text_member("token", token)?;
-    writer.value("}")?;
-    Ok(())
-}
-
-/// A request that has a channel alone.
-fn write_channel(writer: &mut Writer, key: &str, channel: &str) -> Result<(), AllocError>
-    ensures { IfOk result (λ _. Adds writer.old writer.new
-        ((key.now, Some (channel_alone channel.now)) ∷ [])) }
-{
-    writer.open(key, "{")?;
-    writer.text_member("channel", channel)?;
-    writer.value("}")?;
-    Ok(())
+    writer.open("connect", "{");
+    writer.text_member("token", token);
+    writer.value("}");
+    write_id(writer, id);
 }
 
 /// An id, and a request that has a channel alone.
-fn write_on_channel(
-    writer: &mut Writer,
-    id: u32,
-    key: &str,
-    channel: &str,
-) -> Result<(), AllocError>
-    ensures { IfOk result (λ _. Adds writer.old writer.new
-        (("id" ⇒ written.whole id) ∷ (key.now, Some (channel_alone channel.now)) ∷ [])) }
+fn write_on_channel(writer: &mut Writer, id: u32, key: &str, channel: &str)
+    ensures { Adds writer.old writer.new
+        (("id" ⇒ written.whole id) ∷ (key.now, Some (channel_alone channel.now)) ∷ []) }
 {
-    write_id(writer, id)?;
-    write_channel(writer, key, channel)?;
-    Ok(())
+    write_id(writer, id);
+    writer.open(key, "{");
+    writer.text_member("channel", channel);
+    writer.value("}");
 }
 
-fn write_subscribe(
-    writer: &mut Writer,
-    channel: &str,
-    since: &Option<Position>,
-) -> Result<(), AllocError>
-    ensures { IfOk result (λ _. Adds writer.old writer.new
-        (("subscribe" ⇒ Some (object_of
-        (("channel" ⇒ written.text channel.now) ∷ from since.now))) ∷ [])) }
+fn write_subscribe(writer: &mut Writer, id: u32, channel: &str, since: &Option<Position>)
+    ensures { Adds writer.old writer.new
+        (("id" ⇒ written.whole id)
+        ∷ ("subscribe" ⇒ Some (object_of
+        (("channel" ⇒ written.text channel.now) ∷ from since.now))) ∷ []) }
 {
-    writer.open("subscribe", "{")?;
-    writer.text_member("channel", channel)?;
-    write_from(writer, since)?;
-    writer.value("}")?;
-    Ok(())
+    write_id(writer, id);
+    writer.open("subscribe", "{");
+    writer.text_member("channel", channel);
+    write_from(writer, since);
+    writer.value("}");
 }
 
 /// The position from which a client goes on.
-fn write_from(writer: &mut Writer, since: &Option<Position>) -> Result<(), AllocError>
-    ensures { IfOk result (λ _. Adds writer.old writer.new (from since.now)) }
+fn write_from(writer: &mut Writer, since: &Option<Position>)
+    ensures { Adds writer.old writer.new (from since.now) }
 {
-    let Some(position) = since else {
-        return Ok(());
-    };
-    write_position(writer, position)?;
-    writer.flag_member("recover", true)?;
-    Ok(())
+    if let Some(position) = since {
+        write_position(writer, position);
+        writer.flag_member("recover", true);
+    }
 }
 
-fn write_publish(
-    writer: &mut Writer,
-    channel: &str,
-    key: &str,
-    body: &Data,
-) -> Result<(), AllocError>
-    ensures { IfOk result (λ _. Adds writer.old writer.new
-        (("publish" ⇒ Some (object_of (("channel" ⇒ written.text channel.now)
+fn write_publish(writer: &mut Writer, id: u32, channel: &str, key: &str, body: &Data)
+    ensures { Adds writer.old writer.new
+        (("id" ⇒ written.whole id)
+        ∷ ("publish" ⇒ Some (object_of (("channel" ⇒ written.text channel.now)
         ∷ ("data" ⇒ body_of as_it_is (shown_data body.now))
-        ∷ ("key" ⇒ written.text key.now) ∷ []))) ∷ [])) }
+        ∷ ("key" ⇒ written.text key.now) ∷ []))) ∷ []) }
 {
-    writer.open("publish", "{")?;
-    writer.text_member("channel", channel)?;
-    write_data(writer, body)?;
-    writer.text_member("key", key)?;
-    writer.value("}")?;
-    Ok(())
+    write_id(writer, id);
+    writer.open("publish", "{");
+    writer.text_member("channel", channel);
+    write_data(writer, body);
+    writer.text_member("key", key);
+    writer.value("}");
 }
 
-fn write_data(writer: &mut Writer, body: &Data) -> Result<(), AllocError>
-    ensures { IfOk result (λ _. Adds writer.old writer.new
-        (("data" ⇒ body_of as_it_is (shown_data body.now)) ∷ [])) }
+fn write_data(writer: &mut Writer, body: &Data)
+    ensures { Adds writer.old writer.new
+        (("data" ⇒ body_of as_it_is (shown_data body.now)) ∷ []) }
 {
-    match body {
-        Data::Absent => Ok(()),
-        Data::TooDeep => Ok(()),
-        Data::Body(text) => {
-            writer.key("data")?;
-            writer.value(text.as_str())?;
-            Ok(())
-        }
+    if let Data::Body(text) = body {
+        writer.key("data");
+        writer.value(text.as_str());
     }
 }
 
@@ -218,50 +163,31 @@ fn write_history(
     limit: &i32,
     since: &Option<Position>,
     reverse: bool,
-) -> Result<(), AllocError>
-    ensures { IfOk result (λ _. Adds writer.old writer.new
+)
+    ensures { Adds writer.old writer.new
         (("history" ⇒ Some (object_of (("channel" ⇒ written.text channel.now)
         ∷ ("limit" ⇒ written.signed limit.now) ∷ ("reverse" ⇒ written.flag reverse)
-        ∷ ("since" ⇒ since_of since.now) ∷ []))) ∷ [])) }
+        ∷ ("since" ⇒ since_of since.now) ∷ []))) ∷ []) }
 {
-    writer.open("history", "{")?;
-    write_range(writer, channel, limit, since, reverse)?;
-    writer.value("}")?;
-    Ok(())
-}
-
-/// The members of a history's request.
-fn write_range(
-    writer: &mut Writer,
-    channel: &str,
-    limit: &i32,
-    since: &Option<Position>,
-    reverse: bool,
-) -> Result<(), AllocError>
-    ensures { IfOk result (λ _. Adds writer.old writer.new
-        (("channel" ⇒ written.text channel.now)
-        ∷ ("limit" ⇒ written.signed limit.now) ∷ ("reverse" ⇒ written.flag reverse)
-        ∷ ("since" ⇒ since_of since.now) ∷ [])) }
-{
-    writer.text_member("channel", channel)?;
-    writer.signed_member("limit", limit)?;
-    writer.flag_member("reverse", reverse)?;
-    write_since(writer, since)?;
-    Ok(())
+    writer.open("history", "{");
+    writer.text_member("channel", channel);
+    writer.signed_member("limit", limit);
+    writer.flag_member("reverse", reverse);
+    write_since(writer, since);
+    writer.value("}");
 }
 
 /// The position of a history, left out where there is none, and where it is the empty epoch at 0.
-fn write_since(writer: &mut Writer, since: &Option<Position>) -> Result<(), AllocError>
-    ensures { IfOk result (λ _. Adds writer.old writer.new (("since" ⇒ since_of since.now) ∷ [])) }
+fn write_since(writer: &mut Writer, since: &Option<Position>)
+    ensures { Adds writer.old writer.new (("since" ⇒ since_of since.now) ∷ []) }
 {
     let Some(position) = since else {
-        return Ok(());
+        return;
     };
     if position.epoch.is_empty() && position.offset == 0 {
-        return Ok(());
+        return;
     }
-    writer.open("since", "{")?;
-    write_position(writer, position)?;
-    writer.value("}")?;
-    Ok(())
+    writer.open("since", "{");
+    write_position(writer, position);
+    writer.value("}");
 }

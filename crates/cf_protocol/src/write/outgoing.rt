@@ -1,5 +1,5 @@
 //! The texts of replies and pushes.
-ghost use Rattle.std.specs.Prelude.{◌≡◌, ◌∷◌, [], map, Some, IfOk, string_bytes, string_cmp, true};
+ghost use Rattle.std.specs.Prelude.{◌≡◌, ◌∷◌, [], map, Some, IfOk, string_bytes, string_cmp};
 ghost use Rattle.cf_protocol.specs.Shown.{shown_outgoing, shown_outcome, shown_pushed, shown_users};
 ghost use Rattle.cf_protocol.specs.Written as written;
 ghost use Rattle.cf_protocol.specs.Written.{◌⇒◌, as_it_is, object_of, inner, publication as publication_tree, publications as publications_list, connected, error as error_members, subscribed, counted, past, presence, pushed, client as client_member, reply, outgoing as outgoing_members, outgoing_text};
@@ -31,27 +31,26 @@ pub fn write_reply(alloc: Global, outgoing: &Outgoing) -> Result<String, AllocEr
     ensures { IfOk result (λ s. string_bytes s ≡ outgoing_text (shown_outgoing outgoing.now)) }
 {
     let mut writer = Writer::new(alloc);
-    writer.begin("{")?;
-    write_members(&mut writer, outgoing)?;
-    writer.value("}")?;
-    Ok(writer.into_text())
+    writer.begin("{");
+    write_members(&mut writer, outgoing);
+    writer.value("}");
+    writer.into_text()
 }
 
-fn write_members(writer: &mut Writer, outgoing: &Outgoing) -> Result<(), AllocError>
-    ensures { IfOk result (λ _. Adds writer.old writer.new
-        (outgoing_members as_it_is (shown_outgoing outgoing.now))) }
+fn write_members(writer: &mut Writer, outgoing: &Outgoing)
+    ensures { Adds writer.old writer.new
+        (outgoing_members as_it_is (shown_outgoing outgoing.now)) }
 {
     match outgoing {
-        Outgoing::Ping => Ok(()),
+        Outgoing::Ping => {}
         Outgoing::Answer { id, outcome } => write_answer(writer, *id, outcome),
         Outgoing::Push { channel, push } => write_push(writer, channel.as_str(), push),
     }
 }
 
 /// The members of a reply. Its result stands also where it is an empty object.
-fn write_answer(writer: &mut Writer, id: u32, outcome: &Outcome) -> Result<(), AllocError>
-    ensures { IfOk result (λ _. Adds writer.old writer.new
-        (reply as_it_is id (shown_outcome outcome.now))) }
+fn write_answer(writer: &mut Writer, id: u32, outcome: &Outcome)
+    ensures { Adds writer.old writer.new (reply as_it_is id (shown_outcome outcome.now)) }
 {
     match outcome {
         Outcome::Connected { client } => write_connected(writer, id, client.as_str()),
@@ -61,64 +60,37 @@ fn write_answer(writer: &mut Writer, id: u32, outcome: &Outcome) -> Result<(), A
             recovered,
             was_recovering,
         } => {
-            write_id(writer, id)?;
-            write_subscribed(writer, position, publications, *recovered, *was_recovering)?;
-            Ok(())
+            write_id(writer, id);
+            write_subscribed(writer, position, publications, *recovered, *was_recovering);
         }
         Outcome::Unsubscribed => write_bare(writer, id, "unsubscribe"),
         Outcome::Published => write_bare(writer, id, "publish"),
-        Outcome::Present { users } => {
-            write_id(writer, id)?;
-            write_present(writer, users)?;
-            Ok(())
-        }
+        Outcome::Present { users } => write_present(writer, id, users),
         Outcome::Counted { clients, users } => write_counted(writer, id, *clients, *users),
         Outcome::Past {
             position,
             publications,
-        } => {
-            write_past(writer, position, publications)?;
-            write_id(writer, id)?;
-            Ok(())
-        }
+        } => write_past(writer, id, position, publications),
         Outcome::Pinged => write_bare(writer, id, "ping"),
         Outcome::Failed { code } => {
-            write_error(writer, *code)?;
-            write_id(writer, id)?;
-            Ok(())
+            write_error(writer, *code);
+            write_id(writer, id);
         }
     }
 }
 
-fn write_connected(writer: &mut Writer, id: u32, client: &str) -> Result<(), AllocError>
-    ensures { IfOk result (λ _. Adds writer.old writer.new
-        (("connect" ⇒ Some (object_of (connected client.now))) ∷ ("id" ⇒ written.whole id) ∷ [])) }
-{
-    write_welcome(writer, client)?;
-    write_id(writer, id)?;
-    Ok(())
-}
-
 /// What a client is told when it connects.
-fn write_welcome(writer: &mut Writer, client: &str) -> Result<(), AllocError>
-    ensures { IfOk result (λ _. Adds writer.old writer.new
-        (("connect" ⇒ Some (object_of (connected client.now))) ∷ [])) }
+fn write_connected(writer: &mut Writer, id: u32, client: &str)
+    ensures { Adds writer.old writer.new
+        (("connect" ⇒ Some (object_of (connected client.now))) ∷ ("id" ⇒ written.whole id) ∷ []) }
 {
-    writer.open("connect", "{")?;
-    write_greeting(writer, client)?;
-    writer.value("}")?;
-    Ok(())
-}
-
-/// The members of what a client is told when it connects.
-fn write_greeting(writer: &mut Writer, client: &str) -> Result<(), AllocError>
-    ensures { IfOk result (λ _. Adds writer.old writer.new (connected client.now)) }
-{
-    writer.text_member("client", client)?;
-    writer.whole_member("ping", PING_SECONDS)?;
-    writer.flag_member("pong", true)?;
-    writer.text_member("version", VERSION)?;
-    Ok(())
+    writer.open("connect", "{");
+    writer.text_member("client", client);
+    writer.whole_member("ping", PING_SECONDS);
+    writer.flag_member("pong", true);
+    writer.text_member("version", VERSION);
+    writer.value("}");
+    write_id(writer, id);
 }
 
 fn write_subscribed(
@@ -127,189 +99,134 @@ fn write_subscribed(
     publications: &Vec<Publication>,
     recovered: bool,
     was_recovering: bool,
-) -> Result<(), AllocError>
-    ensures { IfOk result (λ _. Adds writer.old writer.new
+)
+    ensures { Adds writer.old writer.new
         (("subscribe" ⇒ Some (object_of (subscribed as_it_is position.now
-        publications.now.items recovered was_recovering))) ∷ [])) }
+        publications.now.items recovered was_recovering))) ∷ []) }
 {
-    writer.open("subscribe", "{")?;
-    write_position(writer, position)?;
-    write_streamed(writer, publications, recovered, was_recovering)?;
-    writer.value("}")?;
-    Ok(())
-}
-
-/// The members of a subscribe's result behind its position.
-fn write_streamed(
-    writer: &mut Writer,
-    publications: &Vec<Publication>,
-    recovered: bool,
-    was_recovering: bool,
-) -> Result<(), AllocError>
-    ensures { IfOk result (λ _. Adds writer.old writer.new
-        (("positioned" ⇒ written.flag true)
-        ∷ ("publications" ⇒ publications_list as_it_is publications.now.items)
-        ∷ ("recoverable" ⇒ written.flag true) ∷ ("recovered" ⇒ written.flag recovered)
-        ∷ ("was_recovering" ⇒ written.flag was_recovering) ∷ [])) }
-{
-    writer.flag_member("positioned", true)?;
-    write_publications(writer, publications)?;
-    writer.flag_member("recoverable", true)?;
-    write_recovery(writer, recovered, was_recovering)?;
-    Ok(())
-}
-
-/// Whether a client recovered, and whether it asked to.
-fn write_recovery(
-    writer: &mut Writer,
-    recovered: bool,
-    was_recovering: bool,
-) -> Result<(), AllocError>
-    ensures { IfOk result (λ _. Adds writer.old writer.new
-        (("recovered" ⇒ written.flag recovered)
-        ∷ ("was_recovering" ⇒ written.flag was_recovering) ∷ [])) }
-{
-    writer.flag_member("recovered", recovered)?;
-    writer.flag_member("was_recovering", was_recovering)?;
-    Ok(())
-}
-
-fn write_counted(writer: &mut Writer, id: u32, clients: u64, users: u64) -> Result<(), AllocError>
-    ensures { IfOk result (λ _. Adds writer.old writer.new
-        (("id" ⇒ written.whole id)
-        ∷ ("presence_stats" ⇒ Some (object_of (counted clients users))) ∷ [])) }
-{
-    write_id(writer, id)?;
-    write_stats(writer, clients, users)?;
-    Ok(())
+    writer.open("subscribe", "{");
+    write_position(writer, position);
+    writer.flag_member("positioned", true);
+    write_publications(writer, publications);
+    writer.flag_member("recoverable", true);
+    writer.flag_member("recovered", recovered);
+    writer.flag_member("was_recovering", was_recovering);
+    writer.value("}");
 }
 
 /// How many clients and users are there.
-fn write_stats(writer: &mut Writer, clients: u64, users: u64) -> Result<(), AllocError>
-    ensures { IfOk result (λ _. Adds writer.old writer.new
-        (("presence_stats" ⇒ Some (object_of (counted clients users))) ∷ [])) }
+fn write_counted(writer: &mut Writer, id: u32, clients: u64, users: u64)
+    ensures { Adds writer.old writer.new
+        (("id" ⇒ written.whole id)
+        ∷ ("presence_stats" ⇒ Some (object_of (counted clients users))) ∷ []) }
 {
-    writer.open("presence_stats", "{")?;
-    writer.whole_member("num_clients", clients)?;
-    writer.whole_member("num_users", users)?;
-    writer.value("}")?;
-    Ok(())
+    write_id(writer, id);
+    writer.open("presence_stats", "{");
+    writer.whole_member("num_clients", clients);
+    writer.whole_member("num_users", users);
+    writer.value("}");
 }
 
-fn write_past(
-    writer: &mut Writer,
-    position: &Position,
-    publications: &Vec<Publication>,
-) -> Result<(), AllocError>
-    ensures { IfOk result (λ _. Adds writer.old writer.new
-        (("history" ⇒ Some (object_of (past as_it_is position.now publications.now.items))) ∷ [])) }
+fn write_past(writer: &mut Writer, id: u32, position: &Position, publications: &Vec<Publication>)
+    ensures { Adds writer.old writer.new
+        (("history" ⇒ Some (object_of (past as_it_is position.now publications.now.items)))
+        ∷ ("id" ⇒ written.whole id) ∷ []) }
 {
-    writer.open("history", "{")?;
-    write_position(writer, position)?;
-    write_publications(writer, publications)?;
-    writer.value("}")?;
-    Ok(())
+    writer.open("history", "{");
+    write_position(writer, position);
+    write_publications(writer, publications);
+    writer.value("}");
+    write_id(writer, id);
 }
 
 /// The error of a command that is refused, left out where it has no code.
-fn write_error(writer: &mut Writer, code: u32) -> Result<(), AllocError>
-    ensures { IfOk result (λ _. Adds writer.old writer.new
-        (("error" ⇒ inner (error_members code)) ∷ [])) }
+fn write_error(writer: &mut Writer, code: u32)
+    ensures { Adds writer.old writer.new (("error" ⇒ inner (error_members code)) ∷ []) }
 {
     if code == 0 {
-        return Ok(());
+        return;
     }
-    writer.open("error", "{")?;
-    writer.whole_member("code", u64::from(code))?;
-    writer.text_member("message", message_of(code))?;
-    writer.flag_member("temporary", is_temporary(code))?;
-    writer.value("}")?;
-    Ok(())
+    writer.open("error", "{");
+    writer.whole_member("code", u64::from(code));
+    writer.text_member("message", message_of(code));
+    writer.flag_member("temporary", is_temporary(code));
+    writer.value("}");
 }
 
-/// The clients that are there.
-fn write_present(writer: &mut Writer, users: &BTreeMap<String, String>) -> Result<(), AllocError>
-    ensures { IfOk result (λ _. Adds writer.old writer.new
-        (("presence" ⇒ Some (object_of (presence (shown_users users.now)))) ∷ [])) }
+/// An id, and the clients that are there.
+fn write_present(writer: &mut Writer, id: u32, users: &BTreeMap<String, String>)
+    ensures { Adds writer.old writer.new
+        (("id" ⇒ written.whole id)
+        ∷ ("presence" ⇒ Some (object_of (presence (shown_users users.now)))) ∷ []) }
 {
-    writer.open("presence", "{")?;
-    write_clients(writer, users)?;
-    writer.value("}")?;
-    Ok(())
+    write_id(writer, id);
+    writer.open("presence", "{");
+    write_clients(writer, users);
+    writer.value("}");
 }
 
 /// The clients by their ids, left out where there are none.
-fn write_clients(writer: &mut Writer, users: &BTreeMap<String, String>) -> Result<(), AllocError>
-    ensures { IfOk result (λ _. Adds writer.old writer.new (presence (shown_users users.now))) }
+fn write_clients(writer: &mut Writer, users: &BTreeMap<String, String>)
+    ensures { Adds writer.old writer.new (presence (shown_users users.now)) }
 {
     if users.is_empty() {
-        return Ok(());
+        return;
     }
-    writer.open("presence", "{")?;
-    write_entries(writer, users)?;
-    writer.value("}")?;
-    Ok(())
+    writer.open("presence", "{");
+    write_entries(writer, users);
+    writer.value("}");
 }
 
 /// Each client under its id with its info.
-fn write_entries(writer: &mut Writer, users: &BTreeMap<String, String>) -> Result<(), AllocError>
-    ensures adds { IfOk result (λ _. Adds writer.old writer.new
-        (map client_member (bytes_of users.now.entries))) }
-    ensures ordered { IfOk result (λ _. IsOrdered string_cmp users.now) }
+fn write_entries(writer: &mut Writer, users: &BTreeMap<String, String>)
+    ensures adds { Adds writer.old writer.new (map client_member (bytes_of users.now.entries)) }
+    ensures ordered { IsOrdered string_cmp users.now }
 {
     for (client, user) in users {
-        write_client(writer, client.as_str(), user.as_str())?;
+        write_client(writer, client.as_str(), user.as_str());
     }
-    Ok(())
 }
 
 /// A client under its id with its info, which stands also where it is empty.
-fn write_client(writer: &mut Writer, client: &str, user: &str) -> Result<(), AllocError>
-    ensures { IfOk result (λ _. Adds writer.old writer.new
-        (client_member (client.now, user.now) ∷ [])) }
+fn write_client(writer: &mut Writer, client: &str, user: &str)
+    ensures { Adds writer.old writer.new (client_member (client.now, user.now) ∷ []) }
 {
-    writer.text_key(client)?;
-    writer.begin("{")?;
-    write_info(writer, client, user)?;
-    writer.value("}")?;
-    Ok(())
+    writer.text_key(client);
+    writer.begin("{");
+    write_info(writer, client, user);
+    writer.value("}");
 }
 
 /// The publications of a result, left out where there are none.
-fn write_publications(
-    writer: &mut Writer,
-    publications: &Vec<Publication>,
-) -> Result<(), AllocError>
-    ensures { IfOk result (λ _. Adds writer.old writer.new
-        (("publications" ⇒ publications_list as_it_is publications.now.items) ∷ [])) }
+fn write_publications(writer: &mut Writer, publications: &Vec<Publication>)
+    ensures { Adds writer.old writer.new
+        (("publications" ⇒ publications_list as_it_is publications.now.items) ∷ []) }
 {
     if publications.is_empty() {
-        return Ok(());
+        return;
     }
-    writer.open("publications", "[")?;
-    write_items(writer, publications)?;
-    writer.value("]")?;
-    Ok(())
+    writer.open("publications", "[");
+    write_items(writer, publications);
+    writer.value("]");
 }
 
 /// The items of a list of publications.
-fn write_items(writer: &mut Writer, publications: &Vec<Publication>) -> Result<(), AllocError>
-    ensures { IfOk result (λ _. AddsItems writer.old writer.new
-        (map (publication_tree as_it_is) publications.now.items)) }
+fn write_items(writer: &mut Writer, publications: &Vec<Publication>)
+    ensures { AddsItems writer.old writer.new
+        (map (publication_tree as_it_is) publications.now.items) }
 {
     for publication in publications {
-        writer.comma()?;
-        write_placed(writer, publication)?;
+        writer.comma();
+        write_placed(writer, publication);
     }
-    Ok(())
 }
 
 /// The member of a push, left out where it would be an empty object.
-fn write_push(writer: &mut Writer, channel: &str, push: &Pushed) -> Result<(), AllocError>
-    ensures { IfOk result (λ _. Adds writer.old writer.new
+fn write_push(writer: &mut Writer, channel: &str, push: &Pushed)
+    ensures { Adds writer.old writer.new
         (("push" ⇒ inner
         (("channel" ⇒ written.text channel.now)
-        ∷ pushed as_it_is (shown_pushed push.now) ∷ [])) ∷ [])) }
+        ∷ pushed as_it_is (shown_pushed push.now) ∷ [])) ∷ []) }
 {
     match push {
         Pushed::Publication(publication) => add_publication(writer, channel, publication),

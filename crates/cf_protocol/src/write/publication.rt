@@ -1,59 +1,52 @@
 //! The text of a publication, wherever it stands.
-ghost use Rattle.std.specs.Prelude.{◌∷◌, [], IfOk};
+ghost use Rattle.std.specs.Prelude.{◌∷◌, []};
 ghost use Rattle.cf_json.specs.Compact.{compact_text};
 ghost use Rattle.cf_protocol.specs.Written.{◌⇒◌, as_it_is, inner, info as info_members, info_or_none, publication as publication_tree};
 ghost use Rattle.cf_protocol.specs.Writing.{Adds, AddsValue};
 
 use crate::publication::{Info, Publication};
 use crate::write::writer::Writer;
-use std::alloc::AllocError;
 
 /// The members of an info.
-pub fn write_info(writer: &mut Writer, client: &str, user: &str) -> Result<(), AllocError>
-    ensures { IfOk result (λ _. Adds writer.old writer.new
-        (info_members (record { client = client.now; user = user.now }))) }
+pub fn write_info(writer: &mut Writer, client: &str, user: &str)
+    ensures { Adds writer.old writer.new
+        (info_members (record { client = client.now; user = user.now })) }
 {
-    writer.text_member("client", client)?;
-    writer.text_member("user", user)?;
-    Ok(())
+    writer.text_member("client", client);
+    writer.text_member("user", user);
 }
 
 /// A publication, whose data always stands.
-pub fn write_placed(writer: &mut Writer, publication: &Publication) -> Result<(), AllocError>
-    ensures { IfOk result (λ _. AddsValue writer.old writer.new
-        (compact_text (publication_tree as_it_is publication.now))) }
+pub fn write_placed(writer: &mut Writer, publication: &Publication)
+    ensures { AddsValue writer.old writer.new
+        (compact_text (publication_tree as_it_is publication.now)) }
 {
-    writer.begin("{")?;
-    writer.key("data")?;
-    writer.value(publication.body.as_str())?;
-    write_publisher(writer, &publication.info)?;
-    writer.whole_member("offset", publication.offset)?;
-    writer.value("}")?;
-    Ok(())
+    writer.begin("{");
+    writer.key("data");
+    writer.value(publication.body.as_str());
+    write_publisher(writer, &publication.info);
+    writer.whole_member("offset", publication.offset);
+    writer.value("}");
 }
 
 /// The info of a publication, left out where there is none.
-fn write_publisher(writer: &mut Writer, info: &Option<Info>) -> Result<(), AllocError>
-    ensures { IfOk result (λ _. Adds writer.old writer.new
-        (("info" ⇒ info_or_none info.now) ∷ [])) }
+fn write_publisher(writer: &mut Writer, info: &Option<Info>)
+    ensures { Adds writer.old writer.new (("info" ⇒ info_or_none info.now) ∷ []) }
 {
-    let Some(info) = info else {
-        return Ok(());
-    };
-    write_info_member(writer, info.client.as_str(), info.user.as_str())?;
-    Ok(())
+    if let Some(info) = info {
+        write_info_member(writer, info.client.as_str(), info.user.as_str());
+    }
 }
 
 /// An info, left out where it is empty.
-fn write_info_member(writer: &mut Writer, client: &str, user: &str) -> Result<(), AllocError>
-    ensures { IfOk result (λ _. Adds writer.old writer.new
-        (("info" ⇒ inner (info_members (record { client = client.now; user = user.now }))) ∷ [])) }
+fn write_info_member(writer: &mut Writer, client: &str, user: &str)
+    ensures { Adds writer.old writer.new
+        (("info" ⇒ inner (info_members (record { client = client.now; user = user.now }))) ∷ []) }
 {
     if client.is_empty() && user.is_empty() {
-        return Ok(());
+        return;
     }
-    writer.open("info", "{")?;
-    write_info(writer, client, user)?;
-    writer.value("}")?;
-    Ok(())
+    writer.open("info", "{");
+    write_info(writer, client, user);
+    writer.value("}");
 }

@@ -31,11 +31,11 @@ pub fn write_publication(
 ) -> Result<String, AllocError>
     ensures { IfOk result (λ s. string_bytes s ≡ publication_text channel.now publication.now) }
 {
-    let mut writer = Writer::with_room(alloc, publication_room(channel, publication))?;
-    writer.begin("{")?;
-    add_publication(&mut writer, channel, publication)?;
-    writer.value("}")?;
-    Ok(writer.into_text())
+    let mut writer = Writer::with_room(alloc, publication_room(channel, publication));
+    writer.begin("{");
+    add_publication(&mut writer, channel, publication);
+    writer.value("}");
+    writer.into_text()
 }
 
 /// The text of the push that ends a subscription to a channel with this code: the one that [`write_reply`](crate::write_reply)
@@ -47,11 +47,11 @@ pub fn write_publication(
 pub fn write_unsubscribe(alloc: Global, channel: &str, code: u32) -> Result<String, AllocError>
     ensures { IfOk result (λ s. string_bytes s ≡ unsubscribe_text channel.now code) }
 {
-    let mut writer = Writer::with_room(alloc, channel.len().saturating_add(UNSUBSCRIBE_ROOM))?;
-    writer.begin("{")?;
-    add_unsubscribe(&mut writer, channel, code)?;
-    writer.value("}")?;
-    Ok(writer.into_text())
+    let mut writer = Writer::with_room(alloc, channel.len().saturating_add(UNSUBSCRIBE_ROOM));
+    writer.begin("{");
+    add_unsubscribe(&mut writer, channel, code);
+    writer.value("}");
+    writer.into_text()
 }
 
 /// How many bytes the push of a publication has at most, where no byte of its names has to be escaped.
@@ -70,61 +70,44 @@ fn publication_room(channel: &str, publication: &Publication) -> usize {
 }
 
 /// The member of a publication's push.
-pub fn add_publication(
-    writer: &mut Writer,
-    channel: &str,
-    publication: &Publication,
-) -> Result<(), AllocError>
-    ensures { IfOk result (λ _. Adds writer.old writer.new
+pub fn add_publication(writer: &mut Writer, channel: &str, publication: &Publication)
+    ensures { Adds writer.old writer.new
         (("push" ⇒ inner
         (("channel" ⇒ written.text channel.now)
-        ∷ ("pub" ⇒ Some (publication_tree as_it_is publication.now)) ∷ [])) ∷ [])) }
+        ∷ ("pub" ⇒ Some (publication_tree as_it_is publication.now)) ∷ [])) ∷ []) }
 {
-    writer.open("push", "{")?;
-    writer.text_member("channel", channel)?;
-    write_pub(writer, publication)?;
-    writer.value("}")?;
-    Ok(())
-}
-
-/// The publication of a push.
-fn write_pub(writer: &mut Writer, publication: &Publication) -> Result<(), AllocError>
-    ensures { IfOk result (λ _. Adds writer.old writer.new
-        (("pub" ⇒ Some (publication_tree as_it_is publication.now)) ∷ [])) }
-{
-    writer.key("pub")?;
-    write_placed(writer, publication)?;
-    Ok(())
+    writer.open("push", "{");
+    writer.text_member("channel", channel);
+    writer.key("pub");
+    write_placed(writer, publication);
+    writer.value("}");
 }
 
 /// The member of an unsubscribe push, left out where it would be an empty object.
-pub fn add_unsubscribe(writer: &mut Writer, channel: &str, code: u32) -> Result<(), AllocError>
-    ensures { IfOk result (λ _. Adds writer.old writer.new
+pub fn add_unsubscribe(writer: &mut Writer, channel: &str, code: u32)
+    ensures { Adds writer.old writer.new
         (("push" ⇒ inner
         (("channel" ⇒ written.text channel.now)
-        ∷ ("unsubscribe" ⇒ inner (unsubscribed code)) ∷ [])) ∷ [])) }
+        ∷ ("unsubscribe" ⇒ inner (unsubscribed code)) ∷ [])) ∷ []) }
 {
     if code == 0 && channel.is_empty() {
-        return Ok(());
+        return;
     }
-    writer.open("push", "{")?;
-    writer.text_member("channel", channel)?;
-    write_end(writer, code)?;
-    writer.value("}")?;
-    Ok(())
+    writer.open("push", "{");
+    writer.text_member("channel", channel);
+    write_end(writer, code);
+    writer.value("}");
 }
 
 /// The end of a subscription, left out where it has no code.
-fn write_end(writer: &mut Writer, code: u32) -> Result<(), AllocError>
-    ensures { IfOk result (λ _. Adds writer.old writer.new
-        (("unsubscribe" ⇒ inner (unsubscribed code)) ∷ [])) }
+fn write_end(writer: &mut Writer, code: u32)
+    ensures { Adds writer.old writer.new (("unsubscribe" ⇒ inner (unsubscribed code)) ∷ []) }
 {
     if code == 0 {
-        return Ok(());
+        return;
     }
-    writer.open("unsubscribe", "{")?;
-    writer.whole_member("code", u64::from(code))?;
-    writer.text_member("reason", unsubscribe_reason(code))?;
-    writer.value("}")?;
-    Ok(())
+    writer.open("unsubscribe", "{");
+    writer.whole_member("code", u64::from(code));
+    writer.text_member("reason", unsubscribe_reason(code));
+    writer.value("}");
 }

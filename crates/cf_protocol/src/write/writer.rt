@@ -1,9 +1,9 @@
 //! JSON text, written piece by piece.
-ghost use Rattle.std.specs.Prelude.{◌≡◌, ◌++◌, ◌∷◌, [], IfOk, string_bytes, true};
+ghost use Rattle.std.specs.Prelude.{◌≡◌, ◌∷◌, [], IfOk, string_bytes, false, true};
 ghost use Rattle.std.specs.List.{list_all};
 ghost use Rattle.cf_json.specs.Quoting.{quoted, escaped};
 ghost use Rattle.cf_protocol.specs.Written as written;
-ghost use Rattle.cf_protocol.specs.Writing.{Adds, AddsKey, AddsValue, Opens, OpensMember, comma as comma_after, is_plain};
+ghost use Rattle.cf_protocol.specs.Writing.{Adds, AddsKey, AddsValue, Grows, Opens, OpensMember, comma as comma_after, is_plain};
 
 use cf_json::quote;
 use std::alloc::{AllocError, Global};
@@ -17,9 +17,13 @@ fn is_plain(text: &str) -> bool
 }
 
 /// A compact text that is being written. Members and items that follow one another are separated by commas.
+///
+/// No call answers whether it had memory. That one had none is remembered, and told by [`into_text`](Writer::into_text).
 #[derive(Drop)]
 pub struct Writer {
     text: String,
+    /// Whether some call had no memory. What the text is from then on doesn't matter.
+    failed: bool,
     /// Whether nothing stands yet in the object or array that was begun last.
     fresh: bool,
     alloc: Global,
@@ -33,162 +37,163 @@ impl Writer {
     {
         Writer {
             text: String::new(alloc),
+            failed: false,
             fresh: true,
             alloc,
         }
     }
 
     /// An empty text that has room for so many bytes.
-    pub fn with_room(alloc: Global, bytes: usize) -> Result<Writer, AllocError>
-        ensures text { IfOk result (λ w. string_bytes w.text ≡ []) }
-        ensures fresh { IfOk result (λ w. w.fresh ≡ true) }
+    pub fn with_room(alloc: Global, bytes: usize) -> Writer
+        ensures text { string_bytes result.text ≡ [] }
+        ensures fresh { result.fresh ≡ true }
     {
-        let text = String::with_capacity(alloc, bytes)?;
-        Ok(Writer {
-            text,
-            fresh: true,
-            alloc,
-        })
+        let mut writer = Writer::new(alloc);
+        writer.failed = writer.text.reserve_exact(bytes).is_err();
+        writer
     }
 
     /// What was written.
-    pub fn into_text(self) -> String
-        ensures { string_bytes result ≡ string_bytes self.text }
+    ///
+    /// # Errors
+    ///
+    /// Where some call had no memory.
+    pub fn into_text(self) -> Result<String, AllocError>
+        ensures { IfOk result (λ s.
+            (self.failed ≡ false) × (string_bytes s ≡ string_bytes self.text)) }
     {
-        let Writer { text, .. } = self;
-        text
+        let Writer { text, failed, .. } = self;
+        if failed {
+            return Err(AllocError);
+        }
+        Ok(text)
+    }
+
+    /// A piece as it stands, unless there is no memory for it.
+    fn push(&mut self, piece: &str)
+        ensures text { Grows self.old self.new piece.now }
+        ensures fresh { self.new.fresh ≡ self.old.fresh }
+    {
+        self.failed |= self.text.push_str(piece).is_err();
     }
 
     /// Begins an object or an array.
-    pub fn begin(&mut self, bracket: &str) -> Result<(), AllocError>
-        ensures { IfOk result (λ _. Opens self.old self.new bracket.now) }
+    pub fn begin(&mut self, bracket: &str)
+        ensures { Opens self.old self.new bracket.now }
     {
-        self.text.push_str(bracket)?;
+        self.push(bracket);
         self.fresh = true;
-        Ok(())
     }
 
     /// A value, as its compact text.
-    pub fn value(&mut self, text: &str) -> Result<(), AllocError>
-        ensures { IfOk result (λ _. AddsValue self.old self.new text.now) }
+    pub fn value(&mut self, text: &str)
+        ensures { AddsValue self.old self.new text.now }
     {
-        self.text.push_str(text)?;
+        self.push(text);
         self.fresh = false;
-        Ok(())
     }
 
     /// The comma before a further member or item.
-    pub fn comma(&mut self) -> Result<(), AllocError>
-        ensures text { IfOk result (λ _. string_bytes self.new.text
-            ≡ string_bytes self.old.text ++ comma_after self.old.fresh) }
-        ensures fresh { IfOk result (λ _. self.new.fresh ≡ self.old.fresh) }
+    pub fn comma(&mut self)
+        ensures text { Grows self.old self.new (comma_after self.old.fresh) }
+        ensures fresh { self.new.fresh ≡ self.old.fresh }
     {
         if !self.fresh {
-            self.text.push_str(",")?;
+            self.push(",");
         }
-        Ok(())
     }
 
     /// A text as a value.
-    pub fn text(&mut self, text: &str) -> Result<(), AllocError>
-        ensures { IfOk result (λ _. AddsValue self.old self.new (quoted text.now)) }
+    pub fn text(&mut self, text: &str)
+        ensures { AddsValue self.old self.new (quoted text.now) }
     {
-        self.quoted(text)?;
+        self.quoted(text);
         self.fresh = false;
-        Ok(())
     }
 
     /// A text between quotation marks. Where no byte of it has to be escaped, it is copied as it is.
-    fn quoted(&mut self, text: &str) -> Result<(), AllocError>
-        ensures text { IfOk result (λ _. string_bytes self.new.text
-            ≡ string_bytes self.old.text ++ quoted text.now) }
-        ensures fresh { IfOk result (λ _. self.new.fresh ≡ self.old.fresh) }
+    fn quoted(&mut self, text: &str)
+        ensures text { Grows self.old self.new (quoted text.now) }
+        ensures fresh { self.new.fresh ≡ self.old.fresh }
     {
         if is_plain(text) {
-            self.text.push_str("\"")?;
-            self.text.push_str(text)?;
-            self.text.push_str("\"")?;
-            return Ok(());
+            self.push("\"");
+            self.push(text);
+            self.push("\"");
+            return;
         }
-        let quoted = quote(self.alloc, text)?;
-        self.text.push_str(quoted.as_str())?;
-        Ok(())
+        match quote(self.alloc, text) {
+            Ok(quoted) => self.push(quoted.as_str()),
+            Err(_) => self.failed = true,
+        }
     }
 
     /// The key of a member, whose value follows. It has nothing that is escaped.
-    pub fn key(&mut self, key: &str) -> Result<(), AllocError>
-        ensures { IfOk result (λ _. AddsKey self.old self.new key.now) }
+    pub fn key(&mut self, key: &str)
+        ensures { AddsKey self.old self.new key.now }
     {
-        self.comma()?;
-        self.text.push_str("\"")?;
-        self.text.push_str(key)?;
-        self.text.push_str("\":")?;
-        Ok(())
+        self.comma();
+        self.push("\"");
+        self.push(key);
+        self.push("\":");
     }
 
     /// A key of any text.
-    pub fn text_key(&mut self, key: &str) -> Result<(), AllocError>
-        ensures { IfOk result (λ _. AddsKey self.old self.new (escaped key.now)) }
+    pub fn text_key(&mut self, key: &str)
+        ensures { AddsKey self.old self.new (escaped key.now) }
     {
-        self.comma()?;
-        self.quoted(key)?;
-        self.text.push_str(":")?;
-        Ok(())
+        self.comma();
+        self.quoted(key);
+        self.push(":");
     }
 
     /// The key of a member, and the bracket that opens its value.
-    pub fn open(&mut self, key: &str, bracket: &str) -> Result<(), AllocError>
-        ensures { IfOk result (λ _. OpensMember self.old self.new key.now bracket.now) }
+    pub fn open(&mut self, key: &str, bracket: &str)
+        ensures { OpensMember self.old self.new key.now bracket.now }
     {
-        self.key(key)?;
-        self.begin(bracket)
+        self.key(key);
+        self.begin(bracket);
     }
 
     /// A member that is left out where its text is empty.
-    pub fn text_member(&mut self, key: &str, text: &str) -> Result<(), AllocError>
-        ensures { IfOk result (λ _. Adds self.old self.new
-            ((key.now, written.text text.now) ∷ [])) }
+    pub fn text_member(&mut self, key: &str, text: &str)
+        ensures { Adds self.old self.new ((key.now, written.text text.now) ∷ []) }
     {
         if !text.is_empty() {
-            self.key(key)?;
-            self.text(text)?;
+            self.key(key);
+            self.text(text);
         }
-        Ok(())
     }
 
     /// A member that is left out where its number is 0.
-    pub fn whole_member(&mut self, key: &str, number: u64) -> Result<(), AllocError>
-        ensures { IfOk result (λ _. Adds self.old self.new ((key.now, written.whole number) ∷ [])) }
+    pub fn whole_member(&mut self, key: &str, number: u64)
+        ensures { Adds self.old self.new ((key.now, written.whole number) ∷ []) }
     {
         if number != 0 {
-            self.key(key)?;
-            write!(self.text, "{number}")?;
+            self.key(key);
+            self.failed |= write!(self.text, "{number}").is_err();
             self.fresh = false;
         }
-        Ok(())
     }
 
     /// A member that is left out where its number is 0.
-    pub fn signed_member(&mut self, key: &str, number: &i32) -> Result<(), AllocError>
-        ensures { IfOk result (λ _. Adds self.old self.new
-            ((key.now, written.signed number.now) ∷ [])) }
+    pub fn signed_member(&mut self, key: &str, number: &i32)
+        ensures { Adds self.old self.new ((key.now, written.signed number.now) ∷ []) }
     {
         if *number != 0 {
-            self.key(key)?;
-            write!(self.text, "{number}")?;
+            self.key(key);
+            self.failed |= write!(self.text, "{number}").is_err();
             self.fresh = false;
         }
-        Ok(())
     }
 
     /// A member that is left out where it is false.
-    pub fn flag_member(&mut self, key: &str, flag: bool) -> Result<(), AllocError>
-        ensures { IfOk result (λ _. Adds self.old self.new ((key.now, written.flag flag) ∷ [])) }
+    pub fn flag_member(&mut self, key: &str, flag: bool)
+        ensures { Adds self.old self.new ((key.now, written.flag flag) ∷ []) }
     {
         if flag {
-            self.key(key)?;
-            self.value("true")?;
+            self.key(key);
+            self.value("true");
         }
-        Ok(())
     }
 }

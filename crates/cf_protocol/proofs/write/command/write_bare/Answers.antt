@@ -1,5 +1,5 @@
-use Rattle.cf_protocol.proofs.Writings.{then}
+use Rattle.cf_protocol.proofs.Writings.{nothing, then, inside}
 use Rattle.cf_protocol.proofs.write.command.write_bare.Goals as goal
 
 pub returns : goal.returns
-returns c = then c.in_ok-write_id.ensures c.in_ok-write_empty.ensures
+returns c = then c.write_id.ensures (inside c.open.ensures (nothing c.open.new.self) c.value.ensures)

@@ -1,5 +1,5 @@
-use Rattle.cf_protocol.proofs.Writings.{then}
+use Rattle.cf_protocol.proofs.Writings.{then, inside}
 use Rattle.cf_protocol.proofs.write.command.write_connect.Goals as goal
 
 pub returns : goal.returns
-returns c = then c.in_ok-write_token.ensures c.in_ok-write_id.ensures
+returns c = then (inside c.open.ensures c.text_member.ensures c.value.ensures) c.write_id.ensures

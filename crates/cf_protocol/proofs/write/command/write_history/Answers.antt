@@ -1,5 +1,6 @@
-use Rattle.cf_protocol.proofs.Writings.{inside}
+use Rattle.cf_protocol.proofs.Writings.{then, inside}
 use Rattle.cf_protocol.proofs.write.command.write_history.Goals as goal
 
 pub returns : goal.returns
-returns c = inside c.in_ok-open.ensures c.in_ok-write_range.ensures c.in_ok-value.ensures
+returns c =
+    inside c.open.ensures (then c.text_member.ensures (then c.signed_member.ensures (then c.flag_member.ensures c.write_since.ensures))) c.value.ensures

@@ -1,14 +1,14 @@
 use Rattle.cf_protocol.proofs.Writings.{then}
 use Rattle.cf_protocol.proofs.write.command.write_members.Goals as goal
 
-pub returns-in_ok-write_subscribe-in-Subscribe : goal.returns-in_ok-write_subscribe-in-Subscribe
-returns-in_ok-write_subscribe-in-Subscribe c = rw (c.in-Subscribe.is, ← c.as_str-in-Subscribe.ensures.value) (then c.in_ok-write_id-in-Subscribe.ensures c.in_ok-write_subscribe-in-Subscribe.ensures)
+pub returns-in-Subscribe : goal.returns-in-Subscribe
+returns-in-Subscribe c = rw (c.in-Subscribe.is, ← c.as_str-in-Subscribe.ensures.value) c.write_subscribe.ensures
 
-pub returns-in_ok-write_publish-in-Publish : goal.returns-in_ok-write_publish-in-Publish
-returns-in_ok-write_publish-in-Publish c = rw (c.in-Publish.is, ← c.as_str-in-Publish.ensures.value, ← c.as_str-in-Publish-2.ensures.value) (then c.in_ok-write_id-in-Publish.ensures c.in_ok-write_publish-in-Publish.ensures)
+pub returns-in-Publish : goal.returns-in-Publish
+returns-in-Publish c = rw (c.in-Publish.is, ← c.as_str-in-Publish.ensures.value, ← c.as_str-in-Publish-2.ensures.value) c.write_publish.ensures
 
-pub returns-in_ok-write_id-in-History : goal.returns-in_ok-write_id-in-History
-returns-in_ok-write_id-in-History c = rw (c.in-History.is, ← c.as_str-in-History.ensures.value) (then c.in_ok-write_history-in-History.ensures c.in_ok-write_id-in-History.ensures)
+pub returns-in-History : goal.returns-in-History
+returns-in-History c = rw (c.in-History.is, ← c.as_str-in-History.ensures.value) (then c.write_history.ensures c.write_id.ensures)
 
 pub returns-in-Unsubscribe : goal.returns-in-Unsubscribe
 returns-in-Unsubscribe c = rw (c.in-Unsubscribe.is, ← c.as_str-in-Unsubscribe.ensures.value) c.write_on_channel.ensures

@@ -1,5 +1,5 @@
-use Rattle.cf_protocol.proofs.Writings.{then}
+use Rattle.cf_protocol.proofs.Writings.{then, inside}
 use Rattle.cf_protocol.proofs.write.command.write_on_channel.Goals as goal
 
 pub returns : goal.returns
-returns c = then c.in_ok-write_id.ensures c.in_ok-write_channel.ensures
+returns c = then c.write_id.ensures (inside c.open.ensures c.text_member.ensures c.value.ensures)

@@ -9,7 +9,7 @@ pub returns : goal.returns
 returns c =
     let some : 0 < length c.in-Some.position.epoch + c.in-Some.position.offset =
     elim c.else-is_empty.branch [ else-is_empty-via-then-is_empty+else-position-eq0 w ↦ omega arith | else-is_empty-via-else-is_empty w ↦ omega (arith, nonzero _ _ c.is_empty.ensures w.if-is_empty.false) ] in
-    rw c.in-Some.is (inside_inner (position_stands _ _ some) c.in_ok-open.ensures c.in_ok-write_position.ensures c.in_ok-value.ensures)
+    rw c.in-Some.is (inside_inner (position_stands _ _ some) c.open.ensures c.write_position.ensures c.value.ensures)
 
 pub returns-in_default : goal.returns-in_default
 returns-in_default c = rw c.in_default.is (absent c.args.writer.now (codes "since"))

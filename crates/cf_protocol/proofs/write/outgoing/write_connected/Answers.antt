@@ -1,5 +1,6 @@
-use Rattle.cf_protocol.proofs.Writings.{then}
+use Rattle.cf_protocol.proofs.Writings.{then, inside}
 use Rattle.cf_protocol.proofs.write.outgoing.write_connected.Goals as goal
 
 pub returns : goal.returns
-returns c = then c.in_ok-write_welcome.ensures c.in_ok-write_id.ensures
+returns c =
+    then (inside c.open.ensures (then c.text_member.ensures (then c.whole_member.ensures (then c.flag_member.ensures c.text_member-2.ensures))) c.value.ensures) c.write_id.ensures

@@ -7,7 +7,7 @@ use Rattle.cf_protocol.proofs.Clients.{one_client, all_clients}
 use Rattle.cf_protocol.proofs.write.outgoing.write_entries.Goals as goal
 
 pub loop-client-preserved : goal.loop-client-preserved
-loop-client-preserved c = one_client c.loop-client.yielded (c.in-Some.client, c.in-Some.user) c.as_str.ensures.value c.as_str-in-loop-client.ensures.value c.loop-client.invariant c.in_ok-write_client.ensures
+loop-client-preserved c = one_client c.loop-client.yielded (c.in-Some.client, c.in-Some.user) c.as_str.ensures.value c.as_str-in-loop-client.ensures.value c.loop-client.invariant c.write_client.ensures
 
 pub returns-clause-adds : goal.returns-clause-adds
 returns-clause-adds c =

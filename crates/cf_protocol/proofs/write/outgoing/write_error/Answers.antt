@@ -3,5 +3,5 @@ use Rattle.cf_protocol.proofs.write.outgoing.write_error.Goals as goal
 
 pub returns : goal.returns
 returns c =
-    error_adds c.args.code c.if-code-eq0.false c.from.ensures c.message_of.ensures c.is_temporary.ensures c.in_ok-open.ensures c.in_ok-whole_member.ensures c.in_ok-text_member.ensures c.in_ok-flag_member.ensures
-    c.in_ok-value.ensures
+    error_adds c.args.code c.if-code-eq0.false c.from.ensures c.message_of.ensures c.is_temporary.ensures c.open.ensures c.whole_member.ensures c.text_member.ensures c.flag_member.ensures
+    c.value.ensures

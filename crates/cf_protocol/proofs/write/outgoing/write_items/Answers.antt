@@ -12,4 +12,4 @@ loop-publication-preserved c =
     let x : Placed = c.publication-item.result in
     let is : x ≡ get_or items i x = rw (← c.deref-publication-items.ensures.value) c.publication-item.is in
     let in_range : i < length items = rw (← c.deref-publication-items.ensures.value) (omega arith) in
-    rw (add-one, map-take_more (publication as_it_is) items i x in_range is) (one_more (publication as_it_is x) c.loop-publication.invariant c.in_ok-comma.ensures.text c.in_ok-write_placed.ensures)
+    rw (add-one, map-take_more (publication as_it_is) items i x in_range is) (one_more (publication as_it_is x) c.loop-publication.invariant c.comma.ensures.text c.write_placed.ensures)

@@ -2,4 +2,4 @@ use Rattle.cf_protocol.proofs.Writings.{then, inside}
 use Rattle.cf_protocol.proofs.write.outgoing.write_past.Goals as goal
 
 pub returns : goal.returns
-returns c = inside c.in_ok-open.ensures (then c.in_ok-write_position.ensures c.in_ok-write_publications.ensures) c.in_ok-value.ensures
+returns c = then (inside c.open.ensures (then c.write_position.ensures c.write_publications.ensures) c.value.ensures) c.write_id.ensures

@@ -1,12 +1,7 @@
-use Rattle.std.proofs.Common.{◌∙◌, ap, ◌++◌}
-use Rattle.cf_json.specs.Compact.{compact_text}
-use Rattle.cf_protocol.specs.Shown.{shown_outgoing}
-use Rattle.cf_protocol.specs.Written.{outgoing_text, outgoing_tree, as_it_is}
+use Rattle.cf_protocol.specs.Written.{outgoing_text}
 use Rattle.cf_protocol.proofs.Writings.{whole}
 use Rattle.cf_protocol.proofs.write.outgoing.write_reply.Goals as goal
 
 pub returns : goal.returns
 unfolding outgoing_text
-returns c =
-    c.into_text.ensures ∙ whole c.in_ok-begin.ensures c.in_ok-write_members.ensures c.in_ok-value.ensures
-    ∙ ap (λ s. s ++ compact_text (outgoing_tree as_it_is (shown_outgoing c.args.outgoing.now))) c.new-writer.ensures.text
+returns c = whole c.into_text.result c.new-writer.ensures.text c.begin.ensures c.write_members.ensures c.value.ensures c.into_text.ensures

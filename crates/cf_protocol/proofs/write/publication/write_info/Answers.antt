@@ -2,4 +2,4 @@ use Rattle.cf_protocol.proofs.Writings.{then}
 use Rattle.cf_protocol.proofs.write.publication.write_info.Goals as goal
 
 pub returns : goal.returns
-returns c = then c.in_ok-text_member.ensures c.in_ok-text_member-2.ensures
+returns c = then c.text_member.ensures c.text_member-2.ensures

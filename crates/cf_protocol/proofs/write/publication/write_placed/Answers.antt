@@ -5,6 +5,6 @@ use Rattle.cf_protocol.proofs.write.publication.write_placed.Goals as goal
 
 pub returns : goal.returns
 returns c =
-    let body = rw c.as_str.ensures.value at c.in_ok-value.ensures in
+    let body = rw c.as_str.ensures.value at c.value.ensures in
     rw (← c.publication.view_is)
-    (as_value c.in_ok-begin.ensures (then (member (as_it_is (string_bytes c.publication.inside.body)) c.in_ok-key.ensures body) (then c.in_ok-write_publisher.ensures c.in_ok-whole_member.ensures)) c.in_ok-value-2.ensures)
+    (as_value c.begin.ensures (then (member (as_it_is (string_bytes c.publication.inside.body)) c.key.ensures body) (then c.write_publisher.ensures c.whole_member.ensures)) c.value-2.ensures)

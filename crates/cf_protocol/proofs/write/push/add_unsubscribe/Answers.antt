@@ -8,4 +8,4 @@ pub returns : goal.returns
 returns c =
     let some : 0 < length c.args.channel.now + c.args.code =
     elim c.else-code-eq0.branch [ else-code-eq0-via-then-code-eq0+else-is_empty w ↦ omega (arith, nonzero _ _ w.is_empty.ensures w.if-is_empty.false) | else-code-eq0-via-else-code-eq0 w ↦ omega arith ] in
-    inside_inner (unsubscribe_stands c.args.channel.now c.args.code some) c.in_ok-open.ensures (then c.in_ok-text_member.ensures c.in_ok-write_end.ensures) c.in_ok-value.ensures
+    inside_inner (unsubscribe_stands c.args.channel.now c.args.code some) c.open.ensures (then c.text_member.ensures c.write_end.ensures) c.value.ensures

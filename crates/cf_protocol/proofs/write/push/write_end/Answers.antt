@@ -2,4 +2,4 @@ use Rattle.cf_protocol.proofs.Outgoings.{unsubscribed_adds}
 use Rattle.cf_protocol.proofs.write.push.write_end.Goals as goal
 
 pub returns : goal.returns
-returns c = unsubscribed_adds c.args.code c.if-code-eq0.false c.from.ensures c.unsubscribe_reason.ensures c.in_ok-open.ensures c.in_ok-whole_member.ensures c.in_ok-text_member.ensures c.in_ok-value.ensures
+returns c = unsubscribed_adds c.args.code c.if-code-eq0.false c.from.ensures c.unsubscribe_reason.ensures c.open.ensures c.whole_member.ensures c.text_member.ensures c.value.ensures

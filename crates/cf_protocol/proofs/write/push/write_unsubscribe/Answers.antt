@@ -1,12 +1,7 @@
-use Rattle.std.proofs.Common.{◌∙◌, ap, ◌++◌}
-use Rattle.cf_json.specs.Compact.{compact_text}
-use Rattle.cf_protocol.specs.Outgoing.{Push, Unsubscribe}
-use Rattle.cf_protocol.specs.Written.{outgoing_text, outgoing_tree, as_it_is}
+use Rattle.cf_protocol.specs.Written.{outgoing_text}
 use Rattle.cf_protocol.proofs.Writings.{whole}
 use Rattle.cf_protocol.proofs.write.push.write_unsubscribe.Goals as goal
 
 pub returns : goal.returns
 unfolding outgoing_text
-returns c =
-    c.into_text.ensures ∙ whole c.in_ok-begin.ensures c.in_ok-add_unsubscribe.ensures c.in_ok-value.ensures
-    ∙ ap (λ s. s ++ compact_text (outgoing_tree as_it_is (Push c.args.channel.now (Unsubscribe c.args.code)))) c.in_ok-writer.ensures.text
+returns c = whole c.into_text.result c.with_room-writer.ensures.text c.begin.ensures c.add_unsubscribe.ensures c.value.ensures c.into_text.ensures
