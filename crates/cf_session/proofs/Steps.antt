@@ -64,24 +64,30 @@ pub idle_when_ready : (commands : List CodeCommand) {n : ℕ} → n ≡ length c
 idle_when_ready [] counted = ap (λ n. n == 0) counted
 idle_when_ready (k ∷ ks) counted = grind (arith, counted)
 
--- an idle session that isn't closed is served
+-- an idle session that isn't closed has no command left
+pub idle_ready : (ks : List Command) (at : Stage)
+    → idle_at at ks ≡ true → is_over at ≡ false → (at ≡ stage.Ready) × (ks ≡ [])
+idle_ready [] stage.Ready idle stands = (refl, refl)
+idle_ready (k ∷ ks) stage.Ready idle stands = absurd (cc)
+idle_ready ks stage.Closed idle stands = absurd (cc)
+idle_ready ks (stage.Attaching id user) idle stands = absurd (cc)
+idle_ready ks (stage.Beginning id read c since) idle stands = absurd (cc)
+idle_ready ks (stage.Reads id read c since) idle stands = absurd (cc)
+idle_ready ks (stage.Reading id c) idle stands = absurd (cc)
+idle_ready ks (stage.Finishes c) idle stands = absurd (cc)
+idle_ready ks stage.Finishing idle stands = absurd (cc)
+idle_ready ks (stage.Loses id c e) idle stands = absurd (cc)
+idle_ready ks (stage.Losing id e) idle stands = absurd (cc)
+idle_ready ks (stage.Leaving id) idle stands = absurd (cc)
+idle_ready ks (stage.Calling id k) idle stands = absurd (cc)
+idle_ready ks (stage.Says id o) idle stands = absurd (cc)
+idle_ready ks (stage.Closes code) idle stands = absurd (cc)
+
+-- it is served
 pub idle_served : (t : Tables) (ks : List Command) (who : Option Who) (at : Stage)
-    → idle_at at ks ≡ true → is_over at ≡ false → progress_at t ks who at ≡ Todo (Served who)
-idle_served t [] who stage.Ready idle stands = refl
-idle_served t (k ∷ ks) who stage.Ready idle stands = absurd (cc)
-idle_served t ks who stage.Closed idle stands = absurd (cc)
-idle_served t ks who (stage.Attaching id user) idle stands = absurd (cc)
-idle_served t ks who (stage.Beginning id read c since) idle stands = absurd (cc)
-idle_served t ks who (stage.Reads id read c since) idle stands = absurd (cc)
-idle_served t ks who (stage.Reading id c) idle stands = absurd (cc)
-idle_served t ks who (stage.Finishes c) idle stands = absurd (cc)
-idle_served t ks who stage.Finishing idle stands = absurd (cc)
-idle_served t ks who (stage.Loses id c e) idle stands = absurd (cc)
-idle_served t ks who (stage.Losing id e) idle stands = absurd (cc)
-idle_served t ks who (stage.Leaving id) idle stands = absurd (cc)
-idle_served t ks who (stage.Calling id k) idle stands = absurd (cc)
-idle_served t ks who (stage.Says id o) idle stands = absurd (cc)
-idle_served t ks who (stage.Closes code) idle stands = absurd (cc)
+    → (at ≡ stage.Ready) × (ks ≡ []) → progress_at t ks who at ≡ Todo (Served who)
+idle_served t ks who at ready =
+    ap (progress_at t ks who) ready.0 ∙ ap (λ (left : List Command). Todo (frame_script t left who)) ready.1
 
 pub hears_served : (t : Tables) (who : Option Who) (old : Progress) (text : List ℕ) (script : Script) (new : Progress)
     → old ≡ Todo (Served who) → Brings t who text script → new ≡ Todo script → HearsText t old text new

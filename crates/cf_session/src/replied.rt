@@ -61,14 +61,7 @@ pub(crate) fn after_answer(stage: Stage, answer: Answer) -> Stage
         },
         Stage::Calling { id, .. } => replied(id, answer),
         // No such call is out.
-        Stage::Attaching { .. } => Stage::Ready,
-        Stage::Ready => Stage::Ready,
-        Stage::Reads { .. } => Stage::Ready,
-        Stage::Finishes { .. } => Stage::Ready,
-        Stage::Loses { .. } => Stage::Ready,
-        Stage::Says { .. } => Stage::Ready,
-        Stage::Closes(_) => Stage::Ready,
-        Stage::Closed => Stage::Ready,
+        _ => Stage::Ready,
     }
 }
 

@@ -1,15 +1,17 @@
 //! What a session does for its client's commands.
-ghost use Rattle.std.specs.Prelude.{◌≡◌, ◌+◌, ◌<◌, ◌≤◌, Option, Some, None, true, false, IsSome, string_bytes, IfOk, OnOk, OnErr};
+ghost use Rattle.std.specs.Prelude.{◌≡◌, ◌+◌, ◌<◌, ◌≤◌, Option, Some, None, true, false, IsSome, string_bytes, length, map, IfErr, IfOk, OnOk, OnErr};
+ghost use Rattle.cf_protocol.specs.Checks.{longest_text};
 ghost use Rattle.cf_protocol.specs.Codes.{code_of};
 ghost use Rattle.cf_protocol.specs.declared.codes.CloseCode.TheVariants as close;
 ghost use Rattle.cf_protocol.specs.Datum.{Who};
+ghost use Rattle.cf_protocol.specs.Frame.{IsCommands};
 ghost use Rattle.cf_protocol.specs.Shown.{shown_command, shown_outcome, shown_request};
 ghost use Rattle.cf_session.specs.Calls as call;
-ghost use Rattle.cf_session.specs.CommandScripts.{granted, replies, after_attach, after_begin};
+ghost use Rattle.cf_session.specs.CommandScripts.{IsUnreadable, granted, replies, after_attach, after_begin};
 ghost use Rattle.cf_session.specs.Script as script;
-ghost use Rattle.cf_session.specs.SessionMachine.{Todo, Out, Calls, Closes, GoesOn, awaits};
+ghost use Rattle.cf_session.specs.SessionMachine.{Todo, Out, Calls, Closes, GoesOn, awaits, reply_text};
 ghost use Rattle.cf_session.specs.Shown.{shown_action, shown_answer, answer_kind};
-ghost use Rattle.cf_session.specs.Standing.{tables_of, rest_of, rest_with, progress_of, is_idle, is_over, is_short, refusals, work_at, work_of, Keeps, HearsFrame, ActsNext, TakesAnswer, ActsOn, Begins, script_from, opening_script, Falls};
+ghost use Rattle.cf_session.specs.Standing.{tables_of, commands_left, rest_of, rest_with, progress_at, progress_of, is_idle, is_over, is_short, refusals, work_at, work_of, Keeps, HearsFrame, ActsNext, TakesAnswer, ActsOn, Begins, script_from, opening_script, Falls};
 ghost use Rattle.cf_session.specs.declared.kind.Kind.TheVariants as kind;
 
 use crate::action::{Action, Answer};
@@ -134,15 +136,8 @@ impl<'a> Session<'a> {
         if self.is_closed() {
             return;
         }
-        if text.len() > LONGEST_TEXT {
-            self.stage = Stage::Closes(CloseCode::BadRequest);
-            return;
-        }
-        match read_commands(self.alloc, text) {
-            Ok(commands) => {
-                self.frame = VecDeque::from_vec(commands);
-                self.stage = Stage::Ready;
-            }
+        match frame_of(self.alloc, text) {
+            Ok(commands) => self.frame = VecDeque::from_vec(commands),
             Err(ReadFault::Bad) => self.stage = Stage::Closes(CloseCode::BadRequest),
             Err(ReadFault::Memory) => {
                 self.refusals = 1;
@@ -174,35 +169,30 @@ impl<'a> Session<'a> {
         ensures idle { result ≡ None → awaits (progress_of self.new) ≡ None
             → is_idle self.new ≡ true }
     {
-        match mem::replace(&mut self.stage, Stage::Ready) {
-            Stage::Ready => self.next_command(),
-            Stage::Says { id, outcome } => Some(self.say(id, outcome)),
-            Stage::Closes(code) => Some(self.close(code)),
+        let (stage, action) = match mem::replace(&mut self.stage, Stage::Ready) {
+            Stage::Ready => return self.next_command(),
+            Stage::Says { id, outcome } => return Some(self.say(id, outcome)),
+            Stage::Closes(code) => (Stage::Closed, Some(Action::Close(code))),
             Stage::Reads {
                 id,
                 read,
                 channel,
                 since,
             } => {
-                self.stage = Stage::Reading { id, channel };
-                Some(Action::Read {
+                let action = Action::Read {
                     channel: read,
                     since,
-                })
+                };
+                (Stage::Reading { id, channel }, Some(action))
             }
-            Stage::Finishes { channel } => {
-                self.stage = Stage::Finishing;
-                Some(Action::Finish { channel })
-            }
+            Stage::Finishes { channel } => (Stage::Finishing, Some(Action::Finish { channel })),
             Stage::Loses { id, channel, code } => {
-                self.stage = Stage::Losing { id, code };
-                Some(Action::Leave { channel })
+                (Stage::Losing { id, code }, Some(Action::Leave { channel }))
             }
-            waits => {
-                self.stage = waits;
-                None
-            }
-        }
+            waits => (waits, None),
+        };
+        self.stage = stage;
+        action
     }
 
     /// The call that is out was answered; the answer is one to this call.
@@ -226,36 +216,36 @@ impl<'a> Session<'a> {
         ensures work { work_of self.new ≤ work_of self.old }
     {
         match mem::replace(&mut self.stage, Stage::Ready) {
-            Stage::Attaching { id, user } => self.attached(id, user, answer),
+            Stage::Attaching { id, user } => self.stage = self.attached(id, user, answer),
             stage => self.stage = after_answer(stage, answer),
         }
     }
 
-    /// The connect's attach was answered: its client is known from now on.
-    fn attached(&mut self, id: u32, user: String, answer: Answer)
-        requires ready { self.old.stage ≡ Stage.Ready }
+    /// What comes of the answer to the connect's attach: its client is known from now on.
+    fn attached(&mut self, id: u32, user: String, answer: Answer) -> Stage
         requires fresh { refusals self.old ≡ 0 }
         ensures goes { GoesOn (shown_answer answer)
             (Out kind.Attach (after_attach id (string_bytes user) (rest_with self.old)))
-            (progress_of self.new) (refusals self.new) }
+            (progress_at (tables_of self.new) (commands_left self.new) self.new.client result)
+            (refusals self.new) }
         ensures tables { tables_of self.new ≡ tables_of self.old }
-        ensures work { work_of self.new ≤ work_of self.old + 1 }
+        ensures frame { self.new.frame ≡ self.old.frame }
+        ensures work { work_at result ≤ 1 }
     {
         let Answer::Attach(Ok(client)) = answer else {
-            self.stage = Stage::Closes(CloseCode::InternalError);
-            return;
+            return Stage::Closes(CloseCode::InternalError);
         };
         match client.clone() {
             Ok(copy) => {
                 self.client = Some(Info { user, client });
-                self.stage = Stage::Says {
+                Stage::Says {
                     id,
                     outcome: Outcome::Connected { client: copy },
-                };
+                }
             }
             Err(_) => {
                 self.refusals = 1;
-                self.stage = Stage::Closes(CloseCode::InternalError);
+                Stage::Closes(CloseCode::InternalError)
             }
         }
     }
@@ -338,8 +328,8 @@ impl<'a> Session<'a> {
     {
         let kept = String::from_str(self.alloc, user)?;
         let user = String::from_str(self.alloc, user)?;
-        self.stage = Stage::Attaching { id, user: kept };
-        Ok(Action::Attach { user })
+        let waits = Stage::Attaching { id, user: kept };
+        Ok(self.call(waits, Action::Attach { user }))
     }
 
     /// A command of a connected client that passed its checks.
@@ -358,22 +348,21 @@ impl<'a> Session<'a> {
         ensures work { OnOk result (work_at self.new.stage < 7) }
     {
         match request {
-            Request::Subscribe { channel, since } => {
-                let action = self.begin(id, channel, &since)?;
-                Ok(Some(action))
-            }
+            Request::Subscribe { channel, since } => self.begin(id, channel, &since),
             Request::Unsubscribe { channel } => {
-                self.stage = Stage::Leaving { id };
-                Ok(Some(Action::Leave { channel }))
+                let action = Action::Leave { channel };
+                Ok(Some(self.call(Stage::Leaving { id }, action)))
             }
             Request::Publish { channel, key, body } => self.publish(id, channel, key, body),
             Request::Presence { channel } => {
                 let action = Action::Presence { channel };
-                Ok(Some(self.call(id, Kind::Presence, action)))
+                let kind = Kind::Presence;
+                Ok(Some(self.call(Stage::Calling { id, kind }, action)))
             }
             Request::PresenceStats { channel } => {
                 let action = Action::Stats { channel };
-                Ok(Some(self.call(id, Kind::Stats, action)))
+                let kind = Kind::Stats;
+                Ok(Some(self.call(Stage::Calling { id, kind }, action)))
             }
             Request::History {
                 channel,
@@ -386,7 +375,8 @@ impl<'a> Session<'a> {
                     limit,
                     since,
                 };
-                Ok(Some(self.call(id, Kind::History, action)))
+                let kind = Kind::History;
+                Ok(Some(self.call(Stage::Calling { id, kind }, action)))
             }
             Request::Ping => Ok(Some(self.say(id, Outcome::Pinged))),
             Request::Pong => Ok(Some(Action::Pong)),
@@ -432,19 +422,21 @@ impl<'a> Session<'a> {
             body,
             info,
         };
-        Ok(Some(self.call(id, Kind::Publish, action)))
+        let kind = Kind::Publish;
+        Ok(Some(self.call(Stage::Calling { id, kind }, action)))
     }
 
-    /// The client's node is asked for something, whose answer is the reply to a command.
-    fn call(&mut self, id: u32, kind: Kind, action: Action) -> Action
+    /// The client's node is asked for something; the session stands here until the answer.
+    fn call(&mut self, waits: Stage, action: Action) -> Action
         ensures action { result ≡ action }
-        ensures goes { progress_of self.new ≡ Out kind (replies id (rest_of self.old)) }
+        ensures goes { progress_of self.new
+            ≡ progress_at (tables_of self.old) (commands_left self.old) self.old.client waits }
         ensures refusals { refusals self.new ≡ refusals self.old }
         ensures tables { tables_of self.new ≡ tables_of self.old }
         ensures frame { self.new.frame ≡ self.old.frame }
-        ensures work { work_at self.new.stage < 7 }
+        ensures work { work_at self.new.stage ≡ work_at waits }
     {
-        self.stage = Stage::Calling { id, kind };
+        self.stage = waits;
         action
     }
 
@@ -454,34 +446,34 @@ impl<'a> Session<'a> {
         id: u32,
         channel: String,
         since: &Option<Position>,
-    ) -> Result<Action, AllocError>
-        ensures act { IfOk result
-            (λ a. shown_action a ≡ Calls (call.Begin (string_bytes channel) id since.now)) }
-        ensures goes { OnOk result
-            (progress_of self.new
-            ≡ Out kind.Begin
-            (after_begin id (string_bytes channel) (string_bytes channel) since.now
-            (rest_of self.old))) }
-        ensures err { OnErr result (self.new.stage ≡ self.old.stage) }
-        ensures client { self.new.client ≡ self.old.client }
-        ensures refusals { refusals self.new ≡ refusals self.old }
+    ) -> Result<Option<Action>, AllocError>
+        requires ready { self.old.stage ≡ Stage.Ready }
+        requires fresh { refusals self.old ≡ 0 }
+        ensures acts { (who : Who) → IfOk result
+            (λ r. Begins self.old
+            (granted who id (shown_request (Request.Subscribe channel since.now)) (rest_of self.old))
+            r self.new) }
+        ensures err { OnErr result (self.new.stage ≡ Stage.Ready) }
+        ensures client { OnErr result (self.new.client ≡ self.old.client) }
+        ensures refusals { OnErr result (refusals self.new ≡ 0) }
         ensures tables { tables_of self.new ≡ tables_of self.old }
         ensures frame { self.new.frame ≡ self.old.frame }
         ensures work { OnOk result (work_at self.new.stage < 7) }
     {
         let read = channel.clone()?;
         let kept = channel.clone()?;
-        self.stage = Stage::Beginning {
+        let waits = Stage::Beginning {
             id,
             read,
             channel: kept,
             since: *since,
         };
-        Ok(Action::Begin {
+        let action = Action::Begin {
             channel,
             id,
             since: *since,
-        })
+        };
+        Ok(Some(self.call(waits, action)))
     }
 
     /// The reply to a command.
@@ -495,7 +487,7 @@ impl<'a> Session<'a> {
         ensures work { work_at self.new.stage ≡ 0 }
     {
         let connects = is_connected(&outcome);
-        match write_reply(self.alloc, &Outgoing::Answer { id, outcome }) {
+        match reply_of(self.alloc, id, outcome) {
             Ok(text) => Action::Say(text),
             Err(_) if connects => self.give_up(),
             Err(_) => self.fall_short(id),
@@ -529,7 +521,7 @@ impl<'a> Session<'a> {
         let outcome = Outcome::Failed {
             code: ErrorCode::Internal.code(),
         };
-        match write_reply(self.alloc, &Outgoing::Answer { id, outcome }) {
+        match reply_of(self.alloc, id, outcome) {
             Ok(failed) => Action::Say(failed),
             Err(_) => {
                 self.refusals = 2;
@@ -549,4 +541,23 @@ impl<'a> Session<'a> {
         self.stage = Stage::Closed;
         Action::Close(code)
     }
+}
+
+/// The commands of a client's text. One that is too long is bad.
+fn frame_of(alloc: Global, text: &str) -> Result<Vec<Command>, ReadFault>
+    ensures found { IfOk result (λ cs. length text.now ≤ longest_text) }
+    ensures frame { IfOk result (λ cs. IsCommands text.now (map shown_command cs.items)) }
+    ensures bad { IfErr result (λ fault. fault ≡ ReadFault.Bad → IsUnreadable text.now) }
+{
+    if text.len() > LONGEST_TEXT {
+        return Err(ReadFault::Bad);
+    }
+    read_commands(alloc, text)
+}
+
+/// The text of the reply to a command.
+fn reply_of(alloc: Global, id: u32, outcome: Outcome) -> Result<String, AllocError>
+    ensures { IfOk result (λ text. string_bytes text ≡ reply_text id (shown_outcome outcome)) }
+{
+    write_reply(alloc, &Outgoing::Answer { id, outcome })
 }

@@ -11,8 +11,8 @@ returns-in-Err-clause-acts c =
     (sym c.is_connected-connects.ensures ∙ c.if-connects.true) (ap Some c.give_up.ensures.act) c.give_up.ensures.progress c.give_up.ensures.refusals
     )
 
-pub returns-clause-acts : goal.returns-clause-acts
-returns-clause-acts c =
+pub returns-in-Err-2-clause-acts : goal.returns-in-Err-2-clause-acts
+returns-in-Err-2-clause-acts c =
     inr (
     falls_at_reply (tables_of c.args.self.now) c.args.id (shown_outcome c.args.outcome) (rest_of c.args.self.now) _ _ _
     (sym c.is_connected-connects.ensures ∙ c.if-connects.false) c.fall_short.ensures.falls
