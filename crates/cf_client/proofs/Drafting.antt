@@ -92,13 +92,12 @@ called_path k calls id channel name is next named_so =
     let ids : ids_of (calls_of calls.items) ≡ suc k.last_id ∷ s.client.calls = ap ids_of out ∙ ids_of-more s.out one in
     λ i. record { connected = s.connected; client = record { fresh = suc (next i); modes = s.client.modes; calls = ids i }; out = out i }
 
-pub asked_path : (k : CodeKnown) (new : Channels) (key name : List ℕ) (id : ℕ) (from : Option Position) (mode asking : CodeMode) → key ≡ name → id ≡ suc k.last_id
-    → ((d : List ℕ) → get_by_text new d ≡ update bytes_eq (get_by_text k.channels) key (Some asking) d)
+pub asked_path : (k : CodeKnown) (new : Channels) (name : List ℕ) (id : ℕ) (from : Option Position) (mode asking : CodeMode) → id ≡ suc k.last_id
+    → ((d : List ℕ) → get_by_text new d ≡ update bytes_eq (get_by_text k.channels) name (Some asking) d)
     → asking ≡ code.Asking id from (last_of (shown_mode mode)) → shown_mode mode ≡ modes_of k.channels name
     → known_state (record k { channels = new; last_id = id }) ≡ asked name from (known_state k)
-asked_path k new key name id from mode asking same next sets is at =
-    let here : SetsMode k.channels new name (shown_mode asking) = subst (λ (b : List ℕ). SetsMode k.channels new b (shown_mode asking)) same (sets_mode k.channels new key asking sets) in
-    let asks : SetsMode k.channels new name (Asking id from (last_of (shown_mode mode))) = subst (λ (m : CodeMode). SetsMode k.channels new name (shown_mode m)) is here in
+asked_path k new name id from mode asking next sets is at =
+    let asks : SetsMode k.channels new name (Asking id from (last_of (shown_mode mode))) = subst (λ (m : CodeMode). SetsMode k.channels new name (shown_mode m)) is (sets_mode k.channels new name asking sets) in
     asked_here (known_state k) id (modes_of new) name from next (subst (λ (m : Mode). SetsMode k.channels new name (Asking id from (last_of m))) at asks)
 
 busy_is_there : (o : Option CodeMode) → is_idle (mode_or_idle o) ≡ false → IsSome o

@@ -3,3 +3,4 @@ pub mod Taking
 pub mod Apart
 pub mod Drafting
 pub mod Meaning
+pub mod Refusing

@@ -1,8 +1,6 @@
 -- What a client takes, and what its application is told.
-use Rattle.std.proofs.Common.{◌≡◌, ◌∙◌, ℕ, Bool, if◌then◌else◌, Option, Some, None, List, [], ◌∷◌, ◌++◌, refl, sym, ap, subst, append_assoc, map}
+use Rattle.std.proofs.Common.{◌≡◌, ◌∙◌, ℕ, Bool, if◌then◌else◌, Some, List, [], ◌∷◌, ◌++◌, refl, sym, ap, subst, append_assoc, map}
 use Rattle.std.proofs.lemmas.List.{append-nil, map-append}
-use Rattle.std.specs.declared.string.String.{String}
-use Rattle.std.specs.declared.alloc.Global.{Global}
 use Rattle.cf_protocol.specs.Position.{Position}
 use Rattle.cf_protocol.specs.Datum.{Placed}
 use Rattle.cf_protocol.specs.Outgoing.{Outgoing}
@@ -70,11 +68,3 @@ takes_more [] o a b c told more h t =
     (c, more, [], subst (λ (x : State). Takes o x c more) h.0 t, (refl, refl), subst (λ (xs : List AppItem). xs ++ more ≡ more ++ []) (sym h.1) (sym (append-nil more)))
 takes_more (p ∷ os) o a b c told more (mid, first, rest, one, all, tells) t =
     (mid, first, rest ++ more, one, takes_more os o mid b c rest more all t, ap (λ (xs : List AppItem). xs ++ more) tells ∙ append_assoc first rest more)
-
--- ---- what a search found
-
-pub found_none : (A : Option (String Global) → Type 0) (o : Option (String Global)) → A o → o ≡ None → A None
-found_none A o h e = subst A e h
-
-pub found_some : (A : Option (String Global) → Type 0) (o : Option (String Global)) (s : String Global) → A o → o ≡ Some s → A (Some s)
-found_some A o s h e = subst A e h

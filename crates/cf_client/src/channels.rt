@@ -1,6 +1,7 @@
 //! What a client is doing on each of its channels.
-ghost use Rattle.std.specs.Prelude.{◌≡◌, List, ℕ, IsSome, if◌then◌else◌};
+ghost use Rattle.std.specs.Prelude.{◌≡◌, List, ℕ, Some, IsSome, OnOk, OnErr, if◌then◌else◌};
 ghost use Rattle.std.specs.Option.{option_map};
+ghost use Rattle.std.specs.Map.{update};
 ghost use Rattle.std.specs.Str.{bytes_eq};
 ghost use Rattle.std.specs.BTreeMap.{get_by_text};
 ghost use Rattle.cf_model.specs.ClientState.{idle, is_idle, last_of};
@@ -9,6 +10,7 @@ ghost use Rattle.cf_client.specs.declared.channels.Mode.TheVariants as code;
 ghost use Rattle.cf_client.specs.Shown.{modes_of, shown_mode, SetsMode};
 
 use cf_protocol::Position;
+use std::alloc::{AllocError, AllocFailed, Global};
 use std::collections::BTreeMap;
 
 /// What a client is doing on a channel.
@@ -89,6 +91,29 @@ pub(crate) fn mode_at(channels: &BTreeMap<String, Mode>, channel: &str) -> Mode
     match channels.get(channel) {
         None => Mode::Idle { last: None },
         Some(mode) => *mode,
+    }
+}
+
+/// Puts a mode at a channel, which may have had none.
+pub(crate) fn put_mode(
+    channels: &mut BTreeMap<String, Mode>,
+    alloc: Global,
+    channel: &str,
+    mode: Mode,
+) -> Result<(), AllocError>
+    ensures puts { OnOk result ((c : List ℕ)
+        → get_by_text channels.new c
+        ≡ update bytes_eq (get_by_text channels.old) channel.now (Some mode) c) }
+    ensures err { OnErr result (channels.new.entries ≡ channels.old.entries) }
+{
+    let key = String::from_str(alloc, channel)?;
+    match channels.insert(key, mode) {
+        Ok(_) => Ok(()),
+        Err(
+            AllocFailed {
+                value: (_key, _mode),
+            },
+        ) => Err(AllocError),
     }
 }
 

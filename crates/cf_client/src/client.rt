@@ -13,7 +13,7 @@ ghost use Rattle.cf_client.specs.Shown.{shown_item, TextRefused};
 ghost use Rattle.cf_client.specs.Texts.{IsCommand, IsNextCommand, last_at};
 
 use crate::calls::Call;
-use crate::channels::{make_idle, mode_at, set_mode};
+use crate::channels::{make_idle, mode_at, put_mode, set_mode};
 use crate::draft::draft_of;
 use crate::event::AppEvent;
 use crate::fault::ClientFault;
@@ -151,10 +151,9 @@ impl Client {
             return Err(ClientFault::NotNow);
         }
         let id = self.next_id()?;
-        let asking = mode.asking(id, &from);
         let text = subscribe_text(self.alloc, id, channel, from)?;
-        let key = String::from_str(self.alloc, channel)?;
-        self.known.channels.insert(key, asking)?;
+        let asking = mode.asking(id, &from);
+        put_mode(&mut self.known.channels, self.alloc, channel, asking)?;
         self.known.last_id = id;
         Ok(text)
     }

@@ -10,7 +10,7 @@ ghost use Rattle.cf_client.specs.declared.known.Known.{Known as CodeKnown};
 ghost use Rattle.std.specs.BTreeMap.{get_by_text};
 
 use crate::calls::{channel_called, forget_call};
-use crate::channels::{Mode, set_mode};
+use crate::channels::{Mode, put_mode, set_mode};
 use crate::event::{AppEvent, pass_all, passed, subscribed};
 use crate::known::Known;
 use cf_protocol::{Outcome, Outgoing, Position, Publication, Pushed};
@@ -86,20 +86,20 @@ impl Draft {
     }
 
     /// The channel that then waits for the answer to the command of this id.
-    fn channel_asking(&self, known: &Known, id: u32) -> Result<Option<String>, AllocError>
-        ensures some { IfOk result (λ found. IfSome found (λ s. asks_under id
-            (drafted_mode known.now.channels self.now.changed (string_bytes s)) ≡ true)) }
-        ensures none { IfOk result (λ found. IfNone found ((c : List ℕ)
-            → asks_under id (drafted_mode known.now.channels self.now.changed c) ≡ false)) }
+    fn channel_asking<'k>(&self, known: &'k Known, id: u32) -> Option<&'k str>
+        ensures some { IfSome result (λ name.
+            asks_under id (drafted_mode known.now.channels self.now.changed name.now) ≡ true) }
+        ensures none { IfNone result ((c : List ℕ)
+            → asks_under id (drafted_mode known.now.channels self.now.changed c) ≡ false) }
     {
         for (channel, _mode) in &known.channels {
-            let mode = self.mode_at(known, channel.as_str());
+            let name = channel.as_str();
+            let mode = self.mode_at(known, name);
             if mode.is_asking(id) {
-                let channel = channel.clone()?;
-                return Ok(Some(channel));
+                return Some(name);
             }
         }
-        Ok(None)
+        None
     }
 
     /// Changes the mode of a channel.
@@ -107,9 +107,7 @@ impl Draft {
         ensures { OnOk result ((k : CodeKnown) → IsSome (get_by_text k.channels channel.now)
             → drafted k self.new ≡ moves channel.now (shown_mode mode) (drafted k self.old)) }
     {
-        let key = String::from_str(self.alloc, channel)?;
-        self.changed.insert(key, mode)?;
-        Ok(())
+        put_mode(&mut self.changed, self.alloc, channel, mode)
     }
 
     /// The call of this id is no longer out. Gives its channel.
@@ -213,14 +211,13 @@ impl Draft {
             (sent.Subscribed position.now publications.items recovered was_recovering))
             self.old self.new events.old.items events.new.items) }
     {
-        let Some(channel) = self.channel_asking(known, id)? else {
+        let Some(channel) = self.channel_asking(known, id) else {
             return Ok(());
         };
-        self.put(channel.as_str(), Mode::Live { at: *position })?;
-        let name = channel.clone()?;
+        self.put(channel, Mode::Live { at: *position })?;
+        let name = String::from_str(self.alloc, channel)?;
         events.push(subscribed(name, was_recovering, recovered, position))?;
-        pass_all(channel.as_str(), position, publications, events)?;
-        Ok(())
+        pass_all(channel, position, publications, events)
     }
 
     /// An error reply: the channel that asks under its id is idle, or a call is answered.
@@ -234,11 +231,12 @@ impl Draft {
         ensures { OnOk result (Drafts known.now (TakesAnswer id (sent.Failed code))
             self.old self.new events.old.items events.new.items) }
     {
-        let Some(channel) = self.channel_asking(known, id)? else {
+        let Some(channel) = self.channel_asking(known, id) else {
             return self.call_failed(known, id, code, events);
         };
-        let mode = self.mode_at(known, channel.as_str()).idle();
-        self.put(channel.as_str(), mode)?;
+        let mode = self.mode_at(known, channel).idle();
+        self.put(channel, mode)?;
+        let channel = String::from_str(self.alloc, channel)?;
         events.push(AppEvent::Refused { channel, code })?;
         Ok(())
     }

@@ -2,7 +2,7 @@
 ghost use Rattle.std.specs.Prelude.{◌≡◌};
 ghost use Rattle.cf_client.specs.declared.fault.ClientFault.TheVariants.{Memory};
 
-use std::alloc::{AllocError, AllocFailed};
+use std::alloc::AllocError;
 use thiserror::Error;
 
 /// Why a call of a client is refused. Of several causes the first named here is given, but that a text is `Memory` where memory
@@ -27,14 +27,6 @@ impl From<AllocError> for ClientFault {
     ghost from_gives = { λ _ e. e ≡ Memory };
 
     fn from(_refused: AllocError) -> ClientFault {
-        ClientFault::Memory
-    }
-}
-
-impl<T: Drop> From<AllocFailed<T>> for ClientFault {
-    ghost from_gives = { λ _ e. e ≡ Memory };
-
-    fn from(_refused: AllocFailed<T>) -> ClientFault {
         ClientFault::Memory
     }
 }

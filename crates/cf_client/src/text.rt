@@ -1,6 +1,7 @@
 //! The texts of a client's commands.
 ghost use Rattle.std.specs.Prelude.{None, false, IfOk};
 ghost use Rattle.cf_protocol.specs.Request as request;
+ghost use Rattle.cf_protocol.specs.Shown.{shown_request};
 ghost use Rattle.cf_client.specs.Texts.{IsCommand};
 
 use cf_protocol::{Command, Data, Position, Request, write_command};
@@ -10,8 +11,7 @@ pub(crate) fn connect_text(alloc: Global, token: &str) -> Result<String, AllocEr
     ensures { IfOk result (IsCommand 1 (request.Connect token.now)) }
 {
     let token = String::from_str(alloc, token)?;
-    let request = Request::Connect { token };
-    write_command(alloc, &Command { id: 1, request })
+    command_text(alloc, 1, Request::Connect { token })
 }
 
 pub(crate) fn subscribe_text(
@@ -23,16 +23,14 @@ pub(crate) fn subscribe_text(
     ensures { IfOk result (IsCommand id (request.Subscribe channel.now since)) }
 {
     let channel = String::from_str(alloc, channel)?;
-    let request = Request::Subscribe { channel, since };
-    write_command(alloc, &Command { id, request })
+    command_text(alloc, id, Request::Subscribe { channel, since })
 }
 
 pub(crate) fn unsubscribe_text(alloc: Global, id: u32, channel: &str) -> Result<String, AllocError>
     ensures { IfOk result (IsCommand id (request.Unsubscribe channel.now)) }
 {
     let channel = String::from_str(alloc, channel)?;
-    let request = Request::Unsubscribe { channel };
-    write_command(alloc, &Command { id, request })
+    command_text(alloc, id, Request::Unsubscribe { channel })
 }
 
 pub(crate) fn publish_text(
@@ -48,8 +46,7 @@ pub(crate) fn publish_text(
     let channel = String::from_str(alloc, channel)?;
     let key = String::from_str(alloc, key)?;
     let body = Data::Body(String::from_str(alloc, body)?);
-    let request = Request::Publish { channel, key, body };
-    write_command(alloc, &Command { id, request })
+    command_text(alloc, id, Request::Publish { channel, key, body })
 }
 
 pub(crate) fn history_text(
@@ -67,5 +64,12 @@ pub(crate) fn history_text(
         since: None,
         reverse: false,
     };
+    command_text(alloc, id, request)
+}
+
+// The text of a command.
+fn command_text(alloc: Global, id: u32, request: Request) -> Result<String, AllocError>
+    ensures { IfOk result (IsCommand id (shown_request request)) }
+{
     write_command(alloc, &Command { id, request })
 }

@@ -76,6 +76,16 @@ none_stays {X = X} m n bs same none q =
     ] in
     cases (bytes_eq bs q) refl
 
+-- a map with the value at a key that it had there
+pub set_same : {X : Type 0} (m n : BTreeMap (String Global) X) (bs : List ℕ) (v w : X) → get_by_text m bs ≡ Some v → SetsAt m n bs (Some w) → w ≡ v → (q : List ℕ) → get_by_text n q ≡ get_by_text m q
+set_same m n bs v w at sets is q =
+    let cases : (b : Bool) → bytes_eq bs q ≡ b → cond b (Some w) (get_by_text m q) ≡ get_by_text m q =
+    λ b. elim b as (λ b. bytes_eq bs q ≡ b → cond b (Some w) (get_by_text m q) ≡ get_by_text m q) [
+      | true ↦ λ e. ap Some is ∙ (sym at ∙ ap (get_by_text m) ((bytes_eq-Decides bs q).0 e))
+      | false ↦ λ e. refl
+    ] in
+    sets q ∙ cases (bytes_eq bs q) refl
+
 -- in a channel without clients nobody is there
 pub nobody_there : (o : Option Clients) (client user : List ℕ) → o ≡ None → IsThere (unwrap_or o fin.empty) client user → ⊥
 nobody_there o client user none h =

@@ -4,10 +4,10 @@ use Rattle.std.specs.Ordering.{nat_cmp}
 use Rattle.std.specs.Cmp.Lexicographic.{slice_cmp}
 use Rattle.std.specs.Map.{update}
 use Rattle.std.specs.Str.{bytes_eq}
-use Rattle.std.specs.String.{string_bytes}
+use Rattle.std.specs.String.{string_bytes, string_cmp}
 use Rattle.std.specs.declared.string.String.{String}
 use Rattle.std.specs.declared.alloc.Global.{Global}
-use Rattle.std.specs.BTreeMap.{BTreeMap, get_by_text}
+use Rattle.std.specs.BTreeMap.{BTreeMap, IsOrdered, get, get_by_text, insert_entry}
 use Rattle.std.specs.FinMap as fin
 use Rattle.cf_presence.specs.Presence.{Clients, still}
 
@@ -19,6 +19,14 @@ by_text m = fin.from_entries (map (λ e. (string_bytes e.0, e.1)) m.entries)
 abbrev pub SetsAt : {X : Type 0} → BTreeMap (String Global) X → BTreeMap (String Global) X → List ℕ → Option X
     → Type 0
 SetsAt old new bs w = (q : List ℕ) → get_by_text new q ≡ update bytes_eq (get_by_text old) bs w q
+
+-- new is old with v at a key of these bytes, which had `before`
+pub record Puts {X : Type 0} (old new : BTreeMap (String Global) X) (bs : List ℕ) (v : X) (before : Option X) : Type 0 where
+  pub key : String Global
+  pub named : string_bytes key ≡ bs
+  pub ordered : IsOrdered string_cmp old
+  pub had : before ≡ get string_cmp old key
+  pub entries : new.entries ≡ insert_entry string_cmp old.entries key v
 
 -- the clients, if there are any
 abbrev pub if_any : Clients → Option Clients

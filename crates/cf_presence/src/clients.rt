@@ -5,10 +5,11 @@ ghost use Rattle.std.specs.Map.{values_of};
 ghost use Rattle.std.specs.Str.{bytes_eq};
 ghost use Rattle.std.specs.FinMap as fin;
 ghost use Rattle.cf_protocol.specs.Shown.{shown_users};
-ghost use Rattle.cf_presence.specs.Maps.{SetsAt};
+ghost use Rattle.cf_presence.specs.Maps.{SetsAt, Puts};
 ghost use Rattle.cf_presence.specs.Presence.{stays, still, users_of, user_count, IsThere};
 ghost use Rattle.cf_presence.specs.UserCounts.{clients_with};
 
+use crate::maps::put;
 use crate::presence::Stats;
 use crate::refusal::PresenceRefusal;
 use crate::users::{add_user, drop_gone, drop_user};
@@ -108,21 +109,16 @@ impl ChannelClients {
         if renew(&mut self.map, client, user, now) {
             return Ok(());
         }
-        let entry = Entry {
-            user: String::from_str(self.alloc, user)?,
-            at: now,
-        };
-        let key = String::from_str(self.alloc, client)?;
         add_user(&mut self.users, self.alloc, user)?;
-        match self.map.insert(key, entry) {
+        match put_entry(&mut self.map, self.alloc, client, user, now) {
             Ok(None) => Ok(()),
             Ok(Some(before)) => {
                 drop_user(&mut self.users, before.user());
                 Ok(())
             }
-            Err(_) => {
+            Err(refusal) => {
                 drop_user(&mut self.users, user);
-                Err(PresenceRefusal::Memory)
+                Err(refusal)
             }
         }
     }
@@ -161,7 +157,7 @@ impl ChannelClients {
         let mut rest = self.map.iter();
         while let Some((client, entry)) = rest.next() {
             let user = String::from_str(self.alloc, entry.user.as_str())?;
-            users.insert(String::from_str(self.alloc, client.as_str())?, user)?;
+            put(&mut users, self.alloc, client.as_str(), user)?;
         }
         Ok(users)
     }
@@ -176,6 +172,24 @@ impl ChannelClients {
             users: self.users.len() as u64,
         }
     }
+}
+
+/// Puts the entry of a client that enters at a moment, and answers the one that was there.
+fn put_entry(
+    map: &mut BTreeMap<String, Entry>,
+    alloc: Global,
+    client: &str,
+    user: &str,
+    now: u64,
+) -> Result<Option<Entry>, PresenceRefusal>
+    ensures puts { IfOk result (λ before. Puts map.old map.new client.now
+        (record { user = user.now; at = now }) before) }
+    ensures sets { OnOk result
+        (SetsAt map.old map.new client.now (Some (record { user = user.now; at = now }))) }
+    ensures err { OnErr result (map.new.entries ≡ map.old.entries) }
+{
+    let user = String::from_str(alloc, user)?;
+    put(map, alloc, client, Entry { user, at: now })
 }
 
 /// Sets the moment of a client that is there under this user, if it is. It takes no memory.

@@ -4,6 +4,7 @@
 #![tactic(auto)]
 
 mod clients;
+mod maps;
 mod presence;
 mod refusal;
 mod users;

@@ -7,6 +7,7 @@ ghost use Rattle.cf_presence.specs.Presence.{IsThere, clients_of, entered, left,
 ghost use Rattle.cf_presence.specs.Maps.{SetsAt, if_any, after_tick};
 
 use crate::clients::ChannelClients;
+use crate::maps::put;
 use crate::refusal::PresenceRefusal;
 use std::alloc::Global;
 use std::collections::BTreeMap;
@@ -130,7 +131,7 @@ fn enter_in(
         None => {
             let mut clients = ChannelClients::new(alloc);
             clients.enter(client, user, now)?;
-            map.insert(String::from_str(alloc, channel)?, clients)?;
+            put(map, alloc, channel, clients)?;
             Ok(())
         }
     }

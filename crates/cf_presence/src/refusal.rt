@@ -2,7 +2,7 @@
 ghost use Rattle.std.specs.Prelude.{◌≡◌};
 ghost use Rattle.cf_presence.specs.declared.refusal.PresenceRefusal.TheVariants.{Memory};
 
-use std::alloc::{AllocError, AllocFailed};
+use std::alloc::AllocError;
 use thiserror::Error;
 
 /// Why a call is refused. A refused call changes nothing.
@@ -17,14 +17,6 @@ impl From<AllocError> for PresenceRefusal {
     ghost from_gives = { λ _ e. e ≡ Memory };
 
     fn from(_error: AllocError) -> PresenceRefusal {
-        PresenceRefusal::Memory
-    }
-}
-
-impl<T: Drop> From<AllocFailed<T>> for PresenceRefusal {
-    ghost from_gives = { λ _ e. e ≡ Memory };
-
-    fn from(_error: AllocFailed<T>) -> PresenceRefusal {
         PresenceRefusal::Memory
     }
 }

@@ -7,6 +7,7 @@ ghost use Rattle.cf_presence.specs.Presence.{stays};
 ghost use Rattle.cf_presence.specs.UserCounts.{CountsUsers, Tallies, clients_with, counted};
 
 use crate::clients::Entry;
+use crate::maps::put;
 use crate::refusal::PresenceRefusal;
 use std::alloc::Global;
 use std::collections::BTreeMap;
@@ -32,7 +33,7 @@ pub(crate) fn add_user(
             Ok(())
         }
         None => {
-            users.insert(String::from_str(alloc, user)?, 1)?;
+            put(users, alloc, user, 1)?;
             Ok(())
         }
     }

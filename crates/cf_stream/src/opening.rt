@@ -1,5 +1,5 @@
 //! How a channel's stream opens. All room is made before its epoch is drawn, so that a refused call draws none.
-ghost use Rattle.std.specs.Prelude.{◌≡◌, ◌≢◌, ◌≤◌, IfOk, IfErr, OnErr, IfSome, IfNone, false, Option, Some, None, Err, List, ℕ};
+ghost use Rattle.std.specs.Prelude.{◌≡◌, ◌≢◌, ◌≤◌, IfOk, IfErr, OnErr, OnOk, IfSome, IfNone, false, Option, Some, None, Err, List, ℕ};
 ghost use Rattle.std.specs.Option.{option_map};
 ghost use Rattle.std.specs.BTreeMap.{get_by_text};
 ghost use Rattle.std.specs.String.{string_bytes};
@@ -11,7 +11,7 @@ use crate::answer::Published;
 use crate::refusal::StreamRefusal;
 use crate::stream::{LARGEST_SIZE, Stream};
 use cf_protocol::{Epoch, Info, Position};
-use std::alloc::Global;
+use std::alloc::{AllocError, AllocFailed, Global};
 use std::collections::BTreeMap;
 
 /// Where new streams get their epochs from.
@@ -58,8 +58,7 @@ pub(crate) fn open_idle<E: Epochs>(
 {
     let mut stream = Stream::unnamed(alloc, size)?;
     stream.touch(now);
-    let epoch = open(map, epochs, alloc, channel, stream)?;
-    Ok(Position { epoch, offset: 0 })
+    open(map, epochs, alloc, channel, stream)
 }
 
 /// Opens a stream and publishes to it.
@@ -92,45 +91,65 @@ pub(crate) fn publish_new<E: Epochs>(
     ensures err { OnErr result ((q : List ℕ) → get_by_text map.new q ≡ get_by_text map.old q) }
 {
     let mut stream = Stream::unnamed(alloc, size)?;
-    let published = stream.publish(body, key, info, now)?;
-    let epoch = open(map, epochs, alloc, channel, stream)?;
+    stream.append(body, key, info, now)?;
+    let position = open(map, epochs, alloc, channel, stream)?;
     Ok(Published {
-        position: Position {
-            epoch,
-            offset: published.position.offset,
-        },
+        position,
         repeated: false,
     })
 }
 
-/// Puts a stream at a channel that has none. All room is made before its epoch is drawn.
+/// Puts a stream at a channel that has none, and answers where it stands. All room is made before its epoch is drawn.
 fn open<E: Epochs>(
     map: &mut BTreeMap<String, Stream>,
     epochs: &mut E,
     alloc: Global,
     channel: &str,
     stream: Stream,
-) -> Result<Epoch, StreamRefusal>
+) -> Result<Position, StreamRefusal>
     requires { get_by_text map.old channel.now ≡ None }
-    ensures drawn { IfOk result (λ e. DrawsEpoch E.draws e epochs.old epochs.new) }
-    ensures ok { IfOk result (λ e. SetsAt map.old map.new channel.now (Some (in_epoch e stream))) }
+    ensures drawn { IfOk result (λ p. DrawsEpoch E.draws p.epoch epochs.old epochs.new) }
+    ensures ok { IfOk result (λ p.
+        SetsAt map.old map.new channel.now (Some (in_epoch p.epoch stream))) }
+    ensures position { IfOk result (λ p. p.offset ≡ stream.top) }
     ensures no_epoch { result ≡ Err StreamRefusal.NoEpoch
         → DrawsNone E.draws epochs.old epochs.new }
     ensures memory { IfErr result (λ e. e ≢ StreamRefusal.NoEpoch
         → (e ≡ StreamRefusal.Memory) × (epochs.new ≡ epochs.old)) }
     ensures err { OnErr result ((q : List ℕ) → get_by_text map.new q ≡ get_by_text map.old q) }
 {
-    let key = String::from_str(alloc, channel)?;
-    map.insert(key, stream)?;
+    let offset = stream.position().offset;
+    put(map, alloc, channel, stream)?;
     match drawn(epochs) {
         Some(epoch) => {
             name(map, channel, epoch);
-            Ok(epoch)
+            Ok(Position { epoch, offset })
         }
         None => {
             map.remove(channel);
             Err(StreamRefusal::NoEpoch)
         }
+    }
+}
+
+/// Puts a stream at a channel.
+fn put(
+    map: &mut BTreeMap<String, Stream>,
+    alloc: Global,
+    channel: &str,
+    stream: Stream,
+) -> Result<(), AllocError>
+    ensures ok { OnOk result (SetsAt map.old map.new channel.now (Some stream)) }
+    ensures err { OnErr result ((q : List ℕ) → get_by_text map.new q ≡ get_by_text map.old q) }
+{
+    let key = String::from_str(alloc, channel)?;
+    match map.insert(key, stream) {
+        Ok(_) => Ok(()),
+        Err(
+            AllocFailed {
+                value: (_key, _stream),
+            },
+        ) => Err(AllocError),
     }
 }
 

@@ -2,7 +2,7 @@
 ghost use Rattle.std.specs.Prelude.{◌≡◌};
 ghost use Rattle.cf_stream.specs.declared.refusal.StreamRefusal.TheVariants.{Memory};
 
-use std::alloc::{AllocError, AllocFailed};
+use std::alloc::AllocError;
 use thiserror::Error;
 
 /// Why a call is refused. Of several causes the first named here is given. A refused call changes nothing.
@@ -26,14 +26,6 @@ impl From<AllocError> for StreamRefusal {
     ghost from_gives = { λ _ e. e ≡ Memory };
 
     fn from(_error: AllocError) -> StreamRefusal {
-        StreamRefusal::Memory
-    }
-}
-
-impl<T: Drop> From<AllocFailed<T>> for StreamRefusal {
-    ghost from_gives = { λ _ e. e ≡ Memory };
-
-    fn from(_error: AllocFailed<T>) -> StreamRefusal {
         StreamRefusal::Memory
     }
 }

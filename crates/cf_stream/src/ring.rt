@@ -74,8 +74,7 @@ impl<T: Drop> Ring<T> {
         match &mut self.block {
             Some(block) => grow(block.as_mut(), size),
             None => {
-                let block = HeapCircularBuffer::with_capacity(alloc, 1)?;
-                self.block = Some(Box::new(alloc, block)?);
+                self.block = Some(block_of_one(alloc)?);
                 Ok(())
             }
         }
@@ -111,6 +110,14 @@ impl<T: Drop> Ring<T> {
     }
 }
 
+/// A block with room for one item.
+fn block_of_one<T: Drop>(alloc: Global) -> Result<Box<HeapCircularBuffer<T>>, AllocError>
+    ensures { IfOk result (λ b. b.value ≡ buffer [] 1) }
+{
+    let block = HeapCircularBuffer::with_capacity(alloc, 1)?;
+    Ok(Box::new(alloc, block)?)
+}
+
 /// Makes room for one item more in a block, where `size` allows it.
 fn grow<T: Drop>(block: &mut HeapCircularBuffer<T>, size: usize) -> Result<(), AllocError>
     requires { (1 ≤ size) × (size ≤ 10000) × (length block.old.items ≤ size) }
@@ -119,9 +126,10 @@ fn grow<T: Drop>(block: &mut HeapCircularBuffer<T>, size: usize) -> Result<(), A
 {
     let len = block.len();
     if len < size && len == block.capacity() {
-        block.resize((2 * len + 1).min(size))?;
+        block.resize((2 * len + 1).min(size))
+    } else {
+        Ok(())
     }
-    Ok(())
 }
 
 /// Appends an item to a block and lets the oldest go past `size`.

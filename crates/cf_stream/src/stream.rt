@@ -213,7 +213,7 @@ impl Stream {
     }
 
     /// Appends a publication. All room is made before anything changes.
-    fn append(
+    pub(crate) fn append(
         &mut self,
         body: String,
         key: String,

@@ -343,7 +343,6 @@ pub(crate) fn seconds_for(namespaces: &Namespaces, channel: &str) -> u64
 }
 
 /// Reads the channel's stream, or a new one.
-#[tactic(auto, using(std::proofs::lemmas::Map::Text::text_keys))]
 fn read_in<E: Epochs>(
     map: &mut BTreeMap<String, Stream>,
     epochs: &mut E,
@@ -391,7 +390,6 @@ fn is_start(since: Option<Position>, epoch: Epoch) -> bool
 }
 
 /// The history of the channel's stream, or of a new one.
-#[tactic(auto, using(std::proofs::lemmas::Map::Text::text_keys))]
 fn history_in<E: Epochs>(
     map: &mut BTreeMap<String, Stream>,
     epochs: &mut E,

@@ -1,4 +1,9 @@
-use Rattle.std.proofs.Common.{ℕ, sym, subst, ◌∙◌}
+use Rattle.std.proofs.Common.{◌≡◌, ℕ, true, false, refl, sym, ap, subst, ◌∙◌}
+use Rattle.std.specs.Prelude.{Err}
+use Rattle.cf_model.specs.ClientState.{is_idle}
+use Rattle.cf_client.specs.ClientView.{state_of}
+use Rattle.cf_client.specs.declared.fault.ClientFault.TheVariants.{NotNow}
+use Rattle.cf_client.proofs.Refusing.{refused_as, refused_memory, refused_not, leaves_busy, leaves_idle}
 use Rattle.cf_protocol.specs.Request as request
 use Rattle.cf_client.specs.ClientCalls.{State}
 use Rattle.cf_client.specs.OneAnswer.{AreApart}
@@ -25,3 +30,27 @@ returns-clause-ok c =
 pub returns-clause-text : goal.returns-clause-text
 returns-clause-text c =
     subst (λ (id : ℕ). IsCommand id (request.Unsubscribe c.args.channel.now) c.in_ok-text.text) c.in_ok-id.ensures.ok c.in_ok-text.ensures
+
+pub returns-then-is_idle-clause-refused : goal.returns-then-is_idle-clause-refused
+returns-then-is_idle-clause-refused c =
+    let is : is_idle ((state_of c.args.self.now).client.modes c.args.channel.now) ≡ true =
+    rw (← c.self.view_is) (ap is_idle (sym c.mode_at-mode.ensures) ∙ sym c.is_idle.ensures ∙ c.if-is_idle.true) in
+    refused_as _ (Err NotNow) NotNow (leaves_idle c.args.channel.now (state_of c.args.self.now) is) refl
+
+pub returns-in_err-id-clause-refused : goal.returns-in_err-id-clause-refused
+returns-in_err-id-clause-refused c =
+    let is : is_idle ((state_of c.args.self.now).client.modes c.args.channel.now) ≡ false =
+    rw (← c.self.view_is) (ap is_idle (sym c.mode_at-mode.ensures) ∙ sym c.is_idle.ensures ∙ c.if-is_idle.false) in
+    refused_as _ c.from_residual.result c.in_err-id.field-0.0 (leaves_busy c.args.channel.now (state_of c.args.self.now) is ∙ c.in_err-id.ensures.err) c.from_residual.ensures.1
+
+pub returns-in_err-text-clause-refused : goal.returns-in_err-text-clause-refused
+returns-in_err-text-clause-refused c =
+    let is : is_idle ((state_of c.args.self.now).client.modes c.args.channel.now) ≡ false =
+    rw (← c.self.view_is) (ap is_idle (sym c.mode_at-mode.ensures) ∙ sym c.is_idle.ensures ∙ c.if-is_idle.false) in
+    refused_memory _ c.from_residual-in_err-text.result (leaves_busy c.args.channel.now (state_of c.args.self.now) is ∙ c.in_ok-id.ensures.may) c.from_residual-in_err-text.ensures.1
+
+pub returns-clause-refused : goal.returns-clause-refused
+returns-clause-refused c =
+    let is : is_idle ((state_of c.args.self.now).client.modes c.args.channel.now) ≡ false =
+    rw (← c.self.view_is) (ap is_idle (sym c.mode_at-mode.ensures) ∙ sym c.is_idle.ensures ∙ c.if-is_idle.false) in
+    refused_not _ c.in_ok-text.text (leaves_busy c.args.channel.now (state_of c.args.self.now) is ∙ c.in_ok-id.ensures.may)
