@@ -1,5 +1,5 @@
 -- What a call makes of a shard's log and of the caller's pass.
-use Rattle.std.proofs.Common.{◌≡◌, ℕ, ◌+◌, List, [], ◌∷◌, ◌++◌, Option, Some, None, refl, sym, ap, ◌∙◌, subst, append_assoc, append-nil}
+use Rattle.std.proofs.Common.{◌≡◌, ℕ, ◌+◌, List, [], ◌∷◌, ◌++◌, Option, Some, None, refl, sym, ap, ◌∙◌, subst, append_assoc, append-nil, arith}
 use Rattle.std.specs.Prelude.{ℤ, Bool, true, false, is_some}
 use Rattle.std.proofs.Common.{cond}
 use Rattle.std.proofs.lemmas.Slice.Eq.{bytes_eq-Decides}
@@ -164,8 +164,19 @@ follows old mid new log es after own seen is gained whole keeps = record {
   share = keeps.2 ∙ ap (λ (p : PassState). p.share + own) is;
 }
 
+-- the pass after a look at the log alone
+pub followed : (old new : PassState) (log : List Entry) → IsPrefix old.log log → new ≡ caught_up old log → Follows old new 0
+followed old new log seen is =
+    let whole : new.log ≡ log = ap (λ (p : PassState). p.log) is in record {
+      begins = (seen.0, seen.1 ∙ sym whole);
+      found = ap (λ (p : PassState). p.found) is ∙ sym whole;
+      word = ap (λ (p : PassState). p.word) is;
+      looks = ap (λ (p : PassState). p.looks) is;
+      share = omega (arith, ap (λ (p : PassState). p.share) is);
+    }
+
 -- where a map is none
-none_mapped : {X Y : Type 0} (f : X → Y) (o : Option X) → option_map f o ≡ None → o ≡ None
+pub none_mapped : {X Y : Type 0} (f : X → Y) (o : Option X) → option_map f o ≡ None → o ≡ None
 none_mapped f None e = refl
 none_mapped f (Some x) e = absurd (cc (e))
 
@@ -193,3 +204,30 @@ publish_noted k o o1 o2 c lent key d position stood p at made from is answer new
     ∙ (opening_stood k c position stood p.position.epoch (Publish c key d ∷ []) from is ∙ ap (λ b. cond b [] es) (sym fresh)) in
     let owner = noted o o1 o2 _ _ at (made fresh) entries in
     (fresh, owner.0, owner.1)
+
+-- where a map is some
+some_mapped : {X Y : Type 0} (f : X → Y) (o : Option X) → is_some (option_map f o) ≡ true → is_some o ≡ true
+some_mapped f None e = e
+some_mapped f (Some x) e = refl
+
+repeats_by : (r : Option ℕ) (e : List ℕ) (top : ℕ) → (answer_by r e top).repeated ≡ is_some r
+repeats_by None e top = refl
+repeats_by (Some o) e top = refl
+
+again_in : (o : Option Shown) (e key : List ℕ) (size : ℕ) → is_some (repeat_at o key) ≡ true → is_some (repeated_by (stood_or o e size) key) ≡ true
+again_in None e key size is = absurd (cc (is))
+again_in (Some s) e key size is = some_mapped _ (repeated_by s key) is
+
+-- a publish that repeats something is a repeat
+pub is_repeat : (k : StreamMap) (c key : List ℕ) (p : Published) → p ≡ answer_to (stood_or_opened k c p.position.epoch) key → is_some (repeat_at (stream_of k c) key) ≡ true → p.repeated ≡ true
+is_repeat k c key p is again =
+    let s : Shown = stood_or_opened k c p.position.epoch in
+    ap (λ (x : Published). x.repeated) is ∙ repeats_by (repeated_by s key) s.epoch s.top
+    ∙ again_in (stream_of k c) p.position.epoch key (size_at k.namespaces c) again
+
+-- the owner after a repeat
+pub repeat_noted : (o o1 : OwnerState) (repeated : Bool) (es : List Entry) → o1 ≡ o → repeated ≡ true → (o1.word ≡ o.word) × (o1.log ≡ o.log ++ cond repeated [] es)
+repeat_noted o o1 repeated es at is = (
+  ap (λ (x : OwnerState). x.word) at,
+  ap (λ (x : OwnerState). x.log) at ∙ (sym (append-nil o.log) ∙ ap (λ b. o.log ++ cond b [] es) (sym is)),
+)

@@ -3,3 +3,4 @@ pub mod Logs
 pub mod Calls
 pub mod Resizing
 pub mod Named
+pub mod Refusals

@@ -1,30 +1,35 @@
-use Rattle.std.proofs.Common.{ap, ◌∙◌}
+use Rattle.std.proofs.Common.{◌≡◌, ◌++◌, ap, ◌∙◌}
 use Rattle.cf_shard.specs.Shard.{Lent}
+use Rattle.cf_shard.specs.ShardLog.{entries_of_forget}
 use Rattle.cf_shard.proofs.Calls.{if_stands_stood, noted, kept, one_by_log, follows}
+use Rattle.cf_shard.proofs.shard.Shard.forget.Given.{Over}
 use Rattle.cf_shard.proofs.shard.Shard.forget.Goals as goal
+
+-- what it makes of the owner
+made : (g : Over) (c : goal.After-note_on g)
+    → (c.note_on.new.owner.word ≡ c.self.inside.owner.word)
+    × (c.note_on.new.owner.log ≡ c.self.inside.owner.log ++ entries_of_forget c.self.inside.streams c.args.channel.now)
+made g c =
+    noted _ _ _ _ _ c.follow.ensures.owner c.note_on.ensures.owner (if_stands_stood c.self.inside.streams c.args.channel.now _ _ _ c.position.ensures.position c.top_of-stood.ensures)
 
 pub invariant_of-self-2 : goal.invariant_of-self-2
 invariant_of-self-2 g c =
-    let owner = noted _ _ _ _ _ c.follow.ensures.owner c.note_on.ensures.owner (if_stands_stood c.self.inside.streams c.args.channel.now _ _ _ c.position.ensures.position c.top_of-stood.ensures) in
-    kept _ _ _ _ _ _ _ c.self.invariant c.forget.ensures.log owner.0 owner.1
+    kept _ _ _ _ _ _ _ c.self.invariant c.forget.ensures.log (made g c).0 (made g c).1
 
 pub returns-clause-makes : goal.returns-clause-makes
-returns-clause-makes g c =
-    let owner = noted _ _ _ _ _ c.follow.ensures.owner c.note_on.ensures.owner (if_stands_stood c.self.inside.streams c.args.channel.now _ _ _ c.position.ensures.position c.top_of-stood.ensures) in record {
-      streams = rw (← c.self.view_is) c.forget.ensures.forgotten;
-      log = rw (← c.self.view_is) owner.1;
-      undrawn = ap (λ (s : Lent g.row.E.Denot). s.epochs) c.self.view_is;
-    }
+returns-clause-makes g c = record {
+  streams = rw (← c.self.view_is) c.forget.ensures.forgotten;
+  log = rw (← c.self.view_is) (made g c).1;
+  undrawn = ap (λ (s : Lent g.row.E.Denot). s.epochs) c.self.view_is;
+}
 
 pub returns-clause-by_log : goal.returns-clause-by_log
 returns-clause-by_log g c =
-    let owner = noted _ _ _ _ _ c.follow.ensures.owner c.note_on.ensures.owner (if_stands_stood c.self.inside.streams c.args.channel.now _ _ _ c.position.ensures.position c.top_of-stood.ensures) in
-    one_by_log _ _ _ _ _ _ _ _ c.self.invariant c.follow.ensures.seen.0 (c.note_on.ensures.whole.0 ∙ owner.1)
+    one_by_log _ _ _ _ _ _ _ _ c.self.invariant c.follow.ensures.seen.0 (c.note_on.ensures.whole.0 ∙ (made g c).1)
 
 pub returns-clause-seen : goal.returns-clause-seen
 returns-clause-seen g c =
-    let owner = noted _ _ _ _ _ c.follow.ensures.owner c.note_on.ensures.owner (if_stands_stood c.self.inside.streams c.args.channel.now _ _ _ c.position.ensures.position c.top_of-stood.ensures) in
-    follows _ _ _ _ _ _ 0 c.follow.ensures.seen.0 c.follow.ensures.pass owner.1 c.note_on.ensures.whole c.note_on.ensures.share
+    follows _ _ _ _ _ _ 0 c.follow.ensures.seen.0 c.follow.ensures.pass (made g c).1 c.note_on.ensures.whole c.note_on.ensures.share
 
 pub returns-clause-stays : goal.returns-clause-stays
 returns-clause-stays g c = record {

@@ -1,11 +1,14 @@
-use Rattle.std.proofs.Common.{rules, ◌≡◌, ◌++◌, Bool, None, Some, ap, sym, subst, cond}
-use Rattle.std.specs.Prelude.{false, MatchBool}
+use Rattle.std.proofs.Common.{rules, ◌≡◌, ◌++◌, Bool, None, Some, Err, length, ap, sym, subst, cond, refl, ◌∙◌}
+use Rattle.std.proofs.lemmas.Result.{err_from_is_err_and}
+use Rattle.std.specs.Prelude.{false, true, is_some, MatchBool}
 use Rattle.std.specs.String.{string_bytes}
 use Rattle.cf_stream.specs.ChannelLists.{StandsAt}
 use Rattle.cf_shard.specs.Delivery.{OfferedToAll, carried}
 use Rattle.cf_shard.specs.Shard.{Lent, after_publish, datum_of}
+use Rattle.cf_shard.specs.LogAnswer.{Follows}
 use Rattle.cf_shard.specs.ShardLog.{KeepsShare}
-use Rattle.cf_shard.proofs.Calls.{publish_noted, kept, published_by_log, follows, stands_after}
+use Rattle.cf_shard.proofs.Calls.{publish_noted, repeat_noted, is_repeat, followed, kept, published_by_log, follows, stands_after}
+use Rattle.cf_shard.proofs.Refusals.{refused_by, left_all, refused_early}
 use Rattle.cf_shard.proofs.Resizing.{stays_up}
 use Rattle.cf_stream.specs.LogState.{publishing}
 use Rattle.cf_stream.specs.Streams.{repeat_at, stream_of}
@@ -38,11 +41,75 @@ stands g c =
     let d = datum_of c.args.body c.args.info in
     λ fresh. subst (λ s. StandsAt s channel (Some p.position)) {x = after_publish k channel p.position.epoch key d c.args.now} (sym c.in_ok-published.ensures.makes) (stands_after k channel key d c.args.now p c.in_ok-published.ensures.answer fresh)
 
+-- what is answered at once is a repeat
+again : (g : Over) (c : goal.In_ok-repeated g) → c.in_ok-repeated.repeated.repeated ≡ true
+again g c =
+    let asked : is_some (repeat_at (stream_of c.self.inside.streams c.args.channel.now) (string_bytes c.args.key)) ≡ true = search rules in
+    is_repeat c.self.inside.streams c.args.channel.now (string_bytes c.args.key) c.in_ok-repeated.repeated c.in_ok-repeated.ensures.answer asked
+
+-- what it makes of the owner
+left : (g : Over) (c : goal.In_ok-repeated g)
+    → (c.follow.new.owner.word ≡ c.self.inside.owner.word)
+    × (c.follow.new.owner.log ≡ c.self.inside.owner.log ++ publishing c.in_ok-repeated.repeated.repeated (stream_of c.self.inside.streams c.args.channel.now) c.args.channel.now c.in_ok-repeated.repeated.position.epoch (string_bytes c.args.key) (datum_of c.args.body c.args.info))
+left g c = repeat_noted c.self.inside.owner c.follow.new.owner c.in_ok-repeated.repeated.repeated _ c.follow.ensures.owner (again g c)
+
 pub publish-requires : goal.publish-requires
 publish-requires g c = stays_up _ _ _ c.args.channel.now c.self.invariant.state c.requires.set_up
 
 pub publish-requires-2 : goal.publish-requires-2
 publish-requires-2 g c = stays_up _ _ _ c.args.channel.now c.self.invariant.state c.requires.set_up
+
+pub invariant_of-self-then-is_some : goal.invariant_of-self-then-is_some
+invariant_of-self-then-is_some g c = kept _ _ _ _ _ _ _ c.self.invariant c.in_ok-repeated.ensures.log (left g c).0 (left g c).1
+
+pub returns-then-is_some-clause-makes : goal.returns-then-is_some-clause-makes
+returns-then-is_some-clause-makes g c = record {
+  streams = rw (← c.self.view_is) c.in_ok-repeated.ensures.makes;
+  log = rw (← c.self.view_is) (left g c).1;
+  drawn = search rules;
+}
+
+pub returns-then-is_some-clause-by_log : goal.returns-then-is_some-clause-by_log
+returns-then-is_some-clause-by_log g c =
+    published_by_log _ _ _ _ _ _ _ _ _ _ _ _ c.self.invariant (invariant_of-self-then-is_some g c) c.in_ok-repeated.ensures.lists.answer
+    (λ fresh. absurd (let yes : c.in_ok-repeated.repeated.repeated ≡ true = again g c in cc)) c.follow.ensures.seen.0 (left g c).1
+    (ap (λ p. p.log) c.follow.ensures.pass ∙ sym (ap (λ o. o.log) c.follow.ensures.owner))
+
+pub returns-then-is_some-clause-own : goal.returns-then-is_some-clause-own
+returns-then-is_some-clause-own g c =
+    subst (λ b. Follows c.args.pass.now c.follow.new.pass (cond b 0 1)) (sym (again g c))
+    (followed c.args.pass.now c.follow.new.pass c.self.inside.owner.log c.follow.ensures.seen.0 c.follow.ensures.pass)
+
+pub returns-then-is_some-clause-offered : goal.returns-then-is_some-clause-offered
+returns-then-is_some-clause-offered g c =
+    let p = c.in_ok-repeated.repeated in
+    let channel = c.args.channel.now in
+    let d = datum_of c.args.body c.args.info in
+    let links = c.args.links.now in
+    subst (λ (b : Bool). MatchBool b (links ≡ links) (OfferedToAll g.L.Links.offers (g.L.Links.nodes links) (carried channel p.position d) links links)) (sym (again g c)) refl
+
+pub returns-in_err-repeated-clause-refusals : goal.returns-in_err-repeated-clause-refusals
+returns-in_err-repeated-clause-refusals g c =
+    let p = err_from_is_err_and c.from_residual.result c.from_residual.ensures.1 in
+    refused_by g.E.Epochs.draws c.args.channel.now (string_bytes c.args.key) (datum_of c.args.body c.args.info) _ _ _ _ _ p.0 _ c.self.view_is c.deref_mut.ensures.value p.1 p.2 c.in_err-repeated.ensures.refusals c.in_err-repeated.ensures.epochs
+
+pub returns-in_err-published-clause-refusals : goal.returns-in_err-published-clause-refusals
+returns-in_err-published-clause-refusals g c =
+    let p = err_from_is_err_and c.from_residual-in_err-published.result c.from_residual-in_err-published.ensures.1 in
+    refused_by g.E.Epochs.draws c.args.channel.now (string_bytes c.args.key) (datum_of c.args.body c.args.info) _ _ _ _ _ p.0 _ c.self.view_is c.deref_mut-2.ensures.value p.1 p.2 c.in_err-published.ensures.refusals c.in_err-published.ensures.epochs
+
+pub returns-in_err-published-clause-err : goal.returns-in_err-published-clause-err
+returns-in_err-published-clause-err g c =
+    let p = err_from_is_err_and c.from_residual-in_err-published.result c.from_residual-in_err-published.ensures.1 in
+    left_all _ _ _ _ _ _ _ p.0 _ c.self.view_is p.1 p.2 c.in_err-published.ensures.err (ap (λ o. o.log) c.follow.ensures.owner) (λ other. c.in_err-published.ensures.epochs.undrawn other ∙ c.deref_mut-2.ensures.value) c.follow.ensures.seen.0 c.follow.ensures.pass
+
+pub returns-in_err-copies-clause-refusals : goal.returns-in_err-copies-clause-refusals
+returns-in_err-copies-clause-refusals g c =
+    let new : repeat_at (stream_of c.self.inside.streams c.args.channel.now) (string_bytes c.args.key) ≡ None = search rules in
+    let p = err_from_is_err_and c.from_residual-in_err-copies.result c.from_residual-in_err-copies.ensures.1 in
+    refused_early g.E.Epochs.draws c.args.channel.now (string_bytes c.args.key) (datum_of c.args.body c.args.info) _ _ _ _ _ _ _ _ c.self.view_is (p.1 ∙ ap Err p.2) new c.position.ensures.position c.top_of-stood.ensures
+    (c.count-count.ensures ∙ ap (λ o. length o.log) c.follow.ensures.owner)
+    c.in_err-copies.ensures.last c.in_err-copies.ensures.count c.in_err-copies.ensures.other
 
 pub invariant_of-self-2 : goal.invariant_of-self-2
 invariant_of-self-2 g c = kept _ _ _ _ _ _ _ c.self.invariant c.in_ok-published.ensures.log (made g c).1 (made g c).2

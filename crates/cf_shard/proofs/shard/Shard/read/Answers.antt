@@ -1,37 +1,50 @@
-use Rattle.std.proofs.Common.{rules, ap, ◌∙◌}
+use Rattle.std.proofs.Common.{rules, ◌≡◌, ◌++◌, [], ap, ◌∙◌}
+use Rattle.std.proofs.lemmas.Result.{err_from_is_err_and}
 use Rattle.cf_shard.specs.Shard.{Lent}
 use Rattle.cf_shard.proofs.Calls.{opening_stood, noted, kept, read_by_log, follows}
+use Rattle.cf_shard.proofs.Refusals.{left_by}
 use Rattle.cf_shard.proofs.Resizing.{stays_up}
+use Rattle.cf_stream.specs.LogState.{opening}
+use Rattle.cf_stream.specs.Streams.{stream_of}
+use Rattle.cf_shard.proofs.shard.Shard.read.Given.{Over}
 use Rattle.cf_shard.proofs.shard.Shard.read.Goals as goal
+
+-- what it makes of the owner
+made : (g : Over) (c : goal.After-count-mark g)
+    → (c.note_opening.new.owner.word ≡ c.self.inside.owner.word)
+    × (c.note_opening.new.owner.log ≡ c.self.inside.owner.log ++ opening (stream_of c.self.inside.streams c.args.channel.now) c.args.channel.now c.in_ok-recovery.recovery.position.epoch [])
+made g c =
+    noted _ _ _ _ _ c.follow.ensures.owner c.note_opening.ensures.owner (opening_stood c.self.inside.streams c.args.channel.now _ _ _ _ c.position.ensures.position c.top_of-stood.ensures)
 
 pub read-requires : goal.read-requires
 read-requires g c = stays_up _ _ _ c.args.channel.now c.self.invariant.state c.requires.set_up
 
+pub returns-in_err-recovery-clause-err : goal.returns-in_err-recovery-clause-err
+returns-in_err-recovery-clause-err g c =
+    let p = err_from_is_err_and c.from_residual.result c.from_residual.ensures.1 in
+    left_by _ _ _ _ p.0 _ c.self.view_is p.1 p.2 c.in_err-recovery.ensures.err (ap (λ o. o.log) c.follow.ensures.owner) (λ other. c.in_err-recovery.ensures.epochs.undrawn other ∙ c.deref_mut.ensures.value)
+
 pub invariant_of-self-2 : goal.invariant_of-self-2
 invariant_of-self-2 g c =
-    let owner = noted _ _ _ _ _ c.follow.ensures.owner c.note_opening.ensures.owner (opening_stood c.self.inside.streams c.args.channel.now _ _ _ _ c.position.ensures.position c.top_of-stood.ensures) in
-    kept _ _ _ _ _ _ _ c.self.invariant c.in_ok-recovery.ensures.log owner.0 owner.1
+    kept _ _ _ _ _ _ _ c.self.invariant c.in_ok-recovery.ensures.log (made g c).0 (made g c).1
 
 pub returns-clause-makes : goal.returns-clause-makes
-returns-clause-makes g c =
-    let owner = noted _ _ _ _ _ c.follow.ensures.owner c.note_opening.ensures.owner (opening_stood c.self.inside.streams c.args.channel.now _ _ _ _ c.position.ensures.position c.top_of-stood.ensures) in record {
-      streams = rw (← c.self.view_is) c.in_ok-recovery.ensures.makes;
-      log = rw (← c.self.view_is) owner.1;
-      drawn = search rules;
-    }
+returns-clause-makes g c = record {
+  streams = rw (← c.self.view_is) c.in_ok-recovery.ensures.makes;
+  log = rw (← c.self.view_is) (made g c).1;
+  drawn = search rules;
+}
 
 pub returns-clause-answer : goal.returns-clause-answer
 returns-clause-answer g c = rw (← c.self.view_is) c.in_ok-recovery.ensures.lists.answer
 
 pub returns-clause-by_log : goal.returns-clause-by_log
 returns-clause-by_log g c =
-    let owner = noted _ _ _ _ _ c.follow.ensures.owner c.note_opening.ensures.owner (opening_stood c.self.inside.streams c.args.channel.now _ _ _ _ c.position.ensures.position c.top_of-stood.ensures) in
-    read_by_log _ _ _ _ _ _ _ _ _ _ _ c.self.invariant c.in_ok-recovery.ensures.lists.answer c.follow.ensures.seen.0 (c.note_opening.ensures.whole.0 ∙ owner.1)
+    read_by_log _ _ _ _ _ _ _ _ _ _ _ c.self.invariant c.in_ok-recovery.ensures.lists.answer c.follow.ensures.seen.0 (c.note_opening.ensures.whole.0 ∙ (made g c).1)
 
 pub returns-clause-seen : goal.returns-clause-seen
 returns-clause-seen g c =
-    let owner = noted _ _ _ _ _ c.follow.ensures.owner c.note_opening.ensures.owner (opening_stood c.self.inside.streams c.args.channel.now _ _ _ _ c.position.ensures.position c.top_of-stood.ensures) in
-    follows _ _ _ _ _ _ 0 c.follow.ensures.seen.0 c.follow.ensures.pass owner.1 c.note_opening.ensures.whole c.note_opening.ensures.share
+    follows _ _ _ _ _ _ 0 c.follow.ensures.seen.0 c.follow.ensures.pass (made g c).1 c.note_opening.ensures.whole c.note_opening.ensures.share
 
 pub returns-clause-stays : goal.returns-clause-stays
 returns-clause-stays g c = record {
