@@ -3,13 +3,8 @@ use Rattle.std.specs.Option.{option_map}
 use Rattle.std.specs.String.{string_bytes}
 use Rattle.cf_stream.specs.declared.refusal.StreamRefusal.{StreamRefusal}
 use Rattle.cf_stream.specs.declared.refusal.StreamRefusal.TheVariants as stream
-use Rattle.std.specs.Prelude.{Bool, ◌≡◌, true, false, None}
-use Rattle.cf_session.specs.Calls.{Call}
-use Rattle.cf_session.specs.SessionMachine.{Act}
-use Rattle.cf_session.specs.Shown.{shown_answer}
-use Rattle.cf_session.specs.declared.action.Answer.{Answer}
-use Rattle.cf_speak.specs.Scene.{Scene, fell_short}
-use Rattle.cf_speak.specs.Steps.{CallStep, Step}
+use Rattle.std.specs.Prelude.{Bool, true, false}
+use Rattle.cf_speak.specs.Scene.{Scene}
 use Rattle.cf_speak.specs.declared.local_node.LocalNode.{LocalNode}
 
 abbrev pub scene_of : LocalNode → Scene

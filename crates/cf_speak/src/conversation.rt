@@ -1,5 +1,5 @@
 //! A conversation with one client, line by line.
-ghost use Rattle.std.specs.Prelude.{◌≡◌, ◌≢◌, true, false, IfErr, IfOk, IfSome, IsErrOf, OnOk, option_map, []};
+ghost use Rattle.std.specs.Prelude.{◌≡◌, ◌≢◌, true, false, IfErr, IfOk, IfSome, IsErrOf, OnOk, option_map, string_bytes, []};
 ghost use Rattle.std.specs.Io.KnownBytes.{Appends};
 ghost use Rattle.cf_queue.specs.Meaning.{meaning};
 ghost use Rattle.cf_session.specs.Standing.{is_idle, tables_of, progress_of};
@@ -13,7 +13,7 @@ use crate::local_node::LocalNode;
 use cf_protocol::{Namespaces, Tokens, close_reason};
 use cf_queue::Out;
 use cf_session::{Node, Session, serve_text};
-use std::alloc::Global;
+use std::alloc::{AllocError, Global};
 use std::io::{BufRead, Write};
 use std::str;
 
@@ -166,17 +166,20 @@ fn write_one<W: Write>(alloc: Global, writer: &mut W, out: &Out) -> Result<(), S
         (Appends (W.contents writer.old) (W.contents writer.new) (line_of (meaning out.now))) }
     ensures outside { IfErr result (λ fault. fault ≢ SpeakFault.NotUtf8) }
 {
+    let line = line_of(alloc, out)?;
+    writer.write_all(line.as_bytes())?;
+    Ok(())
+}
+
+// The line that tells of a text or a close.
+fn line_of(alloc: Global, out: &Out) -> Result<String, AllocError>
+    ensures { IfOk result (λ line. string_bytes line ≡ line_of (meaning out.now)) }
+{
     match out {
-        Out::Text(text) => {
-            let line = format!(in alloc; "{text}\n")?;
-            writer.write_all(line.as_bytes())?;
-            Ok(())
-        }
+        Out::Text(text) => format!(in alloc; "{text}\n"),
         Out::Close(code) => {
             let reason = close_reason(*code);
-            let line = format!(in alloc; "close {code} {reason}\n")?;
-            writer.write_all(line.as_bytes())?;
-            Ok(())
+            format!(in alloc; "close {code} {reason}\n")
         }
     }
 }
