@@ -6,7 +6,7 @@ use crate::glance::{Glance, front_of};
 use crate::reason::{namespace_words, reason};
 use crate::remarks::Remarks;
 use crate::subject::{Subject, session_of};
-use cf_protocol::{Namespaces, Position};
+use cf_protocol::{Epoch, Namespaces, Position};
 use cf_schedule::{Event, World};
 use std::alloc::{AllocError, Global};
 
@@ -114,136 +114,125 @@ impl<'a> Explainer<'a> {
     ) -> Result<Remarks, AllocError>
         ensures { IfOk result (λ r. IsOneLine line.now → BeginsWith (heading number line.now) r) }
     {
-        let told = self.tell(world, event)?;
+        self.note_publication(event, Glance::of(world, event))?;
+        let told = self.tell(world, event);
         let mut remarks = Remarks::headed(self.alloc, number, line)?;
         remarks.append(&told)?;
         Ok(remarks)
     }
 
+    // Keeps where a publication stands that an event added.
+    fn note_publication(&mut self, event: &Event, now: Glance) -> Result<(), AllocError> {
+        let (Some(channel), Some(position)) = (published_to(event), now.position) else {
+            return Ok(());
+        };
+        if self.before.position == now.position {
+            return Ok(());
+        }
+        let channel = String::from_str(self.alloc, channel)?;
+        self.published.push(Accepted { channel, position })?;
+        Ok(())
+    }
+
     // Tells what an event did.
-    fn tell(&mut self, world: &World, event: &Event) -> Result<Remarks, AllocError> {
+    fn tell(&mut self, world: &World, event: &Event) -> Remarks {
         let mut remarks = Remarks::new(self.alloc);
         let now = Glance::of(world, event);
-        let is_epoch = self.tell_epoch(&mut remarks, event)?;
-        let is_sent = self.tell_sent(&mut remarks, event, now)?;
-        let is_taken = self.tell_taken(&mut remarks, event, now)?;
-        let is_published = self.tell_published(&mut remarks, world, event, now)?;
-        let is_sized = self.tell_size(&mut remarks, world, event)?;
-        let is_changed = self.tell_changes(&mut remarks, world, event)?;
+        let is_epoch = self.tell_epoch(&mut remarks, event);
+        let is_sent = self.tell_sent(&mut remarks, event, now);
+        let is_taken = self.tell_taken(&mut remarks, event, now);
+        let is_published = self.tell_published(&mut remarks, world, event, now);
+        let is_sized = self.tell_size(&mut remarks, world, event);
+        let is_changed = self.tell_changes(&mut remarks, world, event);
         if !(is_epoch || is_sent || is_taken || is_published || is_sized || is_changed) {
-            self.tell_unchanged(&mut remarks, world, event)?;
+            self.tell_unchanged(&mut remarks, world, event);
         }
-        Ok(remarks)
+        remarks
     }
 
     // Tells why nothing that is watched has changed.
-    fn tell_unchanged(
-        &self,
-        remarks: &mut Remarks,
-        world: &World,
-        event: &Event,
-    ) -> Result<(), AllocError> {
+    fn tell_unchanged(&self, remarks: &mut Remarks, world: &World, event: &Event) {
         let delivered = delivered_in(self.published.as_slice(), event);
-        if let (Event::Deliver { node, .. }, Some(channel)) = (event, delivered) {
-            if self.tell_delivery(remarks, world, *node, channel)? {
-                return Ok(());
-            }
+        if let (Event::Deliver { node, .. }, Some(channel)) = (event, delivered)
+            && self.tell_delivery(remarks, world, *node, channel)
+        {
+            return;
         }
-        let words = reason(self.alloc, world, event, delivered)?;
-        remarks.add(format!(in self.alloc; "   nothing changed: {words}")?.as_str())
+        remarks.add(match reason(self.alloc, world, event, delivered) {
+            Ok(words) => format!(in self.alloc; "   nothing changed: {words}"),
+            Err(error) => Err(error),
+        });
     }
 
     // Tells what became of a publication that nobody is to get now, and says whether there is anybody in its channel.
-    fn tell_delivery(
-        &self,
-        remarks: &mut Remarks,
-        world: &World,
-        node: u8,
-        channel: &str,
-    ) -> Result<bool, AllocError> {
+    fn tell_delivery(&self, remarks: &mut Remarks, world: &World, node: u8, channel: &str) -> bool {
         let mut is_told = false;
         for watched in self.watched.iter() {
             let subject = &watched.subject;
             if let Some(words) = subject.unchanged_by(world, node, channel) {
-                remarks.add(format!(in self.alloc; "   {subject}: {words}")?.as_str())?;
+                remarks.add(format!(in self.alloc; "   {subject}: {words}"));
                 is_told = true;
             }
         }
-        Ok(is_told)
+        is_told
     }
 
-    fn tell_epoch(&self, remarks: &mut Remarks, event: &Event) -> Result<bool, AllocError> {
+    fn tell_epoch(&self, remarks: &mut Remarks, event: &Event) -> bool {
         let Event::Epoch { epoch } = event else {
-            return Ok(false);
+            return false;
         };
-        let words = format!(in self.alloc; "   {epoch} waits for the next stream that opens")?;
-        remarks.add(words.as_str())?;
-        Ok(true)
+        remarks.add(format!(in self.alloc; "   {epoch} waits for the next stream that opens"));
+        true
     }
 
     // Tells what a client sent, and says whether it sent anything.
-    fn tell_sent(
-        &self,
-        remarks: &mut Remarks,
-        event: &Event,
-        now: Glance,
-    ) -> Result<bool, AllocError> {
+    fn tell_sent(&self, remarks: &mut Remarks, event: &Event, now: Glance) -> bool {
         if self.before.id == now.id {
-            return Ok(false);
+            return false;
         }
         let (Some(client), Some(command)) = (client_of(event), &self.command) else {
-            return Ok(false);
+            return false;
         };
-        remarks.add(format!(in self.alloc; "   {client} sends {command}")?.as_str())?;
-        Ok(true)
+        remarks.add(format!(in self.alloc; "   {client} sends {command}"));
+        true
     }
 
     // Tells what a client took, and says whether it took anything.
-    fn tell_taken(
-        &self,
-        remarks: &mut Remarks,
-        event: &Event,
-        now: Glance,
-    ) -> Result<bool, AllocError> {
+    fn tell_taken(&self, remarks: &mut Remarks, event: &Event, now: Glance) -> bool {
         let Event::Take { client } = event else {
-            return Ok(false);
+            return false;
         };
         if self.before.waiting == now.waiting {
-            return Ok(false);
+            return false;
         }
-        let client = client.as_str();
-        let words = match &self.front {
-            None => format!(in self.alloc; "   {client} takes the close")?,
-            Some(text) => format!(in self.alloc; "   {client} takes {text}")?,
+        let taken = match &self.front {
+            None => "the close",
+            Some(text) => text.as_str(),
         };
-        remarks.add(words.as_str())?;
-        Ok(true)
+        remarks.add(format!(in self.alloc; "   {client} takes {taken}"));
+        true
     }
 
     // Tells the number of a publication, or that of the one that it repeats, and says whether there is any.
     fn tell_published(
-        &mut self,
+        &self,
         remarks: &mut Remarks,
         world: &World,
         event: &Event,
         now: Glance,
-    ) -> Result<bool, AllocError> {
-        let channel = match event {
-            Event::Publish { channel, .. } => channel.as_str(),
-            Event::PublishBy { channel, .. } => channel.as_str(),
-            _ => return Ok(false),
-        };
+    ) -> bool {
+        if published_to(event).is_none() {
+            return false;
+        }
         if self.before.position == now.position {
             return self.tell_repeat(remarks, world, event, now);
         }
-        let Some(position) = now.position else {
-            return Ok(false);
-        };
-        let channel = String::from_str(self.alloc, channel)?;
-        self.published.push(Accepted { channel, position })?;
+        if now.position.is_none() {
+            return false;
+        }
         let number = self.published.len();
-        remarks.add(format!(in self.alloc; "   it is publication {number}")?.as_str())?;
-        Ok(true)
+        remarks.add(format!(in self.alloc; "   it is publication {number}"));
+        true
     }
 
     // Tells which publication a publish repeats, and says whether it repeats one.
@@ -253,18 +242,20 @@ impl<'a> Explainer<'a> {
         world: &World,
         event: &Event,
         now: Glance,
-    ) -> Result<bool, AllocError> {
+    ) -> bool {
+        let Some(Position { epoch, offset }) = self.before.repeated else {
+            return false;
+        };
+        let Some(number) = number_of(self.published.as_slice(), epoch, offset) else {
+            return false;
+        };
         if !self.is_carried_out(world, event, now) {
-            return Ok(false);
+            return false;
         }
-        let Some(position) = self.before.repeated else {
-            return Ok(false);
-        };
-        let Some(words) = repeat_words(self.alloc, self.published.as_slice(), position)? else {
-            return Ok(false);
-        };
-        remarks.add(words.as_str())?;
-        Ok(true)
+        remarks.add(format!(in self.alloc;
+            "   it repeats publication {number}, which is at {epoch} {offset}"
+        ));
+        true
     }
 
     // Whether a publish got as far as the stream: one of a client is to be sent, and allowed.
@@ -288,78 +279,61 @@ impl<'a> Explainer<'a> {
 
     // Tells how much the streams of a namespace may hold from now on, and what they lose by it. Says whether the namespace is
     // set up.
-    fn tell_size(
-        &self,
-        remarks: &mut Remarks,
-        world: &World,
-        event: &Event,
-    ) -> Result<bool, AllocError> {
+    fn tell_size(&self, remarks: &mut Remarks, world: &World, event: &Event) -> bool {
         let Event::SetSize { namespace, size } = event else {
-            return Ok(false);
+            return false;
         };
         if !world.streams().has_namespace(namespace.as_str()) {
-            return Ok(false);
+            return false;
         }
-        let namespace = namespace_words(self.alloc, namespace.as_str())?;
         let count = size.count();
-        let words = format!(in self.alloc; "   a stream of {namespace} holds {count} at most")?;
-        remarks.add(words.as_str())?;
+        remarks.add(match namespace_words(self.alloc, namespace.as_str()) {
+            Ok(words) => format!(in self.alloc; "   a stream of {words} holds {count} at most"),
+            Err(error) => Err(error),
+        });
         for watched in self.watched.iter() {
-            watched.tell_loss(self.alloc, remarks, world)?;
+            watched.tell_loss(self.alloc, remarks, world);
         }
-        Ok(true)
+        true
     }
 
     // Tells what stands otherwise than it did, and says whether there is any.
-    fn tell_changes(
-        &mut self,
-        remarks: &mut Remarks,
-        world: &World,
-        event: &Event,
-    ) -> Result<bool, AllocError> {
+    fn tell_changes(&mut self, remarks: &mut Remarks, world: &World, event: &Event) -> bool {
         let mut is_changed = false;
         let delivered = delivered_in(self.published.as_slice(), event);
         for watched in self.watched.iter_mut() {
             if watched.subject.is_concerned(event, delivered) {
-                let told = watched.tell(self.alloc, remarks, world)?;
+                let told = watched.tell(self.alloc, remarks, world);
                 is_changed = is_changed || told;
             }
         }
-        Ok(is_changed)
+        is_changed
     }
 }
 
 impl Watched {
     // Tells how many publications it lost.
-    fn tell_loss(
-        &self,
-        alloc: Global,
-        remarks: &mut Remarks,
-        world: &World,
-    ) -> Result<(), AllocError> {
+    fn tell_loss(&self, alloc: Global, remarks: &mut Remarks, world: &World) {
         let lost = self.held.saturating_sub(self.subject.held(world));
-        if lost == 0 {
-            return Ok(());
+        if lost != 0 {
+            let subject = &self.subject;
+            remarks.add(format!(in alloc; "   {subject}: {lost} lost"));
         }
-        let subject = &self.subject;
-        remarks.add(format!(in alloc; "   {subject}: {lost} lost")?.as_str())
     }
 
     // Tells how it stands, where that is not as it was told before. Says whether it was.
-    fn tell(
-        &mut self,
-        alloc: Global,
-        remarks: &mut Remarks,
-        world: &World,
-    ) -> Result<bool, AllocError> {
-        let words = self.subject.words(alloc, world)?;
+    fn tell(&mut self, alloc: Global, remarks: &mut Remarks, world: &World) -> bool {
+        let Ok(words) = self.subject.words(alloc, world) else {
+            remarks.fall_short();
+            return false;
+        };
         if words.as_str() == self.told.as_str() {
-            return Ok(false);
+            return false;
         }
         let subject = &self.subject;
-        remarks.add(format!(in alloc; "   {subject}: {words}")?.as_str())?;
+        remarks.add(format!(in alloc; "   {subject}: {words}"));
         self.told = words;
-        Ok(true)
+        true
     }
 }
 
@@ -373,21 +347,22 @@ fn delivered_in<'a>(published: &'a [Accepted], event: &Event) -> Option<&'a str>
     Some(accepted.channel.as_str())
 }
 
-// Which of these publications stands there, told of a publish that repeats it.
-fn repeat_words(
-    alloc: Global,
-    published: &[Accepted],
-    position: Position,
-) -> Result<Option<String>, AllocError> {
+// The channel that an event publishes to.
+fn published_to(event: &Event) -> Option<&str> {
+    match event {
+        Event::Publish { channel, .. } => Some(channel.as_str()),
+        Event::PublishBy { channel, .. } => Some(channel.as_str()),
+        _ => None,
+    }
+}
+
+// The number of the publication that stands there.
+fn number_of(published: &[Accepted], epoch: Epoch, offset: u64) -> Option<usize> {
+    let position = Position { epoch, offset };
     for (before, accepted) in published.iter().enumerate() {
         if accepted.position == position {
-            let number = before + 1;
-            let Position { epoch, offset } = position;
-            let words = format!(in alloc;
-                "   it repeats publication {number}, which is at {epoch} {offset}"
-            )?;
-            return Ok(Some(words));
+            return Some(before + 1);
         }
     }
-    Ok(None)
+    None
 }

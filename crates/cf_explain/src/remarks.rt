@@ -7,6 +7,8 @@ use std::marker::Model;
 #[derive(Drop)]
 pub struct Remarks {
     text: String,
+    /// Whether there was no memory for one that was to be added. `append` says so.
+    is_short: bool,
     alloc: Global,
 }
 
@@ -31,6 +33,7 @@ impl Remarks {
     {
         Remarks {
             text: String::new(alloc),
+            is_short: false,
             alloc,
         }
     }
@@ -45,10 +48,13 @@ impl Remarks {
         Ok(remarks)
     }
 
-    /// Adds others behind these.
+    /// Adds others behind these. An error where there is no memory, or was none for one of the others.
     pub(crate) fn append(&mut self, others: &Remarks) -> Result<(), AllocError>
         ensures { OnOk result (self.new ≡ self.old ++ others.now) }
     {
+        if others.is_short {
+            return Err(AllocError);
+        }
         self.text.push_str(others.as_str())?;
         Ok(())
     }
@@ -61,12 +67,25 @@ impl Remarks {
         self.text.as_str()
     }
 
-    /// Adds a text: each of its lines is a remark.
-    pub(crate) fn add(&mut self, text: &str) -> Result<(), AllocError> {
-        for line in text.split('\n') {
-            self.add_line(line)?;
+    /// Adds a text, if there was memory for it: each of its lines is a remark.
+    pub(crate) fn add(&mut self, text: Result<String, AllocError>) {
+        match text {
+            Ok(text) => self.add_lines(text.as_str()),
+            Err(_) => self.fall_short(),
         }
-        Ok(())
+    }
+
+    /// There was no memory for what was to be added.
+    pub(crate) fn fall_short(&mut self) {
+        self.is_short = true;
+    }
+
+    fn add_lines(&mut self, text: &str) {
+        for line in text.split('\n') {
+            if self.add_line(line).is_err() {
+                self.fall_short();
+            }
+        }
     }
 
     // Adds a line. Where it has a line feed none is added.
