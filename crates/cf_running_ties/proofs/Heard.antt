@@ -154,7 +154,7 @@ module _ (back : (t : Tree) (r : List ℕ) → IsRegular t → Value t (compact_
   reads-connect = read-by BringsBody connect (λ r h. bind BringsBody _ (text r "token") (λ token. tt))
 
   reads-subscribe : Reads (object_as subscribe)
-  reads-subscribe = read-by BringsBody subscribe (λ r h. bind BringsBody _ (text r "channel") (λ c. bind BringsBody _ (flag r "recover") (λ b. bind BringsBody _ (position r) (λ p. tt))))
+  reads-subscribe = read-by BringsBody subscribe (λ r h. bind BringsBody _ (flag r "recover") (λ b. bind BringsBody _ (position r) (λ p. bind BringsBody _ (text r "channel") (λ c. tt))))
 
   reads-unsubscribe : Reads (object_as unsubscribe)
   reads-unsubscribe = read-by BringsBody unsubscribe (λ r h. bind BringsBody _ (text r "channel") (λ c. tt))
@@ -171,8 +171,8 @@ module _ (back : (t : Tree) (r : List ℕ) → IsRegular t → Value t (compact_
   reads-history : Reads (object_as history)
   reads-history =
       read-by BringsBody history
-      (λ r h. bind BringsBody _ (text r "channel")
-      (λ c. bind BringsBody _ (limit r "limit") (λ n. bind BringsBody _ (object_or_none position r "since") (λ p. bind BringsBody _ (flag r "reverse") (λ b. tt)))))
+      (λ r h. bind BringsBody _ (limit r "limit")
+      (λ n. bind BringsBody _ (object_or_none position r "since") (λ p. bind BringsBody _ (flag r "reverse") (λ b. bind BringsBody _ (text r "channel") (λ c. tt)))))
 
   AllRead : List (Name × (Tree → Option Request)) → Type 0
   AllRead = AllByRecursion (λ m. Reads m.1)
