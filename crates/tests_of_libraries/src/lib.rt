@@ -11,3 +11,5 @@ mod sessions;
 mod state;
 #[cfg(test)]
 mod texts;
+#[cfg(test)]
+mod threads;

@@ -1,5 +1,5 @@
 use Rattle.std.proofs.Common.{◌≡◌}
-use Rattle.tests_of_threads.proofs.order.publish_often.Given as goal
+use Rattle.tests_of_libraries.proofs.threads.order.publish_often.Given as goal
 
 abbrev pub invariant-loop : goal.invariant-loop
 invariant-loop g l = l.pass.word ≡ g.N.Naming.word

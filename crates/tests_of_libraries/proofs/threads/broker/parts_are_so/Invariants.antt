@@ -1,5 +1,5 @@
 use Rattle.cf_broker.specs.Shards.{by_number}
-use Rattle.tests_of_threads.proofs.broker.parts_are_so.Given as goal
+use Rattle.tests_of_libraries.proofs.threads.broker.parts_are_so.Given as goal
 
 -- the words that were just made, and the namespaces that were read
 abbrev pub ghosts-play : goal.ghosts-play

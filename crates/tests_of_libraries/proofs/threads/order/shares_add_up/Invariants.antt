@@ -1,4 +1,4 @@
-use Rattle.tests_of_threads.proofs.order.shares_add_up.Given as goal
+use Rattle.tests_of_libraries.proofs.threads.order.shares_add_up.Given as goal
 
 -- the word that was just made
 abbrev pub ghosts-add_up : goal.ghosts-add_up
