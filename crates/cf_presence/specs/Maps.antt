@@ -21,7 +21,8 @@ abbrev pub SetsAt : {X : Type 0} → BTreeMap (String Global) X → BTreeMap (St
 SetsAt old new bs w = (q : List ℕ) → get_by_text new q ≡ update bytes_eq (get_by_text old) bs w q
 
 -- new is old with v at a key of these bytes, which had `before`
-pub record Puts {X : Type 0} (old new : BTreeMap (String Global) X) (bs : List ℕ) (v : X) (before : Option X) : Type 0 where
+pub record Puts {X : Type 0} (old new : BTreeMap (String Global) X) (bs : List ℕ) (v : X) (before : Option X)
+    : Type 0 where
   pub key : String Global
   pub named : string_bytes key ≡ bs
   pub ordered : IsOrdered string_cmp old

@@ -1,5 +1,5 @@
 -- The methods of commands, and the results of replies, by the keys under which they stand.
-use Rattle.std.specs.Prelude.{List, ℕ, Bool, true, false, Option, option_map, codes}
+use Rattle.std.specs.Prelude.{List, ℕ, Option, option_map, codes}
 use Rattle.cf_json.specs.Grammar.{Tree}
 use Rattle.cf_protocol.specs.Fields.{Fields, object_as}
 use Rattle.cf_protocol.specs.Request as request
@@ -24,11 +24,6 @@ method_key method.Send = codes "send"
 method_key method.Rpc = codes "rpc"
 method_key method.Refresh = codes "refresh"
 method_key method.SubRefresh = codes "sub_refresh"
-
--- whether a command of this method has an id, by which it is answered
-abbrev pub is_answered : Method → Bool
-is_answered method.Send = false
-is_answered m = true
 
 -- the request of a method that has these members
 abbrev pub served : Method → Fields → Option request.Request

@@ -2,13 +2,11 @@
 use Rattle.std.specs.Prelude.{◌≡◌, ⊤, List, ℕ, Result, Ok, Err, Option, Some, None, option_and_then, []}
 use Rattle.std.specs.List.{AllZip}
 use Rattle.std.specs.Option.{IsSomeAnd}
-use Rattle.std.specs.BTreeMap.{BTreeMap, insert_entry}
-use Rattle.std.specs.String.{string_bytes, string_cmp}
+use Rattle.std.specs.String.{string_bytes}
 use Rattle.std.specs.declared.string.String.{String}
 use Rattle.std.specs.declared.alloc.Global.{Global}
 use Rattle.cf_json.specs.Grammar.{Tree}
 use Rattle.cf_json.specs.Spans.{Span, IsAt}
-use Rattle.cf_protocol.specs.Datum.{Who}
 use Rattle.cf_protocol.specs.Fields.{Fields, look_up, unless_null, read_or, as_items}
 use Rattle.cf_protocol.specs.declared.read.members.Members.{Members}
 use Rattle.cf_protocol.specs.declared.fault.ReadFault.{ReadFault}
@@ -79,12 +77,3 @@ abbrev pub Chooses : {K A : Type 0} → List ℕ → (K → Tree → Option A) �
 Chooses text read (Ok r) o = (t : Tree) × IsAt text t r.1 × (o ≡ read r.0 t)
 Chooses text read (Err Bad) o = o ≡ None
 Chooses text read (Err Memory) o = ⊥
-
--- a user more in the map, under this id; Bad only where none is there
-abbrev pub AddsUser : BTreeMap (String Global) (String Global) → BTreeMap (String Global) (String Global) → List ℕ
-    → Result ⊤ ReadFault → Option Who → Type 0
-AddsUser old new id (Ok u) o =
-    IsSomeAnd o (λ who. (k : String Global) × (v : String Global) × (string_bytes k ≡ id)
-    × (string_bytes v ≡ who.user) × (new.entries ≡ insert_entry string_cmp old.entries k v))
-AddsUser old new id (Err Bad) o = o ≡ None
-AddsUser old new id (Err Memory) o = ⊤

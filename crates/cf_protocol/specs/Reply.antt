@@ -83,8 +83,7 @@ pushed (Some p) (Some code) = None
 -- what is pushed, whatever the channel
 abbrev pub pushes_of : Fields → Option (List Pushed)
 pushes_of r =
-    object_or_none code_in r "unsubscribe" >>= λ of_unsubscribe. object_or_none publication r "pub" >>= λ of_pub. pushed
-    of_pub of_unsubscribe
+    object_or_none code_in r "unsubscribe" >>= λ end. object_or_none publication r "pub" >>= λ of_pub. pushed of_pub end
 
 abbrev pub push_from : Fields → Option (List Outgoing)
 push_from r = text r "channel" >>= λ channel. option_map (map (Push channel)) (pushes_of r)

@@ -9,7 +9,8 @@ use Rattle.cf_protocol.specs.declared.write.writer.Writer.{Writer}
 
 -- where no call lacked memory so far, the text is the one before with this piece behind it
 abbrev pub Grows : Writer → Writer → List ℕ → Type 0
-Grows old new piece = new.failed ≡ false → (old.failed ≡ false) × (string_bytes new.text ≡ string_bytes old.text ++ piece)
+Grows old new piece =
+    new.failed ≡ false → (old.failed ≡ false) × (string_bytes new.text ≡ string_bytes old.text ++ piece)
 
 -- a byte that stands for itself in a string
 abbrev pub is_plain : ℕ → Bool

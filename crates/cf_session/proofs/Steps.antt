@@ -15,7 +15,7 @@ use Rattle.cf_session.specs.Script.{Script, Served, Over, Say}
 use Rattle.cf_protocol.specs.Checks.{first_failed, checks}
 use Rattle.cf_session.specs.CommandScripts.{Tables, Brings, frame_script, unless_failed, granted, connect_script, first_script, after_attach}
 use Rattle.cf_session.specs.SessionMachine.{Act, Closes, Progress, Todo, AtHand, at_start, at_reply, Connects, at_attach, at_connected, is_connected, GivesUp, fails, falls_silent, stays_out, HearsText, Acts}
-use Rattle.cf_session.specs.Standing.{Falls, progress_at, idle_at, is_over, tables_of, commands_left, rest_of, progress_of}
+use Rattle.cf_session.specs.Standing.{Falls, progress_at, idle_at, is_over, tables_of, commands_left, rest_of}
 use Rattle.cf_session.specs.Shown.{shown_action}
 use Rattle.cf_session.specs.declared.action.Action.{Action}
 use Rattle.cf_session.specs.declared.session.Session.{Session}
@@ -135,18 +135,3 @@ pub attach_next : (t : Tables) (id : ℕ) (r : Request) (token name : List ℕ) 
     → r ≡ Connect token → user_of t.tokens token ≡ Some name → Connects (first_script t id r after)
 attach_next t id r token name after is known =
     subst (λ (x : Request). Connects (first_script t id x after)) (sym is) (user_next (user_of t.tokens token) name id after known)
-
--- ---- along a frame
-
-pub acts_same : (s t : Tables) (a b : Script) (act : Option Act) (new : Progress) (n : ℕ)
-    → s ≡ t → a ≡ b → Acts s (Todo a) act new n → Acts t (Todo b) act new n
-acts_same s t a b act new n tables scripts h =
-    subst (λ (x : Tables). Acts x (Todo b) act new n) tables (subst (λ (y : Script). Acts s (Todo y) act new n) scripts h)
-
-pub ready_rest : (s : Session) → s.stage ≡ stage.Ready → progress_of s ≡ Todo (rest_of s)
-ready_rest s h = ap (progress_at (tables_of s) (commands_left s) s.client) h
-
--- the script of a frame whose first command was taken off
-pub popped : (t : Tables) (client : Option Who) (items rest : List CodeCommand) (k : CodeCommand)
-    → items ≡ k ∷ rest → frame_script t (shown_command k ∷ map shown_command rest) client ≡ frame_script t (map shown_command items) client
-popped t client items rest k h = sym (ap (λ (xs : List CodeCommand). frame_script t (map shown_command xs) client) h)

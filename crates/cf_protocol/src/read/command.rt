@@ -1,7 +1,7 @@
 //! Commands.
-ghost use Rattle.std.specs.Prelude.{Some, codes};
+ghost use Rattle.std.specs.Prelude.{◌≡◌, Some, codes};
 ghost use Rattle.cf_protocol.specs.Fields.{look_up};
-ghost use Rattle.cf_protocol.specs.Command.{command_of, command_from, named_command, connect, subscribe, publish, history, data_of};
+ghost use Rattle.cf_protocol.specs.Command.{command_of, command_from, named_command, needs_id, connect, subscribe, publish, history, data_of};
 ghost use Rattle.cf_protocol.specs.Methods.{request_as, served};
 ghost use Rattle.cf_protocol.specs.Reading.{Answers, AreMembers, HasValue, OfFields, OfValue};
 ghost use Rattle.cf_protocol.specs.Shown.{shown_command, shown_request, shown_data};
@@ -46,11 +46,18 @@ fn read_named(alloc: Global, members: &Members<'_>) -> Result<Command, ReadFault
 {
     let id = members.whole("id", u64::from(u32::MAX))? as u32;
     let (method, value) = the_method(members)?;
-    if id == 0 && method.is_answered() {
+    let request = read_request(alloc, members.text, method, value)?;
+    if id == 0 && needs_id(&request) {
         return Err(ReadFault::Bad);
     }
-    let request = read_request(alloc, members.text, method, value)?;
     Ok(Command { id, request })
+}
+
+/// Whether a command with this request has an id, by which it is answered.
+fn needs_id(request: &Request) -> bool
+    ensures { result ≡ needs_id (shown_request request.now) }
+{
+    !matches!(request, Request::Send)
 }
 
 /// The request of a method. The value is an object, but for those of which nothing is read: there it may be any.

@@ -1,7 +1,7 @@
 //! The methods of commands.
 ghost use Rattle.std.specs.Prelude.{◌≡◌};
 ghost use Rattle.cf_protocol.specs.Command.{request_of};
-ghost use Rattle.cf_protocol.specs.Methods.{is_answered, method_key, request_as};
+ghost use Rattle.cf_protocol.specs.Methods.{method_key, request_as};
 ghost use Rattle.cf_protocol.specs.Reading.{AreMembers, Chooses, OfFields};
 
 use crate::fault::ReadFault;
@@ -58,13 +58,6 @@ impl Method {
             Method::Refresh => "refresh",
             Method::SubRefresh => "sub_refresh",
         }
-    }
-
-    /// Whether a command of this method has an id, by which it is answered.
-    pub fn is_answered(self) -> bool
-        ensures { result ≡ is_answered self }
-    {
-        !matches!(self, Method::Send)
     }
 }
 

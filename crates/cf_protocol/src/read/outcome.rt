@@ -1,11 +1,11 @@
 //! The results of replies.
 ghost use Rattle.std.specs.FinMap.{from_entries};
-ghost use Rattle.std.specs.Prelude.{◌≡◌, Some, option_map, string_bytes};
+ghost use Rattle.std.specs.Prelude.{◌≡◌, Some, option_map};
 ghost use Rattle.cf_json.specs.Grammar.{Tree};
 ghost use Rattle.cf_protocol.specs.Fields.{Fields, as_object, object_as};
 ghost use Rattle.cf_protocol.specs.Methods.{result_key, outcome_of};
-ghost use Rattle.cf_protocol.specs.Reading.{AddsUser, Answers, AreMembers, Chooses, HasValue, OfFields, OfValue, Reads};
-ghost use Rattle.cf_protocol.specs.Reply.{code_in, connected, counted, info, past, present_users, result_of, subscribed, users_of};
+ghost use Rattle.cf_protocol.specs.Reading.{Answers, AreMembers, Chooses, HasValue, OfFields, OfValue, Reads};
+ghost use Rattle.cf_protocol.specs.Reply.{code_in, connected, counted, past, present_users, result_of, subscribed, users_of};
 ghost use Rattle.cf_protocol.specs.Shown.{shown_outcome, shown_users};
 
 use crate::fault::ReadFault;
@@ -204,23 +204,8 @@ fn read_users(alloc: Global, clients: &Members<'_>) -> Result<BTreeMap<String, S
         if !is_present(clients.text, client.1) {
             continue;
         }
-        add_client(&mut users, alloc, clients.text, client)?;
+        let info = read_client(alloc, clients.text, client.1)?;
+        users.insert(client.0.clone()?, info.user)?;
     }
     Ok(users)
-}
-
-/// The user of a client more, under the client's id.
-fn add_client(
-    users: &mut BTreeMap<String, String>,
-    alloc: Global,
-    text: &str,
-    client: &(String, Span),
-) -> Result<(), ReadFault>
-    requires { HasValue text.now client.now.1 }
-    ensures { OfValue text.now client.now.1 (λ t.
-        AddsUser users.old users.new (string_bytes client.now.0) result (object_as info t)) }
-{
-    let info = read_client(alloc, text, client.1)?;
-    users.insert(client.0.clone()?, info.user)?;
-    Ok(())
 }

@@ -1,8 +1,5 @@
-use Rattle.std.proofs.Common.{◌∙◌, ◌≤◌, sym, length, rules, arith}
+use Rattle.std.proofs.Common.{◌≡◌, ◌∙◌, ◌≤◌, sym, length, string_bytes, rules, arith}
 use Rattle.cf_protocol.specs.Reading.{IsMember}
-use Rattle.cf_protocol.specs.Fields.{object_as}
-use Rattle.cf_protocol.specs.Reply.{info}
-use Rattle.cf_protocol.proofs.Standing.{some_and}
 use Rattle.cf_protocol.proofs.ItemsRead.{beside, zip_length}
 use Rattle.cf_protocol.proofs.Users.{gathered_none, gathered_one, gathered_past, gathered_stops, gathered_all}
 use Rattle.cf_protocol.proofs.read.outcome.read_users.Goals as goal
@@ -14,20 +11,20 @@ is_present-requires c =
     let at = beside (IsMember clients.text.now) clients.found.items c.requires.0 c.loop-client.client-index c.client-item.result c.client-item.result c.requires.1 (rw (← same) c.loop-client-test.true) (rw (← same) c.client-item.is) in
     (at.item.1, at.is.1)
 
-pub add_client-requires : goal.add_client-requires
-add_client-requires c =
+pub read_client-requires : goal.read_client-requires
+read_client-requires c =
     let clients = c.args.clients.now in
     let same = c.deref-client-items.ensures.value in
     let at = beside (IsMember clients.text.now) clients.found.items c.requires.0 c.loop-client.client-index c.client-item.result c.client-item.result c.requires.1 (rw (← same) c.loop-client-test.true) (rw (← same) c.client-item.is) in
     (at.item.1, at.is.1)
 
-pub returns-in_err-add_client : goal.returns-in_err-add_client
-returns-in_err-add_client c t fs is_object reads =
+pub returns-in_err-info : goal.returns-in_err-info
+returns-in_err-info c t fs is_object reads =
     let clients = c.args.clients.now in
     let same = c.deref-client-items.ensures.value in
     let at = beside (IsMember clients.text.now) clients.found.items fs c.loop-client.client-index c.client-item.result c.client-item.result reads (rw (← same) c.loop-client-test.true) (rw (← same) c.client-item.is) in
     let stops = gathered_stops fs c.loop-client.client-index c.loop-client.users at.item (c.loop-client.invariant t fs is_object reads) at.at (sym (c.is_present.ensures at.item.1 at.is.1) ∙ c.if-not-is_present.false) in
-    let was = c.in_err-add_client.ensures at.item.1 at.is.1 in
+    let was = c.in_err-info.ensures at.item.1 at.is.1 in
     search (rules, stops)
 
 pub loop-client-init : goal.loop-client-init
@@ -38,9 +35,10 @@ loop-client-preserved c t fs is_object reads =
     let clients = c.args.clients.now in
     let same = c.deref-client-items.ensures.value in
     let at = beside (IsMember clients.text.now) clients.found.items fs c.loop-client.client-index c.client-item.result c.client-item.result reads (rw (← same) c.loop-client-test.true) (rw (← same) c.client-item.is) in
-    let adds = some_and (object_as info at.item.1) _ (c.in_ok-add_client.ensures at.item.1 at.is.1) in
-    gathered_one fs c.loop-client.client-index c.loop-client.users c.add_client.new.users at.item adds.0 adds.2.0 adds.2.1 (c.loop-client.invariant t fs is_object reads) at.at (sym (c.is_present.ensures at.item.1 at.is.1) ∙ c.if-not-is_present.false) (adds.2.2 ∙ at.is.0) adds.1
-    adds.2.3 adds.2.4
+    let cloned : string_bytes c.in_ok-clone.field-0 ≡ string_bytes c.client-item.result.0 = c.in_ok-clone.ensures.cases in
+    let is_key = cloned ∙ at.is.0 in
+    let is_user : string_bytes c.info.inside.user ≡ c.in_ok-info.info.user = search rules in
+    gathered_one fs c.loop-client.client-index c.loop-client.users c.insert.new.self at.item c.in_ok-info.info c.in_ok-clone.field-0 c.info.inside.user (c.loop-client.invariant t fs is_object reads) at.at (sym (c.is_present.ensures at.item.1 at.is.1) ∙ c.if-not-is_present.false) is_key (c.in_ok-info.ensures at.item.1 at.is.1) is_user c.in_ok-insert.ensures.entries
 
 pub returns : goal.returns
 returns c t fs is_object reads =
