@@ -18,7 +18,7 @@ pub enum TurnEnd {
 }
 
 /// Why a wire is spent.
-#[derive(Clone, Copy, Debug, PartialEq, Eq)]
+#[derive(Clone, Copy)]
 pub enum WireEnd {
     Closed(u16),
     StreamFault,
@@ -39,7 +39,7 @@ impl WireEnd {
 }
 
 /// Where a wire stands.
-#[derive(Clone, Copy, Debug, PartialEq, Eq)]
+#[derive(Clone, Copy)]
 pub enum Stage {
     Open,
     /// A message waits for the stream; a close is given with its code.
