@@ -45,9 +45,10 @@ impl LocalNode {
     ) -> Result<LocalNode, AllocError>
         ensures { IfOk result (λ s. scene_of s ≡ opening namespaces.now epochs) }
     {
+        let streams = Streams::new(alloc, namespaces)?;
         Ok(LocalNode {
             hub: Hub::new(alloc, 0, 1),
-            streams: Streams::new(alloc, namespaces)?,
+            streams,
             presence: Presence::new(alloc),
             epochs,
             number: None,
