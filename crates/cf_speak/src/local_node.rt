@@ -211,9 +211,7 @@ impl Node for LocalNode {
                 Ok(())
             }
             Err(refusal) => {
-                if is_memory(&refusal) {
-                    self.is_short = true;
-                }
+                self.is_short |= is_memory(&refusal);
                 Err(stream_error(&refusal))
             }
         }
@@ -228,9 +226,7 @@ impl Node for LocalNode {
         if !self.hub.is_on(number, channel.as_str()) {
             return;
         }
-        if enter(&self.hub, &mut self.presence, number, channel.as_str()).is_err() {
-            self.is_short = true;
-        }
+        self.is_short |= enter(&self.hub, &mut self.presence, number, channel.as_str()).is_err();
     }
 
     fn leave(&mut self, channel: &str) {
@@ -265,9 +261,7 @@ impl Node for LocalNode {
                 Ok(())
             }
             Err(refusal) => {
-                if is_memory(&refusal) {
-                    self.is_short = true;
-                }
+                self.is_short |= is_memory(&refusal);
                 Err(stream_error(&refusal))
             }
         }
@@ -285,9 +279,7 @@ impl Node for LocalNode {
         {
             Ok(history) => Ok(history),
             Err(refusal) => {
-                if is_memory(&refusal) {
-                    self.is_short = true;
-                }
+                self.is_short |= is_memory(&refusal);
                 Err(stream_error(&refusal))
             }
         }
