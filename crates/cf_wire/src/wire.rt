@@ -206,6 +206,7 @@ impl<S: Read + Write + Drop> Wire<S> {
         match self.socket.read() {
             Ok(message) => {
                 let acted = self.act_on(&message, desk, left);
+                // By a call, since what drops an enum at the end of its block is proved here for each of its variants.
                 drop(message);
                 acted
             }
@@ -339,6 +340,7 @@ impl<S: Read + Write + Drop> Wire<S> {
     {
         let waits = would_block(&error);
         let end = end_of(&error);
+        // Once, and before the ways part.
         drop(error);
         if waits {
             self.stage = stage;
