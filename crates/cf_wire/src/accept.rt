@@ -159,10 +159,7 @@ fn refuse<S: Write>(mut stream: S, refusal: Refusal) -> Refused<S>
     ensures fault { result.fault ≡ WireFault.Handshake }
     ensures tells { Tells S.contents stream refusal result }
 {
-    let answered = match tell(&mut stream, refusal.answer()) {
-        Ok(()) => true,
-        Err(_) => false,
-    };
+    let answered = tell(&mut stream, refusal.answer()).is_ok();
     Refused {
         fault: WireFault::Handshake,
         stream,
