@@ -180,6 +180,16 @@ pub none_mapped : {X Y : Type 0} (f : X → Y) (o : Option X) → option_map f o
 none_mapped f None e = refl
 none_mapped f (Some x) e = absurd (cc (e))
 
+-- what a publish repeats is asked by the text of its key
+pub none_asked : (k : StreamMap) (c text key : List ℕ) (o : Option Position) (b : Bool) → text ≡ key → o ≡ repeat_at (stream_of k c) text → b ≡ is_some o → b ≡ false
+    → repeat_at (stream_of k c) key ≡ None
+none_asked k c text key None b same is asked found = ap (repeat_at (stream_of k c)) (sym same) ∙ sym is
+none_asked k c text key (Some p) b same is asked found = absurd (cc (asked, found))
+
+pub some_asked : (k : StreamMap) (c text key : List ℕ) (o : Option Position) (b : Bool) → text ≡ key → o ≡ repeat_at (stream_of k c) text → b ≡ is_some o → b ≡ true
+    → is_some (repeat_at (stream_of k c) key) ≡ true
+some_asked k c text key o b same is asked found = ap (λ t. is_some (repeat_at (stream_of k c) t)) (sym same) ∙ (ap is_some (sym is) ∙ (sym asked ∙ found))
+
 -- a stream that opens remembers nothing
 opened_new : (o : Option Shown) (e key : List ℕ) (size : ℕ) → repeat_at o key ≡ None → repeated_by (stood_or o e size) key ≡ None
 opened_new None e key size new = elim (is_no_key key) as (λ b. cond {A = Option ℕ} b None None ≡ None) [ true ↦ refl | false ↦ refl ]

@@ -1,6 +1,6 @@
 -- Why a publish or a history is refused, and what it leaves then.
-use Rattle.std.proofs.Common.{◌≡◌, ◌≢◌, ◌↔◌, ℕ, ◌+◌, ◌<◌, ◌^◌, List, [], ◌∷◌, length, Option, Some, None, Result, Err, refl, sym, ap, ◌∙◌, subst, arith}
-use Rattle.std.specs.Prelude.{IsErrOf, IfErr}
+use Rattle.std.proofs.Common.{◌≡◌, ◌≢◌, ◌↔◌, ℕ, ◌+◌, ◌<◌, ◌^◌, List, [], ◌∷◌, length, Option, Some, None, Result, Ok, Err, refl, sym, ap, ◌∙◌, subst, arith}
+use Rattle.std.specs.Prelude.{IsErrOf, IfErr, IfOk, IsErrAnd, MatchResult}
 use Rattle.std.specs.Option.{option_map}
 use mathlib.Core.List.{IsPrefix}
 use Rattle.cf_protocol.specs.Datum.{Datum}
@@ -60,6 +60,17 @@ module _ {E : Type 0} (draws : Draw E) (c key : List ℕ) (d : Datum) (old new :
       (subst (λ (l : Lent E). DrawsToOpen {X = Published} draws (stream_of l.streams c) l.epochs new.epochs (Err x) (λ p. p.position.epoch)) same
       (subst (λ (l : E). DrawsToOpen {X = Published} draws (stream_of mid.streams c) l new.epochs (Err x) (λ p. p.position.epoch)) at draw)))
 
+  -- the streams accepted it
+  pub refused_none : (mid : Lent E) (p : Published) → mid ≡ old → StreamRefuses (stream_of mid.streams c) key (Ok p) → RefusalsOfPublish draws c key d old new (Ok p)
+  refused_none mid p same refuses =
+      subst (λ (l : Lent E). RefusalsOfPublish draws c key d l new (Ok p)) same (record {
+        repeat = λ q is. let again = refuses.repeat q is in cc (again);
+        last = (λ is. absurd (cc (is)), λ at. absurd (cc (refuses.last.1 at)));
+        no_epoch = λ is. absurd (cc (is));
+        count = λ is. absurd (cc (is));
+        never = tt;
+      })
+
 module _ {E : Type 0} (draws : Draw E) (c : List ℕ) (since : Option Position) (old new : Lent E) where
   -- the streams refused a history
   history_refused_as : (x : StreamRefusal) → HistoryRefuses (stream_of old.streams c) since (Err x) → DrawsToOpen {X = History} draws (stream_of old.streams c) old.epochs new.epochs (Err x) (λ h. h.position.epoch)
@@ -114,6 +125,17 @@ left_all {E} {L} mid old new links p q x e r same is named streams log epochs se
     } in
     subst (λ r. IfErr r (LeavesAll old new links links p q)) to (subst (λ (l : Lent E). LeavesAll l new links links p q (refused_of x)) same all)
 
+-- what a call leaves that was refused before it asked the streams
+pub left_early : {E L : Type 0} (mid old new : Lent E) (links : L) (p q : PassState) (e : Refused) (r : Result Published Refused) → mid ≡ old → r ≡ Err e
+    → new.streams ≡ mid.streams → new.log ≡ mid.log → new.epochs ≡ mid.epochs → IsPrefix p.log mid.log → q ≡ caught_up p mid.log → IfErr r (LeavesAll old new links links p q)
+left_early {E} {L} mid old new links p q e r same is streams log epochs seen at =
+    let all : LeavesAll mid new links links p q e = record {
+      lent = record { streams = streams; log = log; undrawn = λ other. epochs };
+      links = refl;
+      seen = followed p q mid.log seen at;
+    } in
+    subst (λ r. IfErr r (LeavesAll old new links links p q)) (sym is) (subst (λ (l : Lent E). LeavesAll l new links links p q e) same all)
+
 -- a publish that repeats nothing is at the last offset where its stream is
 at_last : (o : Option Shown) (key : List ℕ) → repeat_at o key ≡ None → (option_map (λ (p : Position). p.offset) (option_map position_of o) ≡ Some last_offset) ↔ IsAtLast o key
 at_last None key new = (λ e. absurd (cc (e)), λ h. absurd h)
@@ -148,3 +170,10 @@ refused_early {E} {T} draws c key d mid old new x r count position stood same is
       never = other.0;
     } in
     subst (λ (l : Lent E). RefusalsOfPublish draws c key d l new r) same (subst (RefusalsOfPublish draws c key d mid new) (sym is) here)
+
+-- what an answer says is kept where its refusal is named anew
+pub named_ok : {T D E : Type 0} (r : Result T E) (s : Result T D) (Named : E → D → Type 0) (P Q : T → Type 0)
+    → MatchResult r (λ x. s ≡ Ok x) (λ e. IsErrAnd s (Named e)) → ((x : T) → P x → Q x) → IfOk r P → IfOk s Q
+named_ok (Ok x) s Named P Q is f h = subst (λ s. IfOk s Q) (sym is) (f x h)
+named_ok (Err e) (Ok y) Named P Q is f h = absurd is
+named_ok (Err e) (Err d) Named P Q is f h = tt

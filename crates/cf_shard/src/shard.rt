@@ -386,7 +386,9 @@ impl<N: Naming, E: Epochs, const I: usize> Shard<N, E, I> {
         }) }
         ensures err { IfErr result (λ e. (e ≡ Refused.Memory) × (self.new ≡ self.old)) }
     {
-        Ok(self.presence.enter(channel, client, user, now)?)
+        self.presence
+            .enter(channel, client, user, now)
+            .map_err(Refused::from)
     }
 
     /// A client leaves a channel. Where it isn't there nothing changes. It takes no memory.
@@ -403,7 +405,7 @@ impl<N: Naming, E: Epochs, const I: usize> Shard<N, E, I> {
             shown_users users ≡ users_of (clients_of self.now.presence channel.now)) }
         ensures err { IfErr result (λ e. e ≡ Refused.Memory) }
     {
-        Ok(self.presence.list(channel)?)
+        self.presence.list(channel).map_err(Refused::from)
     }
 
     /// How many clients are there in a channel, and how many different users. It takes no memory.

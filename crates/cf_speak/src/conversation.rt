@@ -153,17 +153,17 @@ fn write_waiting<W: Write>(
     ensures outside { IfErr result (λ fault. fault ≢ SpeakFault.NotUtf8) }
 {
     while let Some(out) = node.take() {
-        write_one(alloc, writer, &out)?;
+        write_one(alloc, writer, out)?;
     }
     match node.turned_away() {
-        Some(code) => write_one(alloc, writer, &Out::Close(code.code())),
+        Some(code) => write_one(alloc, writer, Out::Close(code.code())),
         None => Ok(()),
     }
 }
 
-fn write_one<W: Write>(alloc: Global, writer: &mut W, out: &Out) -> Result<(), SpeakFault>
+fn write_one<W: Write>(alloc: Global, writer: &mut W, out: Out) -> Result<(), SpeakFault>
     ensures written { OnOk result
-        (Appends (W.contents writer.old) (W.contents writer.new) (line_of (meaning out.now))) }
+        (Appends (W.contents writer.old) (W.contents writer.new) (line_of (meaning out))) }
     ensures outside { IfErr result (λ fault. fault ≢ SpeakFault.NotUtf8) }
 {
     let line = line_of(alloc, out)?;
@@ -172,13 +172,13 @@ fn write_one<W: Write>(alloc: Global, writer: &mut W, out: &Out) -> Result<(), S
 }
 
 // The line that tells of a text or a close.
-fn line_of(alloc: Global, out: &Out) -> Result<String, AllocError>
-    ensures { IfOk result (λ line. string_bytes line ≡ line_of (meaning out.now)) }
+fn line_of(alloc: Global, out: Out) -> Result<String, AllocError>
+    ensures { IfOk result (λ line. string_bytes line ≡ line_of (meaning out)) }
 {
     match out {
         Out::Text(text) => format!(in alloc; "{text}\n"),
         Out::Close(code) => {
-            let reason = close_reason(*code);
+            let reason = close_reason(code);
             format!(in alloc; "close {code} {reason}\n")
         }
     }

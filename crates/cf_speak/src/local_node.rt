@@ -45,9 +45,10 @@ impl LocalNode {
     ) -> Result<LocalNode, AllocError>
         ensures { IfOk result (λ s. scene_of s ≡ opening namespaces.now epochs) }
     {
+        let streams = Streams::new(alloc, namespaces)?;
         Ok(LocalNode {
             hub: Hub::new(alloc, 0, 1),
-            streams: Streams::new(alloc, namespaces)?,
+            streams,
             presence: Presence::new(alloc),
             epochs,
             number: None,
@@ -210,9 +211,7 @@ impl Node for LocalNode {
                 Ok(())
             }
             Err(refusal) => {
-                if is_memory(&refusal) {
-                    self.is_short = true;
-                }
+                self.is_short |= is_memory(&refusal);
                 Err(stream_error(&refusal))
             }
         }
@@ -227,9 +226,7 @@ impl Node for LocalNode {
         if !self.hub.is_on(number, channel.as_str()) {
             return;
         }
-        if enter(&self.hub, &mut self.presence, number, channel.as_str()).is_err() {
-            self.is_short = true;
-        }
+        self.is_short |= enter(&self.hub, &mut self.presence, number, channel.as_str()).is_err();
     }
 
     fn leave(&mut self, channel: &str) {
@@ -264,9 +261,7 @@ impl Node for LocalNode {
                 Ok(())
             }
             Err(refusal) => {
-                if is_memory(&refusal) {
-                    self.is_short = true;
-                }
+                self.is_short |= is_memory(&refusal);
                 Err(stream_error(&refusal))
             }
         }
@@ -284,9 +279,7 @@ impl Node for LocalNode {
         {
             Ok(history) => Ok(history),
             Err(refusal) => {
-                if is_memory(&refusal) {
-                    self.is_short = true;
-                }
+                self.is_short |= is_memory(&refusal);
                 Err(stream_error(&refusal))
             }
         }

@@ -31,7 +31,9 @@ fn drawn<E: Epochs>(epochs: &mut E) -> Option<Epoch>
     ensures some { IfSome result (λ e. DrawsEpoch E.draws e epochs.old epochs.new) }
     ensures none { IfNone result (DrawsNone E.draws epochs.old epochs.new) }
 {
-    let epoch = epochs.draw()?;
+    let Some(epoch) = epochs.draw() else {
+        return None;
+    };
     if epoch.is_empty() { None } else { Some(epoch) }
 }
 
@@ -56,8 +58,7 @@ pub(crate) fn open_idle<E: Epochs>(
         → (e ≡ StreamRefusal.Memory) × (epochs.new ≡ epochs.old)) }
     ensures err { OnErr result ((q : List ℕ) → get_by_text map.new q ≡ get_by_text map.old q) }
 {
-    let mut stream = Stream::unnamed(alloc, size)?;
-    stream.touch(now);
+    let stream = Stream::unnamed(alloc, size, now)?;
     open(map, epochs, alloc, channel, stream)
 }
 
@@ -90,8 +91,8 @@ pub(crate) fn publish_new<E: Epochs>(
         → (e ≡ StreamRefusal.Memory) × (epochs.new ≡ epochs.old)) }
     ensures err { OnErr result ((q : List ℕ) → get_by_text map.new q ≡ get_by_text map.old q) }
 {
-    let mut stream = Stream::unnamed(alloc, size)?;
-    stream.append(body, key, info, now)?;
+    let mut stream = Stream::unnamed(alloc, size, now)?;
+    stream.publish(body, key, info, now)?;
     let position = open(map, epochs, alloc, channel, stream)?;
     Ok(Published {
         position,

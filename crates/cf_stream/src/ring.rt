@@ -115,7 +115,7 @@ fn block_of_one<T: Drop>(alloc: Global) -> Result<Box<HeapCircularBuffer<T>>, Al
     ensures { IfOk result (λ b. b.value ≡ buffer [] 1) }
 {
     let block = HeapCircularBuffer::with_capacity(alloc, 1)?;
-    Ok(Box::new(alloc, block)?)
+    Box::new(alloc, block).map_err(AllocError::from)
 }
 
 /// Makes room for one item more in a block, where `size` allows it.
@@ -159,7 +159,7 @@ pub(crate) fn copies(
     for i in 0..count {
         match ring.get(from + i) {
             None => unreachable!(),
-            Some(publication) => copies.push(publication.copied()?)?,
+            Some(publication) => copies.push_reserved(publication.copied()?),
         }
     }
     Ok(copies)

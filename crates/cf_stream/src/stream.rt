@@ -85,7 +85,7 @@ impl Stream {
         ensures started { IfOk result (λ s. s ≡ started epoch size 0) }
         ensures list { IfOk result (λ s. Shows s (opened epoch)) }
     {
-        after_top(alloc, epoch, size, 0)
+        after_top(alloc, epoch, size, 0, 0)
     }
 
     /// A stream whose first `top` publications are gone, so that it holds nothing.
@@ -102,24 +102,25 @@ impl Stream {
         ensures list { IfOk result (λ s. (ds : List Datum) → length ds ≡ top
             → Shows s (record { epoch = epoch; list = ds; keys = unkeyed ds; held = 0 })) }
     {
-        after_top(alloc, epoch, size, top)
+        after_top(alloc, epoch, size, top, 0)
     }
 
-    /// A stream that is still to be given its epoch.
-    pub(crate) fn unnamed(alloc: Global, size: usize) -> Result<Stream, AllocError>
+    /// A stream that is used at a moment, and is still to be given its epoch.
+    pub(crate) fn unnamed(alloc: Global, size: usize, now: u64) -> Result<Stream, AllocError>
         requires { (1 ≤ size) × (size ≤ LARGEST_SIZE) }
-        ensures { IfOk result (λ s. s ≡ started [] size 0) }
+        ensures { IfOk result (λ s. s ≡ used_at (started [] size 0) now) }
     {
-        after_top(alloc, Epoch::none(), size, 0)
+        after_top(alloc, Epoch::none(), size, 0, now)
     }
 
     /// The stream's epoch and the offset of the last publication in it, 0 where there was none.
     pub fn position(&self) -> Position
         ensures { result ≡ position_of self.now }
     {
+        let inner = self.inner.as_ref();
         Position {
-            epoch: self.inner.epoch,
-            offset: self.inner.top,
+            epoch: inner.epoch,
+            offset: inner.top,
         }
     }
 
@@ -135,13 +136,6 @@ impl Stream {
         ensures { self.new ≡ in_epoch epoch self.old }
     {
         self.inner.epoch = epoch;
-    }
-
-    /// A use at a moment.
-    pub(crate) fn touch(&mut self, now: u64)
-        ensures { self.new ≡ used_at self.old now }
-    {
-        self.inner.used = now;
     }
 
     /// Where the publication stands that a publish with this key repeats, if it repeats one. It takes no memory.
@@ -192,55 +186,37 @@ impl Stream {
             AnswersPublish self.old (string_bytes key) p.position p.repeated) }
     {
         if let Some(offset) = self.repeated_by(key.as_str()) {
-            let position = Position {
-                epoch: self.inner.epoch,
-                offset,
-            };
-            self.touch(now);
+            let inner = self.inner.as_mut();
+            inner.used = now;
             return Ok(Published {
-                position,
+                position: Position {
+                    epoch: inner.epoch,
+                    offset,
+                },
                 repeated: true,
             });
         }
-        if self.inner.top == LAST_OFFSET {
+        let inner = self.inner.as_mut();
+        if inner.top == LAST_OFFSET {
             return Err(StreamRefusal::AtLastOffset);
         }
-        let position = self.append(body, key, info, now)?;
-        Ok(Published {
-            position,
-            repeated: false,
-        })
-    }
-
-    /// Appends a publication. All room is made before anything changes.
-    pub(crate) fn append(
-        &mut self,
-        body: String,
-        key: String,
-        info: Option<Info>,
-        now: u64,
-    ) -> Result<Position, AllocError>
-        requires { self.old.top < LAST_OFFSET }
-        ensures ok { OnOk result
-            (self.new ≡ pushed self.old (string_bytes key) (datum_of body info) now) }
-        ensures position { IfOk result (λ p. p ≡ position_of self.new) }
-        ensures err { OnErr result (self.new ≡ self.old) }
-        ensures newest { OnOk result (newest_of self.new
-            ≡ Some (record { offset = self.old.top + 1; datum = datum_of body info })) }
-    {
-        let inner = self.inner.as_mut();
+        // All room is made before anything changes.
         inner.recent.make_room(inner.alloc, key.as_str())?;
         inner.ring.make_room(inner.alloc, inner.size as usize)?;
         let offset = inner.top + 1;
-        let publication = Publication { offset, body, info };
         inner.recent.remember(key, offset);
-        inner.ring.put(inner.size as usize, publication);
+        inner
+            .ring
+            .put(inner.size as usize, Publication { offset, body, info });
         inner.top = offset;
         inner.published = now;
         inner.used = now;
-        Ok(Position {
-            epoch: inner.epoch,
-            offset,
+        Ok(Published {
+            position: Position {
+                epoch: inner.epoch,
+                offset,
+            },
+            repeated: false,
         })
     }
 
@@ -270,7 +246,9 @@ impl Stream {
     fn missed_since(&self, since: Option<Position>) -> Option<usize>
         ensures { SomeIff result (RecoversFrom self.now since) (missed_from self.now since) }
     {
-        let since = since?;
+        let Some(since) = since else {
+            return None;
+        };
         let inner = self.inner.as_ref();
         if since.epoch != inner.epoch || since.offset > inner.top {
             return None;
@@ -401,10 +379,11 @@ impl Stream {
     pub(crate) fn due(&self, now: u64, seconds: u64) -> Option<Due>
         ensures { result ≡ due_of now seconds self.now }
     {
-        if has_passed(self.inner.used, UNUSED_SECONDS, now) {
+        let inner = self.inner.as_ref();
+        if has_passed(inner.used, UNUSED_SECONDS, now) {
             return Some(Due::Forget);
         }
-        if has_passed(self.inner.published, seconds, now) && !self.inner.ring.is_empty() {
+        if has_passed(inner.published, seconds, now) && !inner.ring.is_empty() {
             return Some(Due::Empty);
         }
         None
@@ -414,11 +393,12 @@ impl Stream {
     pub(crate) fn due_from(&self, seconds: u64) -> u64
         ensures { IsQuiet result seconds self.now }
     {
-        let unused = self.inner.used.saturating_add(UNUSED_SECONDS);
-        if self.inner.ring.is_empty() {
+        let inner = self.inner.as_ref();
+        let unused = inner.used.saturating_add(UNUSED_SECONDS);
+        if inner.ring.is_empty() {
             unused
         } else {
-            unused.min(self.inner.published.saturating_add(seconds))
+            unused.min(inner.published.saturating_add(seconds))
         }
     }
 
@@ -430,18 +410,24 @@ impl Stream {
     }
 }
 
-/// A stream in this epoch, or in none yet, that holds nothing.
-fn after_top(alloc: Global, epoch: Epoch, size: usize, top: u64) -> Result<Stream, AllocError>
+/// A stream in this epoch, or in none yet, that holds nothing and is used at a moment.
+fn after_top(
+    alloc: Global,
+    epoch: Epoch,
+    size: usize,
+    top: u64,
+    used: u64,
+) -> Result<Stream, AllocError>
     requires sized { (1 ≤ size) × (size ≤ LARGEST_SIZE) }
     requires top_fits { top ≤ LAST_OFFSET }
-    ensures { IfOk result (λ s. s ≡ started epoch size top) }
+    ensures { IfOk result (λ s. s ≡ used_at (started epoch size top) used) }
 {
     let inner = Inner {
         epoch,
         size: size as u16,
         top,
         published: 0,
-        used: 0,
+        used,
         ring: Ring::new(),
         recent: RecentKeys::new(),
         alloc,

@@ -48,44 +48,19 @@ pub(crate) fn grow(ends: &mut EndsByNumber, number: u32, at: At)
     }
 }
 
-/// Other ends of a number's list. It takes no memory.
-fn put(ends: &mut EndsByNumber, number: u32, changed: Ends)
-    requires { IsSome (get nat_eq ends.old number) }
-    ensures { SetsAt ends.old ends.new number (Some changed) }
-{
-    match ends.insert(number, changed) {
-        Ok(_) => {}
-        Err(_) => unreachable!(),
-    }
-}
-
 /// A block is unlinked from a number's list, where these lie before it and after it. It takes no memory.
 pub(crate) fn shrink(ends: &mut EndsByNumber, number: u32, before: Option<At>, after: Option<At>)
     ensures { SetsAt ends.old ends.new number (shrunk (get nat_eq ends.old number) before after) }
 {
-    let Some(old) = ends.get(&number).copied() else {
+    let Some(old) = ends.get_mut(&number) else {
         return;
     };
     match (before, after) {
         (None, None) => {
             ends.remove(&number);
         }
-        (None, Some(first)) => put(
-            ends,
-            number,
-            Ends {
-                first,
-                last: old.last,
-            },
-        ),
-        (Some(last), None) => put(
-            ends,
-            number,
-            Ends {
-                first: old.first,
-                last,
-            },
-        ),
+        (None, Some(first)) => old.first = first,
+        (Some(last), None) => old.last = last,
         (Some(_), Some(_)) => {}
     }
 }

@@ -13,7 +13,7 @@ use crate::refusal::SubRefusal;
 use crate::seat::Seat;
 use crate::seats::Seats;
 use crate::table::Row;
-use std::alloc::{AllocError, Global};
+use std::alloc::Global;
 use std::collections::HashMap;
 
 /// The rows' blocks, and where the list of each channel and of each session begins and ends.
@@ -34,17 +34,6 @@ impl LinkedRows {
             channels: HashMap::new(alloc),
             sessions: HashMap::new(alloc),
         }
-    }
-
-    /// Makes room for the ends of one more list of each kind.
-    fn reserve(&mut self) -> Result<(), AllocError>
-        requires whole { IsWhole self.old }
-        ensures whole { IsWhole self.new }
-        ensures held { blocks_of self.new ≡ blocks_of self.old }
-        ensures room { OnOk result (HasRoom self.new) }
-    {
-        self.channels.reserve(1)?;
-        self.sessions.reserve(1)
     }
 
     /// What the block of a row will hold that is linked in behind all others.
@@ -70,7 +59,8 @@ impl LinkedRows {
         ensures err { OnErr result (rows_in self.new ≡ rows_in self.old) }
         ensures memory { OnErr result (IsErrOf result SubRefusal.Memory) }
     {
-        self.reserve()?;
+        self.channels.reserve(1)?;
+        self.sessions.reserve(1)?;
         let block = Box::new(alloc, self.unlinked(row))?;
         self.link(block);
         Ok(())

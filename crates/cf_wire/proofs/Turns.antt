@@ -16,7 +16,6 @@ use Rattle.cf_wire.specs.Turn.{Event, heard, passed, ended, rejected, failed, no
 use Rattle.cf_wire.specs.declared.end.Stage.{Stage}
 use Rattle.cf_wire.specs.declared.end.Stage.TheVariants.{Open, Unflushed, Over}
 use Rattle.cf_wire.specs.declared.end.WireEnd.{WireEnd}
-use Rattle.cf_wire.specs.declared.end.WireEnd.TheVariants as wire
 use Rattle.cf_wire.specs.declared.end.TurnEnd.{TurnEnd}
 use Rattle.cf_wire.specs.declared.end.TurnEnd.TheVariants as turn
 
@@ -370,6 +369,15 @@ module _ {D S : Type 0} (hears : D → List ℕ → D → Type 0) (gives : D →
 
   stage_at : (u v : WireState S) → u ≡ v → v.stage ≡ Open → u.stage ≡ Open
   stage_at u v same is = ap (λ (x : WireState S). x.stage) same ∙ is
+
+  -- a message was acted on at the stage that was found
+  pub acted_turns : (low high left rest : ℕ) (mark : Mark) (d : D) (u v : WireState S) (q : Place D S) → u ≡ v → v.stage ≡ Open
+      → Part hears gives ready remaining contents low high left rest mark (place d (record { socket = u.socket; stage = Open })) q
+      → Part hears gives ready remaining contents low high left rest mark (place d v) q
+  acted_turns low high left rest mark d u v q same is h =
+      let found : WireState S = record { socket = u.socket; stage = Open } in
+      let at : found ≡ u = λ i. record { socket = u.socket; stage = sym (stage_at u v same is) i } in
+      turns_at low high left rest mark d found v q (at ∙ same) h
 
   pub heard_turns : (d e : D) (u v w : WireState S) (m : Message) (t : List ℕ) (left rest : ℕ) → u ≡ v → v.stage ≡ Open → ready d ≡ true → 0 < left → w.stage ≡ u.stage
       → Reads remaining u.socket w.socket (Ok m) → content_of m ≡ text t → hears d t e → rest ≡ left - length t

@@ -20,10 +20,9 @@ use Rattle.cf_queue.specs.declared.queue.Out.TheVariants.{Text, Close}
 use Rattle.cf_wire.specs.CloseFrame.{frame_of}
 use Rattle.cf_wire.specs.Stages.{WireState, after, close_in, settled}
 use Rattle.cf_wire.specs.declared.end.Stage.{Stage}
-use Rattle.cf_wire.specs.declared.end.Stage.TheVariants.{Open, Unflushed, Over}
+use Rattle.cf_wire.specs.declared.end.Stage.TheVariants.{Open, Unflushed}
 use Rattle.cf_wire.specs.declared.end.TurnEnd.{TurnEnd}
 use Rattle.cf_wire.specs.declared.end.TurnEnd.TheVariants as turn
-use Rattle.cf_wire.specs.declared.end.WireEnd.TheVariants as wire
 
 pub data Event : Type 0 where
   -- a text message was read, and heard

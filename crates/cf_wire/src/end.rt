@@ -3,7 +3,7 @@ ghost use Rattle.std.specs.Prelude.{◌≡◌};
 ghost use Rattle.cf_wire.specs.Stages.{told};
 
 /// How a turn ended.
-#[derive(Clone, Copy, Debug, PartialEq, Eq)]
+#[derive(Clone, Copy, PartialEq, Eq)]
 pub enum TurnEnd {
     /// The stream gives nothing more by now, or takes nothing more: the wire waits for it.
     Idle,
@@ -18,7 +18,7 @@ pub enum TurnEnd {
 }
 
 /// Why a wire is spent.
-#[derive(Clone, Copy, Debug, PartialEq, Eq)]
+#[derive(Clone, Copy)]
 pub enum WireEnd {
     Closed(u16),
     StreamFault,
@@ -39,7 +39,7 @@ impl WireEnd {
 }
 
 /// Where a wire stands.
-#[derive(Clone, Copy, Debug, PartialEq, Eq)]
+#[derive(Clone, Copy)]
 pub enum Stage {
     Open,
     /// A message waits for the stream; a close is given with its code.

@@ -54,10 +54,8 @@ pub(crate) fn read_head<S: Read>(
         let from = head.len();
         head.extend_from_slice(&chunk[..count])?;
         if let Some(end) = head_end(head.as_slice(), from) {
-            if end > LONGEST_HEAD {
-                return Ok((head, None));
-            }
-            return Ok((head, Some(end)));
+            let end = if end > LONGEST_HEAD { None } else { Some(end) };
+            return Ok((head, end));
         }
     }
     Ok((head, None))

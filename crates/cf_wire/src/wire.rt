@@ -1,7 +1,7 @@
 //! A WebSocket, turn by turn.
-ghost use Rattle.std.specs.Prelude.{◌≡◌, ◌<◌, true, false, None, Some, OnOk, IfErr};
+ghost use Rattle.std.specs.Prelude.{◌≡◌, ◌<◌, true, false, None, Some, Ok, OnOk, IfErr};
 ghost use Rattle.tungstenite.specs.Content.{close};
-ghost use Rattle.tungstenite.specs.Socket.{Flushed, close_of};
+ghost use Rattle.tungstenite.specs.Socket.{Flushed, Reads, Socket, close_of};
 ghost use Rattle.cf_queue.specs.declared.queue.Out.TheVariants as out;
 ghost use Rattle.cf_wire.specs.Stages.{is_unflushed, is_over, waits_by, end_by, after, settled, told, Agrees, Halts, Stops};
 ghost use Rattle.cf_wire.specs.Turn.{Part, Turns, Settles, FlushLeaves, place, taken_in, read_in, mark_of, mark_emptied, mark_given, code_in};
@@ -204,22 +204,51 @@ impl<S: Read + Write + Drop> Wire<S> {
         ensures ends { IfErr result (λ end. Halts end self.new.stage) }
     {
         match self.socket.read() {
-            Ok(Message::Text(text)) => {
+            Ok(message) => {
+                let acted = self.act_on(&message, desk, left);
+                // By a call, since what drops an enum at the end of its block is proved here for each of its variants.
+                drop(message);
+                acted
+            }
+            Err(Error::Capacity(_)) => self.shut(CloseCode::BadRequest.code()),
+            Err(error) => Err(self.pause(error, Stage::Open)),
+        }
+    }
+
+    /// Does what a message asks for that was read.
+    fn act_on<D: Desk>(
+        &mut self,
+        message: &Message,
+        desk: &mut D,
+        left: &mut usize,
+    ) -> Result<(), TurnEnd>
+        requires open { self.old.stage ≡ Stage.Open }
+        requires ready { D.ready desk.old ≡ true }
+        requires room { 0 < left.old }
+        ensures turns { (before : Socket S)
+            → Reads S.remaining before self.old.socket (Ok message.now)
+            → Part D.hears D.gives D.ready S.remaining S.contents (read_in result) 1
+            left.old left.new (mark_of result)
+            (place desk.old (record { socket = before; stage = Stage.Open }))
+            (place desk.new self.new) }
+        ensures open { OnOk result (self.new.stage ≡ Stage.Open) }
+        ensures ends { IfErr result (λ end. Halts end self.new.stage) }
+    {
+        match message {
+            Message::Text(text) => {
                 let words = text.as_str();
                 desk.heard(words);
                 *left = left.saturating_sub(words.len());
                 Ok(())
             }
-            Ok(Message::Binary(_)) => self.shut(CloseCode::BadRequest.code()),
-            Ok(Message::Ping(_)) => Ok(()),
-            Ok(Message::Pong(_)) => Ok(()),
-            Ok(Message::Close(frame)) => {
-                let code = code_of(&frame);
+            Message::Binary(_) => self.shut(CloseCode::BadRequest.code()),
+            Message::Ping(_) => Ok(()),
+            Message::Pong(_) => Ok(()),
+            Message::Close(frame) => {
+                let code = code_of(frame);
                 self.stage = Stage::Unflushed(Some(code));
                 self.flush(Some(code))
             }
-            Err(Error::Capacity(_)) => self.shut(CloseCode::BadRequest.code()),
-            Err(error) => Err(self.pause(&error, Stage::Open)),
         }
     }
 
@@ -268,7 +297,7 @@ impl<S: Read + Write + Drop> Wire<S> {
     {
         match self.socket.flush() {
             Ok(()) => self.reopen(close),
-            Err(error) => Err(self.pause(&error, Stage::Unflushed(close))),
+            Err(error) => Err(self.pause(error, Stage::Unflushed(close))),
         }
     }
 
@@ -282,7 +311,7 @@ impl<S: Read + Write + Drop> Wire<S> {
     {
         match answer {
             Ok(()) => self.reopen(close),
-            Err(error) => Err(self.pause(&error, Stage::Unflushed(close))),
+            Err(error) => Err(self.pause(error, Stage::Unflushed(close))),
         }
     }
 
@@ -303,17 +332,21 @@ impl<S: Read + Write + Drop> Wire<S> {
     }
 
     /// The socket failed: where the stream would block the wire is left at this stage, else it is spent.
-    fn pause(&mut self, error: &Error, stage: Stage) -> TurnEnd
+    fn pause(&mut self, error: Error, stage: Stage) -> TurnEnd
         requires { is_over stage ≡ false }
         ensures same { self.new.socket ≡ self.old.socket }
-        ensures left { self.new.stage ≡ after error.now stage }
+        ensures left { self.new.stage ≡ after error stage }
         ensures halts { Halts result self.new.stage }
     {
-        if would_block(error) {
+        let waits = would_block(&error);
+        let end = end_of(&error);
+        // Once, and before the ways part.
+        drop(error);
+        if waits {
             self.stage = stage;
             return TurnEnd::Idle;
         }
-        self.stop(end_of(error))
+        self.stop(end)
     }
 
     fn stop(&mut self, end: WireEnd) -> TurnEnd

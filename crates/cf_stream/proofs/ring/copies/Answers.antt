@@ -5,4 +5,8 @@ use Rattle.cf_stream.proofs.ring.copies.Goals as goal
 pub loop-i-preserved : goal.loop-i-preserved
 loop-i-preserved c =
     let e = copied_more c.args.ring.now.items c.args.from c.loop-i.i _ (sym c.in-Some.ensures) in
-    cc (e, c.in_ok-push-in-Some.ensures.items, c.in_ok-copied-in-Some.ensures, c.loop-i.invariant)
+    let at = c.loop-i.invariant.copied in
+    record {
+      copied = cc (e, c.push_reserved.ensures.items, c.in_ok-copied-in-Some.ensures, at);
+      roomy = rw c.push_reserved.ensures.capacity c.loop-i.invariant.roomy;
+    }

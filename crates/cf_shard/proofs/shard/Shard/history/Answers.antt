@@ -1,4 +1,4 @@
-use Rattle.std.proofs.Common.{rules, ℤ, ◌≡◌, ◌++◌, [], ap, subst, w32, ◌∙◌}
+use Rattle.std.proofs.Common.{sym, ℤ, ◌≡◌, ◌++◌, [], ap, subst, w32, ◌∙◌}
 use Rattle.std.proofs.lemmas.Result.{err_from_is_err_and}
 use Rattle.std.proofs.lemmas.Int.{to_z-of_z}
 use Rattle.cf_stream.specs.ChannelLists.{ListsAt}
@@ -56,7 +56,7 @@ pub returns-clause-makes : goal.returns-clause-makes
 returns-clause-makes g c = record {
   streams = rw (← c.self.view_is) c.in_ok-history.ensures.makes;
   log = rw (← c.self.view_is) (made g c).1;
-  drawn = search rules;
+  drawn = rw (← c.self.view_is) (rw c.deref_mut.ensures.value at c.in_ok-history.ensures.epochs.drawn);
 }
 
 pub returns-clause-seen : goal.returns-clause-seen
@@ -67,5 +67,19 @@ pub returns-clause-stays : goal.returns-clause-stays
 returns-clause-stays g c = record {
   presence = ap (λ (s : Lent g.row.E.Denot). s.presence) c.self.view_is;
   whole = c.note_opening.ensures.whole.0;
+  state = rw (← c.self.view_is) c.self.invariant.state;
+}
+
+pub returns-in_err-history-clause-stays : goal.returns-in_err-history-clause-stays
+returns-in_err-history-clause-stays g c = record {
+  presence = ap (λ (s : Lent g.row.E.Denot). s.presence) c.self.view_is;
+  whole = ap (λ p. p.log) c.follow.ensures.pass ∙ sym (ap (λ o. o.log) c.follow.ensures.owner);
+  state = rw (← c.self.view_is) c.self.invariant.state;
+}
+
+pub returns-then-not-has_room-clause-stays : goal.returns-then-not-has_room-clause-stays
+returns-then-not-has_room-clause-stays g c = record {
+  presence = ap (λ (s : Lent g.row.E.Denot). s.presence) c.self.view_is;
+  whole = ap (λ p. p.log) c.follow.ensures.pass ∙ sym (ap (λ o. o.log) c.follow.ensures.owner);
   state = rw (← c.self.view_is) c.self.invariant.state;
 }

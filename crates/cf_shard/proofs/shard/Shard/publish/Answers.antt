@@ -1,4 +1,4 @@
-use Rattle.std.proofs.Common.{rules, ◌≡◌, ◌++◌, Bool, None, Some, Err, length, ap, sym, subst, cond, refl, ◌∙◌}
+use Rattle.std.proofs.Common.{◌≡◌, ◌++◌, Bool, None, Some, Err, length, ap, sym, subst, cond, refl, ◌∙◌}
 use Rattle.std.proofs.lemmas.Result.{err_from_is_err_and}
 use Rattle.std.specs.Prelude.{false, true, is_some, MatchBool}
 use Rattle.std.specs.String.{string_bytes}
@@ -7,8 +7,8 @@ use Rattle.cf_shard.specs.Delivery.{OfferedToAll, carried}
 use Rattle.cf_shard.specs.Shard.{Lent, after_publish, datum_of}
 use Rattle.cf_shard.specs.LogAnswer.{Follows}
 use Rattle.cf_shard.specs.ShardLog.{KeepsShare}
-use Rattle.cf_shard.proofs.Calls.{publish_noted, repeat_noted, is_repeat, followed, kept, published_by_log, follows, stands_after}
-use Rattle.cf_shard.proofs.Refusals.{refused_by, left_all, refused_early}
+use Rattle.cf_shard.proofs.Calls.{publish_noted, repeat_noted, is_repeat, none_asked, some_asked, followed, kept, published_by_log, follows, stands_after}
+use Rattle.cf_shard.proofs.Refusals.{refused_by, refused_none, left_all, left_early, refused_early}
 use Rattle.cf_shard.proofs.Resizing.{stays_up}
 use Rattle.cf_stream.specs.LogState.{publishing}
 use Rattle.cf_stream.specs.Streams.{repeat_at, stream_of}
@@ -17,11 +17,11 @@ use Rattle.cf_shard.proofs.shard.Shard.publish.Goals as goal
 
 -- what is published repeats nothing
 is_new : (g : Over) (c : goal.After-drop-lent-2 g) → repeat_at (stream_of c.self.inside.streams c.args.channel.now) (string_bytes c.args.key) ≡ None
-is_new g c = search rules
+is_new g c = none_asked c.self.inside.streams c.args.channel.now _ _ _ _ c.as_str.ensures.value c.repeat_of.ensures.repeat c.is_some.ensures c.if-is_some.false
 
 -- what is noted as the key is a copy of it
 is_copy : (g : Over) (c : goal.After-drop-lent-2 g) → c.as_str-2.result.now ≡ string_bytes c.args.key
-is_copy g c = search rules
+is_copy g c = c.as_str-2.ensures.value ∙ c.in_ok-copies.ensures.key
 
 -- what it makes of the owner
 made : (g : Over) (c : goal.After-drop-lent-2 g)
@@ -44,7 +44,8 @@ stands g c =
 -- what is answered at once is a repeat
 again : (g : Over) (c : goal.In_ok-repeated g) → c.in_ok-repeated.repeated.repeated ≡ true
 again g c =
-    let asked : is_some (repeat_at (stream_of c.self.inside.streams c.args.channel.now) (string_bytes c.args.key)) ≡ true = search rules in
+    let asked : is_some (repeat_at (stream_of c.self.inside.streams c.args.channel.now) (string_bytes c.args.key)) ≡ true =
+    some_asked c.self.inside.streams c.args.channel.now _ _ _ _ c.as_str.ensures.value c.repeat_of.ensures.repeat c.is_some.ensures c.if-is_some.true in
     is_repeat c.self.inside.streams c.args.channel.now (string_bytes c.args.key) c.in_ok-repeated.repeated c.in_ok-repeated.ensures.answer asked
 
 -- what it makes of the owner
@@ -66,7 +67,7 @@ pub returns-then-is_some-clause-makes : goal.returns-then-is_some-clause-makes
 returns-then-is_some-clause-makes g c = record {
   streams = rw (← c.self.view_is) c.in_ok-repeated.ensures.makes;
   log = rw (← c.self.view_is) (left g c).1;
-  drawn = search rules;
+  drawn = rw (← c.self.view_is) (rw c.deref_mut.ensures.value at c.in_ok-repeated.ensures.epochs.drawn);
 }
 
 pub returns-then-is_some-clause-by_log : goal.returns-then-is_some-clause-by_log
@@ -105,7 +106,7 @@ returns-in_err-published-clause-err g c =
 
 pub returns-in_err-copies-clause-refusals : goal.returns-in_err-copies-clause-refusals
 returns-in_err-copies-clause-refusals g c =
-    let new : repeat_at (stream_of c.self.inside.streams c.args.channel.now) (string_bytes c.args.key) ≡ None = search rules in
+    let new = none_asked c.self.inside.streams c.args.channel.now _ (string_bytes c.args.key) _ _ c.as_str.ensures.value c.repeat_of.ensures.repeat c.is_some.ensures c.if-is_some.false in
     let p = err_from_is_err_and c.from_residual-in_err-copies.result c.from_residual-in_err-copies.ensures.1 in
     refused_early g.E.Epochs.draws c.args.channel.now (string_bytes c.args.key) (datum_of c.args.body c.args.info) _ _ _ _ _ _ _ _ c.self.view_is (p.1 ∙ ap Err p.2) new c.position.ensures.position c.top_of-stood.ensures
     (c.count-count.ensures ∙ ap (λ o. length o.log) c.follow.ensures.owner)
@@ -118,7 +119,7 @@ pub returns-clause-makes : goal.returns-clause-makes
 returns-clause-makes g c = record {
   streams = rw (← c.self.view_is) c.in_ok-published.ensures.makes;
   log = rw (← c.self.view_is) (made g c).2;
-  drawn = search rules;
+  drawn = rw (← c.self.view_is) (rw c.deref_mut-2.ensures.value at c.in_ok-published.ensures.epochs.drawn);
 }
 
 pub returns-clause-answer : goal.returns-clause-answer
@@ -147,5 +148,57 @@ pub returns-clause-stays : goal.returns-clause-stays
 returns-clause-stays g c = record {
   presence = ap (λ (s : Lent g.row.E.Denot). s.presence) c.self.view_is;
   whole = c.note_publish.ensures.whole.0;
+  state = rw (← c.self.view_is) c.self.invariant.state;
+}
+
+pub returns-clause-refusals : goal.returns-clause-refusals
+returns-clause-refusals g c =
+    refused_none g.E.Epochs.draws c.args.channel.now (string_bytes c.args.key) (datum_of c.args.body c.args.info) _ _ _ c.in_ok-published.published c.self.view_is c.in_ok-published.ensures.refusals
+
+pub returns-then-is_some-clause-answer : goal.returns-then-is_some-clause-answer
+returns-then-is_some-clause-answer g c =
+    rw (← c.self.view_is) (record { is = c.in_ok-repeated.ensures.lists.answer; stands = λ fresh. absurd (let yes : c.in_ok-repeated.repeated.repeated ≡ true = again g c in cc) })
+
+pub returns-then-is_some-clause-refusals : goal.returns-then-is_some-clause-refusals
+returns-then-is_some-clause-refusals g c =
+    refused_none g.E.Epochs.draws c.args.channel.now (string_bytes c.args.key) (datum_of c.args.body c.args.info) _ _ _ c.in_ok-repeated.repeated c.self.view_is c.in_ok-repeated.ensures.refusals
+
+pub returns-in_err-repeated-clause-err : goal.returns-in_err-repeated-clause-err
+returns-in_err-repeated-clause-err g c =
+    let p = err_from_is_err_and c.from_residual.result c.from_residual.ensures.1 in
+    left_all _ _ _ _ _ _ _ p.0 _ c.self.view_is p.1 p.2 c.in_err-repeated.ensures.err (ap (λ o. o.log) c.follow.ensures.owner) (λ other. c.in_err-repeated.ensures.epochs.undrawn other ∙ c.deref_mut.ensures.value) c.follow.ensures.seen.0 c.follow.ensures.pass
+
+pub returns-in_err-copies-clause-err : goal.returns-in_err-copies-clause-err
+returns-in_err-copies-clause-err g c =
+    let p = err_from_is_err_and c.from_residual-in_err-copies.result c.from_residual-in_err-copies.ensures.1 in
+    left_early _ _ _ _ _ _ p.0 _ c.self.view_is p.1 refl (ap (λ o. o.log) c.follow.ensures.owner) refl c.follow.ensures.seen.0 c.follow.ensures.pass
+
+-- ---- whatever was refused, or repeated
+
+pub returns-then-is_some-clause-stays : goal.returns-then-is_some-clause-stays
+returns-then-is_some-clause-stays g c = record {
+  presence = ap (λ (s : Lent g.row.E.Denot). s.presence) c.self.view_is;
+  whole = ap (λ p. p.log) c.follow.ensures.pass ∙ sym (ap (λ o. o.log) c.follow.ensures.owner);
+  state = rw (← c.self.view_is) c.self.invariant.state;
+}
+
+pub returns-in_err-repeated-clause-stays : goal.returns-in_err-repeated-clause-stays
+returns-in_err-repeated-clause-stays g c = record {
+  presence = ap (λ (s : Lent g.row.E.Denot). s.presence) c.self.view_is;
+  whole = ap (λ p. p.log) c.follow.ensures.pass ∙ sym (ap (λ o. o.log) c.follow.ensures.owner);
+  state = rw (← c.self.view_is) c.self.invariant.state;
+}
+
+pub returns-in_err-copies-clause-stays : goal.returns-in_err-copies-clause-stays
+returns-in_err-copies-clause-stays g c = record {
+  presence = ap (λ (s : Lent g.row.E.Denot). s.presence) c.self.view_is;
+  whole = ap (λ p. p.log) c.follow.ensures.pass ∙ sym (ap (λ o. o.log) c.follow.ensures.owner);
+  state = rw (← c.self.view_is) c.self.invariant.state;
+}
+
+pub returns-in_err-published-clause-stays : goal.returns-in_err-published-clause-stays
+returns-in_err-published-clause-stays g c = record {
+  presence = ap (λ (s : Lent g.row.E.Denot). s.presence) c.self.view_is;
+  whole = ap (λ p. p.log) c.follow.ensures.pass ∙ sym (ap (λ o. o.log) c.follow.ensures.owner);
   state = rw (← c.self.view_is) c.self.invariant.state;
 }

@@ -1,4 +1,4 @@
-use Rattle.std.proofs.Common.{rules, ◌≡◌, ◌++◌, [], ap, ◌∙◌}
+use Rattle.std.proofs.Common.{sym, ◌≡◌, ◌++◌, [], ap, ◌∙◌}
 use Rattle.std.proofs.lemmas.Result.{err_from_is_err_and}
 use Rattle.cf_shard.specs.Shard.{Lent}
 use Rattle.cf_shard.proofs.Calls.{opening_stood, noted, kept, read_by_log, follows}
@@ -32,7 +32,7 @@ pub returns-clause-makes : goal.returns-clause-makes
 returns-clause-makes g c = record {
   streams = rw (← c.self.view_is) c.in_ok-recovery.ensures.makes;
   log = rw (← c.self.view_is) (made g c).1;
-  drawn = search rules;
+  drawn = rw (← c.self.view_is) (rw c.deref_mut.ensures.value at c.in_ok-recovery.ensures.epochs.drawn);
 }
 
 pub returns-clause-answer : goal.returns-clause-answer
@@ -50,5 +50,19 @@ pub returns-clause-stays : goal.returns-clause-stays
 returns-clause-stays g c = record {
   presence = ap (λ (s : Lent g.row.E.Denot). s.presence) c.self.view_is;
   whole = c.note_opening.ensures.whole.0;
+  state = rw (← c.self.view_is) c.self.invariant.state;
+}
+
+pub returns-in_err-recovery-clause-stays : goal.returns-in_err-recovery-clause-stays
+returns-in_err-recovery-clause-stays g c = record {
+  presence = ap (λ (s : Lent g.row.E.Denot). s.presence) c.self.view_is;
+  whole = ap (λ p. p.log) c.follow.ensures.pass ∙ sym (ap (λ o. o.log) c.follow.ensures.owner);
+  state = rw (← c.self.view_is) c.self.invariant.state;
+}
+
+pub returns-then-not-has_room-clause-stays : goal.returns-then-not-has_room-clause-stays
+returns-then-not-has_room-clause-stays g c = record {
+  presence = ap (λ (s : Lent g.row.E.Denot). s.presence) c.self.view_is;
+  whole = ap (λ p. p.log) c.follow.ensures.pass ∙ sym (ap (λ o. o.log) c.follow.ensures.owner);
   state = rw (← c.self.view_is) c.self.invariant.state;
 }

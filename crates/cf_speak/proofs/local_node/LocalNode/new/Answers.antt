@@ -4,8 +4,8 @@ use Rattle.cf_speak.proofs.local_node.LocalNode.new.Goals as goal
 pub returns : goal.returns
 returns c =
     λ i. record {
-      hub = c.new.ensures i;
-      streams = c.in_ok-new.ensures.empty i;
+      hub = c.new-2.ensures i;
+      streams = c.in_ok-streams.ensures.empty i;
       people = c.new-3.ensures i;
       epochs = c.args.epochs;
       number = None;
