@@ -6,35 +6,26 @@ ghost use Rattle.cf_shard.specs.Shard.{refused_of};
 use cf_presence::PresenceRefusal;
 use cf_stream::StreamRefusal;
 use std::alloc::{AllocError, AllocFailed};
-use std::fmt;
-use std::fmt::{Display, Formatter, Write};
 use thiserror::Error;
 
 /// Why a call is refused. A refused call changes nothing.
 #[derive(Debug, Drop, Clone, Copy, PartialEq, Eq, Error)]
 pub enum Refused {
     /// The stream's top offset is the last one.
+    #[error("at the last offset")]
     AtLastOffset,
     /// A history after a position of another epoch than the stream's, or where there is no stream.
+    #[error("wrong epoch")]
     WrongEpoch,
     /// A stream would open, and there is no epoch for it.
+    #[error("no epoch")]
     NoEpoch,
     /// Memory was refused.
+    #[error("out of memory")]
     Memory,
     /// The shard's log has no room for the call's entries: it has at most 2^62.
+    #[error("at the last count")]
     AtLastCount,
-}
-
-impl Display for Refused {
-    fn fmt<W: Write>(&self, f: &mut Formatter<W>) -> fmt::Result {
-        f.write_str(match self {
-            Refused::AtLastOffset => "at the last offset",
-            Refused::WrongEpoch => "wrong epoch",
-            Refused::NoEpoch => "no epoch",
-            Refused::Memory => "out of memory",
-            Refused::AtLastCount => "at the last count",
-        })
-    }
 }
 
 impl From<AllocError> for Refused {

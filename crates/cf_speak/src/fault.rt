@@ -1,28 +1,20 @@
 //! How a conversation ends where it doesn't succeed.
 use std::alloc::{AllocError, AllocFailed};
-use std::fmt::{Display, Formatter, Write};
-use std::{fmt, io};
+use std::io;
 use thiserror::Error;
 
 /// Why a conversation ended before its end.
 #[derive(Clone, Copy, Debug, PartialEq, Eq, Drop, Error)]
 pub enum SpeakFault {
     /// A line isn't UTF-8.
+    #[error("not UTF-8")]
     NotUtf8,
     /// Memory was refused.
+    #[error("out of memory")]
     Memory,
     /// A read or a write failed, or gave no end.
+    #[error("input or output failed")]
     InputOutput,
-}
-
-impl Display for SpeakFault {
-    fn fmt<W: Write>(&self, f: &mut Formatter<W>) -> fmt::Result {
-        f.write_str(match self {
-            SpeakFault::NotUtf8 => "not UTF-8",
-            SpeakFault::Memory => "out of memory",
-            SpeakFault::InputOutput => "input or output failed",
-        })
-    }
 }
 
 impl From<AllocError> for SpeakFault {

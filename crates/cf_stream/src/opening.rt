@@ -31,9 +31,7 @@ fn drawn<E: Epochs>(epochs: &mut E) -> Option<Epoch>
     ensures some { IfSome result (λ e. DrawsEpoch E.draws e epochs.old epochs.new) }
     ensures none { IfNone result (DrawsNone E.draws epochs.old epochs.new) }
 {
-    let Some(epoch) = epochs.draw() else {
-        return None;
-    };
+    let epoch = epochs.draw()?;
     if epoch.is_empty() { None } else { Some(epoch) }
 }
 

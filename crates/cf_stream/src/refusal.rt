@@ -3,32 +3,23 @@ ghost use Rattle.std.specs.Prelude.{◌≡◌};
 ghost use Rattle.cf_stream.specs.declared.refusal.StreamRefusal.TheVariants.{Memory};
 
 use std::alloc::AllocError;
-use std::fmt;
-use std::fmt::{Display, Formatter, Write};
 use thiserror::Error;
 
 /// Why a call is refused. Of several causes the first named here is given. A refused call changes nothing.
 #[derive(Debug, Drop, Error)]
 pub enum StreamRefusal {
     /// A publish to a stream at offset 9,007,199,254,740,991, above which an offset is no exact JSON number everywhere.
+    #[error("the stream is at its last offset")]
     AtLastOffset,
     /// A history after a position whose epoch isn't the stream's, or where the channel has no stream.
+    #[error("the position is of another epoch")]
     WrongEpoch,
     /// No stream stood, and no epoch was drawn for a new one. This alone comes after want of memory, since it takes the draw to know.
+    #[error("there is no epoch for a new stream")]
     NoEpoch,
     /// Memory was refused.
+    #[error("out of memory")]
     Memory,
-}
-
-impl Display for StreamRefusal {
-    fn fmt<W: Write>(&self, f: &mut Formatter<W>) -> fmt::Result {
-        f.write_str(match self {
-            StreamRefusal::AtLastOffset => "the stream is at its last offset",
-            StreamRefusal::WrongEpoch => "the position is of another epoch",
-            StreamRefusal::NoEpoch => "there is no epoch for a new stream",
-            StreamRefusal::Memory => "out of memory",
-        })
-    }
 }
 
 impl From<AllocError> for StreamRefusal {

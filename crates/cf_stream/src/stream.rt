@@ -246,9 +246,7 @@ impl Stream {
     fn missed_since(&self, since: Option<Position>) -> Option<usize>
         ensures { SomeIff result (RecoversFrom self.now since) (missed_from self.now since) }
     {
-        let Some(since) = since else {
-            return None;
-        };
+        let since = since?;
         let inner = self.inner.as_ref();
         if since.epoch != inner.epoch || since.offset > inner.top {
             return None;

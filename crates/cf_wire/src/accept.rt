@@ -13,9 +13,8 @@ use crate::head::read_head;
 use crate::wire::Wire;
 use cf_handshake::{Asked, Opening, Refusal, asked_of};
 use std::alloc::{AllocError, AllocFailed, Global};
-use std::fmt::{Display, Formatter};
+use std::io;
 use std::io::{ErrorKind, Read, Write};
-use std::{fmt, io};
 use thiserror::Error as ErrorType;
 use tungstenite::{NoMask, Role, WebSocket, WebSocketConfig};
 
@@ -31,24 +30,17 @@ const LONGEST_OUTPUT: usize = 2_097_152;
 #[derive(Clone, Copy, Debug, PartialEq, Eq, Drop, ErrorType)]
 pub enum WireFault {
     /// What came is no request for a WebSocket, or its head is longer than 16,384 bytes.
+    #[error("no WebSocket handshake")]
     Handshake,
     /// It is asked whether the node lives.
+    #[error("no WebSocket, but the node's health is asked for")]
     Health,
     /// The stream failed, ended or would block before the handshake was done.
+    #[error("the stream failed")]
     StreamFault,
     /// Memory was refused.
+    #[error("out of memory")]
     Memory,
-}
-
-impl Display for WireFault {
-    fn fmt<W: fmt::Write>(&self, f: &mut Formatter<W>) -> fmt::Result {
-        f.write_str(match self {
-            WireFault::Handshake => "no WebSocket handshake",
-            WireFault::Health => "no WebSocket, but the node's health is asked for",
-            WireFault::StreamFault => "the stream failed",
-            WireFault::Memory => "out of memory",
-        })
-    }
 }
 
 impl From<AllocError> for WireFault {
