@@ -1,5 +1,5 @@
 //! The sessions of a node, each at the place of its number.
-ghost use Rattle.std.specs.Prelude.{◌≡◌, ◌≢◌, ◌<◌, ℕ, [], Some, None, OnOk, OnErr, IfNone, IfSome, is_some, length};
+ghost use Rattle.std.specs.Prelude.{◌≡◌, ◌≢◌, ◌<◌, ◌≤◌, ℕ, [], Some, None, OnOk, OnErr, IfNone, IfSome, is_some, length};
 ghost use Rattle.std.specs.Borrow.{sem};
 ghost use Rattle.std.specs.Option.{option_copied, option_copied_mut};
 
@@ -30,7 +30,7 @@ impl Model for Sessions {
 }
 
 impl Sessions {
-    ghost use Rattle.std.specs.Prelude.{◌≡◌, ◌≢◌, ◌<◌, ℕ, [], Some, None, OnOk, OnErr, IfNone, IfSome, is_some, length};
+    ghost use Rattle.std.specs.Prelude.{◌≡◌, ◌≢◌, ◌<◌, ◌≤◌, ℕ, [], Some, None, OnOk, OnErr, IfNone, IfSome, is_some, length};
     ghost use Rattle.std.specs.Borrow.{sem};
     ghost use Rattle.std.specs.Option.{option_copied, option_copied_mut};
     ghost use Rattle.cf_hub.specs.Places.{session_in};
@@ -50,9 +50,9 @@ impl Sessions {
     pub(crate) fn get(&self, number: u32) -> Option<&Session>
         ensures { option_copied result ≡ session_in self.now number }
     {
-        match self.places.get(number as usize)? {
-            Some(session) => Some(session),
-            None => None,
+        match self.places.get(number as usize) {
+            Some(Some(session)) => Some(session),
+            _ => None,
         }
     }
 
@@ -72,7 +72,7 @@ impl Sessions {
     pub(crate) fn has(&self, number: u32) -> bool
         ensures { result ≡ is_some (attached_in self.now number) }
     {
-        matches!(self.places.get(number as usize), Some(Some(_)))
+        self.get(number).is_some()
     }
 
     /// The least number from this one on that has a session.
@@ -89,13 +89,14 @@ impl Sessions {
         None
     }
 
-    /// Puts a session at a number. Where memory is refused, nothing changes.
+    /// Puts a session at a number, of which each lower one had one. Where memory is refused, nothing changes.
     pub(crate) fn insert(
         &mut self,
         alloc: Global,
         number: u32,
         session: Session,
     ) -> Result<(), AllocError>
+        requires { number ≤ length self.old }
         ensures here { OnOk result (session_in self.new number ≡ Some session) }
         ensures others { OnOk result
             ((j : ℕ) → j ≢ number → session_in self.new j ≡ session_in self.old j) }
@@ -115,18 +116,18 @@ impl Sessions {
         let Some(place) = self.places.get_mut(number as usize) else {
             return;
         };
-        let _gone = place.take();
+        drop(place.take());
     }
 
     /// Makes a place for a number, which has no session unless it had one. Where memory is refused, nothing changes.
     fn make_room(&mut self, number: u32) -> Result<(), AllocError>
+        requires { number ≤ length self.old }
         ensures ok { OnOk result (number < length self.new) }
         ensures same { (j : ℕ) → session_in self.new j ≡ session_in self.old j }
         ensures err { OnErr result (self.new ≡ self.old) }
     {
-        let count = number as usize + 1;
-        if count > self.places.len() {
-            self.places.resize_with(count, || None)?;
+        if number as usize == self.places.len() {
+            self.places.push(None)?;
         }
         Ok(())
     }
