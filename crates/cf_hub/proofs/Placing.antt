@@ -24,12 +24,11 @@ written os k o h = rw (map-set unboxed os k o) (get_or-set_same (map unboxed os)
 pub others_stay : (os : List Boxed) (k : ℕ) (o : Boxed) (j : ℕ) → j ≢ k → session_in (unboxed_all (slice_set os k o)) j ≡ session_in (unboxed_all os) j
 others_stay os k o j h = rw (map-set unboxed os k o) (get_or-set_other (map unboxed os) k j (unboxed o) None h)
 
--- one more place has no session
-pub with_place : (os : List Boxed) (j : ℕ) → session_in (unboxed_all (os ++ None ∷ [])) j ≡ session_in (unboxed_all os) j
-with_place [] zero = refl
-with_place [] (suc j) = refl
-with_place (o ∷ os) zero = refl
-with_place (o ∷ os) (suc j) = with_place os j
+pub less_than : (k n : ℕ) → k ≤ n → (k ≡ n → ⊥) → k < n
+less_than zero zero h e = absurd (e refl)
+less_than zero (suc n) h e = omega arith
+less_than (suc k) zero h e = absurd (omega (arith, h))
+less_than (suc k) (suc n) h e = let less = less_than k n (omega (arith, h)) (λ q. e (ap suc q)) in omega (arith, less)
 
 -- there is a place for each number below which each has a session
 pub has_place : (ps : Places) (n : ℕ) → ((j : ℕ) → j < n → is_some (attached_in ps j) ≡ true) → n ≤ length ps

@@ -43,16 +43,15 @@ impl Hub {
     {
         match self.session(session) {
             None => true,
-            Some(session) => session.is_settled(),
+            Some(session) => all_finished(&session.subscriptions),
         }
     }
 }
 
 impl Session {
-    ghost use Rattle.std.specs.Prelude.{◌≡◌, ◌↔◌, ℕ, List, false, IsTrue};
+    ghost use Rattle.std.specs.Prelude.{◌≡◌};
     ghost use Rattle.cf_hub.specs.Asking.{asked_of};
     ghost use Rattle.cf_hub.specs.Session.{state_of};
-    ghost use Rattle.cf_model.specs.SessionState.{is_unfinished};
 
     fn asked(&self, channel: &str) -> Option<Asked>
         ensures { result ≡ asked_of ((state_of self.now).subs channel.now) }
@@ -61,13 +60,6 @@ impl Session {
             None => None,
             Some(progress) => progress.asked(),
         }
-    }
-
-    fn is_settled(&self) -> bool
-        ensures { IsTrue result
-            ↔ ((c : List ℕ) → is_unfinished ((state_of self.now).subs c) ≡ false) }
-    {
-        all_finished(&self.subscriptions)
     }
 }
 

@@ -51,7 +51,7 @@ impl Hub {
             return None;
         }
         for number in self.free_from..MOST_SESSIONS {
-            if !self.is_taken(number) {
+            if self.session(number).is_none() {
                 return Some(number);
             }
         }
@@ -156,13 +156,6 @@ impl Hub {
             None => false,
             Some(session) => session.has(channel),
         }
-    }
-
-    /// Whether a number has a session.
-    fn is_taken(&self, number: u32) -> bool
-        ensures { result ≡ is_some (attached_at self.now number) }
-    {
-        self.sessions.has(number)
     }
 
     /// Whether a session has all channels that it may have, or the node all rows.

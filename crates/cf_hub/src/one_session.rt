@@ -15,6 +15,7 @@ use crate::checked::Checked;
 use crate::fate::Fate;
 use crate::pending::Pending;
 use crate::queued::Queued;
+use crate::reply::read_at;
 use crate::session::Session;
 use crate::session_table::Sessions;
 use crate::step::Step;
@@ -82,7 +83,7 @@ pub(crate) fn take_one(sessions: &mut Sessions, number: u32) -> Option<Out>
 {
     match sessions.get_mut(number) {
         None => None,
-        Some(session) => session.take(),
+        Some(session) => session.queue.take(),
     }
 }
 
@@ -120,7 +121,7 @@ pub(crate) fn read_one(
 {
     match sessions.get_mut(number) {
         None => false,
-        Some(session) => session.read_done(channel, recovery),
+        Some(session) => read_at(&mut session.subscriptions, channel, recovery),
     }
 }
 
@@ -248,7 +249,7 @@ fn fate_now(sessions: &Sessions, number: u32, channel: &str) -> Fate
     let Some(session) = sessions.get(number) else {
         return Fate::Closed;
     };
-    if session.has_none() {
+    if session.subscriptions.is_empty() {
         Fate::Closed
     } else if session.has(channel) {
         Fate::Dropped

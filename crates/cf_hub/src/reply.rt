@@ -105,9 +105,9 @@ impl Progress {
     }
 }
 
-/// Takes what the read of a channel's stream gave.
+/// Takes what the read of a channel's stream gave, once. Says whether the channel was asked for.
 #[tactic(auto, using(std::proofs::lemmas::Map::Text::text_keys))]
-fn read_at(
+pub(crate) fn read_at(
     subscriptions: &mut IndexMap<String, Box<Progress>>,
     channel: &str,
     recovery: Recovery,
@@ -162,15 +162,6 @@ impl Session {
         ensures badge { badge_of self.new ≡ badge_of self.old }
     {
         add(&mut self.subscriptions, alloc, channel, id, since)
-    }
-
-    /// Takes what the read of a channel's stream gave, once. Says whether the channel was asked for.
-    pub(crate) fn read_done(&mut self, channel: &str, recovery: Recovery) -> bool
-        ensures asked { result ≡ is_asked ((state_of self.old).subs channel.now) }
-        ensures state { Moves (takes_read recovery channel.now) self.old self.new }
-        ensures badge { badge_of self.new ≡ badge_of self.old }
-    {
-        read_at(&mut self.subscriptions, channel, recovery)
     }
 
     /// Gives a channel's reply and what follows it, where the stream was read. The subscription then stands behind both, or is

@@ -75,15 +75,6 @@ impl Session {
         true
     }
 
-    /// Takes what is next. It takes no memory.
-    pub(crate) fn take(&mut self) -> Option<Out>
-        ensures front { option_map meaning result ≡ slice_get (state_of self.old).notes 0 }
-        ensures state { state_of self.new ≡ takes_front (state_of self.old) }
-        ensures badge { badge_of self.new ≡ badge_of self.old }
-    {
-        self.queue.take()
-    }
-
     /// Queues a text, or closes the session. Says whether memory was refused, as it was for a text that isn't there.
     pub(crate) fn say(&mut self, text: Option<ByteStr>) -> bool
         ensures state { SaysText result text self.old self.new }
@@ -179,13 +170,6 @@ impl Session {
         ensures { result ≡ not (is_off ((state_of self.now).subs channel.now)) }
     {
         self.subscriptions.contains_key(channel)
-    }
-
-    /// Whether it follows no channel, and is asking for none.
-    pub(crate) fn has_none(&self) -> bool
-        ensures { IsTrue result ↔ ((c : List ℕ) → is_off ((state_of self.now).subs c) ≡ true) }
-    {
-        self.subscriptions.is_empty()
     }
 
     /// What a call did: it closed the session, or else this.

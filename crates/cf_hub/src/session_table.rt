@@ -68,13 +68,6 @@ impl Sessions {
         }
     }
 
-    /// Whether a number has a session.
-    pub(crate) fn has(&self, number: u32) -> bool
-        ensures { result ≡ is_some (attached_in self.now number) }
-    {
-        self.get(number).is_some()
-    }
-
     /// The least number from this one on that has a session.
     pub(crate) fn next_from(&self, from: u32) -> Option<u32>
         ensures none { IfNone result (HasNoneFrom from (attached_in self.now)) }
@@ -82,7 +75,7 @@ impl Sessions {
     {
         for place in from as usize..self.places.len() {
             let number = place as u32;
-            if self.has(number) {
+            if self.get(number).is_some() {
                 return Some(number);
             }
         }
@@ -102,9 +95,11 @@ impl Sessions {
             ((j : ℕ) → j ≢ number → session_in self.new j ≡ session_in self.old j) }
         ensures err { OnErr result (self.new ≡ self.old) }
     {
-        let boxed = Box::new(alloc, session)?;
-        self.make_room(number)?;
-        self.places[number as usize] = Some(boxed);
+        let boxed = Some(Box::new(alloc, session)?);
+        if number as usize == self.places.len() {
+            return Ok(self.places.push(boxed)?);
+        }
+        self.places[number as usize] = boxed;
         Ok(())
     }
 
@@ -117,18 +112,5 @@ impl Sessions {
             return;
         };
         drop(place.take());
-    }
-
-    /// Makes a place for a number, which has no session unless it had one. Where memory is refused, nothing changes.
-    fn make_room(&mut self, number: u32) -> Result<(), AllocError>
-        requires { number ≤ length self.old }
-        ensures ok { OnOk result (number < length self.new) }
-        ensures same { (j : ℕ) → session_in self.new j ≡ session_in self.old j }
-        ensures err { OnErr result (self.new ≡ self.old) }
-    {
-        if number as usize == self.places.len() {
-            self.places.push(None)?;
-        }
-        Ok(())
     }
 }
