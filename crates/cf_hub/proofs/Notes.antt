@@ -4,11 +4,8 @@ use Rattle.std.specs.Prelude.{nat_le, sum_by, option_to_list}
 use Rattle.std.proofs.lemmas.Bool.Decides.{nat_tests}
 use Rattle.std.proofs.lemmas.List.Sums.{sum_by-cons}
 use Rattle.cf_queue.specs.OutQueue.{OutQueue, Item, Text, Close, waiting, weight, pushed, HasRoom, IsSlow}
-use Rattle.cf_queue.specs.declared.refusal.QueueRefusal.{QueueRefusal}
-use Rattle.cf_queue.specs.declared.refusal.QueueRefusal.TheVariants as refusal
 use Rattle.cf_model.specs.SessionState.{Subscription, SessionState, Wording, push, says, closes, closes_now, no_memory, slow, most_waiting}
-use Rattle.cf_hub.specs.Sessions.{says_one, unsaid, wants_memory}
-use Rattle.cf_hub.specs.WantOfMemory.{ClosesWith, OrCloses, SaysAll}
+use Rattle.cf_hub.specs.WantOfMemory.{ClosesWith, SaysAll}
 use Rattle.cf_hub.specs.Wordings.{Held, plain, item_weight}
 use Rattle.cf_hub.proofs.States.{state_is, push_shut, says_shut}
 
@@ -35,15 +32,6 @@ too_much q t e h =
 pub queue_shut : (t : List ℕ) (subs : List ℕ → Subscription Held) (q : OutQueue) → q.closed ≡ true → with_queue subs q ≡ push plain (Text t) (with_queue subs q)
 queue_shut t subs q e = sym (push_shut plain (Text t) (with_queue subs q) e)
 
--- a text for which there is no memory closes the session, unless it is closed
-pub no_memory_for : (t : List ℕ) (subs : List ℕ → Subscription Held) (q : OutQueue) (b : SessionState Held Item) (refused : Bool)
-    → b ≡ unsaid refusal.Memory (with_queue subs q) → refused ≡ true → OrCloses refused plain (says_one t) (with_queue subs q) b
-no_memory_for t subs q b refused is hit = by_value q.closed refl
-  where
-    by_value : (shut : Bool) → q.closed ≡ shut → OrCloses refused plain (says_one t) (with_queue subs q) b
-    by_value true e = inl (is ∙ ap (λ s. if s then with_queue subs q else closes (Close no_memory) (with_queue subs q)) e ∙ queue_shut t subs q e)
-    by_value false e = inr (hit, record { was_open = e; closed = is ∙ ap (λ s. if s then with_queue subs q else closes (Close no_memory) (with_queue subs q)) e })
-
 pub queue_fits : (t : List ℕ) (subs : List ℕ → Subscription Held) (q new : OutQueue) → q.limit ≡ most_waiting → HasRoom t q → new ≡ pushed t q → waiting new ≡ waiting q ++ Text t ∷ []
     → with_queue subs new ≡ push plain (Text t) (with_queue subs q)
 queue_fits t subs q new e h is last =
@@ -67,14 +55,6 @@ queue_slow t subs q e h = pick q.closed (nat_le (sum_by item_weight (waiting q) 
     pick false false a b = refl
     pick false true a b = absurd (cc)
     pick true room a b = absurd (cc)
-
--- a text that is refused leaves the queue as it was, and closes the session or not
-pub not_said : (t : List ℕ) (subs : List ℕ → Subscription Held) (q : OutQueue) (b : SessionState Held Item) (r : QueueRefusal) (refused : Bool) → q.limit ≡ most_waiting
-    → (r ≡ refusal.Closed → q.closed ≡ true) → (r ≡ refusal.Slow → IsSlow t q)
-    → b ≡ unsaid r (with_queue subs q) → refused ≡ wants_memory r → OrCloses refused plain (says_one t) (with_queue subs q) b
-not_said t subs q b refusal.Closed refused e shut past is hit = inl (is ∙ queue_shut t subs q (shut refl))
-not_said t subs q b refusal.Slow refused e shut past is hit = inl (is ∙ queue_slow t subs q e (past refl))
-not_said t subs q b refusal.Memory refused e shut past is hit = no_memory_for t subs q b refused is hit
 
 -- ---- several notes
 

@@ -1,5 +1,5 @@
 -- Where a node's sessions stand after a place is written, or more are made.
-use Rattle.std.proofs.Common.{◌≡◌, ◌≢◌, ◌<◌, ◌≤◌, ℕ, zero, suc, Bool, true, false, if◌then◌else◌, List, [], ◌∷◌, ◌++◌, Option, Some, None, map, option_map, is_some, sym, subst, length, arith, refl, ap, ◌∙◌, slice_set, Box, Global}
+use Rattle.std.proofs.Common.{◌≡◌, ◌≢◌, ◌<◌, ◌≤◌, ℕ, zero, suc, Bool, true, false, if◌then◌else◌, List, [], ◌∷◌, Option, Some, None, map, option_map, is_some, sym, subst, length, arith, refl, ap, ◌∙◌, slice_set, Box, Global}
 use Rattle.std.specs.Str.{bytes_eq}
 use Rattle.std.proofs.lemmas.List.{get_or-set_other, get_or-set_same, length-map, map-set}
 use Rattle.cf_protocol.specs.Position.{Position}

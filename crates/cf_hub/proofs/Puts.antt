@@ -1,5 +1,5 @@
 -- A session's subscriptions, where one of them changes.
-use Rattle.std.proofs.Common.{◌≡◌, ◌≢◌, ◌⊎◌, inl, inr, ℕ, ◌&&◌, not, Bool, true, false, cond, if◌then◌else◌, Option, Some, None, List, [], refl, sym, ap, ◌∙◌, option_map}
+use Rattle.std.proofs.Common.{◌≡◌, ◌≢◌, ◌⊎◌, inl, inr, ℕ, ◌&&◌, not, Bool, true, false, cond, if◌then◌else◌, Option, Some, None, List, refl, sym, ap, ◌∙◌, option_map}
 use Rattle.std.specs.Cmp.Lexicographic.{bytes_decides}
 use Rattle.std.specs.Prelude.{OnOk, Result, Ok, Err, ⊤}
 use Rattle.std.specs.declared.alloc.AllocError.{AllocError}
@@ -18,7 +18,7 @@ use Rattle.cf_hub.specs.declared.subscription.Meets.TheVariants as meets
 use Rattle.cf_hub.specs.declared.subscription.Met.{Met}
 use Rattle.cf_hub.specs.declared.subscription.Progress.{Progress}
 use Rattle.cf_hub.specs.declared.subscription.Progress.TheVariants as code
-use Rattle.cf_model.specs.SessionState.{Subscription, Off, Asked, On, SessionState, begins, put_sub, push, closes, comes, come_at, by_verdict, is_unfinished, no_memory}
+use Rattle.cf_model.specs.SessionState.{Subscription, Off, On, SessionState, begins, put_sub, push, closes, comes, come_at, by_verdict, is_unfinished, no_memory}
 use Rattle.cf_hub.specs.WantOfMemory.{Serves, ClosesWith, without_buffer}
 use Rattle.cf_hub.specs.Delivery.{fate_of, sub_fate}
 use Rattle.cf_hub.specs.Subscriptions.{IsGivenUp, SetsAt, Subscriptions, loses, meeting, progress_at, stands_by, sub_of, takes, verdict_code}

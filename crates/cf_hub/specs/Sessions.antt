@@ -1,6 +1,6 @@
 -- What a call makes of one of a node's sessions: of the session itself, and of all of them by number.
-use Rattle.std.specs.Prelude.{◌≡◌, ◌≢◌, ◌&&◌, ℕ, not, Bool, true, false, if◌then◌else◌, Option, MatchOption, IfSome, List}
-use Rattle.std.specs.Prelude.{map, option_map}
+use Rattle.std.specs.Prelude.{◌≡◌, ◌≢◌, ◌&&◌, ℕ, not, Bool, true, false, if◌then◌else◌, Option, MatchOption, IfSome}
+use Rattle.std.specs.Prelude.{List, map, option_map}
 use Rattle.cf_protocol.specs.Datum.{Placed}
 use Rattle.cf_queue.specs.OutQueue.{Item, Text, Close}
 use Rattle.cf_queue.specs.declared.refusal.QueueRefusal.{QueueRefusal}
@@ -13,7 +13,8 @@ use Rattle.cf_hub.specs.Places.{Places}
 use Rattle.cf_hub.specs.Reply.{IsAnswered}
 use Rattle.cf_hub.specs.Rows.{off_after, sub_in}
 use Rattle.cf_hub.specs.Session.{Attached, Badge, badge_of, state_of, ticks}
-use Rattle.cf_model.specs.SessionState.{Off, SessionState, closes_now, comes, is_off, is_ready, no_memory, push, put_sub, reads, slow}
+use Rattle.cf_model.specs.SessionState.{Off, SessionState, closes_now, comes, is_off, is_ready, push, put_sub, reads}
+use Rattle.cf_model.specs.SessionState.{no_memory, slow}
 use Rattle.cf_hub.specs.Subscriptions.{reading_of}
 use Rattle.cf_hub.specs.WantOfMemory.{Both, OrCloses, SaysAll, Serves}
 use Rattle.cf_hub.specs.Wordings.{Held, at_offset, delivering, plain, push_text, reading}

@@ -11,7 +11,6 @@ ghost use Rattle.cf_hub.specs.Turns.{gets_turn};
 ghost use Rattle.cf_hub.specs.Wordings.{IsWritten};
 
 use crate::delivered::Delivered;
-use crate::fate::Fate;
 use crate::one_session::{bring_one, close_one, count_more, leave_one, settle_all, take_one};
 use crate::pending::Pending;
 use crate::session_table::Sessions;

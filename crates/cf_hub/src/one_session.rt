@@ -1,12 +1,12 @@
 //! What a call makes of one session of the table, by its number.
-ghost use Rattle.std.specs.Prelude.{◌≡◌, [], true, not, is_some, OnOk, OnErr, Some, None, string_bytes, option_map, option_and_then, slice_get};
+ghost use Rattle.std.specs.Prelude.{◌≡◌, [], true, OnOk, OnErr, Some, None, string_bytes, option_map, option_and_then, slice_get};
 ghost use Rattle.cf_queue.specs.Meaning.{meaning};
 ghost use Rattle.cf_queue.specs.OutQueue.{Close};
 ghost use Rattle.cf_hub.specs.Delivery.{fate_at};
 ghost use Rattle.cf_hub.specs.Hub.{Brings, IsNextTurn, Pings, attached_in, counted, is_open, is_waiting, one_if, queued_in, waits_in};
-ghost use Rattle.cf_hub.specs.Checked.{check_answer, stand_of};
+ghost use Rattle.cf_hub.specs.Checked.{check_answer};
 ghost use Rattle.cf_hub.specs.Rows.{AgreedBefore, Agrees, TellsFate, rows_after, sub_in};
-ghost use Rattle.cf_hub.specs.Session.{attached_of, badge_ponged};
+ghost use Rattle.cf_hub.specs.Session.{badge_ponged};
 ghost use Rattle.cf_model.specs.SessionState.{begins, checks, closes_now, is_asked, is_off, is_ready, leaves, takes_front};
 ghost use Rattle.cf_hub.specs.Sessions.{ActsIn, BecomesIn, EndsIn, FinishesIn, MeetsIn, MovesIn, OthersStayIn, says_one, takes_read};
 ghost use Rattle.cf_hub.specs.Wordings.{IsWritten, at_offset, plain};
@@ -16,7 +16,6 @@ use crate::fate::Fate;
 use crate::pending::Pending;
 use crate::queued::Queued;
 use crate::reply::read_at;
-use crate::session::Session;
 use crate::session_table::Sessions;
 use crate::step::Step;
 use bytes::ByteStr;

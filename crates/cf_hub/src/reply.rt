@@ -141,11 +141,11 @@ fn answer_at(subscriptions: &mut IndexMap<String, Box<Progress>>, channel: &str)
 }
 
 impl Session {
-    ghost use Rattle.std.specs.Prelude.{◌≡◌, ◌&&◌, not, if◌then◌else◌, OnOk, OnErr, MatchOption, List, ℕ, is_some, true, false};
+    ghost use Rattle.std.specs.Prelude.{◌≡◌, ◌&&◌, not, if◌then◌else◌, OnOk, OnErr, MatchOption, List, ℕ, true, false};
     ghost use Rattle.cf_hub.specs.Reply.{answer_notes, finish_texts};
     ghost use Rattle.cf_hub.specs.Session.{badge_of, state_of};
     ghost use Rattle.cf_model.specs.SessionState.{begins, is_asked, is_off, is_ready};
-    ghost use Rattle.cf_hub.specs.Sessions.{AnswersTo, EndsAs, FinishesSession, Moves, Tells, closed_or, finish_fate, leaves_if, takes_read};
+    ghost use Rattle.cf_hub.specs.Sessions.{AnswersTo, EndsAs, FinishesSession, Moves, Tells, closed_or, finish_fate, leaves_if};
     ghost use Rattle.cf_hub.specs.Wordings.{plain};
 
     /// Makes a subscription that the command `id` asked for.

@@ -7,7 +7,7 @@ use crate::subscription::{Meets, Met, Progress, take_at, take_out};
 use crate::wording::{end_text, push_text, shared};
 use bytes::ByteStr;
 use cf_protocol::{CloseCode, Epoch, Publication};
-use cf_queue::{Out, OutQueue, QueueRefusal};
+use cf_queue::{OutQueue, QueueRefusal};
 use cf_recovery::Verdict;
 use indexmap::IndexMap;
 use std::alloc::Global;
@@ -28,14 +28,11 @@ pub(crate) struct Session {
 }
 
 impl Session {
-    ghost use Rattle.std.specs.Prelude.{◌≡◌, ◌⊎◌, ◌↔◌, IsTrue, ◌||◌, ◌∷◌, [], ℕ, List, Some, None, true, false, IfSome, option_map, is_some, string_bytes, not, slice_get, ◌&&◌, if◌then◌else◌, map};
-    ghost use Rattle.cf_queue.specs.Meaning.{meaning};
+    ghost use Rattle.std.specs.Prelude.{◌≡◌, ◌⊎◌, ◌||◌, ◌∷◌, [], Some, None, true, false, IfSome, string_bytes, not, ◌&&◌, if◌then◌else◌, map};
     ghost use Rattle.cf_queue.specs.OutQueue.{Text, Close};
-    ghost use Rattle.cf_hub.specs.Hub.{is_waiting};
     ghost use Rattle.cf_hub.specs.Session.{badge_of, state_of};
-    ghost use Rattle.cf_model.specs.SessionState.{Off, On, closes_now, is_off, opens, put_sub, takes_front};
+    ghost use Rattle.cf_model.specs.SessionState.{Off, closes_now, is_off, opens, put_sub};
     ghost use Rattle.cf_hub.specs.Sessions.{Acts, EndsAs, IsBrought, Moves, SaysText, Tells, closed_or, fate_brought, new_badge, pushes, says_one, unsaid, wants_memory};
-    ghost use Rattle.cf_hub.specs.Subscriptions.{progress_at, sub_of};
     ghost use Rattle.cf_hub.specs.Wordings.{IsWritten, push_text};
 
     /// A client's session, with no subscription and nothing that waits.

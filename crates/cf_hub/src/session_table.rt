@@ -1,5 +1,5 @@
 //! The sessions of a node, each at the place of its number.
-ghost use Rattle.std.specs.Prelude.{◌≡◌, ◌≢◌, ◌<◌, ◌≤◌, ℕ, [], Some, None, OnOk, OnErr, IfNone, IfSome, is_some, length};
+ghost use Rattle.std.specs.Prelude.{◌≡◌, ◌≢◌, ◌≤◌, ℕ, [], Some, None, OnOk, OnErr, IfNone, IfSome, length};
 ghost use Rattle.std.specs.Borrow.{sem};
 ghost use Rattle.std.specs.Option.{option_copied, option_copied_mut};
 
@@ -30,7 +30,7 @@ impl Model for Sessions {
 }
 
 impl Sessions {
-    ghost use Rattle.std.specs.Prelude.{◌≡◌, ◌≢◌, ◌<◌, ◌≤◌, ℕ, [], Some, None, OnOk, OnErr, IfNone, IfSome, is_some, length};
+    ghost use Rattle.std.specs.Prelude.{◌≡◌, ◌≢◌, ◌≤◌, ℕ, [], Some, None, OnOk, OnErr, IfNone, IfSome, length};
     ghost use Rattle.std.specs.Borrow.{sem};
     ghost use Rattle.std.specs.Option.{option_copied, option_copied_mut};
     ghost use Rattle.cf_hub.specs.Places.{session_in};

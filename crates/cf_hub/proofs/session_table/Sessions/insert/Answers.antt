@@ -1,4 +1,4 @@
-use Rattle.std.proofs.Common.{rules, ◌≡◌, ◌≤◌, ◌<◌, ◌∙◌, Some, arith, ap, sym, subst, length}
+use Rattle.std.proofs.Common.{rules, ◌≡◌, ◌≤◌, ◌∙◌, Some, arith, ap, sym, subst, length}
 use Rattle.std.proofs.lemmas.List.{length-map}
 use Rattle.cf_hub.specs.Places.{Places, session_in, unboxed}
 use Rattle.cf_hub.proofs.Placing.{less_than, others_stay, written}
