@@ -115,7 +115,9 @@ impl Hub {
     {
         let written = push_text(self.alloc, channel, publication);
         self.note(written.is_none());
-        self.bring_to_all(channel, epoch, publication, &written)
+        let counts = self.bring_to_all(channel, epoch, publication, &written);
+        drop(written);
+        counts
     }
 
     /// Whether one of its calls met a refused request for memory.
