@@ -1,25 +1,21 @@
 -- What a position check makes of a session.
-use Rattle.std.proofs.Common.{◌≡◌, ◌⊎◌, inl, inr, ℕ, Bool, true, Option, Some, None, List, refl, sym, ap, ◌∙◌}
+use Rattle.std.proofs.Common.{◌≡◌, ◌≢◌, ◌⊎◌, inl, inr, Bool, true, Option, Some, None, List, ℕ, refl, sym, ap, ◌∙◌, subst, option_map}
 use Rattle.cf_protocol.specs.Position.{Position}
-use Rattle.cf_queue.specs.OutQueue.{Item, Close}
-use Rattle.cf_hub.specs.Checked.{answer_of, check_answer, stand_of}
+use Rattle.cf_queue.specs.OutQueue.{OutQueue, Item, Text, Close}
+use Rattle.cf_hub.specs.Checked.{answer_of, check_answer, mark_after, marked}
 use Rattle.cf_model.specs.PositionCheck.{Checked, Fine, Behind, Ended, position_check}
-use Rattle.cf_model.specs.SessionState.{Subscription, Off, Asked, Ready, On, SessionState, by_check, check_at, checks, closes, is_off, no_memory, push, put_sub}
+use Rattle.cf_model.specs.SessionState.{Off, On, SessionState, by_check, check_at, checks, closes, is_off, no_memory, push, put_sub}
+use Rattle.cf_hub.specs.Subscriptions.{SetsAt, Subscriptions, progress_at, sub_of}
 use Rattle.cf_hub.specs.WantOfMemory.{ClosesWith, OrCloses}
-use Rattle.cf_hub.specs.Wordings.{Held, plain}
+use Rattle.cf_hub.specs.Wordings.{Held, end_text, plain}
 use Rattle.cf_hub.specs.declared.checked.Checked.{Checked as Answer}
 use Rattle.cf_hub.specs.declared.checked.Checked.TheVariants as answer
-use Rattle.cf_hub.specs.declared.upkeep.Stand.{Stand}
+use Rattle.cf_hub.specs.declared.subscription.Progress.{Progress}
+use Rattle.cf_hub.specs.declared.subscription.Progress.TheVariants as code
+use Rattle.cf_hub.proofs.Notes.{with_queue}
+use Rattle.cf_hub.proofs.Puts.{put_state, same_state, subs_of}
+use Rattle.cf_hub.proofs.Replies.{with_twice}
 use Rattle.cf_hub.proofs.States.{puts_off}
-
-pub stands_on : (x : Subscription Held) (s : Stand) → stand_of x ≡ Some s → x ≡ On s.at s.mark
-stands_on Off s e = absurd (cc)
-stands_on (Asked id since b) s e = absurd (cc)
-stands_on (Ready id was r b) s e = absurd (cc)
-stands_on (On at mark) s e = ap (λ (x : Stand). On x.at x.mark) (some_is (record { at = at; mark = mark }) s e)
-  where
-    some_is : (a b : Stand) → ◌≡◌ {A = Option Stand} (Some a) (Some b) → a ≡ b
-    some_is a b e = cc
 
 one_answer : (u v : Checked) → answer_of u ≡ answer_of v → u ≡ v
 one_answer Fine Fine e = refl
@@ -32,37 +28,63 @@ one_answer Behind Ended e = absurd (cc)
 one_answer Ended Fine e = absurd (cc)
 one_answer Ended Behind e = absurd (cc)
 
-module _ (c : List ℕ) (top : Option Position) (s : SessionState Held Item) (x : Stand) (on : stand_of (s.subs c) ≡ Some x) (a : Answer) (is : a ≡ answer_of (position_check top x.at x.mark)) where
-  pub answers : a ≡ check_answer top (s.subs c)
-  answers = is ∙ ap (check_answer top) (sym (stands_on (s.subs c) x on))
+module _ (c : List ℕ) (top : Option Position) (m n : Subscriptions) (q : OutQueue) (a : Answer) (sets : SetsAt m n c (option_map (marked a) (progress_at m c))) (is : a ≡ check_answer top (subs_of m c)) where
+  abbrev old : SessionState Held Item
+  old = with_queue (subs_of m) q
 
-  pub checks_as : (v : Checked) → a ≡ answer_of v → checks plain c top s ≡ by_check plain c x.at v s
-  checks_as v e =
-      ap (λ y. check_at plain c top y s) (stands_on (s.subs c) x on) ∙ ap (λ u. by_check plain c x.at u s) (one_answer (position_check top x.at x.mark) v (sym is ∙ e))
+  same : (o : Option Progress) → o ≡ progress_at m c → SetsAt m n c o → with_queue (subs_of n) q ≡ old
+  same o e h = same_state m n c q (subst (λ w. SetsAt m n c w) e h)
 
-  -- an answer of nothing is none of a finished subscription
-  pub never : a ≡ answer.Nothing → {Y : Type 0} → Y
-  never e = by_value (position_check top x.at x.mark) (sym is ∙ e)
+  -- all is well, or there was nothing to check
+  goes_on : (o : Option Progress) → o ≡ progress_at m c → SetsAt m n c (option_map (marked a) o) → a ≡ check_answer top (sub_of o) → a ≢ answer.Ended → with_queue (subs_of n) q ≡ check_at plain c top (sub_of o) old
+  goes_on None e h is going = same None e h
+  goes_on (Some (code.Asked id since waiting)) e h is going = same (Some (code.Asked id since waiting)) e h
+  goes_on (Some (code.Ready id was recovery waiting)) e h is going = same (Some (code.Ready id was recovery waiting)) e h
+  goes_on (Some (code.On at mark)) e h is going = put_state m n c (Some (code.On at (mark_after a at))) q h ∙ by_answer (position_check top at mark) is
     where
-      by_value : (u : Checked) → answer_of u ≡ answer.Nothing → {Y : Type 0} → Y
-      by_value Fine e = absurd (cc)
-      by_value Behind e = absurd (cc)
-      by_value Ended e = absurd (cc)
+      by_answer : (v : Checked) → a ≡ answer_of v → put_sub c (On at (mark_after a at)) old ≡ by_check plain c at v old
+      by_answer Fine e = ap (λ b. put_sub c (On at (mark_after b at)) old) e
+      by_answer Behind e = ap (λ b. put_sub c (On at (mark_after b at)) old) e
+      by_answer Ended e = absurd (going e)
 
--- where all is well, or there was nothing to check, the mark goes
-pub fine_checked : (c : List ℕ) (top : Option Position) (s b : SessionState Held Item) (x : Stand) → stand_of (s.subs c) ≡ Some x → (a : Answer) → a ≡ answer_of (position_check top x.at x.mark)
-    → (a ≡ answer.Fine) ⊎ (a ≡ answer.Nothing) → b ≡ put_sub c (On x.at None) s → b ≡ checks plain c top s
-fine_checked c top s b x on a is (inl fine) e = e ∙ sym (checks_as c top s x on a is Fine fine)
-fine_checked c top s b x on a is (inr nothing) e = never c top s x on a is nothing
+  pub checked : a ≢ answer.Ended → with_queue (subs_of n) q ≡ checks plain c top old
+  checked going = goes_on (progress_at m c) refl sets is going
 
--- an unsubscribe push is said, or the session is closed
-pub ends_checked : (r : Bool) (c : List ℕ) (top : Option Position) (n : Item) (s mid b : SessionState Held Item) → mid ≡ put_sub c Off s → checks plain c top s ≡ push plain n (put_sub c Off s)
-    → (b ≡ push plain n mid) ⊎ ((r ≡ true) × ClosesWith (Close no_memory) mid b) → OrCloses r plain (checks plain c top) s b
-ends_checked r c top n s mid b is moves (inl e) = inl (e ∙ ap (push plain n) is ∙ sym moves)
-ends_checked r c top n s mid b is moves (inr h) =
-    inr (h.0, record { was_open = ap (λ (x : SessionState Held Item). x.closed) (sym is) ∙ h.1.was_open; closed = h.1.closed ∙ ap (closes (Close no_memory)) is })
+  -- it ends, whatever its mark is
+  ends : (o : Option Progress) → SetsAt m n c (option_map (marked a) o) → a ≡ check_answer top (sub_of o) → a ≡ answer.Ended
+      → (check_at plain c top (sub_of o) old ≡ push plain (Text (end_text c)) (put_sub c Off old)) × (put_sub c Off (with_queue (subs_of n) q) ≡ put_sub c Off old)
+  ends None h is e = absurd (let other = sym is ∙ e in cc)
+  ends (Some (code.Asked id since waiting)) h is e = absurd (let other = sym is ∙ e in cc)
+  ends (Some (code.Ready id was recovery waiting)) h is e = absurd (let other = sym is ∙ e in cc)
+  ends (Some (code.On at mark)) h is e = (
+    ap (λ v. by_check plain c at v old) (one_answer (position_check top at mark) Ended (sym is ∙ e)),
+    ap (put_sub c Off) (put_state m n c (Some (code.On at (mark_after a at))) q h) ∙ with_twice c Off (On at (mark_after a at)) old,
+  )
 
--- another stand turns nothing off
-pub stand_off : (c d : List ℕ) (s b : SessionState Held Item) (x : Stand) (at : Position) (mark : Option ℕ) → stand_of (s.subs c) ≡ Some x → b ≡ put_sub c (On at mark) s → is_off (b.subs d) ≡ is_off (s.subs d)
-stand_off c d s b x at mark on e =
-    ap (λ (y : SessionState Held Item). is_off (y.subs d)) e ∙ puts_off c d (On at mark) s refl (ap is_off (stands_on (s.subs c) x on))
+  pub left : a ≡ answer.Ended → (mid : SessionState Held Item) → mid ≡ put_sub c Off (with_queue (subs_of n) q) → mid ≡ put_sub c Off old
+  left e mid h = h ∙ (ends (progress_at m c) sets is e).1
+
+  -- an unsubscribe push is said, or the session is closed
+  pub ended : a ≡ answer.Ended → (r : Bool) (mid b : SessionState Held Item) → mid ≡ put_sub c Off (with_queue (subs_of n) q)
+      → (b ≡ push plain (Text (end_text c)) mid) ⊎ ((r ≡ true) × ClosesWith (Close no_memory) mid b) → OrCloses r plain (checks plain c top) old b
+  ended e r mid b h (inl says) = inl (says ∙ ap (push plain (Text (end_text c))) (left e mid h) ∙ sym (ends (progress_at m c) sets is e).0)
+  ended e r mid b h (inr closes_it) =
+      inr (
+        closes_it.0,
+        record {
+          was_open = ap (λ (x : SessionState Held Item). x.closed) (sym (left e mid h)) ∙ closes_it.1.was_open;
+          closed = closes_it.1.closed ∙ ap (closes (Close no_memory)) (left e mid h);
+        },
+      )
+
+  -- a mark turns nothing off
+  stays : (d : List ℕ) (o : Option Progress) → o ≡ progress_at m c → SetsAt m n c (option_map (marked a) o) → is_off (subs_of n d) ≡ is_off (subs_of m d)
+  stays d None e h = ap (λ (x : SessionState Held Item). is_off (x.subs d)) (same None e h)
+  stays d (Some (code.Asked id since waiting)) e h = ap (λ (x : SessionState Held Item). is_off (x.subs d)) (same (Some (code.Asked id since waiting)) e h)
+  stays d (Some (code.Ready id was recovery waiting)) e h = ap (λ (x : SessionState Held Item). is_off (x.subs d)) (same (Some (code.Ready id was recovery waiting)) e h)
+  stays d (Some (code.On at mark)) e h =
+      ap (λ (x : SessionState Held Item). is_off (x.subs d)) (put_state m n c (Some (code.On at (mark_after a at))) q h)
+      ∙ puts_off c d (On at (mark_after a at)) old refl (ap (λ o. is_off (sub_of o)) (sym e))
+
+  pub still_on : (d : List ℕ) → is_off (subs_of n d) ≡ is_off (subs_of m d)
+  still_on d = stays d (progress_at m c) refl sets

@@ -1,8 +1,7 @@
 -- Where a node's sessions stand after a place is written, or more are made.
-use Rattle.std.proofs.Common.{◌≡◌, ◌≢◌, ◌<◌, ◌≤◌, ℕ, zero, suc, Bool, true, false, if◌then◌else◌, List, [], ◌∷◌, ◌++◌, Option, Some, None, map, option_map, sym, subst, length, take, arith, refl, ap, ◌∙◌, slice_set, Box, Global}
-use Rattle.std.specs.List.{AppendsResults, FoldsTo}
+use Rattle.std.proofs.Common.{◌≡◌, ◌≢◌, ◌<◌, ◌≤◌, ℕ, zero, suc, Bool, true, false, if◌then◌else◌, List, [], ◌∷◌, Option, Some, None, map, option_map, is_some, sym, subst, length, arith, refl, ap, ◌∙◌, slice_set, Box, Global}
 use Rattle.std.specs.Str.{bytes_eq}
-use Rattle.std.proofs.lemmas.List.{get_or-set_other, get_or-set_same, length-map, map-set, take_all}
+use Rattle.std.proofs.lemmas.List.{get_or-set_other, get_or-set_same, length-map, map-set}
 use Rattle.cf_protocol.specs.Position.{Position}
 use Rattle.cf_hub.specs.Delivery.{fate_at, fate_of}
 use Rattle.cf_hub.specs.declared.fate.Fate.{Fate}
@@ -25,21 +24,17 @@ written os k o h = rw (map-set unboxed os k o) (get_or-set_same (map unboxed os)
 pub others_stay : (os : List Boxed) (k : ℕ) (o : Boxed) (j : ℕ) → j ≢ k → session_in (unboxed_all (slice_set os k o)) j ≡ session_in (unboxed_all os) j
 others_stay os k o j h = rw (map-set unboxed os k o) (get_or-set_other (map unboxed os) k j (unboxed o) None h)
 
--- where each call of a closure gives nothing, there is no session
-none_more : {F : Type 0} {step : F → Boxed → F → Type 0} (os : List Boxed) (f last : F) → ((o : Boxed) (g h : F) → step g o h → o ≡ None) → FoldsTo step f os last → (j : ℕ) → session_in (unboxed_all os) j ≡ None
-none_more [] f last none folds j = refl
-none_more (o ∷ os) f last none folds zero = ap unboxed (none o f folds.0 folds.1)
-none_more (o ∷ os) f last none folds (suc j) = none_more os folds.0 last none folds.2 j
+pub less_than : (k n : ℕ) → k ≤ n → (k ≡ n → ⊥) → k < n
+less_than zero zero h e = absurd (e refl)
+less_than zero (suc n) h e = omega arith
+less_than (suc k) zero h e = absurd (omega (arith, h))
+less_than (suc k) (suc n) h e = let less = less_than k n (omega (arith, h)) (λ q. e (ap suc q)) in omega (arith, less)
 
-appended : (os more : List Boxed) → ((j : ℕ) → session_in (unboxed_all more) j ≡ None) → (j : ℕ) → session_in (unboxed_all (os ++ more)) j ≡ session_in (unboxed_all os) j
-appended [] more none j = none j
-appended (o ∷ os) more none zero = refl
-appended (o ∷ os) more none (suc j) = appended os more none j
-
-pub with_room : {F : Type 0} {step : F → Boxed → F → Type 0} (os new : List Boxed) (count : ℕ) (f : F) → ((o : Boxed) (g h : F) → step g o h → o ≡ None) → length os ≤ count → AppendsResults step (take count os) new f
-    → (j : ℕ) → session_in (unboxed_all new) j ≡ session_in (unboxed_all os) j
-with_room os new count f none few made j =
-    ap (λ xs. session_in (unboxed_all xs) j) (made.2 ∙ ap (λ xs. xs ++ made.0) (take_all count os few)) ∙ appended os made.0 (none_more made.0 f made.1 none made.3) j
+-- there is a place for each number below which each has a session
+pub has_place : (ps : Places) (n : ℕ) → ((j : ℕ) → j < n → is_some (attached_in ps j) ≡ true) → n ≤ length ps
+has_place ps zero h = omega arith
+has_place [] (suc n) h = absurd (let none = h zero (omega arith) in cc)
+has_place (p ∷ ps) (suc n) h = let rest = has_place ps n (λ j l. h (suc j) (omega (arith, l))) in omega (arith, rest)
 
 within : (ps : Places) (k : ℕ) (s : Session) → session_in ps k ≡ Some s → k < length ps
 within [] k s e = absurd (cc)

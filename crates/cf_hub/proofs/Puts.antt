@@ -1,10 +1,10 @@
 -- A session's subscriptions, where one of them changes.
-use Rattle.std.proofs.Common.{◌≡◌, ◌≢◌, ◌⊎◌, inl, inr, ℕ, ◌&&◌, not, Bool, true, false, cond, if◌then◌else◌, Option, Some, None, List, [], refl, sym, ap, ◌∙◌, option_map, is_some}
+use Rattle.std.proofs.Common.{◌≡◌, ◌≢◌, ◌⊎◌, inl, inr, ℕ, ◌&&◌, not, Bool, true, false, cond, if◌then◌else◌, Option, Some, None, List, refl, sym, ap, ◌∙◌, option_map}
 use Rattle.std.specs.Cmp.Lexicographic.{bytes_decides}
 use Rattle.std.specs.Prelude.{OnOk, Result, Ok, Err, ⊤}
 use Rattle.std.specs.declared.alloc.AllocError.{AllocError}
 use Rattle.std.specs.Str.{bytes_eq}
-use Rattle.cf_recovery.specs.ArrivalBuffer.{ArrivalBuffer, nothing_kept}
+use Rattle.cf_recovery.specs.ArrivalBuffer.{nothing_kept}
 use Rattle.cf_protocol.specs.Datum.{Placed}
 use Rattle.cf_protocol.specs.Names.{with}
 use Rattle.cf_protocol.specs.Position.{Position}
@@ -18,11 +18,11 @@ use Rattle.cf_hub.specs.declared.subscription.Meets.TheVariants as meets
 use Rattle.cf_hub.specs.declared.subscription.Met.{Met}
 use Rattle.cf_hub.specs.declared.subscription.Progress.{Progress}
 use Rattle.cf_hub.specs.declared.subscription.Progress.TheVariants as code
-use Rattle.cf_model.specs.SessionState.{Subscription, Off, Asked, On, SessionState, begins, put_sub, push, closes, comes, come_at, by_verdict, is_unfinished, no_memory}
+use Rattle.cf_model.specs.SessionState.{Subscription, Off, On, SessionState, begins, put_sub, push, closes, comes, come_at, by_verdict, is_unfinished, no_memory}
 use Rattle.cf_hub.specs.WantOfMemory.{Serves, ClosesWith, without_buffer}
 use Rattle.cf_hub.specs.Delivery.{fate_of, sub_fate}
 use Rattle.cf_hub.specs.Subscriptions.{IsGivenUp, SetsAt, Subscriptions, loses, meeting, progress_at, stands_by, sub_of, takes, verdict_code}
-use Rattle.cf_hub.specs.Wordings.{Held, held, plain, delivering, at_offset, push_text, end_text}
+use Rattle.cf_hub.specs.Wordings.{Held, plain, delivering, at_offset, push_text, end_text}
 use Rattle.cf_hub.proofs.States.{state_is}
 use Rattle.cf_hub.proofs.Notes.{with_queue}
 
@@ -47,15 +47,6 @@ sets_sub m n c w h q = ap sub_of (h q) ∙ picked (bytes_eq c q) w (progress_at 
 -- one channel is set
 pub put_state : (m n : Subscriptions) (c : List ℕ) (w : Option Progress) (q : OutQueue) → SetsAt m n c w → with_queue (subs_of n) q ≡ put_sub c (sub_of w) (with_queue (subs_of m) q)
 put_state m n c w q h = state_is (with_queue (subs_of n) q) (put_sub c (sub_of w) (with_queue (subs_of m) q)) (sets_sub m n c w h) refl refl
-
--- what is there is replaced
-pub replaced : (m n : Subscriptions) (c : List ℕ) (x : Progress) (q : OutQueue) → is_some (progress_at m c) ≡ true → SetsAt m n c (option_map (λ _. x) (progress_at m c))
-    → with_queue (subs_of n) q ≡ put_sub c (sub_of (Some x)) (with_queue (subs_of m) q)
-replaced m n c x q e h = put_state m n c (Some x) q (λ d. h d ∙ by_value (progress_at m c) e d)
-  where
-    by_value : (o : Option Progress) → is_some o ≡ true → (d : List ℕ) → cond (bytes_eq c d) (option_map (λ _. x) o) (progress_at m d) ≡ cond (bytes_eq c d) (Some x) (progress_at m d)
-    by_value None e d = absurd (cc)
-    by_value (Some y) e d = refl
 
 -- nothing changes where a channel is set to what it has
 pub same_state : (m n : Subscriptions) (c : List ℕ) (q : OutQueue) → SetsAt m n c (progress_at m c) → with_queue (subs_of n) q ≡ with_queue (subs_of m) q
@@ -206,8 +197,7 @@ module _ (m n : Subscriptions) (c : List ℕ) (q : OutQueue) (e : List ℕ) (p :
 
 -- ---- a subscription begins
 
-pub put_begun : (r : Result ⊤ AllocError) (m n : Subscriptions) (c : List ℕ) (id : ℕ) (since : Option Position) (waiting : ArrivalBuffer) (q : OutQueue) → waiting ≡ nothing_kept
-    → OnOk r (SetsAt m n c (Some (code.Asked id since waiting))) → OnOk r (with_queue (subs_of n) q ≡ begins plain c id since (with_queue (subs_of m) q))
-put_begun (Ok x) m n c id since waiting q e h =
-    put_state m n c (Some (code.Asked id since waiting)) q h ∙ ap (λ k. put_sub c (Asked id since (held k [])) (with_queue (subs_of m) q)) e
-put_begun (Err x) m n c id since waiting q e h = tt
+pub put_begun : (r : Result ⊤ AllocError) (m n : Subscriptions) (c : List ℕ) (id : ℕ) (since : Option Position) (q : OutQueue)
+    → OnOk r (SetsAt m n c (Some (code.Asked id since nothing_kept))) → OnOk r (with_queue (subs_of n) q ≡ begins plain c id since (with_queue (subs_of m) q))
+put_begun (Ok x) m n c id since q h = put_state m n c (Some (code.Asked id since nothing_kept)) q h
+put_begun (Err x) m n c id since q h = tt

@@ -34,7 +34,7 @@ read_state m n c r q h = by_sub (progress_at m c) refl
         same_state m n c q (λ d. h d ∙ ap (λ o. cond (bytes_eq c d) (option_map (was_read r) o) (progress_at m d)) e ∙ ap (λ o. cond (bytes_eq c d) o (progress_at m d)) (sym e))
         ∙ ap (λ o. read_at (reading r.publications.items) c (reading_of r) (sub_of o) (with_queue (subs_of m) q)) (sym e)
 
-with_twice : {B N : Type 0} (c : List ℕ) (x y : Subscription B) (s : SessionState B N) → put_sub c x (put_sub c y s) ≡ put_sub c x s
+pub with_twice : {B N : Type 0} (c : List ℕ) (x y : Subscription B) (s : SessionState B N) → put_sub c x (put_sub c y s) ≡ put_sub c x s
 with_twice c x y s = state_is (put_sub c x (put_sub c y s)) (put_sub c x s) (λ d. by_value d (bytes_eq d c)) refl refl
   where
     by_value : (d : List ℕ) (t : Bool) → (if t then x else if t then y else s.subs d) ≡ (if t then x else s.subs d)

@@ -1,14 +1,11 @@
 -- What a finish makes of a session.
-use Rattle.std.specs.Prelude.{◌≡◌, ℕ, Bool, List, Option, Some, None, false}
+use Rattle.std.specs.Prelude.{◌≡◌, ℕ, Bool, List}
 use Rattle.cf_protocol.specs.Datum.{Placed}
 use Rattle.cf_protocol.specs.Note.{Reading}
 use Rattle.cf_queue.specs.OutQueue.{Item}
 use Rattle.cf_recovery.specs.ArrivalBuffer.{IsRun}
 use Rattle.cf_model.specs.SessionState.{Subscription, Off, Asked, Ready, On, SessionState, finish_notes, finished}
 use Rattle.cf_model.specs.SessionState.{put_sub}
-use Rattle.cf_hub.specs.declared.fate.Fate.{Fate}
-use Rattle.cf_hub.specs.declared.fate.Fate.TheVariants.{Passed}
-use Rattle.cf_hub.specs.declared.step.Step.{Step}
 use Rattle.cf_hub.specs.WantOfMemory.{SaysAll}
 use Rattle.cf_hub.specs.Wordings.{Held, releasing}
 
@@ -27,12 +24,3 @@ FinishesAt refused c Off a b = b ≡ a
 FinishesAt refused c (Asked id since h) a b = b ≡ a
 FinishesAt refused c (Ready id was r h) a b = Finishes refused c id was r h a b
 FinishesAt refused c (On at mark) a b = b ≡ a
-
--- what a finish did, where it did something
-abbrev pub refused_in : Option Step → Bool
-refused_in None = false
-refused_in (Some s) = s.refused
-
-abbrev pub fate_in : Option Step → Fate
-fate_in None = Passed
-fate_in (Some s) = s.fate

@@ -1,8 +1,10 @@
 -- What a call makes of one of a node's sessions: of the session itself, and of all of them by number.
-use Rattle.std.specs.Prelude.{◌≡◌, ◌≢◌, ◌&&◌, ℕ, not, Bool, false, if◌then◌else◌, Option, MatchOption, IfSome, List}
-use Rattle.std.specs.Prelude.{map, option_map}
+use Rattle.std.specs.Prelude.{◌≡◌, ◌≢◌, ◌&&◌, ℕ, not, Bool, true, false, if◌then◌else◌, Option, MatchOption, IfSome}
+use Rattle.std.specs.Prelude.{List, map, option_map}
 use Rattle.cf_protocol.specs.Datum.{Placed}
-use Rattle.cf_queue.specs.OutQueue.{Item, Text}
+use Rattle.cf_queue.specs.OutQueue.{Item, Text, Close}
+use Rattle.cf_queue.specs.declared.refusal.QueueRefusal.{QueueRefusal}
+use Rattle.cf_queue.specs.declared.refusal.QueueRefusal.TheVariants as refusal
 use Rattle.cf_stream.specs.declared.answer.Recovery.{Recovery}
 use Rattle.cf_hub.specs.Delivery.{fate_of}
 use Rattle.cf_hub.specs.Finish.{FinishesAt}
@@ -11,7 +13,8 @@ use Rattle.cf_hub.specs.Places.{Places}
 use Rattle.cf_hub.specs.Reply.{IsAnswered}
 use Rattle.cf_hub.specs.Rows.{off_after, sub_in}
 use Rattle.cf_hub.specs.Session.{Attached, Badge, badge_of, state_of, ticks}
-use Rattle.cf_model.specs.SessionState.{Off, SessionState, comes, is_off, is_ready, push, put_sub, reads}
+use Rattle.cf_model.specs.SessionState.{Off, SessionState, closes_now, comes, is_off, is_ready, push, put_sub, reads}
+use Rattle.cf_model.specs.SessionState.{no_memory, slow}
 use Rattle.cf_hub.specs.Subscriptions.{reading_of}
 use Rattle.cf_hub.specs.WantOfMemory.{Both, OrCloses, SaysAll, Serves}
 use Rattle.cf_hub.specs.Wordings.{Held, at_offset, delivering, plain, push_text, reading}
@@ -29,6 +32,17 @@ Move = SessionState Held Item → SessionState Held Item
 -- a text is said
 abbrev pub says_one : List ℕ → Move
 says_one t = push plain (Text t)
+
+-- what comes of a text that is refused so
+abbrev pub unsaid : QueueRefusal → Move
+unsaid refusal.Closed s = s
+unsaid refusal.Slow s = closes_now (Close slow) s
+unsaid refusal.Memory s = closes_now (Close no_memory) s
+
+abbrev pub wants_memory : QueueRefusal → Bool
+wants_memory refusal.Closed = false
+wants_memory refusal.Slow = false
+wants_memory refusal.Memory = true
 
 -- the read of a channel's stream is taken
 abbrev pub takes_read : Recovery → List ℕ → Move

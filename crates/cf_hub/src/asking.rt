@@ -3,15 +3,12 @@ ghost use Rattle.std.specs.Prelude.{◌≡◌, ◌↔◌, ℕ, List, false, true
 ghost use Rattle.std.specs.List.{list_all};
 ghost use Rattle.std.specs.String.{string_eq};
 ghost use Rattle.cf_hub.specs.Asking.{asked_of};
-ghost use Rattle.cf_hub.specs.Hub.{attached_in};
-ghost use Rattle.cf_hub.specs.Rows.{sub_in};
 ghost use Rattle.cf_model.specs.SessionState.{is_unfinished};
 ghost use Rattle.cf_hub.specs.Subscriptions.{sub_of};
 ghost use Rattle.indexmap.specs.IndexMap.{IsUnique};
 
 use crate::hub::Hub;
 use crate::session::Session;
-use crate::session_table::Sessions;
 use crate::subscription::Progress;
 use cf_protocol::Position;
 use indexmap::IndexMap;
@@ -33,7 +30,10 @@ impl Hub {
     pub fn asked(&self, session: u32, channel: &str) -> Option<Asked>
         ensures { result ≡ asked_of (sub_at self.now session channel.now) }
     {
-        asked_in(&self.sessions, session, channel)
+        match self.session(session) {
+            None => None,
+            Some(session) => session.asked(channel),
+        }
     }
 
     /// Whether no subscription of a session waits for its reply. It takes no memory.
@@ -41,46 +41,25 @@ impl Hub {
         ensures { IsTrue result
             ↔ ((c : List ℕ) → is_unfinished (sub_at self.now session c) ≡ false) }
     {
-        is_settled_in(&self.sessions, session)
-    }
-}
-
-fn asked_in(sessions: &Sessions, number: u32, channel: &str) -> Option<Asked>
-    ensures { result ≡ asked_of (sub_in (attached_in sessions.now number) channel.now) }
-{
-    match sessions.get(number) {
-        None => None,
-        Some(session) => session.asked(channel),
-    }
-}
-
-fn is_settled_in(sessions: &Sessions, number: u32) -> bool
-    ensures { IsTrue result
-        ↔ ((c : List ℕ) → is_unfinished (sub_in (attached_in sessions.now number) c) ≡ false) }
-{
-    match sessions.get(number) {
-        None => true,
-        Some(session) => session.is_settled(),
+        match self.session(session) {
+            None => true,
+            Some(session) => all_finished(&session.subscriptions),
+        }
     }
 }
 
 impl Session {
-    ghost use Rattle.std.specs.Prelude.{◌≡◌, ◌↔◌, ℕ, List, false, IsTrue};
+    ghost use Rattle.std.specs.Prelude.{◌≡◌};
     ghost use Rattle.cf_hub.specs.Asking.{asked_of};
     ghost use Rattle.cf_hub.specs.Session.{state_of};
-    ghost use Rattle.cf_model.specs.SessionState.{is_unfinished};
 
     fn asked(&self, channel: &str) -> Option<Asked>
         ensures { result ≡ asked_of ((state_of self.now).subs channel.now) }
     {
-        self.subscriptions.get(channel)?.asked()
-    }
-
-    fn is_settled(&self) -> bool
-        ensures { IsTrue result
-            ↔ ((c : List ℕ) → is_unfinished ((state_of self.now).subs c) ≡ false) }
-    {
-        all_finished(&self.subscriptions)
+        match self.subscriptions.get(channel) {
+            None => None,
+            Some(progress) => progress.asked(),
+        }
     }
 }
 

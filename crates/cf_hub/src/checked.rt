@@ -31,14 +31,9 @@ pub(crate) fn position_check(top: Option<Position>, at: &Position, mark: Option<
     if top.offset <= at.offset {
         return Checked::Fine;
     }
-    match mark {
-        None => Checked::Behind,
-        Some(mark) => {
-            if mark == at.offset {
-                Checked::Ended
-            } else {
-                Checked::Behind
-            }
-        }
+    if mark == Some(at.offset) {
+        Checked::Ended
+    } else {
+        Checked::Behind
     }
 }

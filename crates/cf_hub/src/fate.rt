@@ -1,8 +1,8 @@
 //! What became of one session in a call.
 
 /// What a call did with one session.
-#[derive(Clone, Copy, PartialEq, Eq, Debug, Drop)]
-pub enum Fate {
+#[derive(Clone, Copy)]
+pub(crate) enum Fate {
     /// What was to be said waits for its client.
     Passed,
     /// It was kept until the reply.

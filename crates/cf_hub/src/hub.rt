@@ -11,10 +11,7 @@ ghost use Rattle.cf_hub.specs.Turns.{gets_turn};
 ghost use Rattle.cf_hub.specs.Wordings.{IsWritten};
 
 use crate::delivered::Delivered;
-use crate::fate::Fate;
-use crate::one_session::{
-    bring_one, close_one, count_more, drop_one, leave_one, settle_all, take_one,
-};
+use crate::one_session::{bring_one, close_one, count_more, leave_one, settle_all, take_one};
 use crate::pending::Pending;
 use crate::session_table::Sessions;
 use crate::wording::push_text;
@@ -118,7 +115,9 @@ impl Hub {
     {
         let written = push_text(self.alloc, channel, publication);
         self.note(written.is_none());
-        self.bring_to_all(channel, epoch, publication, &written)
+        let counts = self.bring_to_all(channel, epoch, publication, &written);
+        drop(written);
+        counts
     }
 
     /// Whether one of its calls met a refused request for memory.
@@ -172,7 +171,7 @@ impl Hub {
         ensures rest { SameRest self.old self.new }
         ensures turns { self.new.turns ≡ self.old.turns }
     {
-        drop_one(&mut self.sessions, session);
+        self.sessions.remove(session);
         self.free_from = self.free_from.min(session);
         self.rows.detach(session)
     }

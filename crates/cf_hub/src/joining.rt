@@ -3,9 +3,7 @@ ghost use Rattle.std.specs.Prelude.{◌≡◌, IfOk, string_bytes};
 ghost use Rattle.cf_hub.specs.Hub.{client_id};
 
 use crate::hub::{Hub, MOST_CHANNELS, MOST_SESSIONS};
-use crate::one_session::{
-    begin_one, client_in, has_in, insert_one, is_closed_in, is_on_in, is_taken, user_in,
-};
+use crate::one_session::begin_one;
 use crate::refusal::HubRefusal;
 use crate::session::Session;
 use cf_protocol::Position;
@@ -53,7 +51,7 @@ impl Hub {
             return None;
         }
         for number in self.free_from..MOST_SESSIONS {
-            if !self.is_taken(number) {
+            if self.session(number).is_none() {
                 return Some(number);
             }
         }
@@ -73,7 +71,7 @@ impl Hub {
         self.pending.make_room(number)?;
         let client = write_client_id(self.alloc, self.node, self.boot, self.used + 1)?;
         let session = Session::new(self.alloc, client, user, now);
-        insert_one(&mut self.sessions, self.alloc, number, session)?;
+        self.sessions.insert(self.alloc, number, session)?;
         self.free_from = number + 1;
         self.used += 1;
         Ok(())
@@ -84,7 +82,10 @@ impl Hub {
         ensures { option_map (λ t. t.now) result
             ≡ option_map (λ a. a.badge.client) (attached_at self.now session) }
     {
-        client_in(&self.sessions, session)
+        match self.session(session) {
+            None => None,
+            Some(session) => Some(session.client.as_str()),
+        }
     }
 
     /// The name of a session's user. It takes no memory.
@@ -92,21 +93,30 @@ impl Hub {
         ensures { option_map (λ t. t.now) result
             ≡ option_map (λ a. a.badge.user) (attached_at self.now session) }
     {
-        user_in(&self.sessions, session)
+        match self.session(session) {
+            None => None,
+            Some(session) => Some(session.user.as_str()),
+        }
     }
 
     /// Whether a session is closed, or there is none. It takes no memory.
     pub fn is_closed(&self, session: u32) -> bool
         ensures { result ≡ not (is_open (attached_at self.now session)) }
     {
-        is_closed_in(&self.sessions, session)
+        match self.session(session) {
+            None => true,
+            Some(session) => session.is_closed(),
+        }
     }
 
     /// Whether a session's subscription to a channel is finished. It takes no memory.
     pub fn is_on(&self, session: u32, channel: &str) -> bool
         ensures { result ≡ is_some (stand_of (sub_at self.now session channel.now)) }
     {
-        is_on_in(&self.sessions, session, channel)
+        match self.session(session) {
+            None => false,
+            Some(session) => session.is_on(channel),
+        }
     }
 
     /// Makes a subscription that the command `id` asked for, from a position where it gave one.
@@ -142,14 +152,10 @@ impl Hub {
     pub fn has(&self, session: u32, channel: &str) -> bool
         ensures { result ≡ not (is_off (sub_at self.now session channel.now)) }
     {
-        has_in(&self.sessions, session, channel)
-    }
-
-    /// Whether a number has a session.
-    fn is_taken(&self, number: u32) -> bool
-        ensures { result ≡ is_some (attached_at self.now number) }
-    {
-        is_taken(&self.sessions, number)
+        match self.session(session) {
+            None => false,
+            Some(session) => session.has(channel),
+        }
     }
 
     /// Whether a session has all channels that it may have, or the node all rows.

@@ -25,7 +25,6 @@ mod wording;
 pub use asking::Asked;
 pub use checked::Checked;
 pub use delivered::Delivered;
-pub use fate::Fate;
 pub use hub::{Hub, MOST_CHANNELS, MOST_SESSIONS};
 pub use queued::Queued;
 pub use refusal::HubRefusal;

@@ -1,12 +1,12 @@
 //! What a call makes of one session of the table, by its number.
-ghost use Rattle.std.specs.Prelude.{◌≡◌, [], true, not, is_some, OnOk, OnErr, Some, None, string_bytes, option_map, option_and_then, slice_get};
+ghost use Rattle.std.specs.Prelude.{◌≡◌, [], true, OnOk, OnErr, Some, None, string_bytes, option_map, option_and_then, slice_get};
 ghost use Rattle.cf_queue.specs.Meaning.{meaning};
 ghost use Rattle.cf_queue.specs.OutQueue.{Close};
 ghost use Rattle.cf_hub.specs.Delivery.{fate_at};
 ghost use Rattle.cf_hub.specs.Hub.{Brings, IsNextTurn, Pings, attached_in, counted, is_open, is_waiting, one_if, queued_in, waits_in};
-ghost use Rattle.cf_hub.specs.Checked.{check_answer, stand_of};
+ghost use Rattle.cf_hub.specs.Checked.{check_answer};
 ghost use Rattle.cf_hub.specs.Rows.{AgreedBefore, Agrees, TellsFate, rows_after, sub_in};
-ghost use Rattle.cf_hub.specs.Session.{attached_of, badge_ponged};
+ghost use Rattle.cf_hub.specs.Session.{badge_ponged};
 ghost use Rattle.cf_model.specs.SessionState.{begins, checks, closes_now, is_asked, is_off, is_ready, leaves, takes_front};
 ghost use Rattle.cf_hub.specs.Sessions.{ActsIn, BecomesIn, EndsIn, FinishesIn, MeetsIn, MovesIn, OthersStayIn, says_one, takes_read};
 ghost use Rattle.cf_hub.specs.Wordings.{IsWritten, at_offset, plain};
@@ -15,7 +15,7 @@ use crate::checked::Checked;
 use crate::fate::Fate;
 use crate::pending::Pending;
 use crate::queued::Queued;
-use crate::session::Session;
+use crate::reply::read_at;
 use crate::session_table::Sessions;
 use crate::step::Step;
 use bytes::ByteStr;
@@ -82,16 +82,8 @@ pub(crate) fn take_one(sessions: &mut Sessions, number: u32) -> Option<Out>
 {
     match sessions.get_mut(number) {
         None => None,
-        Some(session) => session.take(),
+        Some(session) => session.queue.take(),
     }
-}
-
-/// One session goes.
-pub(crate) fn drop_one(sessions: &mut Sessions, number: u32)
-    ensures here { attached_in sessions.new number ≡ None }
-    ensures others { OthersStayIn number sessions.old sessions.new }
-{
-    sessions.remove(number);
 }
 
 /// Makes a subscription of one session, which is open and doesn't follow the channel.
@@ -128,7 +120,7 @@ pub(crate) fn read_one(
 {
     match sessions.get_mut(number) {
         None => false,
-        Some(session) => session.read_done(channel, recovery),
+        Some(session) => read_at(&mut session.subscriptions, channel, recovery),
     }
 }
 
@@ -146,10 +138,7 @@ pub(crate) fn finish_one(
 {
     match sessions.get_mut(number) {
         None => (false, Step::none()),
-        Some(session) => match session.finish(alloc, channel) {
-            None => (false, Step::none()),
-            Some(step) => (true, step),
-        },
+        Some(session) => session.finish(alloc, channel),
     }
 }
 
@@ -199,7 +188,7 @@ pub(crate) fn pong_one(sessions: &mut Sessions, number: u32)
     ensures others { OthersStayIn number sessions.old sessions.new }
 {
     if let Some(session) = sessions.get_mut(number) {
-        session.pong();
+        session.awaits_pong = false;
     }
 }
 
@@ -215,86 +204,13 @@ pub(crate) fn tick_one(sessions: &mut Sessions, alloc: Global, number: u32, now:
     }
 }
 
-/// Whether one session is closed, or there is none.
-pub(crate) fn is_closed_in(sessions: &Sessions, number: u32) -> bool
-    ensures { result ≡ not (is_open (attached_in sessions.now number)) }
-{
-    match sessions.get(number) {
-        None => true,
-        Some(session) => session.is_closed(),
-    }
-}
-
-/// Whether one session's subscription to a channel is finished.
-pub(crate) fn is_on_in(sessions: &Sessions, number: u32, channel: &str) -> bool
-    ensures { result ≡ is_some (stand_of (sub_in (attached_in sessions.now number) channel.now)) }
-{
-    match sessions.get(number) {
-        None => false,
-        Some(session) => session.is_on(channel),
-    }
-}
-
-/// Whether one session follows a channel, or is asking for it.
-pub(crate) fn has_in(sessions: &Sessions, number: u32, channel: &str) -> bool
-    ensures { result ≡ not (is_off (sub_in (attached_in sessions.now number) channel.now)) }
-{
-    match sessions.get(number) {
-        None => false,
-        Some(session) => session.has(channel),
-    }
-}
-
-/// Whether a number has a session.
-pub(crate) fn is_taken(sessions: &Sessions, number: u32) -> bool
-    ensures { result ≡ is_some (attached_in sessions.now number) }
-{
-    sessions.has(number)
-}
-
-/// The id of one session's client.
-pub(crate) fn client_in(sessions: &Sessions, number: u32) -> Option<&str>
-    ensures { option_map (λ t. t.now) result
-        ≡ option_map (λ a. a.badge.client) (attached_in sessions.now number) }
-{
-    match sessions.get(number) {
-        None => None,
-        Some(session) => Some(session.client_id()),
-    }
-}
-
-/// The name of one session's user.
-pub(crate) fn user_in(sessions: &Sessions, number: u32) -> Option<&str>
-    ensures { option_map (λ t. t.now) result
-        ≡ option_map (λ a. a.badge.user) (attached_in sessions.now number) }
-{
-    match sessions.get(number) {
-        None => None,
-        Some(session) => Some(session.user()),
-    }
-}
-
-/// Adds a session under a number that has none.
-pub(crate) fn insert_one(
-    sessions: &mut Sessions,
-    alloc: Global,
-    number: u32,
-    session: Session,
-) -> Result<(), AllocError>
-    ensures here { OnOk result (attached_in sessions.new number ≡ Some (attached_of session)) }
-    ensures others { OnOk result (OthersStayIn number sessions.old sessions.new) }
-    ensures err { OnErr result (sessions.new ≡ sessions.old) }
-{
-    sessions.insert(alloc, number, session)
-}
-
 /// Whether something waits for one session's client.
 fn has_output(sessions: &Sessions, number: u32) -> bool
     ensures { result ≡ is_waiting (waits_in (attached_in sessions.now number)) }
 {
     match sessions.get(number) {
         None => false,
-        Some(session) => !session.is_silent(),
+        Some(session) => !session.queue.is_empty(),
     }
 }
 
@@ -332,7 +248,7 @@ fn fate_now(sessions: &Sessions, number: u32, channel: &str) -> Fate
     let Some(session) = sessions.get(number) else {
         return Fate::Closed;
     };
-    if session.has_none() {
+    if session.subscriptions.is_empty() {
         Fate::Closed
     } else if session.has(channel) {
         Fate::Dropped

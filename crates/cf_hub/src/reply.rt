@@ -11,7 +11,7 @@ use crate::step::Step;
 use crate::subscription::{Progress, add};
 use crate::wording::{end_text, reply_text};
 use cf_protocol::{Epoch, Position, Publication};
-use cf_recovery::{Released, Waiting};
+use cf_recovery::Released;
 use cf_stream::Recovery;
 use indexmap::IndexMap;
 use std::alloc::{AllocError, Global};
@@ -52,22 +52,23 @@ impl Progress {
         ensures asked { result ≡ is_asked (sub_of (Some self.old)) }
         ensures after { self.new ≡ was_read recovery self.old }
     {
-        match mem::replace(self, nowhere()) {
+        let (progress, was_asked) = match mem::replace(self, nowhere()) {
             Progress::Asked { id, since, waiting } => {
-                let was_recovering = since.is_some();
-                *self = Progress::Ready {
+                let ready = Progress::Ready {
                     id,
-                    was_recovering,
+                    was_recovering: since.is_some(),
                     recovery,
                     waiting,
                 };
-                true
+                (ready, true)
             }
             other => {
-                *self = other;
-                false
+                drop(recovery);
+                (other, false)
             }
-        }
+        };
+        drop(mem::replace(self, progress));
+        was_asked
     }
 
     /// Gives the reply and what follows it, where the stream was read, and stands behind both.
@@ -76,7 +77,7 @@ impl Progress {
             ((self.new ≡ self.old) × (is_ready (sub_of (Some self.old)) ≡ false))
             (λ a. Answers a self.old × (self.new ≡ stands a)) }
     {
-        match mem::replace(self, nowhere()) {
+        let (progress, answered) = match mem::replace(self, nowhere()) {
             Progress::Ready {
                 id,
                 was_recovering,
@@ -89,25 +90,24 @@ impl Progress {
                     epoch: end.epoch,
                     offset: end_of(end.offset, &released.run),
                 };
-                *self = Progress::On { at, mark: None };
-                Some(Answered {
+                let answered = Answered {
                     id,
                     was_recovering,
                     recovery,
                     released,
-                })
+                };
+                (Progress::On { at, mark: None }, Some(answered))
             }
-            other => {
-                *self = other;
-                None
-            }
-        }
+            other => (other, None),
+        };
+        drop(mem::replace(self, progress));
+        answered
     }
 }
 
-/// Takes what the read of a channel's stream gave.
+/// Takes what the read of a channel's stream gave, once. Says whether the channel was asked for.
 #[tactic(auto, using(std::proofs::lemmas::Map::Text::text_keys))]
-fn read_at(
+pub(crate) fn read_at(
     subscriptions: &mut IndexMap<String, Box<Progress>>,
     channel: &str,
     recovery: Recovery,
@@ -141,12 +141,11 @@ fn answer_at(subscriptions: &mut IndexMap<String, Box<Progress>>, channel: &str)
 }
 
 impl Session {
-    ghost use Rattle.std.specs.Prelude.{◌≡◌, ◌&&◌, not, if◌then◌else◌, OnOk, OnErr, MatchOption, List, ℕ, is_some, true, false};
-    ghost use Rattle.cf_hub.specs.Finish.{fate_in, refused_in};
+    ghost use Rattle.std.specs.Prelude.{◌≡◌, ◌&&◌, not, if◌then◌else◌, OnOk, OnErr, MatchOption, List, ℕ, true, false};
     ghost use Rattle.cf_hub.specs.Reply.{answer_notes, finish_texts};
     ghost use Rattle.cf_hub.specs.Session.{badge_of, state_of};
     ghost use Rattle.cf_model.specs.SessionState.{begins, is_asked, is_off, is_ready};
-    ghost use Rattle.cf_hub.specs.Sessions.{AnswersTo, EndsAs, FinishesSession, Moves, Tells, closed_or, finish_fate, leaves_if, takes_read};
+    ghost use Rattle.cf_hub.specs.Sessions.{AnswersTo, EndsAs, FinishesSession, Moves, Tells, closed_or, finish_fate, leaves_if};
     ghost use Rattle.cf_hub.specs.Wordings.{plain};
 
     /// Makes a subscription that the command `id` asked for.
@@ -162,22 +161,7 @@ impl Session {
         ensures err { OnErr result (state_of self.new ≡ state_of self.old) }
         ensures badge { badge_of self.new ≡ badge_of self.old }
     {
-        let waiting = Waiting::new(alloc);
-        add(
-            &mut self.subscriptions,
-            alloc,
-            channel,
-            Progress::Asked { id, since, waiting },
-        )
-    }
-
-    /// Takes what the read of a channel's stream gave, once. Says whether the channel was asked for.
-    pub(crate) fn read_done(&mut self, channel: &str, recovery: Recovery) -> bool
-        ensures asked { result ≡ is_asked ((state_of self.old).subs channel.now) }
-        ensures state { Moves (takes_read recovery channel.now) self.old self.new }
-        ensures badge { badge_of self.new ≡ badge_of self.old }
-    {
-        read_at(&mut self.subscriptions, channel, recovery)
+        add(&mut self.subscriptions, alloc, channel, id, since)
     }
 
     /// Gives a channel's reply and what follows it, where the stream was read. The subscription then stands behind both, or is
@@ -205,18 +189,18 @@ impl Session {
         }
     }
 
-    /// Queues a channel's reply, the run that follows it, and an unsubscribe push where something is missing then. None where
-    /// there is nothing to finish.
-    pub(crate) fn finish(&mut self, alloc: Global, channel: &str) -> Option<Step>
-        ensures found { is_some result ≡ is_ready ((state_of self.old).subs channel.now) }
-        ensures state { FinishesSession (refused_in result) channel.now self.old self.new }
-        ensures offs { EndsAs (fate_in result) channel.now self.old self.new }
+    /// Queues a channel's reply, the run that follows it, and an unsubscribe push where something is missing then. Says whether
+    /// there was something to finish.
+    pub(crate) fn finish(&mut self, alloc: Global, channel: &str) -> (bool, Step)
+        ensures found { result.0 ≡ is_ready ((state_of self.old).subs channel.now) }
+        ensures state { FinishesSession result.1.refused channel.now self.old self.new }
+        ensures offs { EndsAs result.1.fate channel.now self.old self.new }
         ensures badge { badge_of self.new ≡ badge_of self.old }
     {
         let was_closed = self.is_closed();
         match self.answer(channel) {
-            None => None,
-            Some(answered) => Some(self.say_finish(alloc, channel, was_closed, answered)),
+            None => (false, Step::none()),
+            Some(answered) => (true, self.say_finish(alloc, channel, was_closed, answered)),
         }
     }
 

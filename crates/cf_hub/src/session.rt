@@ -3,11 +3,11 @@ ghost use Rattle.std.specs.Prelude.{◌≡◌, ◌||◌};
 
 use crate::fate::Fate;
 use crate::step::Step;
-use crate::subscription::{Meets, Met, Progress, replace, take_at, take_out};
+use crate::subscription::{Meets, Met, Progress, take_at, take_out};
 use crate::wording::{end_text, push_text, shared};
 use bytes::ByteStr;
 use cf_protocol::{CloseCode, Epoch, Publication};
-use cf_queue::{Out, OutQueue, QueueRefusal};
+use cf_queue::{OutQueue, QueueRefusal};
 use cf_recovery::Verdict;
 use indexmap::IndexMap;
 use std::alloc::Global;
@@ -28,14 +28,11 @@ pub(crate) struct Session {
 }
 
 impl Session {
-    ghost use Rattle.std.specs.Prelude.{◌≡◌, ◌⊎◌, ◌↔◌, IsTrue, ◌||◌, ◌∷◌, [], ℕ, List, Some, None, true, false, IfSome, option_map, is_some, string_bytes, not, slice_get, ◌&&◌, if◌then◌else◌, map};
-    ghost use Rattle.cf_queue.specs.Meaning.{meaning};
+    ghost use Rattle.std.specs.Prelude.{◌≡◌, ◌⊎◌, ◌||◌, ◌∷◌, [], Some, None, true, false, IfSome, string_bytes, not, ◌&&◌, if◌then◌else◌, map};
     ghost use Rattle.cf_queue.specs.OutQueue.{Text, Close};
-    ghost use Rattle.cf_hub.specs.Hub.{is_waiting};
     ghost use Rattle.cf_hub.specs.Session.{badge_of, state_of};
-    ghost use Rattle.cf_model.specs.SessionState.{Off, On, closes_now, is_off, opens, put_sub, takes_front};
-    ghost use Rattle.cf_hub.specs.Sessions.{Acts, EndsAs, IsBrought, Moves, SaysText, Tells, closed_or, fate_brought, new_badge, pushes, says_one};
-    ghost use Rattle.cf_hub.specs.Subscriptions.{progress_at, sub_of};
+    ghost use Rattle.cf_model.specs.SessionState.{Off, closes_now, is_off, opens, put_sub};
+    ghost use Rattle.cf_hub.specs.Sessions.{Acts, EndsAs, IsBrought, Moves, SaysText, Tells, closed_or, fate_brought, new_badge, pushes, says_one, unsaid, wants_memory};
     ghost use Rattle.cf_hub.specs.Wordings.{IsWritten, push_text};
 
     /// A client's session, with no subscription and nothing that waits.
@@ -53,32 +50,11 @@ impl Session {
         }
     }
 
-    /// The client's id.
-    pub(crate) fn client_id(&self) -> &str
-        ensures { result.now ≡ (badge_of self.now).client }
-    {
-        self.client.as_str()
-    }
-
-    /// The name of the client's user.
-    pub(crate) fn user(&self) -> &str
-        ensures { result.now ≡ (badge_of self.now).user }
-    {
-        self.user.as_str()
-    }
-
     /// Whether it is closed.
     pub(crate) fn is_closed(&self) -> bool
         ensures { result ≡ (state_of self.now).closed }
     {
         self.queue.is_closed()
-    }
-
-    /// Whether nothing waits.
-    pub(crate) fn is_silent(&self) -> bool
-        ensures { result ≡ not (is_waiting (state_of self.now).notes) }
-    {
-        self.queue.is_empty()
     }
 
     /// Closes it, unless it is closed, and says whether it was open. It takes no memory.
@@ -96,32 +72,36 @@ impl Session {
         true
     }
 
-    /// Takes what is next. It takes no memory.
-    pub(crate) fn take(&mut self) -> Option<Out>
-        ensures front { option_map meaning result ≡ slice_get (state_of self.old).notes 0 }
-        ensures state { state_of self.new ≡ takes_front (state_of self.old) }
-        ensures badge { badge_of self.new ≡ badge_of self.old }
-    {
-        self.queue.take()
-    }
-
     /// Queues a text, or closes the session. Says whether memory was refused, as it was for a text that isn't there.
     pub(crate) fn say(&mut self, text: Option<ByteStr>) -> bool
         ensures state { SaysText result text self.old self.new }
         ensures badge { badge_of self.new ≡ badge_of self.old }
     {
         let Some(text) = text else {
-            let _open = self.close(CloseCode::InternalError.code());
-            return true;
+            return self.refuse(QueueRefusal::Memory);
         };
         match self.queue.push(text) {
             Ok(()) => false,
-            Err((QueueRefusal::Closed, _)) => false,
-            Err((QueueRefusal::Slow, _)) => {
+            Err((refusal, text)) => {
+                drop(text);
+                self.refuse(refusal)
+            }
+        }
+    }
+
+    /// Closes the session where a text that was refused so makes it. Says whether memory was refused.
+    fn refuse(&mut self, refusal: QueueRefusal) -> bool
+        ensures state { Moves (unsaid refusal) self.old self.new }
+        ensures memory { result ≡ wants_memory refusal }
+        ensures badge { badge_of self.new ≡ badge_of self.old }
+    {
+        match refusal {
+            QueueRefusal::Closed => false,
+            QueueRefusal::Slow => {
                 let _open = self.close(CloseCode::Slow.code());
                 false
             }
-            Err((QueueRefusal::Memory, _)) => {
+            QueueRefusal::Memory => {
                 let _open = self.close(CloseCode::InternalError.code());
                 true
             }
@@ -135,7 +115,7 @@ impl Session {
         ensures badge { badge_of self.new ≡ badge_of self.old }
     {
         let was_closed = self.queue.is_closed();
-        let refused = self.say(shared(text));
+        let refused = self.say(shared(Ok(text)));
         self.step(was_closed, Fate::Passed, refused)
     }
 
@@ -146,15 +126,7 @@ impl Session {
     {
         match self.queue.push_shared(text) {
             Ok(()) => false,
-            Err(QueueRefusal::Closed) => false,
-            Err(QueueRefusal::Slow) => {
-                let _open = self.close(CloseCode::Slow.code());
-                false
-            }
-            Err(QueueRefusal::Memory) => {
-                let _open = self.close(CloseCode::InternalError.code());
-                true
-            }
+            Err(refusal) => self.refuse(refusal),
         }
     }
 
@@ -197,13 +169,6 @@ impl Session {
         self.subscriptions.contains_key(channel)
     }
 
-    /// Whether it follows no channel, and is asking for none.
-    pub(crate) fn has_none(&self) -> bool
-        ensures { IsTrue result ↔ ((c : List ℕ) → is_off ((state_of self.now).subs c) ≡ true) }
-    {
-        self.subscriptions.is_empty()
-    }
-
     /// What a call did: it closed the session, or else this.
     pub(crate) fn step(&self, was_closed: bool, fate: Fate, refused: bool) -> Step
         ensures fate { result.fate ≡ closed_or was_closed self.now fate }
@@ -217,16 +182,6 @@ impl Session {
         } else {
             Step { fate, refused }
         }
-    }
-
-    /// Puts a subscription in place of the one that is there.
-    pub(crate) fn put(&mut self, channel: &str, progress: Progress)
-        requires { is_some (progress_at self.old.subscriptions channel.now) ≡ true }
-        ensures state { Moves (put_sub channel.now (sub_of (Some progress))) self.old self.new }
-        ensures badge { badge_of self.new ≡ badge_of self.old }
-        ensures queue { self.new.queue ≡ self.old.queue }
-    {
-        replace(&mut self.subscriptions, channel, progress);
     }
 
     /// The channel's subscription ends.

@@ -1,5 +1,5 @@
 //! The sessions of a node, each at the place of its number.
-ghost use Rattle.std.specs.Prelude.{◌≡◌, ◌≢◌, ◌<◌, ℕ, [], Some, None, OnOk, OnErr, IfNone, IfSome, is_some, length};
+ghost use Rattle.std.specs.Prelude.{◌≡◌, ◌≢◌, ◌≤◌, ℕ, [], Some, None, OnOk, OnErr, IfNone, IfSome, length};
 ghost use Rattle.std.specs.Borrow.{sem};
 ghost use Rattle.std.specs.Option.{option_copied, option_copied_mut};
 
@@ -30,7 +30,7 @@ impl Model for Sessions {
 }
 
 impl Sessions {
-    ghost use Rattle.std.specs.Prelude.{◌≡◌, ◌≢◌, ◌<◌, ℕ, [], Some, None, OnOk, OnErr, IfNone, IfSome, is_some, length};
+    ghost use Rattle.std.specs.Prelude.{◌≡◌, ◌≢◌, ◌≤◌, ℕ, [], Some, None, OnOk, OnErr, IfNone, IfSome, length};
     ghost use Rattle.std.specs.Borrow.{sem};
     ghost use Rattle.std.specs.Option.{option_copied, option_copied_mut};
     ghost use Rattle.cf_hub.specs.Places.{session_in};
@@ -50,9 +50,9 @@ impl Sessions {
     pub(crate) fn get(&self, number: u32) -> Option<&Session>
         ensures { option_copied result ≡ session_in self.now number }
     {
-        match self.places.get(number as usize)? {
-            Some(session) => Some(session),
-            None => None,
+        match self.places.get(number as usize) {
+            Some(Some(session)) => Some(session),
+            _ => None,
         }
     }
 
@@ -68,13 +68,6 @@ impl Sessions {
         }
     }
 
-    /// Whether a number has a session.
-    pub(crate) fn has(&self, number: u32) -> bool
-        ensures { result ≡ is_some (attached_in self.now number) }
-    {
-        matches!(self.places.get(number as usize), Some(Some(_)))
-    }
-
     /// The least number from this one on that has a session.
     pub(crate) fn next_from(&self, from: u32) -> Option<u32>
         ensures none { IfNone result (HasNoneFrom from (attached_in self.now)) }
@@ -82,28 +75,31 @@ impl Sessions {
     {
         for place in from as usize..self.places.len() {
             let number = place as u32;
-            if self.has(number) {
+            if self.get(number).is_some() {
                 return Some(number);
             }
         }
         None
     }
 
-    /// Puts a session at a number. Where memory is refused, nothing changes.
+    /// Puts a session at a number, of which each lower one had one. Where memory is refused, nothing changes.
     pub(crate) fn insert(
         &mut self,
         alloc: Global,
         number: u32,
         session: Session,
     ) -> Result<(), AllocError>
+        requires { number ≤ length self.old }
         ensures here { OnOk result (session_in self.new number ≡ Some session) }
         ensures others { OnOk result
             ((j : ℕ) → j ≢ number → session_in self.new j ≡ session_in self.old j) }
         ensures err { OnErr result (self.new ≡ self.old) }
     {
-        let boxed = Box::new(alloc, session)?;
-        self.make_room(number)?;
-        self.places[number as usize] = Some(boxed);
+        let boxed = Some(Box::new(alloc, session)?);
+        if number as usize == self.places.len() {
+            return Ok(self.places.push(boxed)?);
+        }
+        self.places[number as usize] = boxed;
         Ok(())
     }
 
@@ -115,19 +111,6 @@ impl Sessions {
         let Some(place) = self.places.get_mut(number as usize) else {
             return;
         };
-        let _gone = place.take();
-    }
-
-    /// Makes a place for a number, which has no session unless it had one. Where memory is refused, nothing changes.
-    fn make_room(&mut self, number: u32) -> Result<(), AllocError>
-        ensures ok { OnOk result (number < length self.new) }
-        ensures same { (j : ℕ) → session_in self.new j ≡ session_in self.old j }
-        ensures err { OnErr result (self.new ≡ self.old) }
-    {
-        let count = number as usize + 1;
-        if count > self.places.len() {
-            self.places.resize_with(count, || None)?;
-        }
-        Ok(())
+        drop(place.take());
     }
 }

@@ -4,7 +4,7 @@ ghost use Rattle.std.specs.Prelude.{◌≡◌, false};
 use crate::fate::Fate;
 
 /// What a call did with a session, and whether memory was refused for it.
-#[derive(Clone, Copy, PartialEq, Eq, Debug, Drop)]
+#[derive(Clone, Copy)]
 pub(crate) struct Step {
     pub fate: Fate,
     pub refused: bool,

@@ -2,7 +2,7 @@
 ghost use Rattle.std.specs.Prelude.{◌≡◌, ◌⊎◌, ◌++◌, ◌∷◌, [], true, OnOk, OnErr, None, Some, option_map};
 ghost use Rattle.std.specs.Str.{bytes_eq};
 ghost use Rattle.indexmap.specs.IndexSet.{remove_key};
-ghost use Rattle.cf_recovery.specs.ArrivalBuffer.{arrival, given_up, with_arrival};
+ghost use Rattle.cf_recovery.specs.ArrivalBuffer.{arrival, given_up, nothing_kept, with_arrival};
 ghost use Rattle.cf_model.specs.Verdict.{verdict};
 ghost use Rattle.cf_hub.specs.Subscriptions.{IsGivenUp, SetsAt, TakesAt, coming, loses, meeting, names, progress_at, stands_after, takes, verdict_code};
 ghost use Rattle.cf_hub.specs.Wordings.{at_offset};
@@ -37,7 +37,7 @@ pub(crate) enum Progress {
 }
 
 /// What a delivery meets.
-#[derive(Clone, Copy, PartialEq, Eq, Debug)]
+#[derive(Clone, Copy)]
 pub(crate) enum Meets {
     /// No subscription.
     Nothing,
@@ -48,7 +48,7 @@ pub(crate) enum Meets {
 }
 
 /// What a delivery met, and whether memory was refused for what it was to keep.
-#[derive(Clone, Copy, PartialEq, Eq, Debug)]
+#[derive(Clone, Copy)]
 pub(crate) struct Met {
     pub meets: Meets,
     pub refused: bool,
@@ -127,40 +127,33 @@ pub(crate) fn take_at(
     }
 }
 
-/// Puts something in place of what is there. Where there is nothing, nothing changes.
-#[tactic(auto, using(std::proofs::lemmas::Map::Text::text_keys))]
-pub(crate) fn replace(
-    subscriptions: &mut IndexMap<String, Box<Progress>>,
-    channel: &str,
-    progress: Progress,
-)
-    ensures after { SetsAt subscriptions.old subscriptions.new channel.now
-        (option_map (λ _. progress) (progress_at subscriptions.old channel.now)) }
-    ensures order { names subscriptions.new ≡ names subscriptions.old }
-{
-    if let Some(place) = subscriptions.get_mut(channel) {
-        **place = progress;
-    }
-}
-
-/// Adds a subscription to a channel that has none, behind all others. Room for nine comes with the first, and is given back,
-/// since most sessions have one.
+/// Adds a subscription that the command `id` asked for to a channel that has none, behind all others. Room for nine comes with
+/// the first, and is given back, since most sessions have one.
 #[tactic(auto, using(std::proofs::lemmas::Map::Text::text_keys))]
 pub(crate) fn add(
     subscriptions: &mut IndexMap<String, Box<Progress>>,
     alloc: Global,
     channel: &str,
-    progress: Progress,
+    id: u32,
+    since: Option<Position>,
 ) -> Result<(), AllocError>
     requires { progress_at subscriptions.old channel.now ≡ None }
-    ensures ok { OnOk result
-        (SetsAt subscriptions.old subscriptions.new channel.now (Some progress)) }
+    ensures ok { OnOk result (SetsAt subscriptions.old subscriptions.new channel.now
+        (Some (Progress.Asked id since nothing_kept))) }
     ensures last { OnOk result (names subscriptions.new
         ≡ names subscriptions.old ++ channel.now ∷ []) }
     ensures err { OnErr result (subscriptions.new.entries ≡ subscriptions.old.entries) }
 {
     let key = String::from_str(alloc, channel)?;
-    subscriptions.insert(key, Box::new(alloc, progress)?)?;
+    let waiting = Waiting::new(alloc);
+    let asked = Box::new(alloc, Progress::Asked { id, since, waiting })?;
+    match subscriptions.insert(key, asked) {
+        Ok(before) => drop(before),
+        Err(refused) => {
+            drop(refused);
+            return Err(AllocError);
+        }
+    }
     if subscriptions.len() == 1 {
         subscriptions.shrink_to_fit();
     }
@@ -174,7 +167,7 @@ pub(crate) fn take_out(subscriptions: &mut IndexMap<String, Box<Progress>>, chan
     ensures others { names subscriptions.new
         ≡ remove_key (bytes_eq channel.now) (names subscriptions.old) }
 {
-    let _gone = subscriptions.shift_remove(channel);
+    drop(subscriptions.shift_remove(channel));
     if subscriptions.is_empty() {
         subscriptions.shrink_to_fit();
     }

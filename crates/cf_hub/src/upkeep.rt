@@ -1,7 +1,7 @@
 //! A session's position checks, and its pings.
-ghost use Rattle.std.specs.Prelude.{◌≡◌, Some};
-ghost use Rattle.cf_hub.specs.Checked.{stand_of};
-ghost use Rattle.cf_hub.specs.Subscriptions.{sub_of};
+ghost use Rattle.std.specs.Prelude.{◌≡◌, Some, option_map};
+ghost use Rattle.cf_hub.specs.Checked.{check_answer, marked};
+ghost use Rattle.cf_hub.specs.Subscriptions.{SetsAt, progress_at, sub_of};
 
 use crate::checked::{Checked, position_check};
 use crate::fate::Fate;
@@ -10,6 +10,7 @@ use crate::step::Step;
 use crate::subscription::Progress;
 use crate::wording::{end_text, ping_text};
 use cf_protocol::{CloseCode, Position};
+use indexmap::IndexMap;
 use std::alloc::Global;
 
 /// How many seconds there are from ping to ping.
@@ -18,49 +19,49 @@ const PING_SECONDS: u64 = 25;
 /// How many seconds a ping may be unanswered.
 const PONG_SECONDS: u64 = 8;
 
-/// Where a finished subscription stands, with its mark.
-#[derive(Clone, Copy, PartialEq, Eq, Debug)]
-pub(crate) struct Stand {
-    pub at: Position,
-    pub mark: Option<u64>,
+impl Progress {
+    /// Checks it against where its stream stands, and marks where it stands itself if it is behind.
+    fn check(&mut self, top: Option<Position>) -> Checked
+        ensures answer { result ≡ check_answer top (sub_of (Some self.old)) }
+        ensures after { self.new ≡ marked result self.old }
+    {
+        let Progress::On { at, mark } = self else {
+            return Checked::Nothing;
+        };
+        let checked = position_check(top, at, *mark);
+        *mark = match checked {
+            Checked::Behind => Some(at.offset),
+            _ => None,
+        };
+        checked
+    }
 }
 
-impl Progress {
-    /// Where it stands, once it is finished.
-    fn stand(&self) -> Option<Stand>
-        ensures { result ≡ stand_of (sub_of (Some self.now)) }
-    {
-        match self {
-            Progress::On { at, mark } => Some(Stand {
-                at: *at,
-                mark: *mark,
-            }),
-            _ => None,
-        }
+/// Checks the subscription of a channel.
+#[tactic(auto, using(std::proofs::lemmas::Map::Text::text_keys))]
+fn check_at(
+    subscriptions: &mut IndexMap<String, Box<Progress>>,
+    channel: &str,
+    top: Option<Position>,
+) -> Checked
+    ensures answer { result
+        ≡ check_answer top (sub_of (progress_at subscriptions.old channel.now)) }
+    ensures after { SetsAt subscriptions.old subscriptions.new channel.now
+        (option_map (marked result) (progress_at subscriptions.old channel.now)) }
+{
+    match subscriptions.get_mut(channel) {
+        None => Checked::Nothing,
+        Some(progress) => progress.check(top),
     }
 }
 
 impl Session {
-    ghost use Rattle.std.specs.Prelude.{◌≡◌, ◌&&◌, ◌-◌, nat_le, List, ℕ, Some, None, [], is_some, option_map};
-    ghost use Rattle.cf_hub.specs.Checked.{check_answer, stand_of};
-    ghost use Rattle.cf_hub.specs.Session.{badge_of, is_ping_due, is_unanswered, ponged, state_of, ticked};
-    ghost use Rattle.cf_model.specs.SessionState.{On, checks};
+    ghost use Rattle.std.specs.Prelude.{◌≡◌, ◌&&◌, ◌-◌, nat_le, List, ℕ, Some, None, []};
+    ghost use Rattle.cf_hub.specs.Checked.{check_answer};
+    ghost use Rattle.cf_hub.specs.Session.{badge_of, is_ping_due, is_unanswered, state_of, ticked};
+    ghost use Rattle.cf_model.specs.SessionState.{checks};
     ghost use Rattle.cf_hub.specs.Sessions.{Acts, EndsAs, ticks_of};
     ghost use Rattle.cf_hub.specs.Wordings.{plain};
-
-    /// Where the finished subscription of a channel stands.
-    fn stand(&self, channel: &str) -> Option<Stand>
-        ensures { result ≡ stand_of ((state_of self.now).subs channel.now) }
-    {
-        self.subscriptions.get(channel)?.stand()
-    }
-
-    /// Whether a channel's subscription is finished.
-    pub(crate) fn is_on(&self, channel: &str) -> bool
-        ensures { result ≡ is_some (stand_of ((state_of self.now).subs channel.now)) }
-    {
-        self.stand(channel).is_some()
-    }
 
     /// Checks a finished subscription against where its stream stands. None where there is none to check.
     pub(crate) fn check(
@@ -75,34 +76,15 @@ impl Session {
         ensures badge { badge_of self.new ≡ badge_of self.old }
     {
         let was_closed = self.is_closed();
-        let Some(Stand { at, mark }) = self.stand(channel) else {
-            return (Checked::Nothing, Step::none());
-        };
-        let checked = position_check(top, &at, mark);
+        let checked = check_at(&mut self.subscriptions, channel, top);
         match checked {
             Checked::Ended => {
                 self.leave(channel);
                 let refused = self.say(end_text(alloc, channel));
                 (checked, self.step(was_closed, Fate::Ended, refused))
             }
-            Checked::Behind => {
-                let mark = Some(at.offset);
-                self.put(channel, Progress::On { at, mark });
-                (checked, Step::passed())
-            }
-            Checked::Fine | Checked::Nothing => {
-                self.put(channel, Progress::On { at, mark: None });
-                (checked, Step::passed())
-            }
+            _ => (checked, Step::passed()),
         }
-    }
-
-    /// The client answered the last ping.
-    pub(crate) fn pong(&mut self)
-        ensures badge { badge_of self.new ≡ ponged (badge_of self.old) }
-        ensures state { state_of self.new ≡ state_of self.old }
-    {
-        self.awaits_pong = false;
     }
 
     /// Whether a ping is unanswered for too long.

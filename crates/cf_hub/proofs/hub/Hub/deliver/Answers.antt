@@ -4,4 +4,4 @@ use Rattle.cf_hub.proofs.hub.Hub.deliver.Goals as goal
 
 pub returns-clause-each : goal.returns-clause-each
 returns-clause-each c =
-    noted c.args.publication.now c.args.channel.now c.args.epoch.now (one_if c.is_none.result) c.args.self.now c.note.new.self c.bring_to_all.new.self c.note.ensures c.bring_to_all.ensures.each
+    noted c.args.publication.now c.args.channel.now c.args.epoch.now (one_if c.is_none.result) c.args.self.now c.note.new.self c.bring_to_all-counts.new.self c.note.ensures c.bring_to_all-counts.ensures.each

@@ -1,10 +1,10 @@
-use Rattle.std.proofs.Common.{◌∙◌, ℕ, Option, is_some, sym, ap}
+use Rattle.std.proofs.Common.{◌∙◌, Option, is_some, option_map, sym, ap}
+use Rattle.std.specs.Option.{option_copied}
 use Rattle.cf_hub.specs.Checked.{stand_of}
-use Rattle.cf_hub.specs.Hub.{Node}
 use Rattle.cf_hub.specs.Rows.{sub_in}
-use Rattle.cf_hub.specs.Session.{Attached}
-use Rattle.cf_hub.proofs.Hubs.{seen}
+use Rattle.cf_hub.specs.Session.{Attached, attached_of}
 use Rattle.cf_hub.proofs.hub.Hub.is_on.Goals as goal
 
-pub returns : goal.returns
-returns c = c.is_on_in.ensures ∙ ap (λ (g : ℕ → Option Attached). is_some (stand_of (sub_in (g c.args.session) c.args.channel.now))) (sym (seen c.args.self.now c.self.inside.sessions (ap (λ (h : Node). h.sessions) (sym c.self.view_is))))
+pub returns-in-Some : goal.returns-in-Some
+returns-in-Some c =
+    c.is_on.ensures ∙ ap (λ (o : Option Attached). is_some (stand_of (sub_in o c.args.channel.now))) (ap (λ o. option_map attached_of (option_copied o)) (sym c.in-Some.is) ∙ c.session.ensures)

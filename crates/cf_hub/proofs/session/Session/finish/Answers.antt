@@ -1,18 +1,21 @@
-use Rattle.std.proofs.Common.{◌∙◌, sym, ap, refl, false, not, ◌&&◌, if◌then◌else◌}
+use Rattle.std.proofs.Common.{◌∙◌, sym, ap, refl, not, ◌&&◌, if◌then◌else◌}
 use Rattle.cf_queue.specs.OutQueue.{Item}
 use Rattle.cf_hub.specs.declared.fate.Fate.TheVariants as fate
 use Rattle.cf_hub.specs.Rows.{off_after}
 use Rattle.cf_hub.specs.Session.{state_of}
 use Rattle.cf_model.specs.SessionState.{SessionState, is_off}
 use Rattle.cf_hub.specs.Reply.{finish_texts}
+use Rattle.cf_hub.specs.declared.step.Step.{Step}
 use Rattle.cf_hub.proofs.Finishing.{finish_state, finish_offs, not_ready}
 use Rattle.cf_hub.proofs.session.Session.finish.Goals as goal
 
 pub returns-in-None-clause-state : goal.returns-in-None-clause-state
-returns-in-None-clause-state c = not_ready false c.args.channel.now (state_of c.args.self.now) (state_of c.answer.new.self) ((state_of c.args.self.now).subs c.args.channel.now) c.in-None.ensures.answered.1 c.in-None.ensures.answered.0
+returns-in-None-clause-state c = not_ready c.none.result.refused c.args.channel.now (state_of c.args.self.now) (state_of c.answer.new.self) ((state_of c.args.self.now).subs c.args.channel.now) c.in-None.ensures.answered.1 c.in-None.ensures.answered.0
 
 pub returns-in-None-clause-offs : goal.returns-in-None-clause-offs
-returns-in-None-clause-offs c = λ d. ap (λ (s : SessionState _ Item). is_off (s.subs d)) c.in-None.ensures.answered.0
+returns-in-None-clause-offs c = λ d.
+    ap (λ (s : SessionState _ Item). is_off (s.subs d)) c.in-None.ensures.answered.0
+    ∙ ap (λ (t : Step). off_after t.fate c.args.channel.now d (is_off ((state_of c.args.self.now).subs d))) (sym c.none.ensures)
 
 pub returns-in-Some-clause-state : goal.returns-in-Some-clause-state
 returns-in-Some-clause-state c =
