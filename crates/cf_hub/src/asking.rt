@@ -56,10 +56,7 @@ impl Session {
     fn asked(&self, channel: &str) -> Option<Asked>
         ensures { result ≡ asked_of ((state_of self.now).subs channel.now) }
     {
-        match self.subscriptions.get(channel) {
-            None => None,
-            Some(progress) => progress.asked(),
-        }
+        self.subscriptions.get(channel)?.asked()
     }
 }
 

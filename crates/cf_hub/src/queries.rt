@@ -60,10 +60,7 @@ impl Session {
     fn place(&self, channel: &str) -> Option<Position>
         ensures { result ≡ place_of ((state_of self.now).subs channel.now) }
     {
-        match self.subscriptions.get(channel) {
-            None => None,
-            Some(progress) => progress.place(),
-        }
+        self.subscriptions.get(channel)?.place()
     }
 
     /// Whether a channel's subscription is finished.
