@@ -1,10 +1,10 @@
 -- What a position check makes of a session.
-use Rattle.std.proofs.Common.{◌≡◌, ◌≢◌, ◌⊎◌, inl, inr, Bool, true, Option, Some, None, List, ℕ, refl, sym, ap, ◌∙◌, subst, option_map}
+use Rattle.std.proofs.Common.{◌≡◌, ◌≢◌, ◌⊎◌, inl, inr, Bool, true, Option, Some, None, List, ℕ, refl, sym, ap, ◌∙◌, subst, option_map, is_some}
 use Rattle.cf_protocol.specs.Position.{Position}
 use Rattle.cf_queue.specs.OutQueue.{OutQueue, Item, Text, Close}
-use Rattle.cf_hub.specs.Checked.{answer_of, check_answer, mark_after, marked}
+use Rattle.cf_hub.specs.Checked.{answer_of, check_answer, mark_after, marked, place_of, stand_of}
 use Rattle.cf_model.specs.PositionCheck.{Checked, Fine, Behind, Ended, position_check}
-use Rattle.cf_model.specs.SessionState.{Off, On, SessionState, by_check, check_at, checks, closes, is_off, no_memory, push, put_sub}
+use Rattle.cf_model.specs.SessionState.{Subscription, Off, Asked, Ready, On, SessionState, by_check, check_at, checks, closes, is_off, no_memory, push, put_sub}
 use Rattle.cf_hub.specs.Subscriptions.{SetsAt, Subscriptions, progress_at, sub_of}
 use Rattle.cf_hub.specs.WantOfMemory.{ClosesWith, OrCloses}
 use Rattle.cf_hub.specs.Wordings.{Held, end_text, plain}
@@ -16,6 +16,13 @@ use Rattle.cf_hub.proofs.Notes.{with_queue}
 use Rattle.cf_hub.proofs.Puts.{put_state, same_state, subs_of}
 use Rattle.cf_hub.proofs.Replies.{with_twice}
 use Rattle.cf_hub.proofs.States.{puts_off}
+
+-- what has a place stands
+pub is_placed : (x : Subscription Held) → is_some (place_of x) ≡ is_some (stand_of x)
+is_placed Off = refl
+is_placed (Asked id since b) = refl
+is_placed (Ready id was r b) = refl
+is_placed (On at mark) = refl
 
 one_answer : (u v : Checked) → answer_of u ≡ answer_of v → u ≡ v
 one_answer Fine Fine e = refl

@@ -113,10 +113,7 @@ impl Hub {
     pub fn is_on(&self, session: u32, channel: &str) -> bool
         ensures { result ≡ is_some (stand_of (sub_at self.now session channel.now)) }
     {
-        match self.session(session) {
-            None => false,
-            Some(session) => session.is_on(channel),
-        }
+        self.place(session, channel).is_some()
     }
 
     /// Makes a subscription that the command `id` asked for, from a position where it gave one.

@@ -53,21 +53,14 @@ impl Hub {
 }
 
 impl Session {
-    ghost use Rattle.std.specs.Prelude.{◌≡◌, is_some};
-    ghost use Rattle.cf_hub.specs.Checked.{place_of, stand_of};
+    ghost use Rattle.std.specs.Prelude.{◌≡◌};
+    ghost use Rattle.cf_hub.specs.Checked.{place_of};
     ghost use Rattle.cf_hub.specs.Session.{state_of};
 
     fn place(&self, channel: &str) -> Option<Position>
         ensures { result ≡ place_of ((state_of self.now).subs channel.now) }
     {
         self.subscriptions.get(channel)?.place()
-    }
-
-    /// Whether a channel's subscription is finished.
-    pub(crate) fn is_on(&self, channel: &str) -> bool
-        ensures { result ≡ is_some (stand_of ((state_of self.now).subs channel.now)) }
-    {
-        self.place(channel).is_some()
     }
 }
 
