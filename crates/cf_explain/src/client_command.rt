@@ -1,6 +1,6 @@
 //! The command that a client sends in an event.
 
-use crate::event::client_of;
+use crate::event::{channel_of, client_of};
 use cf_client::Client;
 use cf_protocol::{Command, Data, Request, write_command};
 use cf_schedule::{Event, World, key_text};
@@ -25,8 +25,7 @@ pub(crate) fn command_text(
     let Some(request) = request_of(alloc, client, event)? else {
         return Ok(None);
     };
-    let text = write_command(alloc, &Command { id, request })?;
-    Ok(Some(text))
+    write_command(alloc, &Command { id, request }).map(Some)
 }
 
 fn request_of(
@@ -34,30 +33,27 @@ fn request_of(
     client: &Client,
     event: &Event,
 ) -> Result<Option<Request>, AllocError> {
+    let Some(name) = channel_of(event) else {
+        return Ok(None);
+    };
+    let channel = String::from_str(alloc, name)?;
     let request = match event {
-        Event::Ask { channel, .. } => Request::Subscribe {
-            channel: String::from_str(alloc, channel.as_str())?,
+        Event::Ask { .. } => Request::Subscribe {
+            channel,
             since: None,
         },
-        Event::AskFrom { channel, .. } => Request::Subscribe {
-            channel: String::from_str(alloc, channel.as_str())?,
-            since: client.position(channel.as_str()),
-        },
-        Event::Leave { channel, .. } => Request::Unsubscribe {
-            channel: String::from_str(alloc, channel.as_str())?,
-        },
-        Event::PublishBy {
+        Event::AskFrom { .. } => Request::Subscribe {
             channel,
-            key,
-            body,
-            ..
-        } => Request::Publish {
-            channel: String::from_str(alloc, channel.as_str())?,
+            since: client.position(name),
+        },
+        Event::Leave { .. } => Request::Unsubscribe { channel },
+        Event::PublishBy { key, body, .. } => Request::Publish {
+            channel,
             key: String::from_str(alloc, key_text(key))?,
             body: Data::Body(String::from_str(alloc, body.as_str())?),
         },
-        Event::ListHistory { channel, limit, .. } => Request::History {
-            channel: String::from_str(alloc, channel.as_str())?,
+        Event::ListHistory { limit, .. } => Request::History {
+            channel,
             limit: *limit,
             since: None,
             reverse: false,

@@ -80,12 +80,12 @@ impl<'a> Explainer<'a> {
             return Ok(());
         };
         self.watch(Subject::Client(String::from_str(alloc, client)?))?;
-        if let Some(channel) = channel_of(event) {
-            let client = String::from_str(alloc, client)?;
-            let channel = String::from_str(alloc, channel)?;
-            self.watch(Subject::Subscription { client, channel })?;
-        }
-        Ok(())
+        let Some(channel) = channel_of(event) else {
+            return Ok(());
+        };
+        let client = String::from_str(alloc, client)?;
+        let channel = String::from_str(alloc, channel)?;
+        self.watch(Subject::Subscription { client, channel })
     }
 
     fn watch(&mut self, subject: Subject) -> Result<(), AllocError> {

@@ -39,14 +39,10 @@ impl Subject {
                     || channel_of(event) == Some(channel.as_str())
             }
             Subject::Client(client) => {
-                matches!(event, Event::Restart { .. })
-                    || delivered.is_some()
-                    || client_of(event) == Some(client.as_str())
+                delivered.is_some() || is_of_client(client.as_str(), event)
             }
             Subject::Subscription { client, channel } => {
-                matches!(event, Event::Restart { .. })
-                    || delivered == Some(channel.as_str())
-                    || client_of(event) == Some(client.as_str())
+                delivered == Some(channel.as_str()) || is_of_client(client.as_str(), event)
             }
         }
     }
@@ -113,6 +109,11 @@ const NO_STREAM: &str = "no stream";
 const NOT_CONNECTED: &str = "not connected";
 
 const NO_SUBSCRIPTION: &str = "node: nothing; client: idle";
+
+// Whether an event is a client's, or the restart of a node, which may be the client's.
+fn is_of_client(client: &str, event: &Event) -> bool {
+    matches!(event, Event::Restart { .. }) || client_of(event) == Some(client)
+}
 
 // Whether an event sets the size of a channel's namespace.
 fn is_sized(channel: &str, event: &Event) -> bool {

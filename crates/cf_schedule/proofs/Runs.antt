@@ -3,16 +3,25 @@ use Rattle.std.proofs.Common.{◌≡◌, ℕ, ◌+◌, ◌<◌, ◌≤◌, List,
 use Rattle.std.proofs.lemmas.List.{length-map, length-take-le, map-append, take-map, take_all}
 use Rattle.cf_machine.specs.Config.{Config}
 use Rattle.cf_machine.specs.Event.{Event}
+use Rattle.cf_machine.specs.IntervalMachine.{run}
 use Rattle.cf_machine.specs.LooseRun.{lines}
 use Rattle.cf_machine.specs.StreamSafety.{Safe}
 use Rattle.cf_machine.specs.Told.{trace}
 use Rattle.cf_machine.specs.Trace.{Entry}
 use Rattle.cf_machine.specs.World.{start}
+use Rattle.cf_world.specs.Tie.{Tied}
+use Rattle.cf_schedule.specs.Running.{Running}
 use Rattle.cf_schedule.specs.Seen.{seen}
 use Rattle.cf_schedule.specs.Shown.{shown_trace}
 use Rattle.cf_schedule.specs.Stopping.{Carries}
 use Rattle.cf_schedule.specs.declared.event.Event.{Event as CodeEvent}
 use Rattle.cf_schedule.specs.declared.trace.Trace.{Trace}
+
+-- the first so many events are carried out, and this is their trace
+pub record Stands (cfg : Config) (es : List Event) (done : ℕ) (w : Running) (t : Trace) : Type 0 where
+  pub tied : Tied cfg w.parts (run cfg start (take done es))
+  pub counted : w.count ≡ done
+  pub told : shown_trace t ≡ trace cfg 1 start (take done es)
 
 pub seen-more : (es : List CodeEvent) (i : ℕ) (e : CodeEvent) → take (i + 1) es ≡ take i es ++ e ∷ [] → take (i + 1) (map seen es) ≡ take i (map seen es) ++ seen e ∷ []
 seen-more es i e h =

@@ -13,7 +13,7 @@ use std::marker::Model;
 pub const MAX_BODY_DEPTH: usize = 60;
 
 /// Published data: one JSON value of depth at most 60, in compact text.
-#[derive(Debug, Drop)]
+#[derive(Drop)]
 pub struct Body {
     text: String,
 }

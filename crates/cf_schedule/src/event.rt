@@ -25,7 +25,7 @@ const END_OF_LIMITS: u64 = 2_147_483_648;
 
 /// What a line of a schedule says. A client, a channel, an epoch, a key, a datum, a namespace and a history size are such as a
 /// line can name.
-#[derive(Debug, Drop)]
+#[derive(Drop)]
 pub enum Event {
     /// An epoch waits, behind the others, for the next stream that opens.
     Epoch {
@@ -288,10 +288,10 @@ fn least_of(digits: &str) -> Option<i32>
 fn one_word(line: &str) -> Result<Event, EventFault>
     ensures { (nodes : ℕ) → IsUnspaced line.now → Answers (Says nodes line.now) result }
 {
-    if line == "brokerrestart" {
-        return Ok(Event::BrokerRestart);
+    match line {
+        "brokerrestart" => Ok(Event::BrokerRestart),
+        _ => Err(EventFault::Unreadable),
     }
-    Err(EventFault::Unreadable)
 }
 
 fn client_and_channel(alloc: Global, text: &str) -> Result<(ClientName, ChannelName), EventFault>

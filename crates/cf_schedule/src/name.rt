@@ -12,7 +12,7 @@ use std::fmt;
 use std::marker::Model;
 
 /// A client's name: 1 to 32 ASCII letters, digits, `-` or `_`.
-#[derive(Debug, Drop)]
+#[derive(Drop)]
 pub struct ClientName {
     text: String,
 }
@@ -29,7 +29,7 @@ impl Model for ClientName {
 }
 
 /// A channel's name: 1 to 255 visible ASCII characters.
-#[derive(Debug, Drop)]
+#[derive(Drop)]
 pub struct ChannelName {
     text: String,
 }
@@ -46,7 +46,7 @@ impl Model for ChannelName {
 }
 
 /// The key of a publish: 1 to 64 visible ASCII characters.
-#[derive(Debug, Drop)]
+#[derive(Drop)]
 pub struct Key {
     text: String,
 }
@@ -63,7 +63,7 @@ impl Model for Key {
 }
 
 /// A namespace's name: at most 32 ASCII letters, digits, `-` or `_`.
-#[derive(Debug, Drop)]
+#[derive(Drop)]
 pub struct NamespaceName {
     text: String,
 }
@@ -79,43 +79,40 @@ impl Model for NamespaceName {
     ghost invariant = { λ n. IsNamespaceName (string_bytes n.text) };
 }
 
+fn is_name_byte(byte: &u8) -> bool
+    ensures { result ≡ is_name_byte byte.now }
+{
+    byte.is_ascii_alphanumeric() || *byte == b'-' || *byte == b'_'
+}
+
 fn has_name_bytes(text: &str) -> bool
     ensures { result ≡ list_all is_name_byte text.now }
 {
-    text.bytes().all(|byte| byte.is_ascii_alphanumeric() || byte == b'-' || byte == b'_')
+    text.as_bytes().iter().all(is_name_byte)
 }
 
 fn is_client_name(text: &str) -> bool
     ensures { result ≡ is_client_name text.now }
 {
-    if text.is_empty() || text.len() > 32 {
-        return false;
-    }
-    has_name_bytes(text)
+    !text.is_empty() && text.len() <= 32 && has_name_bytes(text)
 }
 
 fn has_visible_bytes(text: &str) -> bool
     ensures { result ≡ list_all is_ascii_graphic text.now }
 {
-    text.bytes().all(|byte| byte.is_ascii_graphic())
+    text.as_bytes().iter().all(u8::is_ascii_graphic)
 }
 
 fn is_channel_name(text: &str) -> bool
     ensures { result ≡ is_channel_name text.now }
 {
-    if text.is_empty() || text.len() > 255 {
-        return false;
-    }
-    has_visible_bytes(text)
+    !text.is_empty() && text.len() <= 255 && has_visible_bytes(text)
 }
 
 fn is_key(text: &str) -> bool
     ensures { result ≡ is_key text.now }
 {
-    if text.is_empty() || text.len() > 64 {
-        return false;
-    }
-    has_visible_bytes(text)
+    !text.is_empty() && text.len() <= 64 && has_visible_bytes(text)
 }
 
 fn is_namespace_name(text: &str) -> bool

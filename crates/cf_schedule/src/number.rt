@@ -12,7 +12,7 @@ use std::marker::Model;
 const LARGEST_SIZE: u64 = 10_000;
 
 /// A namespace's history size: 1 to 10,000 publications.
-#[derive(Clone, Copy, Debug)]
+#[derive(Clone, Copy)]
 pub struct HistorySize {
     count: usize,
 }
@@ -58,7 +58,7 @@ impl HistorySize {
 fn has_digits_alone(text: &str) -> bool
     ensures { result ≡ list_all is_ascii_digit text.now }
 {
-    text.bytes().all(|byte| byte.is_ascii_digit())
+    text.as_bytes().iter().all(u8::is_ascii_digit)
 }
 
 /// The number that these digits write: no sign, no leading zero, at most 18,446,744,073,709,551,615. None for any other

@@ -1,6 +1,7 @@
 //! A whole run of a schedule.
-ghost use Rattle.std.specs.Prelude.{◌≡◌, map, IfOk, IfErr};
+ghost use Rattle.std.specs.Prelude.{◌≡◌, ◌<◌, [], length, map, take, IfOk, IfErr, OnOk};
 ghost use Rattle.std.specs.List.{list_any};
+ghost use Rattle.cf_machine.specs.Config.{Config as Settings};
 ghost use Rattle.cf_machine.specs.LooseRun.{lines};
 ghost use Rattle.cf_machine.specs.StreamSafety.{Safe};
 ghost use Rattle.cf_machine.specs.Told.{trace};
@@ -9,6 +10,7 @@ ghost use Rattle.cf_schedule.specs.Fresh.{are_fresh, is_new, brings};
 ghost use Rattle.cf_schedule.specs.Seen.{seen, shown_config};
 ghost use Rattle.cf_schedule.specs.Shown.{shown_trace};
 ghost use Rattle.cf_schedule.specs.Stopping.{Stops};
+ghost use Rattle.cf_world.specs.Tie.{Tied};
 
 use crate::config::Config;
 use crate::event::Event;
@@ -34,22 +36,42 @@ pub fn run(alloc: Global, config: &Config, events: &[Event]) -> Result<Trace, St
     ensures stopped { IfErr result (Stops (shown_config config.now) (map seen events.now)) }
 {
     safe_always();
-    one_event_more();
     let mut trace = Trace {
         entries: Vec::new(alloc),
     };
-    let Ok(mut world) = World::new(alloc, config) else {
-        return Err(Stopped::Memory { done: 0, trace });
+    let mut world = match World::new(alloc, config) {
+        Ok(world) => world,
+        Err(_) => return Err(Stopped::Memory { done: 0, trace }),
     };
+    let carried = carry_all(&mut world, events, &mut trace);
+    world.end();
+    match carried {
+        Ok(()) => Ok(trace),
+        Err(done) => Err(Stopped::Memory { done, trace }),
+    }
+}
+
+// Carries out all events of a schedule in a new world, and adds what the applications get to an empty trace. Where memory is
+// refused it says after how many events.
+fn carry_all(world: &mut World, events: &[Event], got: &mut Trace) -> Result<(), usize>
+    ensures whole { OnOk result ((settings : Settings)
+        → Tied settings world.old.parts start → world.old.count ≡ 0 → shown_trace got.old ≡ []
+        → shown_trace got.new ≡ trace settings 1 start (map seen events.now)) }
+    ensures front { IfErr result (λ done. (settings : Settings)
+        → Tied settings world.old.parts start → world.old.count ≡ 0 → shown_trace got.old ≡ []
+        → (done < length events.now)
+        × (shown_trace got.new ≡ trace settings 1 start (take done (map seen events.now)))) }
+{
+    one_event_more();
     for (done, event) in events.iter().enumerate() {
         let Ok(mut entries) = world.step(event) else {
-            return Err(Stopped::Memory { done, trace });
+            return Err(done);
         };
-        if trace.entries.append(&mut entries).is_err() {
-            return Err(Stopped::Memory { done, trace });
+        if got.entries.append(&mut entries).is_err() {
+            return Err(done);
         }
     }
-    Ok(trace)
+    Ok(())
 }
 
 /// Whether no two epoch events of a schedule bring one epoch, and none an empty one.

@@ -75,6 +75,12 @@ impl World {
         got
     }
 
+    /// Ends the world, and frees all that it holds, with no need to prove here how.
+    pub fn end(self) {
+        let World { parts, .. } = self;
+        parts.end();
+    }
+
     /// A node's sessions.
     pub fn hub(&self, node: u8) -> Option<&Hub>
         ensures { option_copied result ≡ hub_of self.now.parts node }

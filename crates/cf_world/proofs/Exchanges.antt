@@ -1,31 +1,32 @@
 -- A command that passed its checks is carried out: the event has happened.
-use Rattle.std.proofs.Common.{◌≡◌, ◌∙◌, ℕ, ℤ, false, Option, IsSome, List, refl, sym, ap, subst}
+use Rattle.std.proofs.Common.{◌≡◌, ◌∙◌, ℕ, ℤ, false, Option, None, List, refl, sym, ap, subst}
 use Rattle.std.proofs.lemmas.Bool.{not-false}
 use Rattle.cf_protocol.specs.Note.{Lists as PublicationLists}
 use Rattle.cf_protocol.specs.Position.{Position}
 use Rattle.cf_protocol.specs.Regular.{IsBody, IsInfo}
-use Rattle.cf_protocol.specs.Settings.{NamespaceTable, settings_of}
-use Rattle.cf_protocol.specs.Shown.{shown_command}
+use Rattle.cf_protocol.specs.Request.{Command}
+use Rattle.cf_protocol.specs.Settings.{NamespaceTable}
+use Rattle.cf_protocol.specs.Shown.{shown_command, shown_request}
 use Rattle.cf_client.specs.ClientView.{state_of}
 use Rattle.cf_hub.specs.AlikeMoves.{CallsAreAlike, MovesAreAlike}
 use Rattle.cf_hub.specs.Counts.{CountsAll, CountsSession}
 use Rattle.cf_hub.specs.Hub.{Node}
-use Rattle.cf_machine.specs.ClientRequest.{ClientRequest, Subscribe, Unsubscribe, Publish, History, command_of}
+use Rattle.cf_machine.specs.ClientRequest.{ClientRequest, Subscribe, Unsubscribe, Publish, History, command_of, request_of}
 use Rattle.cf_machine.specs.Config.{Config}
 use Rattle.cf_machine.specs.FreshEpochs.{AreFresh}
 use Rattle.cf_machine.specs.IntervalMachine.{command_by, exchange, happens}
-use Rattle.cf_machine.specs.PublicationList.{Broker, can_open}
+use Rattle.cf_machine.specs.PublicationList.{can_open}
 use Rattle.cf_machine.specs.World.{World}
-use Rattle.cf_world.specs.BrokerTie.{ShowsBroker}
 use Rattle.cf_world.specs.ClientTie.{Becomes, request_by, sent_state}
-use Rattle.cf_world.specs.ClientCommands.{event_by}
-use Rattle.cf_world.specs.Exchange.{IsGranted, Lists, Puts, asks_too_much}
+use Rattle.cf_world.specs.ClientCommands.{IsReadBack, event_by}
+use Rattle.cf_world.specs.Exchange.{IsGranted, Lists, Puts, Serves, asks_too_much}
 use Rattle.cf_world.specs.HubCalls.{Asks, AtHub, Hubs, LeftTold, who_in}
 use Rattle.cf_world.specs.NodesTie.{seated}
 use Rattle.cf_world.specs.Sending.{IsSent, Keeps}
 use Rattle.cf_world.specs.Tie.{AreTied}
 use Rattle.cf_world.specs.declared.broker.Broker.{Broker as Code}
 use Rattle.cf_world.specs.declared.client_command.ClientCommand.{ClientCommand}
+use Rattle.cf_world.specs.declared.client_command.ClientCommand.TheVariants as client_command
 use Rattle.cf_world.specs.declared.clients.Peer.{Peer}
 use Rattle.cf_world.specs.declared.sending.Granted.{Granted}
 use Rattle.cf_world.specs.declared.world.World.{World as Whole}
@@ -65,49 +66,67 @@ module _ {cfg : Config} {table : NamespaceTable} {b : Code} {hubs : ℕ → Opti
     happened new hubs' tied =
         subst (λ (w : World). AreTied cfg table new hubs' peers' w) (sym (sent.happens ∙ ap (λ (r : ClientRequest). exchange cfg x r m) is)) tied
 
-  pub asks_done : (c : List ℕ) (since : Option Position) → asked ≡ Subscribe c since → CountsSession → CountsAll → (hubs' : ℕ → Option Node)
-      → ((id : ℕ) (channel : List ℕ) (from : Option Position) → shown_command g.command ≡ command_of (record { id = id; request = Subscribe channel from }) → AtHub g.seat.node (Asks g.seat.session channel id from) mid hubs')
-      → AreTied cfg table b hubs' peers' (happens cfg m (event_by e x))
-  asks_done c since is session all hubs' did =
-      let q : ClientRequest = Subscribe c since in
-      let n : ℕ = (m.links x).client.fresh in
-      happened q is b hubs'
-      (ask_granted t x g.seat p sent.found sent.sits c since peers' (becomes q is) stays calls moves (granted q is) session all n refl hubs'
-      (as_before (λ (f : Hubs). AtHub g.seat.node (Asks g.seat.session c n since) f hubs') (did n c since (command q is))))
+  -- what was done of the command, by the request that it is
+  module _ (new : Code) (hubs' : ℕ → Option Node) (did : Serves (shown_request g.command.request) g.command.id g.seat b new mid hubs') where
+    did_so : (q : ClientRequest) → asked ≡ q → Serves (request_of q) (m.links x).client.fresh g.seat b new mid hubs'
+    did_so q is = subst (λ (k : Command). Serves k.request k.id g.seat b new mid hubs') (command q is) did
 
-  pub leave_done : (c : List ℕ) → asked ≡ Unsubscribe c → (hubs' : ℕ → Option Node)
-      → ((id : ℕ) (channel : List ℕ) → shown_command g.command ≡ command_of (record { id = id; request = Unsubscribe channel }) → AtHub g.seat.node (LeftTold g.seat.session channel id) mid hubs')
-      → AreTied cfg table b hubs' peers' (happens cfg m (event_by e x))
-  leave_done c is hubs' did =
-      let q : ClientRequest = Unsubscribe c in
-      let n : ℕ = (m.links x).client.fresh in
-      happened q is b hubs'
-      (leave_granted t x g.seat p sent.found sent.sits c peers' (becomes q is) stays calls moves (granted q is) n refl hubs'
-      (as_before (λ (f : Hubs). AtHub g.seat.node (LeftTold g.seat.session c n) f hubs') (did n c (command q is))))
+    unpublished : (q : ClientRequest) → new ≡ b → AreTied cfg table b hubs' peers' (exchange cfg x q m) → AreTied cfg table new hubs' peers' (exchange cfg x q m)
+    unpublished q same tied = subst (λ (v : Code). AreTied cfg table v hubs' peers' (exchange cfg x q m)) (sym same) tied
 
-  pub put_done : (c key body : List ℕ) → asked ≡ Publish c key body → AreFresh m.broker → IsBody body → (new : Code) (hubs' : ℕ → Option Node)
-      → ((id : ℕ) (channel under text : List ℕ) → shown_command g.command ≡ command_of (record { id = id; request = Publish channel under text }) → (namespaces : NamespaceTable) (shared : Broker)
-      → AreFresh shared → IsBody text → IsInfo (who_in (seated mid g.seat)) → ShowsBroker namespaces b shared → Puts namespaces shared g.seat channel under text id new mid hubs')
-      → AreTied cfg table new hubs' peers' (happens cfg m (event_by e x))
-  put_done c key body is fresh is_body new hubs' did =
-      let q : ClientRequest = Publish c key body in
-      let n : ℕ = (m.links x).client.fresh in
-      let info : IsInfo (who_in (seated hubs g.seat)) = info_regular t x g.seat p sent.found sent.sits c key body peers' (becomes q is) stays calls moves (granted q is) in
-      let here : IsInfo (who_in (seated mid g.seat)) = subst (λ (f : Hubs). IsInfo (who_in (seated f g.seat))) (λ i j. sym (sent.same j) i) info in
-      happened q is new hubs'
-      (put_granted t x g.seat p sent.found sent.sits c key body peers' (becomes q is) stays calls moves (granted q is) n refl (not-false (can_open c m.broker) (opens q is)) new hubs'
-      (as_before (λ (f : Hubs). Puts cfg.namespaces m.broker g.seat c key body n new f hubs') (did n c key body (command q is) cfg.namespaces m.broker fresh is_body here t.broker)))
+    pub asks_done : (c : List ℕ) (since : Option Position) → asked ≡ Subscribe c since → CountsSession → CountsAll → AreTied cfg table new hubs' peers' (happens cfg m (event_by e x))
+    asks_done c since is session all =
+        let q : ClientRequest = Subscribe c since in
+        let n : ℕ = (m.links x).client.fresh in
+        let d = did_so q is in
+        happened q is new hubs' (unpublished q d.0
+        (ask_granted t x g.seat p sent.found sent.sits c since peers' (becomes q is) stays calls moves (granted q is) session all n refl hubs'
+        (as_before (λ (f : Hubs). AtHub g.seat.node (Asks g.seat.session c n since) f hubs') d.1)))
 
-  pub list_done : (c : List ℕ) (limit : ℤ) → asked ≡ History c limit → AreFresh m.broker → Missing → (new : Code) (hubs' : ℕ → Option Node)
-      → ((id : ℕ) (channel : List ℕ) (most : ℤ) → shown_command g.command ≡ command_of (record { id = id; request = History channel most }) → (namespaces : NamespaceTable) (shared : Broker)
-      → AreFresh shared → IsSome (settings_of namespaces channel) → ShowsBroker namespaces b shared → Lists namespaces shared g.seat channel most id new mid hubs')
-      → AreTied cfg table new hubs' peers' (happens cfg m (event_by e x))
-  list_done c limit is fresh missing new hubs' did =
-      let q : ClientRequest = History c limit in
-      let n : ℕ = (m.links x).client.fresh in
-      happened q is new hubs'
-      (list_granted t x g.seat p sent.found sent.sits c limit peers' (becomes q is) stays missing calls moves (granted q is) n refl (not-false (can_open c m.broker) (opens q is)) new hubs'
-      (as_before (λ (f : Hubs). Lists cfg.namespaces m.broker g.seat c limit n new f hubs') (did n c limit (command q is) cfg.namespaces m.broker fresh (list-set-up cfg.namespaces c limit (granted q is).checked) t.broker)))
+    pub leave_done : (c : List ℕ) → asked ≡ Unsubscribe c → AreTied cfg table new hubs' peers' (happens cfg m (event_by e x))
+    leave_done c is =
+        let q : ClientRequest = Unsubscribe c in
+        let n : ℕ = (m.links x).client.fresh in
+        let d = did_so q is in
+        happened q is new hubs' (unpublished q d.0
+        (leave_granted t x g.seat p sent.found sent.sits c peers' (becomes q is) stays calls moves (granted q is) n refl hubs'
+        (as_before (λ (f : Hubs). AtHub g.seat.node (LeftTold g.seat.session c n) f hubs') d.1)))
+
+    pub put_done : (c key body : List ℕ) → asked ≡ Publish c key body → AreFresh m.broker → IsBody body → AreTied cfg table new hubs' peers' (happens cfg m (event_by e x))
+    put_done c key body is fresh is_body =
+        let q : ClientRequest = Publish c key body in
+        let n : ℕ = (m.links x).client.fresh in
+        let info : IsInfo (who_in (seated hubs g.seat)) = info_regular t x g.seat p sent.found sent.sits c key body peers' (becomes q is) stays calls moves (granted q is) in
+        let here : IsInfo (who_in (seated mid g.seat)) = subst (λ (f : Hubs). IsInfo (who_in (seated f g.seat))) (λ i j. sym (sent.same j) i) info in
+        happened q is new hubs'
+        (put_granted t x g.seat p sent.found sent.sits c key body peers' (becomes q is) stays calls moves (granted q is) n refl (not-false (can_open c m.broker) (opens q is)) new hubs'
+        (as_before (λ (f : Hubs). Puts cfg.namespaces m.broker g.seat c key body n new f hubs') (did_so q is cfg.namespaces m.broker fresh is_body here t.broker)))
+
+    pub list_done : (c : List ℕ) (limit : ℤ) → asked ≡ History c limit → AreFresh m.broker → Missing → AreTied cfg table new hubs' peers' (happens cfg m (event_by e x))
+    list_done c limit is fresh missing =
+        let q : ClientRequest = History c limit in
+        let n : ℕ = (m.links x).client.fresh in
+        happened q is new hubs'
+        (list_granted t x g.seat p sent.found sent.sits c limit peers' (becomes q is) stays missing calls moves (granted q is) n refl (not-false (can_open c m.broker) (opens q is)) new hubs'
+        (as_before (λ (f : Hubs). Lists cfg.namespaces m.broker g.seat c limit n new f hubs') (did_so q is cfg.namespaces m.broker fresh (list-set-up cfg.namespaces c limit (granted q is).checked) t.broker)))
+
+-- the event has happened, whichever command it was
+pub served : {cfg : Config} {table : NamespaceTable} {b : Code} {hubs : ℕ → Option Node} {peers : List ℕ → Option Peer} {m : World}
+    (t : AreTied cfg table b hubs peers m) (x : List ℕ) (e : ClientCommand) (mid : ℕ → Option Node) (peers' : List ℕ → Option Peer)
+    (g : Granted) (sent : IsSent cfg m x e hubs mid peers peers' g) (stays : Stays)
+    (calls : (lists : PublicationLists) → CallsAreAlike lists) (moves : (lists : PublicationLists) → MovesAreAlike lists)
+    (new : Code) (hubs' : ℕ → Option Node) (did : Serves (shown_request g.command.request) g.command.id g.seat b new mid hubs')
+    → IsReadBack e → CountsSession → CountsAll → AreFresh m.broker → Missing → AreTied cfg table new hubs' peers' (happens cfg m (event_by e x))
+served t x (client_command.Ask c) mid peers' g sent stays calls moves new hubs' did back session all fresh missing =
+    asks_done t x (client_command.Ask c) mid peers' g sent stays calls moves new hubs' did c.now None refl session all
+served t x (client_command.AskFrom c) mid peers' g sent stays calls moves new hubs' did back session all fresh missing =
+    asks_done t x (client_command.AskFrom c) mid peers' g sent stays calls moves new hubs' did c.now _ refl session all
+served t x (client_command.Leave c) mid peers' g sent stays calls moves new hubs' did back session all fresh missing =
+    leave_done t x (client_command.Leave c) mid peers' g sent stays calls moves new hubs' did c.now refl
+served t x (client_command.Put c key body) mid peers' g sent stays calls moves new hubs' did back session all fresh missing =
+    put_done t x (client_command.Put c key body) mid peers' g sent stays calls moves new hubs' did c.now key.now body.now refl fresh back
+served t x (client_command.List c limit) mid peers' g sent stays calls moves new hubs' did back session all fresh missing =
+    list_done t x (client_command.List c limit) mid peers' g sent stays calls moves new hubs' did c.now limit refl fresh missing
 
 -- a tie stays where what is set up and the broker do
 pub tied_still : {cfg : Config} {old new : Whole} {hubs : ℕ → Option Node} {peers : List ℕ → Option Peer} {m : World} → Keeps old new

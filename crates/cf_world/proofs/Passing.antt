@@ -109,6 +109,10 @@ lacks_is cfg m x e =
     by_judgement e m.broker (m.links x).session.closed (nat_lt longest_text (command_length (command_of k))) (first_failed (checks cfg.namespaces (request_of e))) (refusal_of e (m.links x) m) (unrefused (m.links x) m e)
     ∙ ap (λ (n : ℕ). (asks_too_much e m.broker && (not (is_some (first_failed (checks cfg.namespaces (request_of e)))) && not (nat_lt longest_text n))) && not (m.links x).session.closed) (length_is (command_of k))
 
+-- whether a command passes is asked under the id that it would have
+pub passes-by-id : (table : NamespaceTable) (r : request.Request) (n k : ℕ) → n ≡ k → (b : Bool) → b ≡ passes table (record { id = n; request = r }) → b ≡ passes table (record { id = k; request = r })
+passes-by-id table r n k same b is = is ∙ ap (λ (i : ℕ). passes table (record { id = i; request = r })) same
+
 -- ---- the same of a command, by the request that it would be
 
 module _ (table : NamespaceTable) (command : ClientCommand) (p : Peer) (m : Broker) (c : List ℕ) where

@@ -1,11 +1,13 @@
 -- What becomes of a command that a client sends: at the broker, and at the session that sent it.
-use Rattle.std.specs.Prelude.{◌≡◌, ℕ, ℤ, nat_lt, ◌&&◌, not, is_some, Bool, true, false, Option, Some, None, List}
-use Rattle.std.specs.Prelude.{length}
+use Rattle.std.specs.Prelude.{⊤, ◌≡◌, ℕ, ℤ, nat_lt, ◌&&◌, not, is_some, IsSome, Bool, true, false, Option, Some, None}
+use Rattle.std.specs.Prelude.{List, length}
 use Rattle.cf_protocol.specs.Checks.{checks, first_failed, longest_text}
 use Rattle.cf_protocol.specs.Codes.{code_of}
 use Rattle.cf_protocol.specs.Outgoing.{Failed, Past, Published as PutDone}
-use Rattle.cf_protocol.specs.Request.{Command}
-use Rattle.cf_protocol.specs.Settings.{NamespaceTable}
+use Rattle.cf_protocol.specs.Regular.{IsBody, IsInfo}
+use Rattle.cf_protocol.specs.Request as request
+use Rattle.cf_protocol.specs.Request.{Command, Request}
+use Rattle.cf_protocol.specs.Settings.{NamespaceTable, settings_of}
 use Rattle.cf_protocol.specs.Written.{command_text}
 use Rattle.cf_protocol.specs.declared.codes.ErrorCode.TheVariants as error
 use Rattle.cf_client.specs.ClientView.{state_of}
@@ -16,12 +18,13 @@ use Rattle.cf_machine.specs.ClientRequest.{ClientRequest, SentCommand, Subscribe
 use Rattle.cf_machine.specs.ClientRequest.{History as ListHistory, command_of, request_of}
 use Rattle.cf_machine.specs.Config.{Config}
 use Rattle.cf_machine.specs.IntervalMachine.{command_by, id_left}
+use Rattle.cf_machine.specs.FreshEpochs.{AreFresh}
 use Rattle.cf_machine.specs.PublicationList.{Broker, can_open}
 use Rattle.cf_machine.specs.Weights.{command_length}
 use Rattle.cf_machine.specs.World.{World}
-use Rattle.cf_world.specs.BrokerTie.{Histories, Publishes}
+use Rattle.cf_world.specs.BrokerTie.{Histories, Publishes, ShowsBroker}
 use Rattle.cf_world.specs.ClientTie.{request_by}
-use Rattle.cf_world.specs.HubCalls.{Answered, AreSame, Hubs, who_in}
+use Rattle.cf_world.specs.HubCalls.{Answered, AreSame, Asks, AtHub, Hubs, LeftTold, who_in}
 use Rattle.cf_world.specs.NodesTie.{seated}
 use Rattle.cf_world.specs.declared.broker.Broker.{Broker as Code}
 use Rattle.cf_world.specs.declared.broker.Published.{Published}
@@ -88,3 +91,17 @@ pub record Lists (table : NamespaceTable) (m : Broker) (s : Seat) (c : List ℕ)
   pub result : Option History
   pub finds : Histories table m c limit new result
   pub answered : ListAnswered result s id hubs hubs'
+
+-- what is done of a request that passed its checks; the others are none that a client here sends
+abbrev pub Serves : Request → ℕ → Seat → Code → Code → Hubs → Hubs → Type 0
+Serves (request.Subscribe c since) id s old new hubs hubs' =
+    (new ≡ old) × AtHub s.node (Asks s.session c id since) hubs hubs'
+Serves (request.Unsubscribe c) id s old new hubs hubs' =
+    (new ≡ old) × AtHub s.node (LeftTold s.session c id) hubs hubs'
+Serves (request.Publish c key (request.Body body)) id s old new hubs hubs' =
+    (table : NamespaceTable) (m : Broker) → AreFresh m → IsBody body → IsInfo (who_in (seated hubs s))
+    → ShowsBroker table old m → Puts table m s c key body id new hubs hubs'
+Serves (request.History c limit since reverse) id s old new hubs hubs' =
+    (table : NamespaceTable) (m : Broker) → AreFresh m → IsSome (settings_of table c)
+    → ShowsBroker table old m → Lists table m s c limit id new hubs hubs'
+Serves _ id s old new hubs hubs' = ⊤

@@ -3,7 +3,7 @@ ghost use Rattle.std.specs.Prelude.{◌≡◌, None, Some, IfOk, IsSome, OnOk};
 ghost use Rattle.std.specs.BTreeMap.{get_by_text};
 ghost use Rattle.cf_protocol.specs.Regular.{IsBody, IsInfo};
 ghost use Rattle.cf_protocol.specs.Settings.{NamespaceTable, settings_of};
-ghost use Rattle.cf_protocol.specs.Shown.{shown_command, shown_request};
+ghost use Rattle.cf_protocol.specs.Shown.{shown_command};
 ghost use Rattle.cf_client.specs.ClientCalls.{call_fault};
 ghost use Rattle.cf_client.specs.ClientView.{state_of};
 ghost use Rattle.cf_machine.specs.FreshEpochs.{AreFresh};
@@ -40,6 +40,9 @@ pub(crate) fn lacks_epoch(
         → call_fault (state_of p.client) ≡ None
         → lacks ≡ lacks_by namespaces.now (sent_by command.now p) m) }
 {
+    let Some(id) = next_id(clients, name) else {
+        return Ok(false);
+    };
     match command {
         ClientCommand::Put { channel, key, body } => {
             if broker.can_open(channel) {
@@ -50,7 +53,7 @@ pub(crate) fn lacks_epoch(
                 key: String::from_str(alloc, key)?,
                 body: Data::Body(String::from_str(alloc, body)?),
             };
-            would_pass(alloc, namespaces, clients, name, request)
+            passes(alloc, namespaces, &Command { id, request })
         }
         ClientCommand::List { channel, limit } => {
             if broker.can_open(channel) {
@@ -62,32 +65,19 @@ pub(crate) fn lacks_epoch(
                 since: None,
                 reverse: false,
             };
-            would_pass(alloc, namespaces, clients, name, request)
+            passes(alloc, namespaces, &Command { id, request })
         }
         _ => Ok(false),
     }
 }
 
-/// Whether a client's next command would pass its checks if it were this.
-fn would_pass(
-    alloc: Global,
-    namespaces: &Namespaces,
-    clients: &BTreeMap<String, Peer>,
-    name: &str,
-    request: Request,
-) -> Result<bool, Short>
-    ensures { IfOk result (λ pass. (p : AnyPeer) → get_by_text clients.now name.now ≡ Some p
+/// The id of a client's next command, if it can send one.
+fn next_id(clients: &BTreeMap<String, Peer>, name: &str) -> Option<u32>
+    ensures { (p : AnyPeer) → get_by_text clients.now name.now ≡ Some p
         → call_fault (state_of p.client) ≡ None
-        → pass ≡ passes namespaces.now
-        (record { id = (state_of p.client).client.fresh; request = shown_request request })) }
+        → result ≡ Some (state_of p.client).client.fresh }
 {
-    let Some(peer) = clients.get(name) else {
-        return Ok(false);
-    };
-    match peer.client.next_id() {
-        Ok(id) => passes(alloc, namespaces, &Command { id, request }),
-        Err(_) => Ok(false),
-    }
+    clients.get(name)?.client.next_id().ok()
 }
 
 /// Whether a command passes its checks.

@@ -40,13 +40,10 @@ fn command_of(alloc: Global, text: &str) -> Result<Option<Command>, Short>
         Err(ReadFault::Bad) => return Ok(None),
         Err(ReadFault::Memory) => return Err(Short),
     };
-    let Some(command) = commands.pop() else {
-        return Ok(None);
-    };
-    if !commands.is_empty() {
+    if commands.len() != 1 {
         return Ok(None);
     }
-    Ok(Some(command))
+    Ok(commands.pop())
 }
 
 /// What is made of a text of a session that is closed, or not.

@@ -49,6 +49,9 @@ impl World {
         })
     }
 
+    /// Ends the world, and frees all that it holds. Where a world is dropped instead, it is proved there how each of its parts is.
+    pub fn end(self) {}
+
     /// A node's sessions.
     pub fn hub(&self, node: u8) -> Option<&Hub>
         ensures { option_copied result ≡ hub_of self.now node }

@@ -1,70 +1,26 @@
-use Rattle.std.proofs.Common.{rules, ◌≡◌, ◌<◌, ◌≤◌, ◌+◌, List, [], ◌∷◌, ◌++◌, length, take, map, sym, ap, ◌∙◌, subst, cond, true, is_ok}
-use Rattle.std.proofs.lemmas.List.{take_more, map-append}
+use Rattle.std.proofs.Common.{ap, map}
 use Rattle.cf_machine.specs.Config.{Config}
-use Rattle.cf_machine.specs.Event.{Event}
-use Rattle.cf_machine.specs.IntervalMachine.{run, happens}
-use Rattle.cf_machine.specs.Told.{trace, writes}
-use Rattle.cf_machine.specs.World.{World, start}
 use Rattle.cf_world.specs.Entries.{shown_entry}
-use Rattle.cf_world.specs.Tie.{Tied}
-use Rattle.cf_world.specs.declared.entry.Entry.{Entry}
 use Rattle.cf_schedule.specs.Seen.{seen, shown_config}
-use Rattle.cf_schedule.specs.declared.event.Event.{Event as CodeEvent}
-use Rattle.cf_schedule.proofs.Runs.{all-seen, carries, carries-none, past-length, safe-so, seen-more}
+use Rattle.cf_schedule.proofs.Runs.{carries, carries-none, safe-so}
 use Rattle.cf_schedule.proofs.whole.run.Goals as goal
 
-pub loop-done-preserved : goal.loop-done-preserved
-loop-done-preserved c =
-    let es : List CodeEvent = c.args.events.now in
-    let lt : c.loop-done.done < length es = c.loop-done-test.true in
-    let e : CodeEvent = c.index-events-done.result in
-    let cfg : Config = shown_config c.args.config.now in
-    let past : List Event = take c.loop-done.done (map seen es) in
-    let more : take (c.loop-done.done + 1) (map seen es) ≡ past ++ seen e ∷ [] =
-    seen-more es c.loop-done.done e (take_more es c.loop-done.done e lt ∙ ap (λ x. take c.loop-done.done es ++ x ∷ []) (sym c.index-events-done.is)) in
-    let law = c.one_event_more.ensures in
-    let next : run cfg start (take (c.loop-done.done + 1) (map seen es)) ≡ happens cfg (run cfg start past) (seen e) = ap (run cfg start) more ∙ law.run cfg past (seen e) in
-    let step = c.in-Ok-step.ensures.ok cfg past c.loop-done.invariant.tied in
-    let wrote = c.in-Ok-step.ensures.writes cfg past c.loop-done.invariant.tied in
-    let a : List Entry = c.loop-done.trace.entries.items in
-    let b : List Entry = c.in-Ok-step.entries.items in
-    let ok : is_ok c.append.result ≡ true = c.if-is_err.ensures.negation in
-    let all : c.append.new.self.items ≡ a ++ b = c.append.ensures.items ∙ ap (λ t. cond t (a ++ b) a) ok in
-    let number = past-length es c.loop-done.done lt in
-    record {
-      tied = subst (λ (m : World). Tied cfg c.step.new.self.parts m) (sym next) step;
-      counted = c.in-Ok-step.ensures.counts ∙ ap (λ n. n + 1) c.loop-done.invariant.counted;
-      told =
-          ap (map shown_entry) all ∙ map-append shown_entry a b ∙ (λ i. c.loop-done.invariant.told i ++ wrote i)
-          ∙ ap (λ n. trace cfg 1 start past ++ writes cfg n (run cfg start past) (seen e)) (ap (λ n. n + 1) c.loop-done.invariant.counted ∙ sym number)
-          ∙ sym (ap (trace cfg 1 start) more ∙ law.trace cfg past (seen e));
-    }
-
-pub returns-then-is_err-clause-stopped : goal.returns-then-is_err-clause-stopped
-returns-then-is_err-clause-stopped c =
-    let es : List CodeEvent = c.args.events.now in
-    let cfg : Config = shown_config c.args.config.now in
-    let a : List Entry = c.loop-done.trace.entries.items in
-    let b : List Entry = c.in-Ok-step.entries.items in
-    let kept : c.append.new.self.items ≡ a = c.append.ensures.items ∙ ap (λ t. cond t (a ++ b) a) c.if-is_err.ensures.negation in
-    carries c.safe_always.ensures cfg es c.loop-done.done (record { entries = c.append.new.self }) c.loop-done-test.true (ap (map shown_entry) kept ∙ c.loop-done.invariant.told)
-
-pub returns-clause-whole : goal.returns-clause-whole
-returns-clause-whole c =
-    let past : length c.args.events.now ≤ c.loop-done.done = search rules in
-    c.loop-done.invariant.told ∙ ap (trace (shown_config c.args.config.now) 1 start) (all-seen c.args.events.now c.loop-done.done past)
-
-pub returns-clause-safe : goal.returns-clause-safe
-returns-clause-safe c =
-    let cfg : Config = shown_config c.args.config.now in
-    let es : List Event = map seen c.args.events.now in
-    let past : length c.args.events.now ≤ c.loop-done.done = search rules in
-    safe-so c.safe_always.ensures cfg es c.loop-done.trace (c.loop-done.invariant.told ∙ ap (trace cfg 1 start) (all-seen c.args.events.now c.loop-done.done past))
-
-pub returns-in_default-clause-stopped : goal.returns-in_default-clause-stopped
-returns-in_default-clause-stopped c =
+pub returns-in-Err-clause-stopped : goal.returns-in-Err-clause-stopped
+returns-in-Err-clause-stopped c =
     carries-none c.safe_always.ensures (shown_config c.args.config.now) c.args.events.now (record { entries = c.new.result }) (ap (map shown_entry) c.new.ensures.items)
 
-pub returns-in_default-step-clause-stopped : goal.returns-in_default-step-clause-stopped
-returns-in_default-step-clause-stopped c =
-    carries c.safe_always.ensures (shown_config c.args.config.now) c.args.events.now c.loop-done.done c.loop-done.trace c.loop-done-test.true c.loop-done.invariant.told
+pub returns-in-Ok-carried-clause-whole : goal.returns-in-Ok-carried-clause-whole
+returns-in-Ok-carried-clause-whole c =
+    c.in-Ok-carried.ensures.whole (shown_config c.args.config.now) c.in-Ok.ensures.tied c.in-Ok.ensures.count (ap (map shown_entry) c.new.ensures.items)
+
+pub returns-in-Ok-carried-clause-safe : goal.returns-in-Ok-carried-clause-safe
+returns-in-Ok-carried-clause-safe c =
+    let cfg : Config = shown_config c.args.config.now in
+    let told = c.in-Ok-carried.ensures.whole cfg c.in-Ok.ensures.tied c.in-Ok.ensures.count (ap (map shown_entry) c.new.ensures.items) in
+    safe-so c.safe_always.ensures cfg (map seen c.args.events.now) c.carry_all-carried.new.got told
+
+pub returns-in-Err-carried-clause-stopped : goal.returns-in-Err-carried-clause-stopped
+returns-in-Err-carried-clause-stopped c =
+    let cfg : Config = shown_config c.args.config.now in
+    let front = c.in-Err-carried.ensures.front cfg c.in-Ok.ensures.tied c.in-Ok.ensures.count (ap (map shown_entry) c.new.ensures.items) in
+    carries c.safe_always.ensures cfg c.args.events.now c.in-Err-carried.done c.carry_all-carried.new.got front.0 front.1

@@ -1,4 +1,4 @@
-use Rattle.std.proofs.Common.{rules, ◌≡◌, ◌∙◌, ℕ, List, Option, Some, None, map, string_bytes, sym, ap, subst, slice_get}
+use Rattle.std.proofs.Common.{rules, ◌≡◌, ◌∙◌, ℕ, List, Option, Some, None, map, sym, ap, subst, slice_get}
 use Rattle.std.specs.BTreeMap.{get_by_text}
 use Rattle.cf_client.specs.Shown.{shown_item}
 use Rattle.cf_queue.specs.Meaning.{meaning}
