@@ -122,7 +122,7 @@ With --explain, lines that begin with # stand among them: each event with its li
 taken, and what stands otherwise than before, or why nothing changed.";
 
 /// What the program is to do.
-#[derive(Clone, Copy, Debug, PartialEq, Eq)]
+#[derive(Clone, Copy, PartialEq, Eq)]
 pub enum Job<'a> {
     Simulate(Options<'a>),
     Speak(SpeakOptions<'a>),
@@ -132,7 +132,7 @@ pub enum Job<'a> {
 }
 
 /// What `simulate` runs with: how many nodes, the text of the namespaces, and whether it tells what each event did.
-#[derive(Clone, Copy, Debug, PartialEq, Eq)]
+#[derive(Clone, Copy, PartialEq, Eq)]
 pub struct Options<'a> {
     pub nodes: u8,
     pub namespaces: &'a str,
@@ -140,7 +140,7 @@ pub struct Options<'a> {
 }
 
 /// What `speak` runs with: the texts of namespaces, tokens and epochs.
-#[derive(Clone, Copy, Debug, PartialEq, Eq)]
+#[derive(Clone, Copy, PartialEq, Eq)]
 pub struct SpeakOptions<'a> {
     pub namespaces: &'a str,
     pub tokens: &'a str,
@@ -150,7 +150,7 @@ pub struct SpeakOptions<'a> {
 /// What `serve` runs with: the number of this start, how many nodes, the port of the first (0: any that is free), how many
 /// publications wait at most on the link to a node, whether nothing is said of what goes wrong, and the texts of namespaces and
 /// tokens.
-#[derive(Clone, Copy, Debug, PartialEq, Eq)]
+#[derive(Clone, Copy, PartialEq, Eq)]
 pub struct ServeOptions<'a> {
     pub boot: u64,
     pub nodes: u8,
@@ -226,31 +226,21 @@ fn link_option<'a>(alloc: Global) -> Arg<'a> {
 }
 
 fn simulate_command<'a>(alloc: Global) -> Result<Command<'a>, AllocError> {
-    let mut command = Command::new(alloc, "simulate")
+    Command::new(alloc, "simulate")
         .about(SIMULATE)
-        .after_help(SCHEDULE_NOTES);
-    for option in [
-        nodes_option(alloc),
-        namespaces_option(alloc),
-        explain_option(alloc),
-    ] {
-        command = command.arg(option)?;
-    }
-    Ok(command)
+        .after_help(SCHEDULE_NOTES)
+        .arg(nodes_option(alloc))?
+        .arg(namespaces_option(alloc))?
+        .arg(explain_option(alloc))
 }
 
 fn speak_command<'a>(alloc: Global) -> Result<Command<'a>, AllocError> {
-    let mut command = Command::new(alloc, "speak")
+    Command::new(alloc, "speak")
         .about(SPEAK)
-        .after_help(SPEAK_NOTES);
-    for option in [
-        namespaces_option(alloc),
-        tokens_option(alloc),
-        epochs_option(alloc),
-    ] {
-        command = command.arg(option)?;
-    }
-    Ok(command)
+        .after_help(SPEAK_NOTES)
+        .arg(namespaces_option(alloc))?
+        .arg(tokens_option(alloc))?
+        .arg(epochs_option(alloc))
 }
 
 fn quiet_option<'a>(alloc: Global) -> Arg<'a> {

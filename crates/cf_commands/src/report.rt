@@ -17,7 +17,7 @@ const LOOKS: u32 = 10;
 const BETWEEN: u64 = 100;
 
 /// What has gone wrong by a moment, counted since the program began.
-#[derive(Clone, Copy, Debug, PartialEq, Eq, Drop)]
+#[derive(Clone, Copy, Drop)]
 struct Tally {
     refused: u64,
     lost: u64,
@@ -25,7 +25,7 @@ struct Tally {
 }
 
 /// One kind of what has gone wrong: how often since it was told last, and how often in all.
-#[derive(Clone, Copy, Debug, PartialEq, Eq, Drop)]
+#[derive(Clone, Copy, Drop)]
 struct News {
     what: &'static str,
     more: u64,
