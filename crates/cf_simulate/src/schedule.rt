@@ -79,7 +79,7 @@ impl<'a> Schedule<'a> {
         }
     }
 
-    // Adds the event of the line of this number.
+    // Adds the event of the line of this number. Where it brings an epoch again, it is refused, and with it the schedule.
     fn add(
         &mut self,
         alloc: Global,
@@ -98,10 +98,10 @@ impl<'a> Schedule<'a> {
             → Says nodes line.now (seen event) → (read : IsReadTo nodes before self.old)
             → RefusesLine nodes line.now number read.given f) }
     {
-        note_epoch(alloc, &mut self.epochs, &event, number)?;
+        let noted = note_epoch(alloc, &mut self.epochs, &event, number);
         self.events.push(event)?;
         self.lines.push(Line { number, text: line })?;
-        Ok(())
+        noted
     }
 
     /// The line of the event behind the first `done`.

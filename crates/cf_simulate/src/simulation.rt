@@ -1,12 +1,14 @@
 //! The command `simulate`: a schedule is read, and run event by event; the lines of each are written before the next.
 ghost use Rattle.std.specs.Prelude.{◌≡◌, ◌+◌, map, string_bytes, true, false, OnOk, OnErr, IfOk, IfErr, IfSome};
 ghost use Rattle.std.specs.Io.KnownBytes.{Appends, Keeps};
+ghost use Rattle.cf_machine.specs.Config.{Config as Settings};
 ghost use Rattle.cf_machine.specs.LooseRun.{lines};
 ghost use Rattle.cf_machine.specs.StreamSafety.{Safe};
 ghost use Rattle.cf_machine.specs.TraceLine.{printed};
+ghost use Rattle.cf_machine.specs.World.{start};
 ghost use Rattle.cf_schedule.specs.Seen.{seen, shown_config};
 ghost use Rattle.cf_world.specs.Entries.{shown_entry};
-ghost use Rattle.cf_world.specs.Tie.{GoesOn};
+ghost use Rattle.cf_world.specs.Tie.{GoesOn, Tied};
 ghost use Rattle.cf_simulate.specs.Simulation.{AddsPart, Leaves, WritesAll, Prints, ShowsEvent, Ends, EndsRun, IsHeaded};
 ghost use Rattle.cf_simulate.specs.WrittenTrace.{WritesFrontAtMost, WritesTrace};
 
@@ -130,7 +132,7 @@ fn write_run<W: Write>(
     }
 }
 
-// Carries out the events of a schedule one after another, and writes the lines of each before the next.
+// Carries out the events of a schedule in a new world, and writes the lines of each before the next.
 fn write_events<W: Write>(
     alloc: Global,
     writer: &mut W,
@@ -145,13 +147,44 @@ fn write_events<W: Write>(
         (EndsRun explains (shown_config config.now) (map seen schedule.now.events.items)
         (W.contents writer.old) (W.contents writer.new)) }
 {
-    one_event_more();
-    let events = schedule.events.as_slice();
     let mut world = World::new(alloc, config)?;
     let mut explainer = Explainer::new(alloc, &config.namespaces);
+    let written = write_each(
+        alloc,
+        writer,
+        &mut world,
+        explains,
+        &mut explainer,
+        schedule,
+    );
+    world.end();
+    written
+}
+
+// Carries out the events of a schedule one after another in a world in which nothing has happened, and writes the lines of
+// each before the next.
+fn write_each<W: Write>(
+    alloc: Global,
+    writer: &mut W,
+    world: &mut World,
+    explains: bool,
+    explainer: &mut Explainer<'_>,
+    schedule: &Schedule<'_>,
+) -> Result<(), SimulateFault>
+    ensures done { OnOk result ((settings : Settings)
+        → Tied settings world.old.parts start → world.old.count ≡ 0
+        → WritesAll explains settings (map seen schedule.now.events.items)
+        (W.contents writer.old) (W.contents writer.new)) }
+    ensures ends { IfErr result (λ f. (settings : Settings)
+        → Tied settings world.old.parts start → world.old.count ≡ 0
+        → EndsRun explains settings (map seen schedule.now.events.items)
+        (W.contents writer.old) (W.contents writer.new) f) }
+{
+    one_event_more();
+    let events = schedule.events.as_slice();
     for (done, event) in events.iter().enumerate() {
         let line = schedule.line(done);
-        let lines = event_text(alloc, &mut world, explains, &mut explainer, event, line)?;
+        let lines = event_text(alloc, world, explains, explainer, event, line)?;
         write_bytes(writer, lines.as_bytes())?;
     }
     Ok(())
