@@ -1,10 +1,10 @@
 //! The codes of errors, of unsubscribe pushes and of closes, and what they say.
-ghost use Rattle.std.specs.Prelude.{◌≡◌, ◌==◌};
-ghost use Rattle.cf_protocol.specs.Codes.{code_of, close_code_of, close_reason_of, close_reason_by};
+ghost use Rattle.std.specs.Prelude.{◌≡◌};
+ghost use Rattle.cf_protocol.specs.Codes.{code_of, close_code_of, close_reason_by};
 ghost use Rattle.cf_protocol.specs.Written.{message_of as message_by, reason_of};
 
 /// Why a command is refused. (Centrifugo's client protocol, error codes.)
-#[derive(Clone, Copy, PartialEq, Eq, Debug)]
+#[derive(Clone, Copy)]
 pub enum ErrorCode {
     /// No memory, no epoch left, or the session is closed: the client may ask again.
     Internal,
@@ -59,13 +59,6 @@ pub fn message_of(code: u32) -> &'static str
     }
 }
 
-/// Whether a command that is refused with this error code may be sent again.
-pub fn is_temporary(code: u32) -> bool
-    ensures { result ≡ (code == 100) }
-{
-    code == 100
-}
-
 /// The code of an unsubscribe push after which the client asks again: insufficient state.
 pub const INSUFFICIENT: u32 = 2500;
 
@@ -81,7 +74,7 @@ pub fn unsubscribe_reason(code: u32) -> &'static str
 }
 
 /// Why a session is closed. A client may connect again after a code below 3500, and not after 3500 or more.
-#[derive(Clone, Copy, PartialEq, Eq, Debug)]
+#[derive(Clone, Copy)]
 pub enum CloseCode {
     /// The program ends.
     Shutdown,
@@ -111,43 +104,19 @@ impl CloseCode {
             CloseCode::BadRequest => 3501,
         }
     }
-
-    /// The reason of the WebSocket close frame.
-    pub fn reason(self) -> &'static str
-        ensures { result.now ≡ close_reason_of self }
-    {
-        match self {
-            CloseCode::Shutdown => "shutdown",
-            CloseCode::InternalError => "internal server error",
-            CloseCode::Slow => "slow",
-            CloseCode::NoPong => "no pong",
-            CloseCode::InvalidToken => "invalid token",
-            CloseCode::BadRequest => "bad request",
-        }
-    }
 }
 
 /// The reason of a WebSocket close frame by the frame's code; empty for a code that isn't one of ours.
 pub fn close_reason(code: u16) -> &'static str
     ensures { result.now ≡ close_reason_by code }
 {
-    if code == CloseCode::Shutdown.code() {
-        return CloseCode::Shutdown.reason();
+    match code {
+        3001 => "shutdown",
+        3004 => "internal server error",
+        3008 => "slow",
+        3012 => "no pong",
+        3500 => "invalid token",
+        3501 => "bad request",
+        _ => "",
     }
-    if code == CloseCode::InternalError.code() {
-        return CloseCode::InternalError.reason();
-    }
-    if code == CloseCode::Slow.code() {
-        return CloseCode::Slow.reason();
-    }
-    if code == CloseCode::NoPong.code() {
-        return CloseCode::NoPong.reason();
-    }
-    if code == CloseCode::InvalidToken.code() {
-        return CloseCode::InvalidToken.reason();
-    }
-    if code == CloseCode::BadRequest.code() {
-        return CloseCode::BadRequest.reason();
-    }
-    ""
 }

@@ -18,7 +18,7 @@ use std::alloc::{AllocError, Global};
 pub fn write_command(alloc: Global, command: &Command) -> Result<String, AllocError>
     ensures { IfOk result (λ s. string_bytes s ≡ command_text (shown_command command.now)) }
 {
-    let mut writer = Writer::new(alloc);
+    let mut writer = Writer::new(alloc, 0);
     writer.begin("{");
     write_members(&mut writer, command.id, &command.request);
     writer.value("}");
@@ -31,7 +31,12 @@ fn write_members(writer: &mut Writer, id: u32, request: &Request)
 {
     match request {
         Request::Pong => {}
-        Request::Connect { token } => write_connect(writer, id, token.as_str()),
+        Request::Connect { token } => {
+            writer.open("connect", "{");
+            writer.text_member("token", token.as_str());
+            writer.value("}");
+            write_id(writer, id);
+        }
         Request::Subscribe { channel, since } => {
             write_subscribe(writer, id, channel.as_str(), since);
         }
@@ -87,17 +92,6 @@ pub fn write_position(writer: &mut Writer, position: &Position)
     writer.whole_member("offset", position.offset);
 }
 
-fn write_connect(writer: &mut Writer, id: u32, token: &str)
-    ensures { Adds writer.old writer.new
-        (("connect" ⇒ Some (object_of (("token" ⇒ written.text token.now) ∷ [])))
-        ∷ ("id" ⇒ written.whole id) ∷ []) }
-{
-    writer.open("connect", "{");
-    writer.text_member("token", token);
-    writer.value("}");
-    write_id(writer, id);
-}
-
 /// An id, and a request that has a channel alone.
 fn write_on_channel(writer: &mut Writer, id: u32, key: &str, channel: &str)
     ensures { Adds writer.old writer.new
@@ -118,18 +112,11 @@ fn write_subscribe(writer: &mut Writer, id: u32, channel: &str, since: &Option<P
     write_id(writer, id);
     writer.open("subscribe", "{");
     writer.text_member("channel", channel);
-    write_from(writer, since);
-    writer.value("}");
-}
-
-/// The position from which a client goes on.
-fn write_from(writer: &mut Writer, since: &Option<Position>)
-    ensures { Adds writer.old writer.new (from since.now) }
-{
     if let Some(position) = since {
         write_position(writer, position);
         writer.flag_member("recover", true);
     }
+    writer.value("}");
 }
 
 fn write_publish(writer: &mut Writer, id: u32, channel: &str, key: &str, body: &Data)

@@ -6,13 +6,13 @@ ghost use Rattle.cf_protocol.specs.Written.{◌⇒◌, as_it_is, object_of, inne
 ghost use Rattle.cf_protocol.specs.Writing.{Adds, AddsItems, bytes_of};
 ghost use Rattle.std.specs.BTreeMap.{IsOrdered};
 
-use crate::codes::{is_temporary, message_of};
+use crate::codes::{ErrorCode, message_of};
 use crate::outgoing::{Outcome, Outgoing, Pushed};
 use crate::position::Position;
 use crate::publication::Publication;
 use crate::write::command::{write_bare, write_id, write_position};
 use crate::write::publication::{write_info, write_placed};
-use crate::write::push::{add_publication, add_unsubscribe};
+use crate::write::push::{write_publication, write_unsubscribe};
 use crate::write::writer::Writer;
 use std::alloc::{AllocError, Global};
 use std::collections::BTreeMap;
@@ -30,21 +30,21 @@ const VERSION: &str = "1.0.0";
 pub fn write_reply(alloc: Global, outgoing: &Outgoing) -> Result<String, AllocError>
     ensures { IfOk result (λ s. string_bytes s ≡ outgoing_text (shown_outgoing outgoing.now)) }
 {
-    let mut writer = Writer::new(alloc);
-    writer.begin("{");
-    write_members(&mut writer, outgoing);
-    writer.value("}");
-    writer.into_text()
-}
-
-fn write_members(writer: &mut Writer, outgoing: &Outgoing)
-    ensures { Adds writer.old writer.new
-        (outgoing_members as_it_is (shown_outgoing outgoing.now)) }
-{
     match outgoing {
-        Outgoing::Ping => {}
-        Outgoing::Answer { id, outcome } => write_answer(writer, *id, outcome),
-        Outgoing::Push { channel, push } => write_push(writer, channel.as_str(), push),
+        Outgoing::Ping => String::from_str(alloc, "{}"),
+        Outgoing::Answer { id, outcome } => {
+            let mut writer = Writer::new(alloc, 0);
+            writer.begin("{");
+            write_answer(&mut writer, *id, outcome);
+            writer.value("}");
+            writer.into_text()
+        }
+        Outgoing::Push { channel, push } => match push {
+            Pushed::Publication(publication) => {
+                write_publication(alloc, channel.as_str(), publication)
+            }
+            Pushed::Unsubscribe { code } => write_unsubscribe(alloc, channel.as_str(), *code),
+        },
     }
 }
 
@@ -65,7 +65,12 @@ fn write_answer(writer: &mut Writer, id: u32, outcome: &Outcome)
         }
         Outcome::Unsubscribed => write_bare(writer, id, "unsubscribe"),
         Outcome::Published => write_bare(writer, id, "publish"),
-        Outcome::Present { users } => write_present(writer, id, users),
+        Outcome::Present { users } => {
+            write_id(writer, id);
+            writer.open("presence", "{");
+            write_clients(writer, users);
+            writer.value("}");
+        }
         Outcome::Counted { clients, users } => write_counted(writer, id, *clients, *users),
         Outcome::Past {
             position,
@@ -149,23 +154,11 @@ fn write_error(writer: &mut Writer, code: u32)
     writer.open("error", "{");
     writer.whole_member("code", u64::from(code));
     writer.text_member("message", message_of(code));
-    writer.flag_member("temporary", is_temporary(code));
+    writer.flag_member("temporary", code == ErrorCode::Internal.code());
     writer.value("}");
 }
 
-/// An id, and the clients that are there.
-fn write_present(writer: &mut Writer, id: u32, users: &BTreeMap<String, String>)
-    ensures { Adds writer.old writer.new
-        (("id" ⇒ written.whole id)
-        ∷ ("presence" ⇒ Some (object_of (presence (shown_users users.now)))) ∷ []) }
-{
-    write_id(writer, id);
-    writer.open("presence", "{");
-    write_clients(writer, users);
-    writer.value("}");
-}
-
-/// The clients by their ids, left out where there are none.
+/// Each client under its id with its info, which stands also where it is empty; left out where there are no clients.
 fn write_clients(writer: &mut Writer, users: &BTreeMap<String, String>)
     ensures { Adds writer.old writer.new (presence (shown_users users.now)) }
 {
@@ -173,27 +166,12 @@ fn write_clients(writer: &mut Writer, users: &BTreeMap<String, String>)
         return;
     }
     writer.open("presence", "{");
-    write_entries(writer, users);
-    writer.value("}");
-}
-
-/// Each client under its id with its info.
-fn write_entries(writer: &mut Writer, users: &BTreeMap<String, String>)
-    ensures adds { Adds writer.old writer.new (map client_member (bytes_of users.now.entries)) }
-    ensures ordered { IsOrdered string_cmp users.now }
-{
     for (client, user) in users {
-        write_client(writer, client.as_str(), user.as_str());
+        writer.text_key(client.as_str());
+        writer.begin("{");
+        write_info(writer, client.as_str(), user.as_str());
+        writer.value("}");
     }
-}
-
-/// A client under its id with its info, which stands also where it is empty.
-fn write_client(writer: &mut Writer, client: &str, user: &str)
-    ensures { Adds writer.old writer.new (client_member (client.now, user.now) ∷ []) }
-{
-    writer.text_key(client);
-    writer.begin("{");
-    write_info(writer, client, user);
     writer.value("}");
 }
 
@@ -218,18 +196,5 @@ fn write_items(writer: &mut Writer, publications: &Vec<Publication>)
     for publication in publications {
         writer.comma();
         write_placed(writer, publication);
-    }
-}
-
-/// The member of a push, left out where it would be an empty object.
-fn write_push(writer: &mut Writer, channel: &str, push: &Pushed)
-    ensures { Adds writer.old writer.new
-        (("push" ⇒ inner
-        (("channel" ⇒ written.text channel.now)
-        ∷ pushed as_it_is (shown_pushed push.now) ∷ [])) ∷ []) }
-{
-    match push {
-        Pushed::Publication(publication) => add_publication(writer, channel, publication),
-        Pushed::Unsubscribe { code } => add_unsubscribe(writer, channel, *code),
     }
 }

@@ -29,24 +29,17 @@ pub fn write_placed(writer: &mut Writer, publication: &Publication)
     writer.value("}");
 }
 
-/// The info of a publication, left out where there is none.
+/// The info of a publication, left out where there is none, and where it is empty.
 fn write_publisher(writer: &mut Writer, info: &Option<Info>)
     ensures { Adds writer.old writer.new (("info" ⇒ info_or_none info.now) ∷ []) }
 {
-    if let Some(info) = info {
-        write_info_member(writer, info.client.as_str(), info.user.as_str());
-    }
-}
-
-/// An info, left out where it is empty.
-fn write_info_member(writer: &mut Writer, client: &str, user: &str)
-    ensures { Adds writer.old writer.new
-        (("info" ⇒ inner (info_members (record { client = client.now; user = user.now }))) ∷ []) }
-{
-    if client.is_empty() && user.is_empty() {
+    let Some(info) = info else {
+        return;
+    };
+    if info.client.is_empty() && info.user.is_empty() {
         return;
     }
     writer.open("info", "{");
-    write_info(writer, client, user);
+    write_info(writer, info.client.as_str(), info.user.as_str());
     writer.value("}");
 }

@@ -31,9 +31,13 @@ pub fn write_publication(
 ) -> Result<String, AllocError>
     ensures { IfOk result (λ s. string_bytes s ≡ publication_text channel.now publication.now) }
 {
-    let mut writer = Writer::with_room(alloc, publication_room(channel, publication));
+    let mut writer = Writer::new(alloc, publication_room(channel, publication));
     writer.begin("{");
-    add_publication(&mut writer, channel, publication);
+    writer.open("push", "{");
+    writer.text_member("channel", channel);
+    writer.key("pub");
+    write_placed(&mut writer, publication);
+    writer.value("}");
     writer.value("}");
     writer.into_text()
 }
@@ -47,9 +51,15 @@ pub fn write_publication(
 pub fn write_unsubscribe(alloc: Global, channel: &str, code: u32) -> Result<String, AllocError>
     ensures { IfOk result (λ s. string_bytes s ≡ unsubscribe_text channel.now code) }
 {
-    let mut writer = Writer::with_room(alloc, channel.len().saturating_add(UNSUBSCRIBE_ROOM));
+    if code == 0 && channel.is_empty() {
+        return String::from_str(alloc, "{}");
+    }
+    let mut writer = Writer::new(alloc, channel.len().saturating_add(UNSUBSCRIBE_ROOM));
     writer.begin("{");
-    add_unsubscribe(&mut writer, channel, code);
+    writer.open("push", "{");
+    writer.text_member("channel", channel);
+    write_end(&mut writer, code);
+    writer.value("}");
     writer.value("}");
     writer.into_text()
 }
@@ -67,36 +77,6 @@ fn publication_room(channel: &str, publication: &Publication) -> usize {
             .saturating_add(info.user.len())
             .saturating_add(INFO_ROOM),
     }
-}
-
-/// The member of a publication's push.
-pub fn add_publication(writer: &mut Writer, channel: &str, publication: &Publication)
-    ensures { Adds writer.old writer.new
-        (("push" ⇒ inner
-        (("channel" ⇒ written.text channel.now)
-        ∷ ("pub" ⇒ Some (publication_tree as_it_is publication.now)) ∷ [])) ∷ []) }
-{
-    writer.open("push", "{");
-    writer.text_member("channel", channel);
-    writer.key("pub");
-    write_placed(writer, publication);
-    writer.value("}");
-}
-
-/// The member of an unsubscribe push, left out where it would be an empty object.
-pub fn add_unsubscribe(writer: &mut Writer, channel: &str, code: u32)
-    ensures { Adds writer.old writer.new
-        (("push" ⇒ inner
-        (("channel" ⇒ written.text channel.now)
-        ∷ ("unsubscribe" ⇒ inner (unsubscribed code)) ∷ [])) ∷ []) }
-{
-    if code == 0 && channel.is_empty() {
-        return;
-    }
-    writer.open("push", "{");
-    writer.text_member("channel", channel);
-    write_end(writer, code);
-    writer.value("}");
 }
 
 /// The end of a subscription, left out where it has no code.

@@ -30,27 +30,19 @@ pub struct Writer {
 }
 
 impl Writer {
-    /// An empty text.
-    pub fn new(alloc: Global) -> Writer
+    /// An empty text, with room for so many bytes to begin with.
+    pub fn new(alloc: Global, room: usize) -> Writer
         ensures text { string_bytes result.text ≡ [] }
         ensures fresh { result.fresh ≡ true }
     {
+        let mut text = String::new(alloc);
+        let failed = text.reserve_exact(room).is_err();
         Writer {
-            text: String::new(alloc),
-            failed: false,
+            text,
+            failed,
             fresh: true,
             alloc,
         }
-    }
-
-    /// An empty text that has room for so many bytes.
-    pub fn with_room(alloc: Global, bytes: usize) -> Writer
-        ensures text { string_bytes result.text ≡ [] }
-        ensures fresh { result.fresh ≡ true }
-    {
-        let mut writer = Writer::new(alloc);
-        writer.failed = writer.text.reserve_exact(bytes).is_err();
-        writer
     }
 
     /// What was written.
@@ -103,14 +95,6 @@ impl Writer {
         }
     }
 
-    /// A text as a value.
-    pub fn text(&mut self, text: &str)
-        ensures { AddsValue self.old self.new (quoted text.now) }
-    {
-        self.quoted(text);
-        self.fresh = false;
-    }
-
     /// A text between quotation marks. Where no byte of it has to be escaped, it is copied as it is.
     fn quoted(&mut self, text: &str)
         ensures text { Grows self.old self.new (quoted text.now) }
@@ -161,7 +145,8 @@ impl Writer {
     {
         if !text.is_empty() {
             self.key(key);
-            self.text(text);
+            self.quoted(text);
+            self.fresh = false;
         }
     }
 

@@ -5,7 +5,9 @@ ghost use Rattle.cf_session.specs.Shown.{answer_kind};
 use crate::publications::{place, publication};
 use crate::rows::sides_of;
 use cf_presence::Stats;
-use cf_protocol::{ErrorCode, Namespaces, Position, Tokens, read_namespaces, read_tokens};
+use cf_protocol::{
+    ErrorCode, Namespaces, Position, Tokens, close_reason, read_namespaces, read_tokens,
+};
 use cf_session::{Action, Answer, Kind, Session};
 use cf_stream::History;
 use std::alloc::{AllocError, Global};
@@ -131,7 +133,10 @@ fn words_of(alloc: Global, action: &Action) -> Result<String, AllocError> {
         Action::Stats { .. } => String::from_str(alloc, "stats"),
         Action::Say(text) => String::from_str(alloc, text.as_str()),
         Action::Pong => String::from_str(alloc, "pong"),
-        Action::Close(code) => format!(in alloc; "close {} {}", code.code(), code.reason()),
+        Action::Close(code) => {
+            let number = code.code();
+            format!(in alloc; "close {number} {}", close_reason(number))
+        }
     }
 }
 

@@ -1,5 +1,8 @@
-use Rattle.cf_protocol.proofs.Writings.{then}
+use Rattle.cf_protocol.proofs.Writings.{then, inside}
 use Rattle.cf_protocol.proofs.write.command.write_members.Goals as goal
+
+pub returns-in-Connect : goal.returns-in-Connect
+returns-in-Connect c = rw (c.in-Connect.is, ← c.as_str.ensures.value) (then (inside c.open.ensures c.text_member.ensures c.value.ensures) c.write_id.ensures)
 
 pub returns-in-Subscribe : goal.returns-in-Subscribe
 returns-in-Subscribe c = rw (c.in-Subscribe.is, ← c.as_str-in-Subscribe.ensures.value) c.write_subscribe.ensures
@@ -8,7 +11,7 @@ pub returns-in-Publish : goal.returns-in-Publish
 returns-in-Publish c = rw (c.in-Publish.is, ← c.as_str-in-Publish.ensures.value, ← c.as_str-in-Publish-2.ensures.value) c.write_publish.ensures
 
 pub returns-in-History : goal.returns-in-History
-returns-in-History c = rw (c.in-History.is, ← c.as_str-in-History.ensures.value) (then c.write_history.ensures c.write_id.ensures)
+returns-in-History c = rw (c.in-History.is, ← c.as_str-in-History.ensures.value) (then c.write_history.ensures c.write_id-in-History.ensures)
 
 pub returns-in-Unsubscribe : goal.returns-in-Unsubscribe
 returns-in-Unsubscribe c = rw (c.in-Unsubscribe.is, ← c.as_str-in-Unsubscribe.ensures.value) c.write_on_channel.ensures

@@ -1,4 +1,4 @@
-use Rattle.cf_protocol.proofs.Writings.{then}
+use Rattle.cf_protocol.proofs.Writings.{then, inside}
 use Rattle.cf_protocol.proofs.write.outgoing.write_answer.Goals as goal
 
 pub returns-in-Connected : goal.returns-in-Connected
@@ -14,7 +14,7 @@ pub returns-in-Published : goal.returns-in-Published
 returns-in-Published c = rw c.in-Published.is c.write_bare-in-Published.ensures
 
 pub returns-in-Present : goal.returns-in-Present
-returns-in-Present c = rw c.in-Present.is c.write_present.ensures
+returns-in-Present c = rw c.in-Present.is (then c.write_id-in-Present.ensures (inside c.open.ensures c.write_clients.ensures c.value.ensures))
 
 pub returns-in-Counted : goal.returns-in-Counted
 returns-in-Counted c = rw c.in-Counted.is c.write_counted.ensures

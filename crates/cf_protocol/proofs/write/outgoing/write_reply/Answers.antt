@@ -2,6 +2,10 @@ use Rattle.cf_protocol.specs.Written.{outgoing_text}
 use Rattle.cf_protocol.proofs.Writings.{whole}
 use Rattle.cf_protocol.proofs.write.outgoing.write_reply.Goals as goal
 
-pub returns : goal.returns
+pub returns-in-Ping : goal.returns-in-Ping
 unfolding outgoing_text
-returns c = whole c.into_text.result c.new-writer.ensures.text c.begin.ensures c.write_members.ensures c.value.ensures c.into_text.ensures
+returns-in-Ping c = rw c.in-Ping.is c.from_str.ensures.ok
+
+pub returns-in-Answer : goal.returns-in-Answer
+unfolding outgoing_text
+returns-in-Answer c = rw c.in-Answer.is (whole c.into_text.result c.new-writer.ensures.text c.begin.ensures c.write_answer.ensures c.value.ensures c.into_text.ensures)
