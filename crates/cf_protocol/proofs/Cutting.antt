@@ -8,7 +8,7 @@ use Rattle.std.specs.Str.Parse.{digits_value, ParsesUnsigned}
 use Rattle.std.specs.Fmt.{decimal}
 use Rattle.std.proofs.lemmas.Bool.{and_parts, false≢true}
 use Rattle.std.proofs.lemmas.Fmt.{digits_decimal, digits_value-decimal, decimal-digits_value, decimal_nonempty, decimal_digit, decimal_injective, first_decimal}
-use Rattle.std.proofs.lemmas.Str.Parse.{IsNumeralModel, numerals_by_value, parse_digits}
+use Rattle.std.proofs.lemmas.Str.Parse.{IsNumeralModel, numerals_by_value, parse_plain, not_in_digits}
 use Rattle.std.proofs.lemmas.Str.Pattern.{split_parts, IsSplitOnceResult}
 use Rattle.cf_protocol.specs.SettingsRead.{Lacks, IsCut, IsCount}
 
@@ -70,19 +70,19 @@ lacks_number b misses n h = lacks_all b is_ascii_digit misses (decimal n) (digit
 pub one_number : (m n : ℕ) → m < 2 ^ 64 → n < 2 ^ 64 → decimal m ≡ decimal n → m ≡ n
 one_number m n h k e = decimal_injective m n h k e
 
-pub count_undigits : (most : ℕ) (s : List ℕ) → most < 2 ^ 64 → list_all is_ascii_digit s ≡ false → (n : ℕ) → IsCount most s n → ⊥
-count_undigits most s fits h n k =
+pub count_plus : (most : ℕ) (s : List ℕ) → most < 2 ^ 64 → get_or s 0 0 ≡ 43 → (n : ℕ) → IsCount most s n → ⊥
+count_plus most s fits h n k =
     let low = k.within in
-    false≢true (sym h ∙ ap (list_all is_ascii_digit) k.spelled ∙ digits_decimal own n (omega arith))
+    not_in_digits own (decimal n) 43 (digits_decimal own n (omega arith)) (λ d. omega arith) 0 (decimal_nonempty n (omega arith)) (sym (ap (λ t. get_or t 0 0) k.spelled) ∙ h)
 
 pub count_zero : (most : ℕ) (s : List ℕ) → most < 2 ^ 64 → get_or s 0 0 ≡ 48 → (n : ℕ) → IsCount most s n → ⊥
 count_zero most s fits h n k =
     let low = k.within in
     omega (arith, first_decimal n k.least (omega arith), ap (λ t. get_or t 0 0) k.spelled)
 
-pub count_parsed : {E : Type 0} (s : List ℕ) (r : Result ℕ E) → ParsesUnsigned 64 10 s r → list_all is_ascii_digit s ≡ true
-    → OkIff r ((0 < length s) × (digits_value 10 s < 2 ^ 64)) (digits_value 10 s)
-count_parsed s r h d = parse_digits own 64 s r h d
+pub count_parsed : {E : Type 0} (s : List ℕ) (r : Result ℕ E) → ParsesUnsigned 64 10 s r → get_or s 0 0 ≢ 43
+    → OkIff r ((list_all is_ascii_digit s ≡ true) × (0 < length s) × (digits_value 10 s < 2 ^ 64)) (digits_value 10 s)
+count_parsed s r h n = parse_plain own 64 s r h n
 
 pub count_found : (most : ℕ) (s : List ℕ) (n : ℕ) → list_all is_ascii_digit s ≡ true → get_or s 0 0 ≢ 48 → (0 < length s) × (digits_value 10 s < 2 ^ 64) → n ≡ digits_value 10 s → n ≤ most → IsCount most s n
 count_found most s n d z h e within =
@@ -99,9 +99,9 @@ count_other most s n fits e over m k =
     let v : digits_value 10 s ≡ m = ap (digits_value 10) k.spelled ∙ digits_value-decimal own m (omega arith) in
     omega arith
 
-pub count_unparsed : (most : ℕ) (s : List ℕ) → most < 2 ^ 64 → ((0 < length s) × (digits_value 10 s < 2 ^ 64) → ⊥) → (m : ℕ) → IsCount most s m → ⊥
+pub count_unparsed : (most : ℕ) (s : List ℕ) → most < 2 ^ 64 → ((list_all is_ascii_digit s ≡ true) × (0 < length s) × (digits_value 10 s < 2 ^ 64) → ⊥) → (m : ℕ) → IsCount most s m → ⊥
 count_unparsed most s fits h m k =
     let low = k.within in
     let v : digits_value 10 s ≡ m = ap (digits_value 10) k.spelled ∙ digits_value-decimal own m (omega arith) in
     let long : 0 < length s = subst (λ t. 0 < length t) (sym k.spelled) (decimal_nonempty m (omega arith)) in
-    h (long, omega arith)
+    h (ap (list_all is_ascii_digit) k.spelled ∙ digits_decimal own m (omega arith), long, omega arith)

@@ -1,12 +1,12 @@
 -- One step of writing after another.
-use Rattle.std.proofs.Common.{◌≡◌, ℕ, List, [], ◌∷◌, ◌++◌, Bool, true, false, Some, None, refl, sym, ap, ◌∙◌, append_assoc}
+use Rattle.std.proofs.Common.{◌≡◌, ℕ, ◌<◌, List, [], ◌∷◌, ◌++◌, length, Bool, true, false, Some, None, refl, sym, ap, ◌∙◌, append_assoc, arith}
 use Rattle.std.specs.Prelude.{Result, Ok, Err, IfOk, String, string_bytes, is_some, ◌||◌}
 use Rattle.std.specs.declared.alloc.AllocError.{AllocError}
 use Rattle.std.specs.declared.alloc.Global.{Global}
 use Rattle.std.proofs.lemmas.Bool.{false≢true}
-use Rattle.cf_json.specs.Grammar.{Tree}
+use Rattle.cf_json.specs.Grammar.{Tree, array}
 use Rattle.cf_json.specs.Compact.{compact_text, key_text, first_text}
-use Rattle.cf_protocol.specs.Written.{Member, parts_of, object_of, inner}
+use Rattle.cf_protocol.specs.Written.{Member, parts_of, items_of, object_of, inner, list}
 use Rattle.cf_protocol.specs.Writing.{Grows, Adds, AddsKey, AddsValue, Opens, OpensMember, AddsItems, comma, members_text, items_text, fresh_with, fresh_after, fresh_items}
 use Rattle.cf_protocol.specs.declared.write.writer.Writer.{Writer}
 
@@ -150,4 +150,23 @@ one_more {a} {b} {c} {d} {ts} t f e g =
           join a b d (items_text a.fresh ts) (comma b.fresh ++ compact_text t) (items_text a.fresh (ts ++ t ∷ [])) f.text (join b c d (comma b.fresh) (compact_text t) (comma b.fresh ++ compact_text t) e g.text refl)
           (ap (λ h. items_text a.fresh ts ++ (comma h ++ compact_text t)) f.fresh ∙ sym (items_text-push a.fresh ts t));
       fresh = g.fresh ∙ sym (fresh_items-push a.fresh ts t);
+    }
+
+array_text : (fresh : Bool) (k : List ℕ) (ts : List Tree)
+    → (comma fresh ++ (key_text true k ++ 91 ∷ [])) ++ (first_text false (items_of ts) ++ 93 ∷ []) ≡ members_text fresh ((k, Some (array (items_of ts))) ∷ [])
+array_text fresh k ts =
+    append_assoc (comma fresh) (key_text true k ++ 91 ∷ []) (first_text false (items_of ts) ++ 93 ∷ [])
+    ∙ ap (λ s. comma fresh ++ s) (append_assoc (key_text true k) (91 ∷ []) (first_text false (items_of ts) ++ 93 ∷ [])) ∙ one_text fresh k (array (items_of ts))
+
+-- a list that has an item
+pub listed : {a b c d : Writer} {k : List ℕ} (ts : List Tree) → 0 < length ts → OpensMember a b k (91 ∷ []) → AddsItems b c ts → AddsValue c d (93 ∷ []) → Adds a d ((k, list ts) ∷ [])
+listed [] some f g h = absurd (omega (arith, some))
+listed {a} {b} {c} {d} {k} (t ∷ ts) some f g h =
+    let all : List Tree = t ∷ ts in
+    let items : Grows b d (first_text false (items_of all) ++ 93 ∷ []) = join b c d (items_text b.fresh all) (93 ∷ []) (first_text false (items_of all) ++ 93 ∷ []) g.text h.text (ap (λ e. items_text e all ++ 93 ∷ []) f.fresh) in
+    record {
+      text =
+          join a b d (comma a.fresh ++ (key_text true k ++ 91 ∷ [])) (first_text false (items_of all) ++ 93 ∷ []) (members_text a.fresh ((k, list all) ∷ [])) f.text items
+          (array_text a.fresh k all);
+      fresh = h.fresh;
     }

@@ -77,20 +77,12 @@ impl Epoch {
         self.len == 0
     }
 
-    /// Its characters, as bytes.
-    fn as_bytes(&self) -> &[u8]
-        ensures characters { result.now ≡ self.now }
-        ensures letters_or_digits { IsEpoch self.now }
-    {
-        &self.bytes[..self.len as usize]
-    }
-
     /// Its characters.
     pub fn as_str(&self) -> &str
         ensures characters { result.now ≡ self.now }
         ensures letters_or_digits { IsEpoch self.now }
     {
-        match str::from_utf8(self.as_bytes()) {
+        match str::from_utf8(&self.bytes[..self.len as usize]) {
             Ok(text) => text,
             Err(_) => unreachable!(),
         }
@@ -111,7 +103,7 @@ impl PartialEq for Epoch {
         ensures answers { result ≡ bytes_eq self.now other.now }
         ensures same { IsTrue result ↔ (self.now ≡ other.now) }
     {
-        self.as_bytes() == other.as_bytes()
+        self.as_str() == other.as_str()
     }
 }
 

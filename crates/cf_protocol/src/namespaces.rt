@@ -43,11 +43,9 @@ impl Namespaces {
     pub fn copied(&self) -> Result<Namespaces, AllocError>
         ensures { IfOk result (λ n. n ≡ self.now) }
     {
-        let mut entries = Vec::new(*self.entries.allocator());
-        for entry in &self.entries {
-            entries.push((entry.0.clone()?, entry.1))?;
-        }
-        Ok(Namespaces { entries })
+        Ok(Namespaces {
+            entries: self.entries.clone()?,
+        })
     }
 
     /// The settings of a channel, where its namespace is set up.

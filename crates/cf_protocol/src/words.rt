@@ -1,6 +1,5 @@
 //! The words that settings are written in.
-ghost use Rattle.std.specs.Prelude.{◌≡◌, ◌<◌};
-ghost use Rattle.std.specs.Char.{is_ascii_digit};
+ghost use Rattle.std.specs.Prelude.{◌≡◌};
 ghost use Rattle.std.specs.List.{list_all};
 ghost use Rattle.std.specs.Option.{MatchOption};
 ghost use Rattle.cf_protocol.specs.SettingsText.{is_word, is_word_byte};
@@ -19,20 +18,14 @@ pub fn is_word(text: &str, most: usize) -> bool
     text.len() <= most && has_word_bytes(text)
 }
 
-fn has_digits_alone(text: &str) -> bool
-    ensures { result ≡ list_all is_ascii_digit text.now }
-{
-    text.bytes().all(|byte| byte.is_ascii_digit())
-}
-
 /// The whole number from 1 to so much that the text spells: digits without sign or leading zeros.
 pub fn count_of(text: &str, most: u64) -> Option<u64>
     ensures { IsFoundBy (IsCount most text.now) result }
 {
-    if !has_digits_alone(text) {
+    if text.starts_with('0') {
         return None;
     }
-    if text.starts_with('0') {
+    if text.starts_with('+') {
         return None;
     }
     let Ok(number) = text.parse::<u64>() else {

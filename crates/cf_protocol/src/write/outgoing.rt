@@ -1,10 +1,9 @@
 //! The texts of replies and pushes.
-ghost use Rattle.std.specs.Prelude.{◌≡◌, ◌∷◌, [], map, Some, IfOk, string_bytes, string_cmp};
-ghost use Rattle.cf_protocol.specs.Shown.{shown_outgoing, shown_outcome, shown_pushed, shown_users};
+ghost use Rattle.std.specs.Prelude.{◌≡◌, ◌∷◌, [], Some, IfOk, string_bytes};
+ghost use Rattle.cf_protocol.specs.Shown.{shown_outgoing, shown_outcome, shown_users};
 ghost use Rattle.cf_protocol.specs.Written as written;
-ghost use Rattle.cf_protocol.specs.Written.{◌⇒◌, as_it_is, object_of, inner, publication as publication_tree, publications as publications_list, connected, error as error_members, subscribed, counted, past, presence, pushed, client as client_member, reply, outgoing as outgoing_members, outgoing_text};
-ghost use Rattle.cf_protocol.specs.Writing.{Adds, AddsItems, bytes_of};
-ghost use Rattle.std.specs.BTreeMap.{IsOrdered};
+ghost use Rattle.cf_protocol.specs.Written.{◌⇒◌, as_it_is, object_of, inner, publications as publications_list, connected, error as error_members, subscribed, counted, past, presence, reply, outgoing_text};
+ghost use Rattle.cf_protocol.specs.Writing.{Adds};
 
 use crate::codes::{ErrorCode, message_of};
 use crate::outgoing::{Outcome, Outgoing, Pushed};
@@ -184,17 +183,9 @@ fn write_publications(writer: &mut Writer, publications: &Vec<Publication>)
         return;
     }
     writer.open("publications", "[");
-    write_items(writer, publications);
-    writer.value("]");
-}
-
-/// The items of a list of publications.
-fn write_items(writer: &mut Writer, publications: &Vec<Publication>)
-    ensures { AddsItems writer.old writer.new
-        (map (publication_tree as_it_is) publications.now.items) }
-{
     for publication in publications {
         writer.comma();
         write_placed(writer, publication);
     }
+    writer.value("]");
 }

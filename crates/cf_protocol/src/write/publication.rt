@@ -1,7 +1,7 @@
 //! The text of a publication, wherever it stands.
 ghost use Rattle.std.specs.Prelude.{◌∷◌, []};
 ghost use Rattle.cf_json.specs.Compact.{compact_text};
-ghost use Rattle.cf_protocol.specs.Written.{◌⇒◌, as_it_is, inner, info as info_members, info_or_none, publication as publication_tree};
+ghost use Rattle.cf_protocol.specs.Written.{◌⇒◌, as_it_is, info as info_members, info_or_none, publication as publication_tree};
 ghost use Rattle.cf_protocol.specs.Writing.{Adds, AddsValue};
 
 use crate::publication::{Info, Publication};

@@ -1,7 +1,7 @@
 //! The texts of pushes, written from parts that are lent.
-ghost use Rattle.std.specs.Prelude.{◌≡◌, ◌∷◌, [], Some, IfOk, string_bytes};
+ghost use Rattle.std.specs.Prelude.{◌≡◌, ◌∷◌, [], IfOk, string_bytes};
 ghost use Rattle.cf_protocol.specs.Written as written;
-ghost use Rattle.cf_protocol.specs.Written.{◌⇒◌, as_it_is, inner, publication as publication_tree, publication_text, unsubscribe_text, unsubscribed};
+ghost use Rattle.cf_protocol.specs.Written.{◌⇒◌, inner, publication_text, unsubscribe_text, unsubscribed};
 ghost use Rattle.cf_protocol.specs.Writing.{Adds};
 
 use crate::codes::unsubscribe_reason;

@@ -3,4 +3,4 @@ use Rattle.cf_protocol.proofs.Epochs.{IsAscii-epoch}
 use Rattle.cf_protocol.proofs.epoch.Epoch.as_str.Goals as goal
 
 pub unreachable-requires : goal.unreachable-requires
-unreachable-requires c = c.in-Err.ensures.cases.0 (IsUtf8-from_ascii _ (IsAscii-epoch _ (rw c.as_bytes.ensures.characters c.as_bytes.ensures.letters_or_digits)))
+unreachable-requires c = c.in-Err.ensures.cases.0 (IsUtf8-from_ascii _ (IsAscii-epoch _ c.self.invariant.1))
