@@ -36,6 +36,11 @@ pub only_frame : {A : Type 0} (f : List Tree → Option (List A)) (text : List �
 only_frame f text spans xs ks stands reads h =
     some_same ks xs (sym h.are ∙ is_read f h.values h.frame.0 ∙ reads h.values (stands h.values h.frame))
 
+-- what stops at one value stops at all
+pub stopped : {T A U B : Type 0} (show : T → A) (show_all : U → B) (e : ReadFault) (o : Option A) (p : Option B) → Answers show (Err e) o → (o ≡ None → p ≡ None) → Answers show_all (Err e) p
+stopped show show_all Bad o p h stops = stops h
+stopped show show_all Memory o p h stops = tt
+
 pub no_values : {T A : Type 0} (f : List Tree → Option (List A)) (show : T → List A) (text : List ℕ) (spans : List Span) (e : ReadFault) (ks : List A) → ((ts : List Tree) → IsFrame text ts → Stand text spans ts)
     → ((ts : List Tree) → Stand text spans ts → Answers show (Err e) (f ts)) → e ≡ Bad → FrameOf (unless_empty f) text ks → ⊥
 no_values f show text spans Memory ks stands reads is h = cc

@@ -1,5 +1,5 @@
 -- The methods of commands, and the results of replies, by the keys under which they stand.
-use Rattle.std.specs.Prelude.{List, ℕ, Option, option_map, codes}
+use Rattle.std.specs.Prelude.{Bool, true, false, Option, option_map}
 use Rattle.cf_json.specs.Grammar.{Tree}
 use Rattle.cf_protocol.specs.Fields.{Fields, object_as}
 use Rattle.cf_protocol.specs.Request as request
@@ -11,19 +11,10 @@ use Rattle.cf_protocol.specs.declared.read.method.Method.TheVariants as method
 use Rattle.cf_protocol.specs.declared.read.outcome.ResultKey.{ResultKey}
 use Rattle.cf_protocol.specs.declared.read.outcome.ResultKey.TheVariants as key
 
-abbrev pub method_key : Method → List ℕ
-method_key method.Connect = codes "connect"
-method_key method.Subscribe = codes "subscribe"
-method_key method.Unsubscribe = codes "unsubscribe"
-method_key method.Publish = codes "publish"
-method_key method.Presence = codes "presence"
-method_key method.PresenceStats = codes "presence_stats"
-method_key method.History = codes "history"
-method_key method.Ping = codes "ping"
-method_key method.Send = codes "send"
-method_key method.Rpc = codes "rpc"
-method_key method.Refresh = codes "refresh"
-method_key method.SubRefresh = codes "sub_refresh"
+-- whether a command with this method has an id
+abbrev pub has_id : Method → Bool
+has_id method.Send = false
+has_id m = true
 
 -- the request of a method that has these members
 abbrev pub served : Method → Fields → Option request.Request
@@ -36,9 +27,7 @@ served method.PresenceStats = command.presence_stats
 served method.History = command.history
 served method.Ping = command.always request.Ping
 served method.Send = command.always request.Send
-served method.Rpc = command.always request.Other
-served method.Refresh = command.always request.Other
-served method.SubRefresh = command.always request.Other
+served method.Other = command.always request.Other
 
 -- what the value of a method is read as
 abbrev pub request_as : Method → Tree → Option request.Request
@@ -51,20 +40,7 @@ request_as method.PresenceStats = object_as command.presence_stats
 request_as method.History = object_as command.history
 request_as method.Ping = command.always request.Ping
 request_as method.Send = command.always request.Send
-request_as method.Rpc = command.always request.Other
-request_as method.Refresh = command.always request.Other
-request_as method.SubRefresh = command.always request.Other
-
-abbrev pub result_key : ResultKey → List ℕ
-result_key key.Error = codes "error"
-result_key key.Connect = codes "connect"
-result_key key.Subscribe = codes "subscribe"
-result_key key.Unsubscribe = codes "unsubscribe"
-result_key key.Publish = codes "publish"
-result_key key.Presence = codes "presence"
-result_key key.PresenceStats = codes "presence_stats"
-result_key key.History = codes "history"
-result_key key.Ping = codes "ping"
+request_as method.Other = command.always request.Other
 
 -- the result that has these members
 abbrev pub outcome_of : ResultKey → Fields → Option outgoing.Outcome

@@ -1,7 +1,7 @@
 //! Commands.
-ghost use Rattle.std.specs.Prelude.{◌≡◌, Some, codes};
+ghost use Rattle.std.specs.Prelude.{Some, codes};
 ghost use Rattle.cf_protocol.specs.Fields.{look_up};
-ghost use Rattle.cf_protocol.specs.Command.{command_of, command_from, named_command, needs_id, connect, subscribe, publish, history, data_of};
+ghost use Rattle.cf_protocol.specs.Command.{command_of, command_from, named_command, subscribe, publish, history, data_of};
 ghost use Rattle.cf_protocol.specs.Methods.{request_as, served};
 ghost use Rattle.cf_protocol.specs.Reading.{Answers, AreMembers, HasValue, OfFields, OfValue};
 ghost use Rattle.cf_protocol.specs.Shown.{shown_command, shown_request, shown_data};
@@ -46,18 +46,11 @@ fn read_named(alloc: Global, members: &Members<'_>) -> Result<Command, ReadFault
 {
     let id = members.whole("id", u64::from(u32::MAX))? as u32;
     let (method, value) = the_method(members)?;
-    let request = read_request(alloc, members.text, method, value)?;
-    if id == 0 && needs_id(&request) {
+    if id == 0 && method.needs_id() {
         return Err(ReadFault::Bad);
     }
+    let request = read_request(alloc, members.text, method, value)?;
     Ok(Command { id, request })
-}
-
-/// Whether a command with this request has an id, by which it is answered.
-fn needs_id(request: &Request) -> bool
-    ensures { result ≡ needs_id (shown_request request.now) }
-{
-    !matches!(request, Request::Send)
 }
 
 /// The request of a method. The value is an object, but for those of which nothing is read: there it may be any.
@@ -73,7 +66,7 @@ fn read_request(
     match method {
         Method::Ping => Ok(Request::Ping),
         Method::Send => Ok(Request::Send),
-        Method::Rpc | Method::Refresh | Method::SubRefresh => Ok(Request::Other),
+        Method::Other => Ok(Request::Other),
         _ => {
             let members = Members::of(alloc, text, value)?;
             read_served(alloc, method, &members)
@@ -87,34 +80,25 @@ fn read_served(alloc: Global, method: Method, members: &Members<'_>) -> Result<R
     ensures { OfFields members.now (λ fs. Answers shown_request result (served method fs)) }
 {
     match method {
-        Method::Connect => read_connect(alloc, members),
+        Method::Connect => {
+            let token = members.text(alloc, "token")?;
+            Ok(Request::Connect { token })
+        }
         Method::Subscribe => read_subscribe(alloc, members),
         Method::Publish => read_publish(alloc, members),
         Method::History => read_history(alloc, members),
-        Method::Unsubscribe => {
+        Method::Unsubscribe | Method::Presence | Method::PresenceStats => {
             let channel = members.text(alloc, "channel")?;
-            Ok(Request::Unsubscribe { channel })
-        }
-        Method::Presence => {
-            let channel = members.text(alloc, "channel")?;
-            Ok(Request::Presence { channel })
-        }
-        Method::PresenceStats => {
-            let channel = members.text(alloc, "channel")?;
-            Ok(Request::PresenceStats { channel })
+            match method {
+                Method::Unsubscribe => Ok(Request::Unsubscribe { channel }),
+                Method::Presence => Ok(Request::Presence { channel }),
+                _ => Ok(Request::PresenceStats { channel }),
+            }
         }
         Method::Ping => Ok(Request::Ping),
         Method::Send => Ok(Request::Send),
-        Method::Rpc | Method::Refresh | Method::SubRefresh => Ok(Request::Other),
+        Method::Other => Ok(Request::Other),
     }
-}
-
-fn read_connect(alloc: Global, members: &Members<'_>) -> Result<Request, ReadFault>
-    requires { AreMembers members.now }
-    ensures { OfFields members.now (λ fs. Answers shown_request result (connect fs)) }
-{
-    let token = members.text(alloc, "token")?;
-    Ok(Request::Connect { token })
 }
 
 fn read_subscribe(alloc: Global, members: &Members<'_>) -> Result<Request, ReadFault>

@@ -1,10 +1,7 @@
 //! Frames: what stands one behind another in a text.
 ghost use Rattle.std.specs.Prelude.{◌≡◌, IfOk, IfErr, List, map};
-ghost use Rattle.cf_protocol.specs.Command.{command_of};
-ghost use Rattle.cf_protocol.specs.Fields.{read_all};
-ghost use Rattle.cf_protocol.specs.Frame.{IsCommands, IsReplies, all_replies_of};
+ghost use Rattle.cf_protocol.specs.Frame.{IsCommands, IsReplies};
 ghost use Rattle.cf_protocol.specs.Outgoing as outgoing;
-ghost use Rattle.cf_protocol.specs.Reading.{Answers, HaveValues, OfValues};
 ghost use Rattle.cf_protocol.specs.Request as request;
 ghost use Rattle.cf_protocol.specs.Shown.{shown_command, shown_outgoing};
 
@@ -13,7 +10,7 @@ use crate::fault::ReadFault;
 use crate::outgoing::Outgoing;
 use crate::read::command::read_command;
 use crate::read::outgoing::read_outgoing;
-use cf_json::{Span, split_frame};
+use cf_json::split_frame;
 use std::alloc::Global;
 
 /// The commands of a frame, in order. `Bad` is a text that is no frame, or in which a value is no command or nests deeper than 64.
@@ -25,18 +22,8 @@ pub fn read_commands(alloc: Global, text: &str) -> Result<Vec<Command>, ReadFaul
         → (ks : List request.Command) → IsCommands text.now ks → ⊥) }
 {
     let spans = split_frame(alloc, text)?;
-    let commands = read_each_command(alloc, text, &spans)?;
-    Ok(commands)
-}
-
-/// The commands that stand at these places.
-fn read_each_command(alloc: Global, text: &str, spans: &[Span]) -> Result<Vec<Command>, ReadFault>
-    requires { HaveValues text.now spans.now }
-    ensures { OfValues text.now spans.now (λ ts.
-        Answers (λ v. map shown_command v.items) result (read_all command_of ts)) }
-{
     let mut commands = Vec::new(alloc);
-    for span in spans {
+    for span in &spans {
         let command = read_command(alloc, text, *span)?;
         commands.push(command)?;
     }
@@ -53,18 +40,8 @@ pub fn read_replies(alloc: Global, text: &str) -> Result<Vec<Outgoing>, ReadFaul
         → (os : List outgoing.Outgoing) → IsReplies text.now os → ⊥) }
 {
     let spans = split_frame(alloc, text)?;
-    let replies = read_each_reply(alloc, text, &spans)?;
-    Ok(replies)
-}
-
-/// The replies and pushes that stand at these places.
-fn read_each_reply(alloc: Global, text: &str, spans: &[Span]) -> Result<Vec<Outgoing>, ReadFault>
-    requires { HaveValues text.now spans.now }
-    ensures { OfValues text.now spans.now (λ ts.
-        Answers (λ v. map shown_outgoing v.items) result (all_replies_of ts)) }
-{
     let mut replies = Vec::new(alloc);
-    for span in spans {
+    for span in &spans {
         let read = read_outgoing(alloc, text, *span)?;
         if let Some(reply) = read {
             replies.push(reply)?;

@@ -1,6 +1,6 @@
 //! The members of an object, read by their keys.
 ghost use Rattle.std.specs.Prelude.{option_and_then, ◌≡◌, [], false, pos, IfOk, ◌≤◌, is_some, string_bytes, if◌then◌else◌, Some, None};
-ghost use Rattle.cf_protocol.specs.Fields.{look_up, unless_null, read_or, as_object, as_text, as_flag, as_whole, as_limit, is_limit, position, object_or_none};
+ghost use Rattle.cf_protocol.specs.Fields.{look_up, unless_null, read_or, as_object, as_text, as_flag, as_whole, as_limit, is_limit, max_u32, position, object_or_none};
 ghost use Rattle.cf_protocol.specs.Reading.{Tells, Answers, Reads, Finds, Stand, AreMembers, HasValue, OfFields, OfValue, present_at, items_at};
 
 use crate::epoch::Epoch;
@@ -163,18 +163,17 @@ impl<'a> Members<'a> {
         items(alloc, self.text, span).map_err(ReadFault::from)
     }
 
-    /// A whole number from 1 to so much, which is there.
-    pub fn positive(&self, key: &str, most: u64) -> Result<u64, ReadFault>
+    /// A whole number of 32 bits from 1 on, which is there.
+    pub fn positive(&self, key: &str) -> Result<u32, ReadFault>
         requires { AreMembers self.now }
-        ensures exact { OfFields self.now (λ fs.
-            Answers (λ n. n) result (option_and_then (as_whole 1 most) (present_at key.now fs))) }
-        ensures most { IfOk result (λ n. n ≤ most) }
+        ensures { OfFields self.now (λ fs. Answers (λ n. n) result
+            (option_and_then (as_whole 1 max_u32) (present_at key.now fs))) }
     {
-        let number = self.whole(key, most)?;
+        let number = self.whole(key, u64::from(u32::MAX))?;
         if number == 0 {
             return Err(ReadFault::Bad);
         }
-        Ok(number)
+        Ok(number as u32)
     }
 
     /// The position that `epoch` and `offset` say.

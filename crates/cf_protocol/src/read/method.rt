@@ -1,14 +1,14 @@
 //! The methods of commands.
 ghost use Rattle.std.specs.Prelude.{◌≡◌};
 ghost use Rattle.cf_protocol.specs.Command.{request_of};
-ghost use Rattle.cf_protocol.specs.Methods.{method_key, request_as};
+ghost use Rattle.cf_protocol.specs.Methods.{has_id, request_as};
 ghost use Rattle.cf_protocol.specs.Reading.{AreMembers, Chooses, OfFields};
 
 use crate::fault::ReadFault;
 use crate::read::members::Members;
 use cf_json::Span;
 
-/// The keys of which a command has exactly one.
+/// What a command asks for, by the one of its keys that says so.
 #[derive(Clone, Copy)]
 pub enum Method {
     Connect,
@@ -20,44 +20,31 @@ pub enum Method {
     History,
     Ping,
     Send,
-    Rpc,
-    Refresh,
-    SubRefresh,
+    /// One of those that are not served.
+    Other,
 }
 
-const METHODS: [Method; 12] = [
-    Method::Connect,
-    Method::Subscribe,
-    Method::Unsubscribe,
-    Method::Publish,
-    Method::Presence,
-    Method::PresenceStats,
-    Method::History,
-    Method::Ping,
-    Method::Send,
-    Method::Rpc,
-    Method::Refresh,
-    Method::SubRefresh,
+const METHODS: [(&str, Method); 12] = [
+    ("connect", Method::Connect),
+    ("subscribe", Method::Subscribe),
+    ("unsubscribe", Method::Unsubscribe),
+    ("publish", Method::Publish),
+    ("presence", Method::Presence),
+    ("presence_stats", Method::PresenceStats),
+    ("history", Method::History),
+    ("ping", Method::Ping),
+    ("send", Method::Send),
+    ("rpc", Method::Other),
+    ("refresh", Method::Other),
+    ("sub_refresh", Method::Other),
 ];
 
 impl Method {
-    fn key(self) -> &'static str
-        ensures { result.now ≡ method_key self }
+    /// Whether a command with this method has an id, by which it is answered.
+    pub fn needs_id(self) -> bool
+        ensures { result ≡ has_id self }
     {
-        match self {
-            Method::Connect => "connect",
-            Method::Subscribe => "subscribe",
-            Method::Unsubscribe => "unsubscribe",
-            Method::Publish => "publish",
-            Method::Presence => "presence",
-            Method::PresenceStats => "presence_stats",
-            Method::History => "history",
-            Method::Ping => "ping",
-            Method::Send => "send",
-            Method::Rpc => "rpc",
-            Method::Refresh => "refresh",
-            Method::SubRefresh => "sub_refresh",
-        }
+        !matches!(self, Method::Send)
     }
 }
 
@@ -68,14 +55,14 @@ pub fn the_method(members: &Members<'_>) -> Result<(Method, Span), ReadFault>
         Chooses members.now.text.now request_as result (request_of fs)) }
 {
     let mut only = None;
-    for method in METHODS {
-        let Some(span) = members.present(method.key()) else {
+    for entry in METHODS {
+        let Some(span) = members.present(entry.0) else {
             continue;
         };
         if only.is_some() {
             return Err(ReadFault::Bad);
         }
-        only = Some((method, span));
+        only = Some((entry.1, span));
     }
     match only {
         Some(found) => Ok(found),

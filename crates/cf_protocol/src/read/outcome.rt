@@ -3,20 +3,21 @@ ghost use Rattle.std.specs.FinMap.{from_entries};
 ghost use Rattle.std.specs.Prelude.{◌≡◌, Some, option_map};
 ghost use Rattle.cf_json.specs.Grammar.{Tree};
 ghost use Rattle.cf_protocol.specs.Fields.{Fields, as_object, object_as};
-ghost use Rattle.cf_protocol.specs.Methods.{result_key, outcome_of};
+ghost use Rattle.cf_protocol.specs.Methods.{outcome_of};
 ghost use Rattle.cf_protocol.specs.Reading.{Answers, AreMembers, Chooses, HasValue, OfFields, OfValue, Reads};
-ghost use Rattle.cf_protocol.specs.Reply.{code_in, connected, counted, past, present_users, result_of, subscribed, users_of};
+ghost use Rattle.cf_protocol.specs.Reply.{counted, past, present_users, result_of, subscribed, users_of};
 ghost use Rattle.cf_protocol.specs.Shown.{shown_outcome, shown_users};
 
 use crate::fault::ReadFault;
 use crate::outgoing::Outcome;
+use crate::publication::Info;
 use crate::read::members::{Members, is_present};
 use crate::read::publication::{read_client, read_publications};
 use cf_json::Span;
 use std::alloc::Global;
 use std::collections::BTreeMap;
 
-/// The keys of which a reply has exactly one.
+/// What a reply answers, by the one of its keys that says so.
 #[derive(Clone, Copy)]
 pub enum ResultKey {
     Error,
@@ -30,35 +31,17 @@ pub enum ResultKey {
     Ping,
 }
 
-const RESULT_KEYS: [ResultKey; 9] = [
-    ResultKey::Error,
-    ResultKey::Connect,
-    ResultKey::Subscribe,
-    ResultKey::Unsubscribe,
-    ResultKey::Publish,
-    ResultKey::Presence,
-    ResultKey::PresenceStats,
-    ResultKey::History,
-    ResultKey::Ping,
+const RESULT_KEYS: [(&str, ResultKey); 9] = [
+    ("error", ResultKey::Error),
+    ("connect", ResultKey::Connect),
+    ("subscribe", ResultKey::Subscribe),
+    ("unsubscribe", ResultKey::Unsubscribe),
+    ("publish", ResultKey::Publish),
+    ("presence", ResultKey::Presence),
+    ("presence_stats", ResultKey::PresenceStats),
+    ("history", ResultKey::History),
+    ("ping", ResultKey::Ping),
 ];
-
-impl ResultKey {
-    fn key(self) -> &'static str
-        ensures { result.now ≡ result_key self }
-    {
-        match self {
-            ResultKey::Error => "error",
-            ResultKey::Connect => "connect",
-            ResultKey::Subscribe => "subscribe",
-            ResultKey::Unsubscribe => "unsubscribe",
-            ResultKey::Publish => "publish",
-            ResultKey::Presence => "presence",
-            ResultKey::PresenceStats => "presence_stats",
-            ResultKey::History => "history",
-            ResultKey::Ping => "ping",
-        }
-    }
-}
 
 /// The one result of a reply, and where its value stands.
 pub fn the_result(members: &Members<'_>) -> Result<(ResultKey, Span), ReadFault>
@@ -67,14 +50,14 @@ pub fn the_result(members: &Members<'_>) -> Result<(ResultKey, Span), ReadFault>
         Chooses members.now.text.now (λ key. object_as (outcome_of key)) result (result_of fs)) }
 {
     let mut only = None;
-    for key in RESULT_KEYS {
-        let Some(span) = members.present(key.key()) else {
+    for entry in RESULT_KEYS {
+        let Some(span) = members.present(entry.0) else {
             continue;
         };
         if only.is_some() {
             return Err(ReadFault::Bad);
         }
-        only = Some((key, span));
+        only = Some((entry.1, span));
     }
     match only {
         Some(found) => Ok(found),
@@ -103,8 +86,14 @@ fn read_outcome(alloc: Global, key: ResultKey, members: &Members<'_>) -> Result<
     ensures { OfFields members.now (λ fs. Answers shown_outcome result (outcome_of key fs)) }
 {
     match key {
-        ResultKey::Error => read_failed(members),
-        ResultKey::Connect => read_connected(alloc, members),
+        ResultKey::Error => {
+            let code = members.positive("code")?;
+            Ok(Outcome::Failed { code })
+        }
+        ResultKey::Connect => {
+            let client = members.text(alloc, "client")?;
+            Ok(Outcome::Connected { client })
+        }
         ResultKey::Subscribe => read_subscribed(alloc, members),
         ResultKey::Unsubscribe => Ok(Outcome::Unsubscribed),
         ResultKey::Publish => Ok(Outcome::Published),
@@ -113,32 +102,6 @@ fn read_outcome(alloc: Global, key: ResultKey, members: &Members<'_>) -> Result<
         ResultKey::History => read_past(alloc, members),
         ResultKey::Ping => Ok(Outcome::Pinged),
     }
-}
-
-/// A code, which is at least 1.
-pub fn read_code(members: &Members<'_>) -> Result<u32, ReadFault>
-    requires { AreMembers members.now }
-    ensures { OfFields members.now (λ fs. Answers (λ n. n) result (code_in fs)) }
-{
-    let code = members.positive("code", u64::from(u32::MAX))?;
-    Ok(code as u32)
-}
-
-fn read_failed(members: &Members<'_>) -> Result<Outcome, ReadFault>
-    requires { AreMembers members.now }
-    ensures { OfFields members.now (λ fs.
-        Answers shown_outcome result (outcome_of ResultKey.Error fs)) }
-{
-    let code = read_code(members)?;
-    Ok(Outcome::Failed { code })
-}
-
-fn read_connected(alloc: Global, members: &Members<'_>) -> Result<Outcome, ReadFault>
-    requires { AreMembers members.now }
-    ensures { OfFields members.now (λ fs. Answers shown_outcome result (connected fs)) }
-{
-    let client = members.text(alloc, "client")?;
-    Ok(Outcome::Connected { client })
 }
 
 fn read_subscribed(alloc: Global, members: &Members<'_>) -> Result<Outcome, ReadFault>
@@ -204,8 +167,8 @@ fn read_users(alloc: Global, clients: &Members<'_>) -> Result<BTreeMap<String, S
         if !is_present(clients.text, client.1) {
             continue;
         }
-        let info = read_client(alloc, clients.text, client.1)?;
-        users.insert(client.0.clone()?, info.user)?;
+        let Info { user, .. } = read_client(alloc, clients.text, client.1)?;
+        users.insert(client.0.clone()?, user)?;
     }
     Ok(users)
 }

@@ -8,7 +8,7 @@ ghost use Rattle.cf_protocol.specs.Shown.{shown_outgoing, told, told_pushed};
 use crate::fault::ReadFault;
 use crate::outgoing::{Outgoing, Pushed};
 use crate::read::members::Members;
-use crate::read::outcome::{read_code, read_result, the_result};
+use crate::read::outcome::{read_result, the_result};
 use crate::read::publication::read_published;
 use cf_json::Span;
 use std::alloc::Global;
@@ -47,7 +47,7 @@ fn read_end(alloc: Global, members: &Members<'_>) -> Result<Option<u32>, ReadFau
         return Ok(None);
     };
     let found = Members::of(alloc, members.text, span)?;
-    read_code(&found).map(Some)
+    found.positive("code").map(Some)
 }
 
 /// What is pushed; none where it is of a kind that isn't known.
@@ -85,11 +85,8 @@ fn read_answer(alloc: Global, members: &Members<'_>) -> Result<Outgoing, ReadFau
     ensures { OfFields members.now (λ fs.
         Answers (λ o. shown_outgoing o ∷ []) result (answer_from fs)) }
 {
-    let id = members.positive("id", u64::from(u32::MAX))?;
+    let id = members.positive("id")?;
     let (key, value) = the_result(members)?;
     let outcome = read_result(alloc, members.text, key, value)?;
-    Ok(Outgoing::Answer {
-        id: id as u32,
-        outcome,
-    })
+    Ok(Outgoing::Answer { id, outcome })
 }

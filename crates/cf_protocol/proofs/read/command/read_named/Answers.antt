@@ -1,30 +1,74 @@
-use Rattle.std.proofs.Common.{◌≡◌, ℕ, Bool, true, false, ◌&&◌, cond, Some, None, ◌==◌, refl, sym, ap, ◌∙◌, ne_eqb}
-use Rattle.cf_protocol.specs.Command.{named_command, request_of, needs_id}
-use Rattle.cf_protocol.specs.Fields.{Fields, ◌>>=◌, whole, max_u32}
-use Rattle.cf_protocol.specs.Request.{Request}
-use Rattle.cf_protocol.specs.Shown.{shown_request}
+use Rattle.std.proofs.Common.{◌≡◌, ℕ, Bool, true, false, ◌&&◌, cond, Option, Some, None, ◌==◌, refl, sym, ap, ◌∙◌, ne_eqb, subst}
+use Rattle.std.proofs.lemmas.Bool.{false≢true}
+use Rattle.cf_json.specs.Grammar.{Tree}
+use Rattle.cf_protocol.specs.Command.{named_command, request_of, needs_id, connect, subscribe, unsubscribe, publish, presence, presence_stats, history}
+use Rattle.cf_protocol.specs.Fields.{Fields, ◌>>=◌, whole, max_u32, as_object, text, flag, position, limit, object_or_none}
+use Rattle.cf_protocol.specs.Methods.{has_id, request_as}
+use Rattle.cf_protocol.specs.Reading.{Answers}
+use Rattle.cf_protocol.specs.Request.{Request, Command}
+use Rattle.cf_protocol.specs.Shown.{shown_request, shown_command}
+use Rattle.cf_protocol.specs.declared.read.method.Method.{Method}
+use Rattle.cf_protocol.specs.declared.read.method.Method.TheVariants as method
 use Rattle.cf_protocol.proofs.read.command.read_named.Goals.{else-id-eq0-via-then-id-eq0+else-needs_id, else-id-eq0-via-else-id-eq0}
 use Rattle.cf_protocol.proofs.read.command.read_named.Goals as goal
 
--- the id and the request, one after the other
-named : (fs : Fields) (id : ℕ) (request : Request) → whole max_u32 fs "id" ≡ Some id → request_of fs ≡ Some request → (needs_id request && (id == 0)) ≡ false
-    → named_command fs ≡ Some (record { id = id; request = request })
-named fs id request e f g =
-    ap (λ o. o >>= λ n. request_of fs >>= λ r. cond (needs_id r && (n == 0)) None (Some (record { id = n; request = r }))) e
-    ∙ ap (λ o. o >>= λ r. cond (needs_id r && (id == 0)) None (Some (record { id = id; request = r }))) f
-    ∙ ap (λ b. cond b None (Some (record { id = id; request = request }))) g
+-- ---- a request that is read needs an id as its method does
+
+abbrev Needs : Bool → Option Request → Type 0
+Needs b None = Unit
+Needs b (Some r) = needs_id r ≡ b
+
+then : {A : Type 0} (b : Bool) (o : Option A) (f : A → Option Request) → ((x : A) → Needs b (f x)) → Needs b (o >>= f)
+then b None f h = tt
+then b (Some x) f h = h x
+
+needs : (m : Method) (t : Tree) → Needs (has_id m) (request_as m t)
+needs method.Connect t = then true (as_object t) connect (λ r. then true (text r "token") _ (λ x. refl))
+needs method.Subscribe t = then true (as_object t) subscribe (λ r. then true (flag r "recover") _ (λ x. then true (position r) _ (λ y. then true (text r "channel") _ (λ z. refl))))
+needs method.Unsubscribe t = then true (as_object t) unsubscribe (λ r. then true (text r "channel") _ (λ x. refl))
+needs method.Publish t = then true (as_object t) publish (λ r. then true (text r "channel") _ (λ x. then true (text r "key") _ (λ y. refl)))
+needs method.Presence t = then true (as_object t) presence (λ r. then true (text r "channel") _ (λ x. refl))
+needs method.PresenceStats t = then true (as_object t) presence_stats (λ r. then true (text r "channel") _ (λ x. refl))
+needs method.History t = then true (as_object t) history (λ r. then true (limit r "limit") _ (λ x. then true (object_or_none position r "since") _ (λ y. then true (flag r "reverse") _ (λ z. then true (text r "channel") _ (λ u. refl)))))
+needs method.Ping t = refl
+needs method.Send t = refl
+needs method.Other t = refl
+
+-- ---- the id and the request, one after the other
+
+abbrev with_id : ℕ → Request → Option Command
+with_id id r = cond (needs_id r && (id == 0)) None (Some (record { id = id; request = r }))
+
+named : (fs : Fields) (id : ℕ) (o : Option Request) → whole max_u32 fs "id" ≡ Some id → request_of fs ≡ o → named_command fs ≡ (o >>= with_id id)
+named fs id o e f = ap (λ p. p >>= λ n. request_of fs >>= with_id n) e ∙ ap (λ p. p >>= with_id id) f
 
 and_false : (b : Bool) → (b && false) ≡ false
 and_false true = refl
 and_false false = refl
 
+-- a request that needs an id and has none
+unanswered : (b : Bool) (id : ℕ) (o : Option Request) → Needs b o → b ≡ true → id ≡ 0 → (o >>= with_id id) ≡ None
+unanswered b id None h e z = refl
+unanswered b id (Some r) h e z = rw (h, e, z) refl
+
+pub returns-then-needs_id : goal.returns-then-needs_id
+returns-then-needs_id c fs reads =
+    let chosen = c.in_ok-method.ensures fs reads in
+    let m = c.in_ok-method.method in
+    named fs c.in_ok-id.field-0 (request_as m chosen.0) (rw c.from.ensures at (c.in_ok-id.ensures.exact fs reads)) chosen.2
+    ∙ unanswered (has_id m) c.in_ok-id.field-0 (request_as m chosen.0) (needs m chosen.0) (sym c.needs_id.ensures ∙ c.if-needs_id.true) c.if-id-eq0.true
+
 pub returns : goal.returns
 returns c fs reads =
     let chosen = c.in_ok-method.ensures fs reads in
+    let m = c.in_ok-method.method in
+    let id = c.in_ok-id.field-0 in
     let request = shown_request c.in_ok-request.request in
-    let has : (needs_id request && (c.in_ok-id.field-0 == 0)) ≡ false =
+    let read = c.in_ok-request.ensures chosen.0 chosen.1 in
+    let same : needs_id request ≡ has_id m = subst (Needs (has_id m)) read (needs m chosen.0) in
+    let has : (needs_id request && (id == 0)) ≡ false =
     elim c.else-id-eq0.branch [
-      | else-id-eq0-via-then-id-eq0+else-needs_id w ↦ ap (λ b. b && (c.in_ok-id.field-0 == 0)) (sym w.needs_id.ensures ∙ w.if-needs_id.false)
-      | else-id-eq0-via-else-id-eq0 w ↦ ap (λ b. needs_id request && b) (ne_eqb c.in_ok-id.field-0 0 w.if-id-eq0.false) ∙ and_false (needs_id request)
+      | else-id-eq0-via-then-id-eq0+else-needs_id w ↦ ap (λ b. b && (id == 0)) (same ∙ sym w.needs_id.ensures ∙ w.if-needs_id.false)
+      | else-id-eq0-via-else-id-eq0 w ↦ ap (λ b. needs_id request && b) (ne_eqb id 0 w.if-id-eq0.false) ∙ and_false (needs_id request)
     ] in
-    named fs c.in_ok-id.field-0 request (rw c.from.ensures at (c.in_ok-id.ensures.exact fs reads)) (chosen.2 ∙ c.in_ok-request.ensures chosen.0 chosen.1) has
+    named fs id (Some request) (rw c.from.ensures at (c.in_ok-id.ensures.exact fs reads)) (chosen.2 ∙ read) ∙ ap (λ b. cond {A = Option Command} b None (Some (record { id = id; request = request }))) has

@@ -18,13 +18,13 @@ read_client-requires c =
     let at = beside (IsMember clients.text.now) clients.found.items c.requires.0 c.loop-client.client-index c.client-item.result c.client-item.result c.requires.1 (rw (← same) c.loop-client-test.true) (rw (← same) c.client-item.is) in
     (at.item.1, at.is.1)
 
-pub returns-in_err-info : goal.returns-in_err-info
-returns-in_err-info c t fs is_object reads =
+pub returns-in_err-user : goal.returns-in_err-user
+returns-in_err-user c t fs is_object reads =
     let clients = c.args.clients.now in
     let same = c.deref-client-items.ensures.value in
     let at = beside (IsMember clients.text.now) clients.found.items fs c.loop-client.client-index c.client-item.result c.client-item.result reads (rw (← same) c.loop-client-test.true) (rw (← same) c.client-item.is) in
     let stops = gathered_stops fs c.loop-client.client-index c.loop-client.users at.item (c.loop-client.invariant t fs is_object reads) at.at (sym (c.is_present.ensures at.item.1 at.is.1) ∙ c.if-not-is_present.false) in
-    let was = c.in_err-info.ensures at.item.1 at.is.1 in
+    let was = c.in_err-user.ensures at.item.1 at.is.1 in
     search (rules, stops)
 
 pub loop-client-init : goal.loop-client-init
@@ -37,8 +37,8 @@ loop-client-preserved c t fs is_object reads =
     let at = beside (IsMember clients.text.now) clients.found.items fs c.loop-client.client-index c.client-item.result c.client-item.result reads (rw (← same) c.loop-client-test.true) (rw (← same) c.client-item.is) in
     let cloned : string_bytes c.in_ok-clone.field-0 ≡ string_bytes c.client-item.result.0 = c.in_ok-clone.ensures.cases in
     let is_key = cloned ∙ at.is.0 in
-    let is_user : string_bytes c.info.inside.user ≡ c.in_ok-info.info.user = search rules in
-    gathered_one fs c.loop-client.client-index c.loop-client.users c.insert.new.self at.item c.in_ok-info.info c.in_ok-clone.field-0 c.info.inside.user (c.loop-client.invariant t fs is_object reads) at.at (sym (c.is_present.ensures at.item.1 at.is.1) ∙ c.if-not-is_present.false) is_key (c.in_ok-info.ensures at.item.1 at.is.1) is_user c.in_ok-insert.ensures.entries
+    let is_user : string_bytes c.user.inside.user ≡ c.in_ok-user.field-0.user = search rules in
+    gathered_one fs c.loop-client.client-index c.loop-client.users c.insert.new.self at.item c.in_ok-user.field-0 c.in_ok-clone.field-0 c.user.inside.user (c.loop-client.invariant t fs is_object reads) at.at (sym (c.is_present.ensures at.item.1 at.is.1) ∙ c.if-not-is_present.false) is_key (c.in_ok-user.ensures at.item.1 at.is.1) is_user c.in_ok-insert.ensures.entries
 
 pub returns : goal.returns
 returns c t fs is_object reads =
