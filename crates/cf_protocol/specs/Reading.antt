@@ -63,14 +63,6 @@ items_at k fs = read_or [] as_items (present_at k fs)
 abbrev pub Stand : List ℕ → List Span → List Tree → Type 0
 Stand text spans ts = AllZip (λ s t. IsAt text t s) spans ts
 
--- values of the text stand at the spans
-abbrev pub HaveValues : List ℕ → List Span → Type 0
-HaveValues text spans = (ts : List Tree) × Stand text spans ts
-
--- what is said of the values that stand there
-abbrev pub OfValues : List ℕ → List Span → (List Tree → Type 0) → Type 0
-OfValues text spans P = (ts : List Tree) → Stand text spans ts → P ts
-
 -- one key of several that has a value, where it stands, and what it is read as; Bad where nothing is read
 abbrev pub Chooses : {K A : Type 0} → List ℕ → (K → Tree → Option A) → Result (K × Span) ReadFault
     → Option A → Type 0

@@ -1,7 +1,7 @@
 //! Commands.
 ghost use Rattle.std.specs.Prelude.{Some, codes};
 ghost use Rattle.cf_protocol.specs.Fields.{look_up};
-ghost use Rattle.cf_protocol.specs.Command.{command_of, command_from, named_command, subscribe, publish, history, data_of};
+ghost use Rattle.cf_protocol.specs.Command.{command_of, named_command, subscribe, publish, history, data_of};
 ghost use Rattle.cf_protocol.specs.Methods.{request_as, served};
 ghost use Rattle.cf_protocol.specs.Reading.{Answers, AreMembers, HasValue, OfFields, OfValue};
 ghost use Rattle.cf_protocol.specs.Shown.{shown_command, shown_request, shown_data};
@@ -16,27 +16,19 @@ use std::alloc::Global;
 /// The deepest that the data of a publish may nest.
 const MAX_DATA_DEPTH: usize = 60;
 
-/// The command that a value is.
+/// The command that a value is. An object without members is the pong.
 pub fn read_command(alloc: Global, text: &str, span: Span) -> Result<Command, ReadFault>
     requires { HasValue text.now span }
     ensures { OfValue text.now span (λ t. Answers shown_command result (command_of t)) }
 {
     let members = Members::of(alloc, text, span)?;
-    read_from(alloc, &members)
-}
-
-/// The command that has these members. Without any it is the pong.
-fn read_from(alloc: Global, members: &Members<'_>) -> Result<Command, ReadFault>
-    requires { AreMembers members.now }
-    ensures { OfFields members.now (λ fs. Answers shown_command result (command_from fs)) }
-{
     if members.found.is_empty() {
         return Ok(Command {
             id: 0,
             request: Request::Pong,
         });
     }
-    read_named(alloc, members)
+    read_named(alloc, &members)
 }
 
 /// The command that has these members, of which there are some.

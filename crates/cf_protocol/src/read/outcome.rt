@@ -5,7 +5,7 @@ ghost use Rattle.cf_json.specs.Grammar.{Tree};
 ghost use Rattle.cf_protocol.specs.Fields.{Fields, as_object, object_as};
 ghost use Rattle.cf_protocol.specs.Methods.{outcome_of};
 ghost use Rattle.cf_protocol.specs.Reading.{Answers, AreMembers, Chooses, HasValue, OfFields, OfValue, Reads};
-ghost use Rattle.cf_protocol.specs.Reply.{counted, past, present_users, result_of, subscribed, users_of};
+ghost use Rattle.cf_protocol.specs.Reply.{counted, present_users, result_of, subscribed, users_of};
 ghost use Rattle.cf_protocol.specs.Shown.{shown_outcome, shown_users};
 
 use crate::fault::ReadFault;
@@ -99,7 +99,14 @@ fn read_outcome(alloc: Global, key: ResultKey, members: &Members<'_>) -> Result<
         ResultKey::Publish => Ok(Outcome::Published),
         ResultKey::Presence => read_present(alloc, members),
         ResultKey::PresenceStats => read_counted(members),
-        ResultKey::History => read_past(alloc, members),
+        ResultKey::History => {
+            let position = members.position(alloc)?;
+            let publications = read_publications(alloc, members)?;
+            Ok(Outcome::Past {
+                position,
+                publications,
+            })
+        }
         ResultKey::Ping => Ok(Outcome::Pinged),
     }
 }
@@ -117,18 +124,6 @@ fn read_subscribed(alloc: Global, members: &Members<'_>) -> Result<Outcome, Read
         publications,
         recovered,
         was_recovering,
-    })
-}
-
-fn read_past(alloc: Global, members: &Members<'_>) -> Result<Outcome, ReadFault>
-    requires { AreMembers members.now }
-    ensures { OfFields members.now (λ fs. Answers shown_outcome result (past fs)) }
-{
-    let position = members.position(alloc)?;
-    let publications = read_publications(alloc, members)?;
-    Ok(Outcome::Past {
-        position,
-        publications,
     })
 }
 

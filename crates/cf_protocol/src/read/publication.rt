@@ -1,6 +1,6 @@
 //! Publications in replies and pushes.
-ghost use Rattle.cf_protocol.specs.Fields.{object_as, object_or_none, objects, read_all};
-ghost use Rattle.cf_protocol.specs.Reading.{Answers, AreMembers, HasValue, HaveValues, OfFields, OfValue, OfValues};
+ghost use Rattle.cf_protocol.specs.Fields.{object_as, object_or_none, objects};
+ghost use Rattle.cf_protocol.specs.Reading.{Answers, AreMembers, HasValue, OfFields, OfValue};
 ghost use Rattle.cf_protocol.specs.Reply.{info, publication};
 
 use crate::fault::ReadFault;
@@ -9,24 +9,15 @@ use crate::read::members::Members;
 use cf_json::{Span, compact};
 use std::alloc::Global;
 
-/// Who published, from the members of an `info` object (Centrifugo's client protocol, ClientInfo). Bad where a member is of another kind;
-/// Memory where a growth was refused.
-pub fn read_info(alloc: Global, members: &Members<'_>) -> Result<Info, ReadFault>
-    requires { AreMembers members.now }
-    ensures { OfFields members.now (λ fs. Answers (λ w. w) result (info fs)) }
-{
-    let client = members.text(alloc, "client")?;
-    let user = members.text(alloc, "user")?;
-    Ok(Info { user, client })
-}
-
-/// The info of a client that is there.
+/// The info of a client. (Centrifugo's client protocol, ClientInfo.)
 pub fn read_client(alloc: Global, text: &str, span: Span) -> Result<Info, ReadFault>
     requires { HasValue text.now span }
     ensures { OfValue text.now span (λ t. Answers (λ w. w) result (object_as info t)) }
 {
     let members = Members::of(alloc, text, span)?;
-    read_info(alloc, &members)
+    let client = members.text(alloc, "client")?;
+    let user = members.text(alloc, "user")?;
+    Ok(Info { user, client })
 }
 
 /// The info of a publication, where a client published it.
@@ -63,24 +54,6 @@ pub fn read_published(alloc: Global, text: &str, span: Span) -> Result<Publicati
     read_publication(alloc, &members)
 }
 
-/// The publications at these places.
-fn read_each_published(
-    alloc: Global,
-    text: &str,
-    spans: &[Span],
-) -> Result<Vec<Publication>, ReadFault>
-    requires { HaveValues text.now spans.now }
-    ensures { OfValues text.now spans.now (λ ts.
-        Answers (λ v. v.items) result (read_all (object_as publication) ts)) }
-{
-    let mut publications = Vec::new(alloc);
-    for span in spans {
-        let publication = read_published(alloc, text, *span)?;
-        publications.push(publication)?;
-    }
-    Ok(publications)
-}
-
 /// The publications of a result.
 pub fn read_publications(
     alloc: Global,
@@ -91,5 +64,10 @@ pub fn read_publications(
         Answers (λ v. v.items) result (objects publication fs "publications")) }
 {
     let spans = members.list(alloc, "publications")?;
-    read_each_published(alloc, members.text, &spans)
+    let mut publications = Vec::new(alloc);
+    for span in &spans {
+        let publication = read_published(alloc, members.text, *span)?;
+        publications.push(publication)?;
+    }
+    Ok(publications)
 }

@@ -1,4 +1,4 @@
-use Rattle.std.proofs.Common.{◌≡◌, ◌≢◌, ◌<◌, ◌^◌, ℕ, List, Bool, true, arith, sym, length, get_or, ◌∙◌, Ok, Err}
+use Rattle.std.proofs.Common.{◌≢◌, ℕ, arith, sym, get_or, ◌∙◌, Ok, Err}
 use Rattle.std.proofs.lemmas.Bool.{false≢true}
 use Rattle.std.proofs.lemmas.Str.Pattern.{starts_char}
 use Rattle.cf_protocol.proofs.Cutting.{count_plus, count_zero, count_parsed, count_found, count_other, count_unparsed}

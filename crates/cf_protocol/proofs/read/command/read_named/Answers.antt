@@ -1,12 +1,10 @@
 use Rattle.std.proofs.Common.{◌≡◌, ℕ, Bool, true, false, ◌&&◌, cond, Option, Some, None, ◌==◌, refl, sym, ap, ◌∙◌, ne_eqb, subst}
-use Rattle.std.proofs.lemmas.Bool.{false≢true}
 use Rattle.cf_json.specs.Grammar.{Tree}
 use Rattle.cf_protocol.specs.Command.{named_command, request_of, needs_id, connect, subscribe, unsubscribe, publish, presence, presence_stats, history}
 use Rattle.cf_protocol.specs.Fields.{Fields, ◌>>=◌, whole, max_u32, as_object, text, flag, position, limit, object_or_none}
 use Rattle.cf_protocol.specs.Methods.{has_id, request_as}
-use Rattle.cf_protocol.specs.Reading.{Answers}
 use Rattle.cf_protocol.specs.Request.{Request, Command}
-use Rattle.cf_protocol.specs.Shown.{shown_request, shown_command}
+use Rattle.cf_protocol.specs.Shown.{shown_request}
 use Rattle.cf_protocol.specs.declared.read.method.Method.{Method}
 use Rattle.cf_protocol.specs.declared.read.method.Method.TheVariants as method
 use Rattle.cf_protocol.proofs.read.command.read_named.Goals.{else-id-eq0-via-then-id-eq0+else-needs_id, else-id-eq0-via-else-id-eq0}

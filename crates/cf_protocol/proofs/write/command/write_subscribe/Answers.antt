@@ -6,7 +6,7 @@ use Rattle.cf_protocol.proofs.write.command.write_subscribe.Goals as goal
 
 pub returns : goal.returns
 returns c =
-    let recover : Adds c.text_member.new.self c.match-since.writer (from c.args.since.now) = 
+    let recover : Adds c.text_member.new.self c.match-since.writer (from c.args.since.now) =
     elim c.match-since.branch [
       | in-Some w ↦ rw (w.writer-is, w.in-Some.is) (then w.write_position.ensures w.flag_member.ensures)
       | in_default w ↦ rw (w.writer-is, w.in_default.is) (nothing c.text_member.new.self)

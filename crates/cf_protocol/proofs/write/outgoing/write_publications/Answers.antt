@@ -1,4 +1,4 @@
-use Rattle.std.proofs.Common.{◌≡◌, ◌≤◌, ℕ, ◌<◌, List, map, take, length, get_or, add-one, arith, rules, subst}
+use Rattle.std.proofs.Common.{◌≡◌, ◌≤◌, ℕ, ◌<◌, List, map, length, get_or, add-one, arith, rules, subst}
 use Rattle.std.proofs.lemmas.List.{take_all, length-map}
 use Rattle.cf_protocol.specs.Datum.{Placed}
 use Rattle.cf_protocol.specs.Written.{publication, as_it_is}
