@@ -4,7 +4,7 @@ ghost use Rattle.cf_protocol.specs.Codes.{code_of, close_code_of, close_reason_b
 ghost use Rattle.cf_protocol.specs.Written.{message_of as message_by, reason_of};
 
 /// Why a command is refused. (Centrifugo's client protocol, error codes.)
-#[derive(Clone, Copy)]
+#[derive(Clone, Copy, PartialEq, Eq, Debug)]
 pub enum ErrorCode {
     /// No memory, no epoch left, or the session is closed: the client may ask again.
     Internal,
@@ -74,7 +74,7 @@ pub fn unsubscribe_reason(code: u32) -> &'static str
 }
 
 /// Why a session is closed. A client may connect again after a code below 3500, and not after 3500 or more.
-#[derive(Clone, Copy)]
+#[derive(Clone, Copy, PartialEq, Eq, Debug)]
 pub enum CloseCode {
     /// The program ends.
     Shutdown,

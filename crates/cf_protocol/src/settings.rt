@@ -1,7 +1,7 @@
 //! What a namespace is set up with.
 
 /// What holds for the channels of a namespace.
-#[derive(Clone, Copy, Debug)]
+#[derive(Clone, Copy, PartialEq, Eq, Debug)]
 pub struct Settings {
     /// The most publications that a stream holds, 1 to 10,000.
     pub size: usize,

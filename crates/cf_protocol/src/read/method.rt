@@ -55,14 +55,14 @@ pub fn the_method(members: &Members<'_>) -> Result<(Method, Span), ReadFault>
         Chooses members.now.text.now request_as result (request_of fs)) }
 {
     let mut only = None;
-    for entry in METHODS {
-        let Some(span) = members.present(entry.0) else {
+    for (key, method) in METHODS {
+        let Some(span) = members.present(key) else {
             continue;
         };
         if only.is_some() {
             return Err(ReadFault::Bad);
         }
-        only = Some((entry.1, span));
+        only = Some((method, span));
     }
     match only {
         Some(found) => Ok(found),

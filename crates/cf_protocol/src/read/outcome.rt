@@ -50,14 +50,14 @@ pub fn the_result(members: &Members<'_>) -> Result<(ResultKey, Span), ReadFault>
         Chooses members.now.text.now (λ key. object_as (outcome_of key)) result (result_of fs)) }
 {
     let mut only = None;
-    for entry in RESULT_KEYS {
-        let Some(span) = members.present(entry.0) else {
+    for (key, result) in RESULT_KEYS {
+        let Some(span) = members.present(key) else {
             continue;
         };
         if only.is_some() {
             return Err(ReadFault::Bad);
         }
-        only = Some((entry.1, span));
+        only = Some((result, span));
     }
     match only {
         Some(found) => Ok(found),

@@ -6,7 +6,7 @@ use Rattle.cf_protocol.specs.Reply.{results}
 use Rattle.cf_protocol.proofs.Choices.{each_under, HasFound}
 use Rattle.cf_protocol.proofs.read.outcome.the_result.Given as goal
 
-abbrev pub invariant-loop-entry : goal.invariant-loop-entry
-invariant-loop-entry l =
+abbrev pub invariant-loop-key : goal.invariant-loop-key
+invariant-loop-key l =
     (fs : Fields) → Reads l.members.text.now l.members.found.items fs
-    → HasFound l.members.text.now (λ key. object_as (outcome_of key)) l.only (each_of results fs) (each_under (λ key. object_as (outcome_of key)) (drop l.entry-index l.entry-items) fs)
+    → HasFound l.members.text.now (λ key. object_as (outcome_of key)) l.only (each_of results fs) (each_under (λ key. object_as (outcome_of key)) (drop l.key-index l.key-items) fs)
