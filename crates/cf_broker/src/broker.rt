@@ -6,9 +6,11 @@ ghost use Rattle.cf_protocol.specs.LogEntry.Entry.{Trim, Forget};
 ghost use Rattle.cf_shard.specs.LogAnswer.{Follows, IsPosition, IsPublished, IsReadAnswer, IsHistoryAnswer, IsTrimmed, IsForgotten, IsSized, IsTicked, RefusesPublish, RefusesRead, RefusesHistory, RefusesEntry, RefusesSize};
 ghost use Rattle.std.specs.String.{string_bytes};
 ghost use Rattle.cf_shard.specs.Shard.{datum_of};
+ghost use Rattle.cf_broker.specs.Change.{MayBeMade, IsMade, RefusesChange};
 ghost use Rattle.cf_broker.specs.Nodes.{node_count};
 ghost use Rattle.cf_shard.specs.Shards.{number_of, names, first_passes};
 
+use crate::change::Change;
 use crate::links::NodeLink;
 use crate::parts::parts_of;
 use crate::quarter::{Quarter, last_quarter};
@@ -34,10 +36,10 @@ pub struct Broker<N: Naming, E: Epochs> {
     links: Vec<NodeLink>,
 }
 
-/// A call of the place of a shard's number.
+/// The answer of a call of the place of a shard's number. The sixteen places have sixteen types.
 macro_rules! at_place {
-    ($broker:expr, $shard:expr => $call:ident($($with:expr),*)) => {
-        match $shard {
+    ($broker:expr, $shard:expr => $call:ident($($with:expr),*)) => {{
+        let answer = match $shard {
             0 => $broker.first.first.$call($($with),*),
             1 => $broker.first.second.$call($($with),*),
             2 => $broker.first.third.$call($($with),*),
@@ -54,8 +56,9 @@ macro_rules! at_place {
             13 => $broker.fourth.second.$call($($with),*),
             14 => $broker.fourth.third.$call($($with),*),
             _ => $broker.fourth.fourth.$call($($with),*),
-        }
-    };
+        };
+        answer
+    }};
 }
 
 impl<N: Naming, E: Epochs + Drop> Broker<N, E> {
@@ -246,7 +249,8 @@ impl<N: Naming, E: Epochs + Drop> Broker<N, E> {
             (RefusesEntry N.namespaces pass.new.log channel.now (Trim channel.now count)) }
         ensures seen { Follows pass.old pass.new 0 }
     {
-        at_place!(self, shard_of(channel) => trim(rt, pass, channel, count))
+        let change = Change::KeepNewest(channel, count);
+        self.change(rt, pass, shard_of(channel), &change)
     }
 
     /// Ends a channel's stream. It takes no memory. `AtLastCount` where the log has no room.
@@ -258,7 +262,7 @@ impl<N: Naming, E: Epochs + Drop> Broker<N, E> {
             (RefusesEntry N.namespaces pass.new.log channel.now (Forget channel.now)) }
         ensures seen { Follows pass.old pass.new 0 }
     {
-        at_place!(self, shard_of(channel) => forget(rt, pass, channel))
+        self.change(rt, pass, shard_of(channel), &Change::EndStream(channel))
     }
 
     /// Sets how many publications the streams of a namespace may hold, in one shard. Of those that hold more the newest stay. It
@@ -279,7 +283,7 @@ impl<N: Naming, E: Epochs + Drop> Broker<N, E> {
         ensures refusals { IfErr result (RefusesSize pass.new.log name.now size) }
         ensures seen { Follows pass.old pass.new 0 }
     {
-        at_place!(self, shard => set_size(rt, pass, name, size))
+        self.change(rt, pass, shard, &Change::SetSize(name, size))
     }
 
     /// Empties the histories of one shard whose time is over at a moment in seconds, ends the streams that were not used for
@@ -298,7 +302,25 @@ impl<N: Naming, E: Epochs + Drop> Broker<N, E> {
         ensures refusals { IfErr result (λ e. e ≡ Refused.AtLastCount) }
         ensures seen { Follows pass.old pass.new 0 }
     {
-        at_place!(self, shard => tick(rt, pass, now))
+        self.change(rt, pass, shard, &Change::Tick(now))
+    }
+
+    // What a call changes in the streams of one shard.
+    fn change<R: Wait>(
+        &self,
+        rt: &R,
+        pass: &mut Pass,
+        shard: usize,
+        change: &Change<'_>,
+    ) -> Result<(), Refused>
+        requires shard { shard < SHARDS }
+        requires pass { pass.old.word ≡ N.words shard }
+        requires may { MayBeMade N.namespaces change.now }
+        ensures done { OnOk result (IsMade N.namespaces pass.old.log pass.new.log change.now) }
+        ensures refusals { IfErr result (RefusesChange N.namespaces pass.new.log change.now) }
+        ensures seen { Follows pass.old pass.new 0 }
+    {
+        at_place!(self, shard => change(rt, pass, change))
     }
 
     /// Whether the log of a channel's shard has no more entries than a mark, by one load: it waits for nobody and takes no

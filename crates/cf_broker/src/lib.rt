@@ -7,6 +7,7 @@
 #![tactic(auto)]
 
 mod broker;
+mod change;
 mod links;
 mod parts;
 mod place;

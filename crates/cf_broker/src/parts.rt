@@ -31,10 +31,10 @@ pub(crate) fn parts_of<N: Naming, E: Epochs + Drop>(
 {
     let mut parts = Vec::new(alloc);
     for source in epochs {
-        let streams = Streams::new(alloc, namespaces)?;
+        let epochs = Box::new(alloc, source)?;
         parts.push(Part {
-            streams,
-            epochs: Box::new(alloc, source)?,
+            streams: Streams::new(alloc, namespaces)?,
+            epochs,
             of: PhantomData,
         })?;
     }

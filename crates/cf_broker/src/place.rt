@@ -1,17 +1,18 @@
 //! One shard under its lock, beside its word.
 ghost use Rattle.std.specs.Prelude.{◌≡◌, ◌≤◌, [], length, if◌then◌else◌, IfOk, IfErr, OnOk, OnErr, IsSome};
 ghost use Rattle.std.specs.String.{string_bytes};
-ghost use Rattle.cf_protocol.specs.Settings.{settings_of, entry_at};
-ghost use Rattle.cf_protocol.specs.LogEntry.Entry.{Trim, Forget};
-ghost use Rattle.cf_shard.specs.LogAnswer.{Follows, IsPosition, IsPublished, IsReadAnswer, IsHistoryAnswer, IsTrimmed, IsForgotten, IsSized, IsTicked, RefusesPublish, RefusesRead, RefusesHistory, RefusesEntry, RefusesSize};
+ghost use Rattle.cf_protocol.specs.Settings.{settings_of};
+ghost use Rattle.cf_shard.specs.LogAnswer.{Follows, IsPosition, IsPublished, IsReadAnswer, IsHistoryAnswer, RefusesPublish, RefusesRead, RefusesHistory};
 ghost use Rattle.cf_shard.specs.Shard.{datum_of, no_streams};
+ghost use Rattle.cf_broker.specs.Change.{MayBeMade, IsMade, RefusesChange};
 
+use crate::change::Change;
 use crate::links::{NodeLink, NodeLinks};
 use cf_order::{Owner, Pass, ShardWord};
 use cf_presence::Stats;
 use cf_protocol::{Info, Position};
 use cf_shard::{Naming, ReadAnswer, Refused, Shard};
-use cf_stream::{Epochs, History, LARGEST_SIZE, Published, Streams};
+use cf_stream::{Epochs, History, Published, Streams};
 use std::alloc::Global;
 use std::collections::BTreeMap;
 use std::sync::{Mutex, Wait};
@@ -130,63 +131,26 @@ impl<N: Naming, E: Epochs, const I: usize> Place<N, E, I> {
         self.lock.lock(rt).position(&self.word, pass, channel)
     }
 
-    pub(crate) fn trim<R: Wait>(
+    pub(crate) fn change<R: Wait>(
         &self,
         rt: &R,
         pass: &mut Pass,
-        channel: &str,
-        count: usize,
+        change: &Change<'_>,
     ) -> Result<(), Refused>
         requires pass { pass.old.word ≡ N.words I }
-        ensures done { OnOk result
-            (IsTrimmed N.namespaces pass.old.log pass.new.log channel.now count) }
-        ensures refusals { IfErr result
-            (RefusesEntry N.namespaces pass.new.log channel.now (Trim channel.now count)) }
+        requires may { MayBeMade N.namespaces change.now }
+        ensures done { OnOk result (IsMade N.namespaces pass.old.log pass.new.log change.now) }
+        ensures refusals { IfErr result (RefusesChange N.namespaces pass.new.log change.now) }
         ensures seen { Follows pass.old pass.new 0 }
     {
-        self.lock.lock(rt).trim(&self.word, pass, channel, count)
-    }
-
-    pub(crate) fn forget<R: Wait>(
-        &self,
-        rt: &R,
-        pass: &mut Pass,
-        channel: &str,
-    ) -> Result<(), Refused>
-        requires pass { pass.old.word ≡ N.words I }
-        ensures done { OnOk result
-            (IsForgotten N.namespaces pass.old.log pass.new.log channel.now) }
-        ensures refusals { IfErr result
-            (RefusesEntry N.namespaces pass.new.log channel.now (Forget channel.now)) }
-        ensures seen { Follows pass.old pass.new 0 }
-    {
-        self.lock.lock(rt).forget(&self.word, pass, channel)
-    }
-
-    pub(crate) fn set_size<R: Wait>(
-        &self,
-        rt: &R,
-        pass: &mut Pass,
-        name: &str,
-        size: usize,
-    ) -> Result<(), Refused>
-        requires pass { pass.old.word ≡ N.words I }
-        requires set_up { IsSome (entry_at N.namespaces name.now) }
-        requires sized { (1 ≤ size) × (size ≤ LARGEST_SIZE) }
-        ensures done { OnOk result (IsSized pass.old.log pass.new.log name.now size) }
-        ensures refusals { IfErr result (RefusesSize pass.new.log name.now size) }
-        ensures seen { Follows pass.old pass.new 0 }
-    {
-        self.lock.lock(rt).set_size(&self.word, pass, name, size)
-    }
-
-    pub(crate) fn tick<R: Wait>(&self, rt: &R, pass: &mut Pass, now: u64) -> Result<(), Refused>
-        requires pass { pass.old.word ≡ N.words I }
-        ensures done { OnOk result (IsTicked pass.old.log pass.new.log) }
-        ensures refusals { IfErr result (λ e. e ≡ Refused.AtLastCount) }
-        ensures seen { Follows pass.old pass.new 0 }
-    {
-        self.lock.lock(rt).tick(&self.word, pass, now)
+        let mut lock = self.lock.lock(rt);
+        let shard = &mut *lock;
+        match *change {
+            Change::KeepNewest(channel, count) => shard.trim(&self.word, pass, channel, count),
+            Change::EndStream(channel) => shard.forget(&self.word, pass, channel),
+            Change::SetSize(name, size) => shard.set_size(&self.word, pass, name, size),
+            Change::Tick(now) => shard.tick(&self.word, pass, now),
+        }
     }
 
     pub(crate) fn enter<R: Wait>(
