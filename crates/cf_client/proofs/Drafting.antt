@@ -1,5 +1,5 @@
 -- What a draft makes of what a client knows, and what contracts see of it.
-use Rattle.std.proofs.Common.{◌≡◌, ◌∙◌, ℕ, zero, suc, ◌+◌, ◌<◌, ◌≤◌, drop, get_or, drop-cons, Bool, true, false, cond, if◌then◌else◌, not, ◌==◌, ◌||◌, Option, Some, None, IsSome, is_some, List, [], ◌∷◌, ◌++◌, map, reverse, refl, sym, ap, subst, filter, length, arith, Vec}
+use Rattle.std.proofs.Common.{◌≡◌, ◌∙◌, ℕ, suc, Bool, true, false, cond, if◌then◌else◌, not, ◌==◌, ◌||◌, Option, Some, None, IsSome, is_some, List, [], ◌∷◌, ◌++◌, map, reverse, refl, sym, ap, subst, filter, arith, Vec}
 use Rattle.std.specs.BTreeMap.{get_by_text, is_at}
 use Rattle.std.specs.Cmp.Lexicographic.{slice_cmp}
 use Rattle.std.specs.List.{All, list_any}
@@ -17,7 +17,7 @@ use Rattle.std.proofs.lemmas.Map.Text.{is_eq-slice_cmp}
 use Rattle.std.proofs.lemmas.Slice.Eq.{bytes_eq-Decides}
 use Rattle.cf_protocol.specs.Names.{with}
 use Rattle.cf_protocol.specs.Position.{Position}
-use Rattle.cf_model.specs.ClientState.{Mode, Asking, Live, idle, is_idle, last_of}
+use Rattle.cf_model.specs.ClientState.{Mode, Idle, Asking, Live, idle, is_idle, last_of}
 use Rattle.cf_client.specs.ClientCalls.{Call, State, asks_under, called, channel_under, asked, left, moves, answered}
 use Rattle.cf_client.specs.ClientView.{ids_of}
 use Rattle.cf_client.specs.Draft.{changed_or, drafted_code, drafted_mode, drafted_calls, drafted}
@@ -27,7 +27,7 @@ use Rattle.cf_client.specs.declared.channels.Mode.{Mode as CodeMode}
 use Rattle.cf_client.specs.declared.channels.Mode.TheVariants as code
 use Rattle.cf_client.specs.declared.draft.Draft.{Draft as CodeDraft}
 use Rattle.cf_client.specs.declared.known.Known.{Known as CodeKnown}
-use Rattle.cf_client.proofs.Moves.{either_way, modes-get, sets_mode, asked_here, answered_here}
+use Rattle.cf_client.proofs.Moves.{either_way, modes-get, sets_mode, asked_here, answered_here, calls-filter}
 
 -- ---- one channel
 
@@ -92,26 +92,25 @@ called_path k calls id channel name is next named_so =
     let ids : ids_of (calls_of calls.items) ≡ suc k.last_id ∷ s.client.calls = ap ids_of out ∙ ids_of-more s.out one in
     λ i. record { connected = s.connected; client = record { fresh = suc (next i); modes = s.client.modes; calls = ids i }; out = out i }
 
-pub asked_path : (k : CodeKnown) (new : Channels) (name : List ℕ) (id : ℕ) (from : Option Position) (mode asking : CodeMode) → id ≡ suc k.last_id
-    → ((d : List ℕ) → get_by_text new d ≡ update bytes_eq (get_by_text k.channels) name (Some asking) d)
-    → asking ≡ code.Asking id from (last_of (shown_mode mode)) → shown_mode mode ≡ modes_of k.channels name
+pub asked_path : (k : CodeKnown) (new : Channels) (name : List ℕ) (id : ℕ) (from last : Option Position) → id ≡ suc k.last_id
+    → ((d : List ℕ) → get_by_text new d ≡ update bytes_eq (get_by_text k.channels) name (Some (code.Asking id from last)) d)
+    → last ≡ last_of (modes_of k.channels name)
     → known_state (record k { channels = new; last_id = id }) ≡ asked name from (known_state k)
-asked_path k new name id from mode asking next sets is at =
-    let asks : SetsMode k.channels new name (Asking id from (last_of (shown_mode mode))) = subst (λ (m : CodeMode). SetsMode k.channels new name (shown_mode m)) is (sets_mode k.channels new name asking sets) in
-    asked_here (known_state k) id (modes_of new) name from next (subst (λ (m : Mode). SetsMode k.channels new name (Asking id from (last_of m))) at asks)
+asked_path k new name id from last next sets is =
+    let asks : SetsMode k.channels new name (Asking id from last) = sets_mode k.channels new name (code.Asking id from last) sets in
+    asked_here (known_state k) id (modes_of new) name from next (subst (λ (p : Option Position). SetsMode k.channels new name (Asking id from p)) is asks)
 
 busy_is_there : (o : Option CodeMode) → is_idle (mode_or_idle o) ≡ false → IsSome o
 busy_is_there None h = absurd (cc)
 busy_is_there (Some v) h = refl
 
-pub left_path : (k : CodeKnown) (new : Channels) (name : List ℕ) (id : ℕ) (mode left_mode : CodeMode) → id ≡ suc k.last_id
-    → (IsSome (get_by_text k.channels name) → SetsMode k.channels new name (shown_mode left_mode)) → is_idle (shown_mode mode) ≡ false
-    → left_mode ≡ code.Idle (last_of (shown_mode mode)) → shown_mode mode ≡ modes_of k.channels name
+pub left_path : (k : CodeKnown) (new : Channels) (name : List ℕ) (id : ℕ) (last : Option Position) → id ≡ suc k.last_id
+    → (IsSome (get_by_text k.channels name) → SetsMode k.channels new name (Idle last)) → is_idle (modes_of k.channels name) ≡ false
+    → last ≡ last_of (modes_of k.channels name)
     → known_state (record k { channels = new; last_id = id }) ≡ left name (known_state k)
-left_path k new name id mode left_mode next goes busy is at =
-    let there : IsSome (get_by_text k.channels name) = busy_is_there (get_by_text k.channels name) (ap is_idle (sym (modes-get k.channels name) ∙ sym at) ∙ busy) in
-    let sets : SetsMode k.channels new name (idle (modes_of k.channels name)) =
-    subst (λ (m : Mode). SetsMode k.channels new name m) (ap shown_mode is ∙ ap idle at) (goes there) in
+left_path k new name id last next goes busy is =
+    let there : IsSome (get_by_text k.channels name) = busy_is_there (get_by_text k.channels name) (ap is_idle (sym (modes-get k.channels name)) ∙ busy) in
+    let sets : SetsMode k.channels new name (idle (modes_of k.channels name)) = subst (λ (p : Option Position). SetsMode k.channels new name (Idle p)) is (goes there) in
     λ i. record {
       connected = k.is_connected;
       client = record { fresh = suc (next i); modes = λ d. sets d i; calls = ids_of (calls_of k.calls.items) };
@@ -124,11 +123,15 @@ unchanged : (o : Option CodeMode) → option_map (changed_or None) o ≡ o
 unchanged None = refl
 unchanged (Some v) = refl
 
+pub no_change : (base changed : Channels) → changed.entries ≡ [] → (c : List ℕ) → get_by_text base c ≡ drafted_code base changed c
+no_change base changed none c =
+    let found : get_by_text changed c ≡ None = ap (lookup (is_at (λ x. slice_cmp nat_cmp c (string_bytes x)))) none in
+    sym (ap (λ o. option_map (changed_or o) (get_by_text base c)) found ∙ unchanged (get_by_text base c))
+
 pub nothing_drafted : (k : CodeKnown) (d : CodeDraft) → d.changed.entries ≡ [] → d.answered.items ≡ [] → drafted k d ≡ known_state k
 nothing_drafted k d none no_calls =
-    let found : (c : List ℕ) → get_by_text d.changed c ≡ None = λ c. ap (lookup (is_at (λ x. slice_cmp nat_cmp c (string_bytes x)))) none in
     let modes : (c : List ℕ) → drafted_mode k.channels d.changed c ≡ modes_of k.channels c = λ c.
-    ap (λ o. mode_or_idle (option_map (changed_or o) (get_by_text k.channels c))) (found c) ∙ ap mode_or_idle (unchanged (get_by_text k.channels c)) ∙ sym (modes-get k.channels c) in
+    ap mode_or_idle (sym (no_change k.channels d.changed none c)) ∙ sym (modes-get k.channels c) in
     λ i. record {
       connected = k.is_connected;
       client = record { fresh = suc k.last_id; modes = λ c. modes c i; calls = ids_of (drafted_calls (no_calls i) (calls_of k.calls.items)) };
@@ -195,20 +198,37 @@ by_tests id j k false true false rest ks p q r h = ap (λ (x : Bool). if x then 
 by_tests id j k false false d rest ks p q r h =
     ap (λ (x : Bool). if x then Some k.channel else channel_under id rest) q ∙ h ∙ ap (λ (x : Bool). if x then None else channel_under id ks) r
 
-pub calls_step : (ids : List ℕ) (i d : ℕ) (old new : List Call) → i < length ids → new ≡ filter (λ k. not (k.id == get_or ids i d)) old
-    → drafted_calls (drop (i + 1) ids) new ≡ drafted_calls (drop i ids) old
-calls_step ids i d old new h is =
-    let next : i + 1 ≡ suc i = omega arith in
-    ap (λ n. drafted_calls (drop n ids) new) next ∙ ap (drafted_calls (drop (suc i) ids)) is ∙ sym (ap (λ xs. drafted_calls xs old) (drop-cons ids i d h))
+-- the order of the two ids doesn't matter
+either_id : (i j : ℕ) (a b : Bool) → (i == j) ≡ a → (j == i) ≡ b → (i == j) ≡ (j == i)
+either_id i j true true p q = p ∙ sym q
+either_id i j true false p q = absurd (grind (arith, nat_tests, p, q))
+either_id i j false true p q = absurd (grind (arith, nat_tests, p, q))
+either_id i j false false p q = p ∙ sym q
 
-drop_all : (ids : List ℕ) (i : ℕ) → length ids ≤ i → drop i ids ≡ []
-drop_all [] zero h = refl
-drop_all [] (suc i) h = refl
-drop_all (x ∷ ids) zero h = absurd (omega arith)
-drop_all (x ∷ ids) (suc i) h = drop_all ids i (omega arith)
+-- a filter by the second of two tests, of what the first one keeps
+by_both : (p : CodeCall → Bool) (k : CodeCall) (kept rest : List CodeCall) (a b c : Bool) → a ≡ c → p k ≡ not b → rest ≡ filter p kept
+    → cond (not (a || b)) (k ∷ rest) rest ≡ filter p (cond (not c) (k ∷ kept) kept)
+by_both p k kept rest a b true same is h = ap (λ (x : Bool). cond (not (x || b)) (k ∷ rest) rest) same ∙ h
+by_both p k kept rest a b false same is h =
+    ap (λ (x : Bool). cond (not (x || b)) (k ∷ rest) rest) same ∙ ap (λ (x : Bool). cond x (k ∷ rest) rest) (sym is)
+    ∙ ap (λ (r : List CodeCall). cond (p k) (k ∷ r) r) h
 
-pub calls_done : (ids : List ℕ) (i : ℕ) (old new : List Call) → length ids ≤ i → drafted_calls (drop i ids) new ≡ drafted_calls ids old → new ≡ drafted_calls ids old
-calls_done ids i old new h is = sym (ap (λ xs. drafted_calls xs new) (drop_all ids i h)) ∙ is
+kept_by_both : (id : ℕ) (ids : List ℕ) (ks : List CodeCall)
+    → filter (λ k. not (list_any (λ i. i == k.id) (id ∷ ids))) ks ≡ filter (λ k. not (list_any (λ i. i == k.id) ids)) (filter (λ k. not (k.id == id)) ks)
+kept_by_both id ids [] = refl
+kept_by_both id ids (k ∷ ks) =
+    by_both (λ (x : CodeCall). not (list_any (λ (i : ℕ). i == x.id) ids)) k (filter (λ (x : CodeCall). not (x.id == id)) ks) (filter (λ (x : CodeCall). not (list_any (λ (i : ℕ). i == x.id) (id ∷ ids))) ks)
+    (id == k.id) (list_any (λ (i : ℕ). i == k.id) ids) (k.id == id) (either_id id k.id (id == k.id) (k.id == id) refl refl) refl (kept_by_both id ids ks)
+
+all_kept : (ks : List CodeCall) → filter (λ k. true) ks ≡ ks
+all_kept [] = refl
+all_kept (k ∷ ks) = ap (λ (xs : List CodeCall). k ∷ xs) (all_kept ks)
+
+-- the calls that aren't answered
+pub calls_kept : (ids : List ℕ) (ks : List CodeCall) → calls_of (filter (λ k. not (list_any (λ i. i == k.id) ids)) ks) ≡ drafted_calls ids (calls_of ks)
+calls_kept [] ks = ap calls_of (all_kept ks)
+calls_kept (id ∷ ids) ks =
+    ap calls_of (kept_by_both id ids ks) ∙ calls_kept ids (filter (λ (k : CodeCall). not (k.id == id)) ks) ∙ ap (drafted_calls ids) (calls-filter id ks)
 
 -- a call that was answered is no longer found, and the others are
 found_after_one : (id j : ℕ) (ks : List Call) → channel_under id (filter (λ k. not (k.id == j)) ks) ≡ (if j == id then None else channel_under id ks)

@@ -1,7 +1,11 @@
 -- Whether a call was refused just so.
-use Rattle.std.proofs.Common.{◌≡◌, List, ℕ, true, false, cond, Some, None, Option, sym, ap, subst}
+use Rattle.std.proofs.Common.{◌≡◌, List, ℕ, true, false, cond, Some, None, Option, refl, sym, ap, subst}
 use Rattle.std.specs.Prelude.{Result, Ok, Err, IfErr, IsErrAnd}
+use Rattle.cf_protocol.specs.Position.{Position}
 use Rattle.cf_model.specs.ClientState.{is_idle}
+use Rattle.cf_client.specs.Shown.{shown_mode}
+use Rattle.cf_client.specs.declared.channels.Mode.{Mode as CodeMode}
+use Rattle.cf_client.specs.declared.channels.Mode.TheVariants as code
 use Rattle.cf_client.specs.ClientCalls.{State, RefusedBy, call_fault, ask_fault, leave_fault}
 use Rattle.cf_client.specs.declared.fault.ClientFault.{ClientFault}
 use Rattle.cf_client.specs.declared.fault.ClientFault.TheVariants.{Memory, NotNow}
@@ -27,6 +31,11 @@ module _ {T : Type 0} where
   refused_if (Err fault) why P h p = subst P (sym h) p
 
 -- ---- what an ask and a leave ask for
+
+pub not_idle : (m : CodeMode) → ((last : Option Position) → m ≡ code.Idle last → ⊥) → is_idle (shown_mode m) ≡ false
+not_idle (code.Idle last) never = absurd (never last refl)
+not_idle (code.Asking id from last) never = refl
+not_idle (code.Live at) never = refl
 
 pub asks_idle : (c : List ℕ) (s : State) → is_idle (s.client.modes c) ≡ true → ask_fault c s ≡ call_fault s
 asks_idle c s idle = ap (λ b. cond b (call_fault s) (Some NotNow)) idle

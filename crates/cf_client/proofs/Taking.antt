@@ -1,5 +1,7 @@
 -- What a client takes, and what its application is told.
-use Rattle.std.proofs.Common.{◌≡◌, ◌∙◌, ℕ, Bool, if◌then◌else◌, Some, List, [], ◌∷◌, ◌++◌, refl, sym, ap, subst, append_assoc, map}
+use Rattle.std.proofs.Common.{◌≡◌, ◌∙◌, ℕ, Bool, if◌then◌else◌, Option, Some, None, List, [], ◌∷◌, ◌++◌, refl, sym, ap, subst, append_assoc, map, Bor}
+use Rattle.std.specs.Option.{option_map}
+use Rattle.std.specs.Prelude.{option_to_list}
 use Rattle.std.proofs.lemmas.List.{append-nil, map-append}
 use Rattle.cf_protocol.specs.Position.{Position}
 use Rattle.cf_protocol.specs.Datum.{Placed}
@@ -24,6 +26,23 @@ pub told_reply : (before mid after : List AppEvent) (i : AppItem) (is : List App
     → map shown_item mid ≡ map shown_item before ++ i ∷ [] → map shown_item after ≡ map shown_item mid ++ is
     → map shown_item after ≡ map shown_item before ++ i ∷ is
 told_reply before mid after i is h k = k ∙ ap (λ (xs : List AppItem). xs ++ is) h ∙ append_assoc (map shown_item before) (i ∷ []) is
+
+-- what is told of a call, where it was out, and where it wasn't
+pub told_call : (tells : List ℕ → AppItem) (before after : List AppEvent) (e : AppEvent) (name : List ℕ) (found : Option (List ℕ))
+    → after ≡ before ++ e ∷ [] → shown_item e ≡ tells name → Some name ≡ found
+    → map shown_item after ≡ map shown_item before ++ map tells (option_to_list found)
+told_call tells before after e name found h k is =
+    told_one before after e (tells name) h k ∙ ap (λ (o : Option (List ℕ)). map shown_item before ++ map tells (option_to_list o)) is
+
+pub told_no_call : (tells : List ℕ → AppItem) (events : List AppEvent) (found : Option (List ℕ)) → None ≡ found
+    → map shown_item events ≡ map shown_item events ++ map tells (option_to_list found)
+told_no_call tells events found is =
+    sym (append-nil (map shown_item events)) ∙ ap (λ (o : Option (List ℕ)). map shown_item events ++ map tells (option_to_list o)) is
+
+-- a look-up that found nothing
+pub none_found : (found : Option (Bor (List ℕ))) → ((b : Bor (List ℕ)) → found ≡ Some b → ⊥) → None ≡ option_map (λ b. b.now) found
+none_found None never = refl
+none_found (Some b) never = absurd (never b refl)
 
 -- ---- modes that are found
 

@@ -4,7 +4,7 @@ ghost use Rattle.std.specs.Option.{option_map};
 ghost use Rattle.std.specs.Map.{update};
 ghost use Rattle.std.specs.Str.{bytes_eq};
 ghost use Rattle.std.specs.BTreeMap.{get_by_text};
-ghost use Rattle.cf_model.specs.ClientState.{idle, is_idle, last_of};
+ghost use Rattle.cf_model.specs.ClientState.{idle, last_of};
 ghost use Rattle.cf_client.specs.ClientCalls.{asks_under};
 ghost use Rattle.cf_client.specs.declared.channels.Mode.TheVariants as code;
 ghost use Rattle.cf_client.specs.Shown.{modes_of, shown_mode, SetsMode};
@@ -49,27 +49,6 @@ impl Mode {
         ensures { result ≡ code.Idle (last_of (shown_mode self.now)) }
     {
         Mode::Idle { last: self.last() }
-    }
-
-    /// The mode after a command of this id asked for the channel.
-    pub(crate) fn asking(&self, id: u32, from: &Option<Position>) -> Mode
-        ensures { result ≡ code.Asking id from.now (last_of (shown_mode self.now)) }
-    {
-        Mode::Asking {
-            id,
-            from: *from,
-            last: self.last(),
-        }
-    }
-
-    pub(crate) fn is_idle(&self) -> bool
-        ensures { result ≡ is_idle (shown_mode self.now) }
-    {
-        match self {
-            Mode::Idle { .. } => true,
-            Mode::Asking { .. } => false,
-            Mode::Live { .. } => false,
-        }
     }
 
     /// Whether it waits for the answer to the command of this id.

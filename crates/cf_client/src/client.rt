@@ -4,7 +4,7 @@ ghost use Rattle.cf_protocol.specs.Frame.{IsReplies};
 ghost use Rattle.cf_protocol.specs.Outgoing as sent;
 ghost use Rattle.cf_protocol.specs.Regular.{IsFrom};
 ghost use Rattle.cf_protocol.specs.Request as request;
-ghost use Rattle.cf_protocol.specs.Shown.{shown_outgoing};
+ghost use Rattle.cf_protocol.specs.Shown.{shown_request};
 ghost use Rattle.cf_model.specs.ClientState.{is_idle};
 ghost use Rattle.cf_client.specs.ClientCalls.{new_state, connected, asked, left, called, reconnected, RefusedBy, connect_fault, call_fault, ask_fault, leave_fault, TakesAll};
 ghost use Rattle.cf_client.specs.ClientView.{state_of};
@@ -13,13 +13,13 @@ ghost use Rattle.cf_client.specs.Shown.{shown_item, TextRefused};
 ghost use Rattle.cf_client.specs.Texts.{IsCommand, IsNextCommand, last_at};
 
 use crate::calls::Call;
-use crate::channels::{make_idle, mode_at, put_mode, set_mode};
+use crate::channels::{Mode, make_idle, mode_at, put_mode, set_mode};
 use crate::draft::draft_of;
 use crate::event::AppEvent;
 use crate::fault::ClientFault;
 use crate::known::Known;
-use crate::text::{connect_text, history_text, publish_text, subscribe_text, unsubscribe_text};
-use cf_protocol::{Outgoing, Position, ReadFault, read_replies};
+use crate::text::command_text;
+use cf_protocol::{Data, Position, ReadFault, Request, read_replies};
 use std::alloc::{AllocError, Global};
 use std::collections::BTreeMap;
 use std::marker::Model;
@@ -75,7 +75,8 @@ impl Client {
         if self.known.is_connected {
             return Err(ClientFault::NotNow);
         }
-        let text = connect_text(self.alloc, token)?;
+        let token = String::from_str(self.alloc, token)?;
+        let text = command_text(self.alloc, CONNECT_ID, Request::Connect { token })?;
         self.known.is_connected = true;
         Ok(text)
     }
@@ -92,7 +93,7 @@ impl Client {
     pub fn is_idle(&self, channel: &str) -> bool
         ensures { result ≡ is_idle ((state_of self.now).client.modes channel.now) }
     {
-        mode_at(&self.known.channels, channel).is_idle()
+        matches!(mode_at(&self.known.channels, channel), Mode::Idle { .. })
     }
 
     /// The last position that the client had on a channel: that of its last subscribe reply or publication there. In a command
@@ -117,7 +118,7 @@ impl Client {
         ensures refused { RefusedBy (ask_fault channel.now (state_of self.old)) result }
         ensures err { OnErr result (state_of self.new ≡ state_of self.old) }
     {
-        self.ask_since(channel, None)
+        self.ask_since(channel, &None)
     }
 
     /// The text of a subscribe command that asks to go on from the channel's last position; without one it is that of `ask`.
@@ -137,22 +138,32 @@ impl Client {
         ensures err { OnErr result (state_of self.new ≡ state_of self.old) }
     {
         let from = self.position(channel);
-        self.ask_since(channel, from)
+        self.ask_since(channel, &from)
     }
 
-    fn ask_since(&mut self, channel: &str, from: Option<Position>) -> Result<String, ClientFault>
-        ensures text { IfOk result (IsNextCommand self.old (request.Subscribe channel.now from)) }
-        ensures ok { OnOk result (state_of self.new ≡ asked channel.now from (state_of self.old)) }
+    fn ask_since(&mut self, channel: &str, from: &Option<Position>) -> Result<String, ClientFault>
+        ensures text { IfOk result
+            (IsNextCommand self.old (request.Subscribe channel.now from.now)) }
+        ensures ok { OnOk result
+            (state_of self.new ≡ asked channel.now from.now (state_of self.old)) }
         ensures refused { RefusedBy (ask_fault channel.now (state_of self.old)) result }
         ensures err { OnErr result (state_of self.new ≡ state_of self.old) }
     {
-        let mode = mode_at(&self.known.channels, channel);
-        if !mode.is_idle() {
+        let Mode::Idle { last } = mode_at(&self.known.channels, channel) else {
             return Err(ClientFault::NotNow);
-        }
+        };
         let id = self.next_id()?;
-        let text = subscribe_text(self.alloc, id, channel, from)?;
-        let asking = mode.asking(id, &from);
+        let asking = Mode::Asking {
+            id,
+            from: *from,
+            last,
+        };
+        let name = String::from_str(self.alloc, channel)?;
+        let request = Request::Subscribe {
+            channel: name,
+            since: *from,
+        };
+        let text = command_text(self.alloc, id, request)?;
         put_mode(&mut self.known.channels, self.alloc, channel, asking)?;
         self.known.last_id = id;
         Ok(text)
@@ -189,13 +200,14 @@ impl Client {
         ensures refused { RefusedBy (leave_fault channel.now (state_of self.old)) result }
         ensures err { OnErr result (state_of self.new ≡ state_of self.old) }
     {
-        let mode = mode_at(&self.known.channels, channel);
-        if mode.is_idle() {
+        if self.is_idle(channel) {
             return Err(ClientFault::NotNow);
         }
         let id = self.next_id()?;
-        let text = unsubscribe_text(self.alloc, id, channel)?;
-        set_mode(&mut self.known.channels, channel, mode.idle());
+        let name = String::from_str(self.alloc, channel)?;
+        let text = command_text(self.alloc, id, Request::Unsubscribe { channel: name })?;
+        let last = self.position(channel);
+        set_mode(&mut self.known.channels, channel, Mode::Idle { last });
         self.known.last_id = id;
         Ok(text)
     }
@@ -230,8 +242,15 @@ impl Client {
         ensures err { OnErr result (state_of self.new ≡ state_of self.old) }
     {
         let id = self.next_id()?;
-        let text = publish_text(self.alloc, id, channel, key, body)?;
-        self.call(id, channel)?;
+        let name = String::from_str(self.alloc, channel)?;
+        let key = String::from_str(self.alloc, key)?;
+        let body = String::from_str(self.alloc, body)?;
+        let request = Request::Publish {
+            channel: name,
+            key,
+            body: Data::Body(body),
+        };
+        let text = self.call(id, channel, request)?;
         Ok(text)
     }
 
@@ -249,21 +268,29 @@ impl Client {
         ensures err { OnErr result (state_of self.new ≡ state_of self.old) }
     {
         let id = self.next_id()?;
-        let text = history_text(self.alloc, id, channel, limit)?;
-        self.call(id, channel)?;
+        let name = String::from_str(self.alloc, channel)?;
+        let request = Request::History {
+            channel: name,
+            limit,
+            since: None,
+            reverse: false,
+        };
+        let text = self.call(id, channel, request)?;
         Ok(text)
     }
 
-    /// Notes that a publish or a history went out under the next id.
-    fn call(&mut self, id: u32, channel: &str) -> Result<(), AllocError>
+    /// The text of a publish or a history, which goes out under the next id.
+    fn call(&mut self, id: u32, channel: &str, request: Request) -> Result<String, AllocError>
         requires { id ≡ (state_of self.old).client.fresh }
+        ensures text { IfOk result (IsCommand id (shown_request request)) }
         ensures ok { OnOk result (state_of self.new ≡ called channel.now (state_of self.old)) }
         ensures err { OnErr result (state_of self.new ≡ state_of self.old) }
     {
+        let text = command_text(self.alloc, id, request)?;
         let channel = String::from_str(self.alloc, channel)?;
         self.known.calls.push(Call { id, channel })?;
         self.known.last_id = id;
-        Ok(())
+        Ok(text)
     }
 
     /// The connection is gone: every channel is idle, with its last position, and no answer is waited for. Then `connect`
@@ -295,30 +322,14 @@ impl Client {
         ensures err { OnErr result (state_of self.new ≡ state_of self.old) }
         ensures apart { AreApart (state_of self.old).client }
     {
-        let outgoings = self.read(text)?;
+        let outgoings = match read_replies(self.alloc, text) {
+            Ok(outgoings) if self.known.is_connected => outgoings,
+            Ok(_) => return Err(ClientFault::NotNow),
+            Err(ReadFault::Bad) => return Err(ClientFault::Bad),
+            Err(ReadFault::Memory) => return Err(ClientFault::Memory),
+        };
         let (draft, events) = draft_of(self.alloc, &self.known, outgoings)?;
         draft.carry_out(&mut self.known);
         Ok(events)
-    }
-
-    /// The replies and pushes of a text.
-    fn read(&self, text: &str) -> Result<Vec<Outgoing>, ClientFault>
-        ensures found { IfOk result (λ os. IsReplies text.now (map shown_outgoing os.items)) }
-        ensures only { IfOk result
-            (λ os. (rs : List sent.Outgoing) → IsReplies text.now rs
-            → rs ≡ map shown_outgoing os.items) }
-        ensures ok { OnOk result ((state_of self.now).connected ≡ true) }
-        ensures refused { IfErr result (TextRefused text.now (state_of self.now).connected) }
-    {
-        match read_replies(self.alloc, text) {
-            Err(ReadFault::Bad) => Err(ClientFault::Bad),
-            Err(ReadFault::Memory) => Err(ClientFault::Memory),
-            Ok(outgoings) => {
-                if !self.known.is_connected {
-                    return Err(ClientFault::NotNow);
-                }
-                Ok(outgoings)
-            }
-        }
     }
 }

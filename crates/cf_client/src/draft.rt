@@ -9,9 +9,9 @@ ghost use Rattle.cf_client.specs.Shown.{shown_item, shown_mode, known_state};
 ghost use Rattle.cf_client.specs.declared.known.Known.{Known as CodeKnown};
 ghost use Rattle.std.specs.BTreeMap.{get_by_text};
 
-use crate::calls::{channel_called, forget_call};
+use crate::calls::channel_called;
 use crate::channels::{Mode, put_mode, set_mode};
-use crate::event::{AppEvent, pass_all, passed, subscribed};
+use crate::event::{AppEvent, pass_all, passed};
 use crate::known::Known;
 use cf_protocol::{Outcome, Outgoing, Position, Publication, Pushed};
 use std::alloc::{AllocError, Global};
@@ -37,7 +37,11 @@ pub(crate) fn draft_of(
     ensures { IfOk result (λ r. TakesAll (map shown_outgoing outgoings.items)
         (known_state known.now) (drafted known.now r.0) (map shown_item r.1.items)) }
 {
-    let mut draft = Draft::new(alloc);
+    let mut draft = Draft {
+        changed: BTreeMap::new(alloc),
+        answered: Vec::new(alloc),
+        alloc,
+    };
     let mut events = Vec::new(alloc);
     for outgoing in outgoings {
         draft.take(known, outgoing, &mut events)?;
@@ -46,29 +50,18 @@ pub(crate) fn draft_of(
 }
 
 impl Draft {
-    /// Nothing changes.
-    fn new(alloc: Global) -> Draft
-        ensures { (k : CodeKnown) → drafted k result ≡ known_state k }
-    {
-        Draft {
-            changed: BTreeMap::new(alloc),
-            answered: Vec::new(alloc),
-            alloc,
-        }
-    }
-
     /// Carries the changes out. It takes no memory.
     pub(crate) fn carry_out(self, known: &mut Known)
         ensures { known_state known.new ≡ drafted known.old self }
     {
         let Draft {
-            changed,
+            mut changed,
             answered,
             ..
         } = self;
-        change_all(&mut known.channels, changed);
-        for id in &answered {
-            forget_call(&mut known.calls, *id);
+        known.calls.retain(|call| !answered.contains(&call.id));
+        while let Some((channel, mode)) = changed.pop_last() {
+            set_mode(&mut known.channels, channel.as_str(), mode);
         }
     }
 
@@ -94,8 +87,7 @@ impl Draft {
     {
         for (channel, _mode) in &known.channels {
             let name = channel.as_str();
-            let mode = self.mode_at(known, name);
-            if mode.is_asking(id) {
+            if self.mode_at(known, name).is_asking(id) {
                 return Some(name);
             }
         }
@@ -111,8 +103,8 @@ impl Draft {
     }
 
     /// The call of this id is no longer out. Gives its channel.
-    fn answer_call(&mut self, known: &Known, id: u32) -> Result<Option<String>, AllocError>
-        ensures found { IfOk result (λ found. option_map string_bytes found
+    fn answer_call<'k>(&mut self, known: &'k Known, id: u32) -> Result<Option<&'k str>, AllocError>
+        ensures found { IfOk result (λ found. option_map (λ c. c.now) found
             ≡ channel_under id (drafted known.now self.old).out) }
         ensures answered { OnOk result (drafted known.now self.new
             ≡ answered id (drafted known.now self.old)) }
@@ -120,7 +112,7 @@ impl Draft {
         let found = if self.answered.contains(&id) {
             None
         } else {
-            channel_called(&known.calls, id)?
+            channel_called(&known.calls, id)
         };
         self.answered.push(id)?;
         Ok(found)
@@ -216,7 +208,12 @@ impl Draft {
         };
         self.put(channel, Mode::Live { at: *position })?;
         let name = String::from_str(self.alloc, channel)?;
-        events.push(subscribed(name, was_recovering, recovered, position))?;
+        events.push(AppEvent::Subscribed {
+            channel: name,
+            was_recovering,
+            recovered,
+            position: *position,
+        })?;
         pass_all(channel, position, publications, events)
     }
 
@@ -231,30 +228,18 @@ impl Draft {
         ensures { OnOk result (Drafts known.now (TakesAnswer id (sent.Failed code))
             self.old self.new events.old.items events.new.items) }
     {
-        let Some(channel) = self.channel_asking(known, id) else {
-            return self.call_failed(known, id, code, events);
+        let refused = match self.channel_asking(known, id) {
+            Some(channel) => {
+                let mode = self.mode_at(known, channel).idle();
+                self.put(channel, mode)?;
+                Some(channel)
+            }
+            None => self.answer_call(known, id)?,
         };
-        let mode = self.mode_at(known, channel).idle();
-        self.put(channel, mode)?;
-        let channel = String::from_str(self.alloc, channel)?;
-        events.push(AppEvent::Refused { channel, code })?;
-        Ok(())
-    }
-
-    fn call_failed(
-        &mut self,
-        known: &Known,
-        id: u32,
-        code: u32,
-        events: &mut Vec<AppEvent>,
-    ) -> Result<(), AllocError>
-        ensures { OnOk result (Drafts known.now (AnswersCall id (λ c. item.Refused c code))
-            self.old self.new events.old.items events.new.items) }
-    {
-        let Some(channel) = self.answer_call(known, id)? else {
-            return Ok(());
-        };
-        events.push(AppEvent::Refused { channel, code })?;
+        if let Some(channel) = refused {
+            let channel = String::from_str(self.alloc, channel)?;
+            events.push(AppEvent::Refused { channel, code })?;
+        }
         Ok(())
     }
 
@@ -274,6 +259,7 @@ impl Draft {
         let Some(channel) = self.answer_call(known, id)? else {
             return Ok(());
         };
+        let channel = String::from_str(self.alloc, channel)?;
         let position = *position;
         events.push(AppEvent::Listed {
             channel,
@@ -327,14 +313,5 @@ impl Draft {
             events.push(AppEvent::Resubscribing { channel, code })?;
         }
         Ok(())
-    }
-}
-
-/// Sets the modes of the channels that the client asked for.
-fn change_all(channels: &mut BTreeMap<String, Mode>, mut changed: BTreeMap<String, Mode>)
-    ensures { (c : List ℕ) → get_by_text channels.new c ≡ drafted_code channels.old changed c }
-{
-    while let Some((channel, mode)) = changed.pop_last() {
-        set_mode(channels, channel.as_str(), mode);
     }
 }

@@ -1,6 +1,6 @@
 //! What an application gets from its client.
 ghost use Rattle.std.specs.Prelude.{◌≡◌, ◌++◌, OnOk, map, string_bytes};
-ghost use Rattle.cf_client.specs.AppItem.{Subscribed, published};
+ghost use Rattle.cf_client.specs.AppItem.{published};
 ghost use Rattle.cf_client.specs.Shown.{shown_item};
 
 use cf_protocol::{Epoch, Position, Publication};
@@ -49,24 +49,6 @@ pub enum AppEvent {
     },
     /// The node's ping, which is to be answered by the pong `{}`.
     PongDue,
-}
-
-// A subscription as the application gets it.
-pub(crate) fn subscribed(
-    channel: String,
-    was_recovering: bool,
-    recovered: bool,
-    position: &Position,
-) -> AppEvent
-    ensures { shown_item result
-        ≡ Subscribed (string_bytes channel) was_recovering recovered position.now }
-{
-    AppEvent::Subscribed {
-        channel,
-        was_recovering,
-        recovered,
-        position: *position,
-    }
 }
 
 // A publication as the application gets it.

@@ -2,7 +2,7 @@
 ghost use Rattle.std.specs.Prelude.{◌≡◌, None, [], pos};
 ghost use Rattle.cf_protocol.specs.Request as request;
 ghost use Rattle.cf_protocol.specs.Shown.{shown_request, shown_data};
-ghost use Rattle.cf_protocol.specs.Checks.{checks, first_failed, is_bad_channel, is_bad_data, is_bad_key};
+ghost use Rattle.cf_protocol.specs.Checks.{checks, first_failed, is_bad_channel, is_bad_data};
 
 use cf_protocol::{Data, ErrorCode, Namespaces, Request};
 
@@ -26,12 +26,6 @@ fn is_bad_data(body: &Data) -> bool
         Data::TooDeep => true,
         Data::Body(_) => false,
     }
-}
-
-fn is_bad_key(key: &str) -> bool
-    ensures { result ≡ is_bad_key key.now }
-{
-    key.len() > LONGEST_KEY
 }
 
 fn subscribe_refusal(namespaces: &Namespaces, channel: &str) -> Option<ErrorCode>
@@ -68,7 +62,7 @@ fn publish_refusal(
     if is_bad_channel(channel) {
         return Some(ErrorCode::BadRequest);
     }
-    if is_bad_key(key) || is_bad_data(body) {
+    if key.len() > LONGEST_KEY || is_bad_data(body) {
         return Some(ErrorCode::BadRequest);
     }
     let Some(settings) = namespaces.find(channel) else {

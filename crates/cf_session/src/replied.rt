@@ -11,10 +11,7 @@ ghost use Rattle.cf_session.specs.Standing.{AnswersAt, RepliesAt, refused_code, 
 
 use crate::action::Answer;
 use crate::stage::Stage;
-use cf_presence::Stats;
 use cf_protocol::{ErrorCode, Outcome, Position};
-use cf_stream::History;
-use std::collections::BTreeMap;
 
 /// The error with which a call was refused.
 fn refused_with(answer: &Answer) -> Option<ErrorCode>
@@ -111,72 +108,32 @@ fn replied(id: u32, answer: Answer) -> Stage
     ensures work { work_at result ≤ 1 }
 {
     match answer {
-        Answer::Publish(answer) => published(id, answer),
-        Answer::History(answer) => listed(id, answer),
-        Answer::Presence(answer) => present(id, answer),
-        Answer::Stats(stats) => counted(id, stats),
-        other => other_answer(id, &other),
-    }
-}
-
-fn published(id: u32, answer: Result<(), ErrorCode>) -> Stage
-    ensures goes { RepliesAt id (Answer.Publish answer) result }
-    ensures work { work_at result ≤ 1 }
-{
-    match answer {
-        Ok(()) => Stage::Says {
+        Answer::Publish(Ok(())) => Stage::Says {
             id,
             outcome: Outcome::Published,
         },
-        Err(code) => refused(id, code),
-    }
-}
-
-fn listed(id: u32, answer: Result<History, ErrorCode>) -> Stage
-    ensures goes { RepliesAt id (Answer.History answer) result }
-    ensures work { work_at result ≤ 1 }
-{
-    match answer {
-        Ok(past) => {
-            let History {
-                position,
-                publications,
-            } = past;
-            Stage::Says {
-                id,
-                outcome: Outcome::Past {
-                    position,
-                    publications,
-                },
-            }
-        }
-        Err(code) => refused(id, code),
-    }
-}
-
-fn present(id: u32, answer: Result<BTreeMap<String, String>, ErrorCode>) -> Stage
-    ensures goes { RepliesAt id (Answer.Presence answer) result }
-    ensures work { work_at result ≤ 1 }
-{
-    match answer {
-        Ok(users) => Stage::Says {
+        Answer::History(Ok(past)) => Stage::Says {
+            id,
+            outcome: Outcome::Past {
+                position: past.position,
+                publications: past.publications,
+            },
+        },
+        Answer::Presence(Ok(users)) => Stage::Says {
             id,
             outcome: Outcome::Present { users },
         },
-        Err(code) => refused(id, code),
-    }
-}
-
-fn counted(id: u32, stats: Stats) -> Stage
-    ensures goes { RepliesAt id (Answer.Stats stats) result }
-    ensures work { work_at result ≤ 1 }
-{
-    Stage::Says {
-        id,
-        outcome: Outcome::Counted {
-            clients: stats.clients,
-            users: stats.users,
+        Answer::Stats(stats) => Stage::Says {
+            id,
+            outcome: Outcome::Counted {
+                clients: stats.clients,
+                users: stats.users,
+            },
         },
+        Answer::Publish(Err(code)) => refused(id, code),
+        Answer::History(Err(code)) => refused(id, code),
+        Answer::Presence(Err(code)) => refused(id, code),
+        other => other_answer(id, &other),
     }
 }
 

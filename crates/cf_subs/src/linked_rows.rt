@@ -6,7 +6,7 @@ ghost use Rattle.cf_subs.specs.Seats.{IsUnlinked, channel_of, place_of, rows_of,
 ghost use Rattle.cf_subs.specs.Threads.{first_of};
 ghost use Rattle.cf_subs.specs.Whole.{HasRoom, IsWhole, blocks_of, rows_in};
 
-use crate::blocks::At;
+use crate::blocks::{At, Blocks};
 use crate::ends;
 use crate::ends::EndsByNumber;
 use crate::refusal::SubRefusal;
@@ -30,7 +30,9 @@ impl LinkedRows {
         ensures rows { rows_in result ≡ [] }
     {
         LinkedRows {
-            seats: Seats::new(),
+            seats: Seats {
+                blocks: Blocks::new(),
+            },
             channels: HashMap::new(alloc),
             sessions: HashMap::new(alloc),
         }
@@ -171,11 +173,11 @@ impl LinkedRows {
             rows.unlink(here, alloc);
         }
         let LinkedRows {
-            seats,
+            seats: Seats { blocks },
             channels,
             sessions,
         } = rows;
-        seats.finish();
+        blocks.finish();
         drop(channels);
         drop(sessions);
     }

@@ -1,5 +1,5 @@
 //! The links between the rows' blocks.
-ghost use Rattle.std.specs.Prelude.{◌≡◌, [], Some, IsSome};
+ghost use Rattle.std.specs.Prelude.{◌≡◌, Some, IsSome};
 ghost use Rattle.cf_subs.specs.Held.{Tells, found, without};
 ghost use Rattle.cf_subs.specs.Threads.{Changes, IsHeld};
 ghost use Rattle.cf_subs.specs.Seats.{AreLinked, IsUnlinked, LinksIn, SameLists, before_in_channel, after_in_channel, before_in_session, after_in_session};
@@ -16,23 +16,6 @@ pub struct Seats {
 }
 
 impl Seats {
-    /// No rows.
-    pub(crate) fn new() -> Seats
-        ensures { result.blocks.held ≡ [] }
-    {
-        Seats {
-            blocks: Blocks::new(),
-        }
-    }
-
-    /// Ends the rows' blocks, of which none is left.
-    pub(crate) fn finish(self)
-        requires { self.blocks.held ≡ [] }
-    {
-        let Seats { blocks } = self;
-        blocks.finish();
-    }
-
     /// The row of a block.
     pub(crate) fn row(&self, at: At) -> Row
         requires { IsSome (found self.now.blocks.held at.ptr) }

@@ -1,23 +1,20 @@
-use Rattle.std.proofs.Common.{ℕ, ℤ, None, false, subst, w32}
+use Rattle.std.proofs.Common.{◌∙◌, None, false, w32}
 use Rattle.std.proofs.lemmas.Int.{to_z-of_z}
 use Rattle.cf_protocol.specs.Request as request
-use Rattle.cf_client.specs.Texts.{IsCommand}
+use Rattle.cf_protocol.specs.Written.{command_text}
 use Rattle.cf_client.proofs.Refusing.{refused_as, refused_memory, refused_not}
 use Rattle.cf_client.proofs.client.Client.list.Goals as goal
 
 pub returns-clause-text : goal.returns-clause-text
 returns-clause-text c =
-    let written = subst (λ (limit : ℤ). IsCommand c.in_ok-id.id (request.History c.args.channel.now limit None false) c.in_ok-text.text) (to_z-of_z w32 c.args.limit c.ranges.limit) c.in_ok-text.ensures in
-    subst (λ (id : ℕ). IsCommand id (request.History c.args.channel.now c.args.limit None false) c.in_ok-text.text) c.in_ok-id.ensures.ok written
+    c.in_ok-text.ensures.text
+    ∙ (λ i. command_text (record { id = c.in_ok-id.ensures.ok i; request = request.History (c.in_ok-name.ensures.ok i) (to_z-of_z w32 c.args.limit c.ranges.limit i) None false }))
 
 pub returns-in_err-id-clause-refused : goal.returns-in_err-id-clause-refused
 returns-in_err-id-clause-refused c = refused_as _ c.from_residual.result c.in_err-id.field-0.0 c.in_err-id.ensures.err c.from_residual.ensures.1
 
 pub returns-in_err-text-clause-refused : goal.returns-in_err-text-clause-refused
 returns-in_err-text-clause-refused c = refused_memory _ c.from_residual-in_err-text.result c.in_ok-id.ensures.may c.from_residual-in_err-text.ensures.1
-
-pub returns-in_err-call-clause-refused : goal.returns-in_err-call-clause-refused
-returns-in_err-call-clause-refused c = refused_memory _ c.from_residual-in_err-call.result c.in_ok-id.ensures.may c.from_residual-in_err-call.ensures.1
 
 pub returns-clause-refused : goal.returns-clause-refused
 returns-clause-refused c = refused_not _ c.in_ok-text.text c.in_ok-id.ensures.may

@@ -3,26 +3,23 @@ use Rattle.cf_protocol.specs.Shown.{shown_outgoing}
 use Rattle.cf_client.specs.ClientCalls.{State, TakesAll}
 use Rattle.cf_client.specs.OneAnswer.{AreApart}
 use Rattle.cf_client.specs.Draft.{drafted}
-use Rattle.cf_client.specs.Shown.{known_state, shown_item, TextRefused}
-use Rattle.cf_client.specs.ClientView.{state_of}
+use Rattle.cf_client.specs.Shown.{known_state, shown_item}
 use Rattle.cf_client.proofs.Apart.{texts_apart}
-use Rattle.cf_client.proofs.Refusing.{refused_if}
 use Rattle.cf_client.proofs.client.Client.on_text.Goals as goal
 
 pub invariant_of-self : goal.invariant_of-self
 invariant_of-self c =
     let k = c.self.inside.known in
     subst (λ (s : State). AreApart s.client) (sym c.carry_out.ensures)
-    (texts_apart (map shown_outgoing c.in_ok-outgoings.outgoings.items) (known_state k) (drafted k c.in_ok-draft.draft) (map shown_item c.in_ok-draft.events.items) c.self.invariant c.in_ok-draft.ensures)
+    (texts_apart (map shown_outgoing c.in-Ok.outgoings.items) (known_state k) (drafted k c.in_ok-draft.draft) (map shown_item c.in_ok-draft.events.items) c.self.invariant c.in_ok-draft.ensures)
 
 pub returns-clause-takes : goal.returns-clause-takes
 returns-clause-takes c = λ os reads.
     let k = c.self.inside.known in
     let told = map shown_item c.in_ok-draft.events.items in
     rw (← c.self.view_is)
-    (subst (λ xs. TakesAll xs (known_state k) (known_state c.carry_out.new.known) told) (sym (c.in_ok-outgoings.ensures.only os reads))
-    (subst (λ s. TakesAll (map shown_outgoing c.in_ok-outgoings.outgoings.items) (known_state k) s told) (sym c.carry_out.ensures) c.in_ok-draft.ensures))
+    (subst (λ xs. TakesAll xs (known_state k) (known_state c.carry_out.new.known) told) (sym (c.in-Ok.ensures.only os reads))
+    (subst (λ s. TakesAll (map shown_outgoing c.in-Ok.outgoings.items) (known_state k) s told) (sym c.carry_out.ensures) c.in_ok-draft.ensures))
 
-pub returns-in_err-outgoings-clause-refused : goal.returns-in_err-outgoings-clause-refused
-returns-in_err-outgoings-clause-refused c =
-    refused_if c.from_residual.result c.in_err-outgoings.field-0.0 (TextRefused c.args.text.now (state_of c.args.self.now).connected) c.from_residual.ensures.1 c.in_err-outgoings.ensures.refused
+pub returns-in-Err-Bad-clause-refused : goal.returns-in-Err-Bad-clause-refused
+returns-in-Err-Bad-clause-refused c = c.in-Err-Bad.ensures.bad c.in-Err-Bad.field-0-is

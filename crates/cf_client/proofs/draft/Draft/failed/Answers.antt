@@ -1,31 +1,59 @@
-use Rattle.std.proofs.Common.{◌≡◌, ◌∙◌, refl, ◌∷◌, [], ap, subst, List, ℕ, inl, inr}
-use Rattle.std.proofs.lemmas.Result.{IfOk-weaker}
+use Rattle.std.proofs.Common.{◌≡◌, ◌∙◌, refl, ◌∷◌, [], ap, sym, subst, List, ℕ, inl, inr, map, Bor}
+use Rattle.std.specs.Prelude.{option_to_list}
+use Rattle.std.specs.Option.{option_map}
 use Rattle.cf_model.specs.ClientState.{Mode, idle}
-use Rattle.cf_client.specs.ClientCalls.{moves}
+use Rattle.cf_client.specs.ClientCalls.{channel_under, moves}
 use Rattle.cf_client.specs.AppItem.{Refused}
 use Rattle.cf_client.specs.Draft.{drafted, drafted_mode}
 use Rattle.cf_client.specs.Shown.{shown_mode}
 use Rattle.cf_client.proofs.Drafting.{moves_asking}
-use Rattle.cf_client.proofs.Taking.{told_one}
+use Rattle.cf_client.proofs.Taking.{told_call, told_no_call, told_one, none_found}
 use Rattle.cf_client.proofs.draft.Draft.failed.Goals as goal
+use Rattle.cf_client.proofs.draft.Draft.failed.Goals.{in-Some+in_ok-put-in-Some, in-None+in_ok-refused-in-None}
 
 pub returns-in_default : goal.returns-in_default
 returns-in_default c =
-    IfOk-weaker c.call_failed.result _ _ (λ u h. (h.0, inr (c.in_default.ensures.none, h.1), h.2)) c.call_failed.ensures
+    elim c.match-channel_asking.branch [
+      | in-Some+in_ok-put-in-Some w ↦ absurd (c.in_default.not-Some _ w.refused-is)
+      | in-None+in_ok-refused-in-None w ↦
+          let k = c.args.known.now in
+          let out = channel_under c.args.id (drafted k c.args.self.now).out in
+          let found : option_map (λ (b : Bor (List ℕ)). b.now) c.match-channel_asking.refused ≡ out =
+          ap (λ o. option_map (λ (b : Bor (List ℕ)). b.now) o) w.refused-is ∙ w.in_ok-refused-in-None.ensures.found in (
+            map (λ n. Refused n c.args.code) (option_to_list out),
+            inr (w.in-None.ensures.none, (ap (λ d. drafted k d) w.self-is ∙ w.in_ok-refused-in-None.ensures.answered, refl)),
+            told_no_call (λ n. Refused n c.args.code) c.args.events.now.items out (none_found c.match-channel_asking.refused c.in_default.not-Some ∙ found),
+          )
+    ]
 
-pub returns : goal.returns
-returns c =
-    let s = drafted c.args.known.now c.args.self.now in
-    let base = c.args.known.now.channels in
-    let old = c.args.self.now.changed in
+pub returns-in_ok-push : goal.returns-in_ok-push
+returns-in_ok-push c =
     let k = c.args.known.now in
-    let to = c.put.new.self in
-    let name = c.in-Some.channel.now in
-    let asks = c.in-Some.ensures.some in
-    let as_idle : shown_mode c.idle-mode.result ≡ idle (drafted_mode base old name) =
-    ap shown_mode c.idle-mode.ensures ∙ ap idle c.mode_at.ensures in
-    let goes = moves_asking k c.args.self.now to _ name c.args.id _ refl asks (c.in_ok-put.ensures k) in (
-      (Refused name c.args.code ∷ []),
-      inl (record { channel = name; asks = asks; moves = subst (λ (m : Mode). drafted k to ≡ moves name m s) as_idle goes; tells = refl }),
-      told_one c.args.events.now.items c.push.new.self.items _ (Refused name c.args.code) c.in_ok-push.ensures.items (ap (λ (n : List ℕ). Refused n c.args.code) c.in_ok-channel.ensures.ok),
-    )
+    let base = k.channels in
+    let old = c.args.self.now.changed in
+    let before = c.args.events.now.items in
+    let after = c.push.new.self.items in
+    let said = c.in-Some-refused.channel.now in
+    let says = ap (λ (n : List ℕ). Refused n c.args.code) c.in_ok-channel.ensures.ok in
+    elim c.match-channel_asking.branch [
+      | in-Some+in_ok-put-in-Some w ↦
+          let name = w.in-Some.channel.now in
+          let same : c.in-Some-refused.channel ≡ w.in-Some.channel = cc (c.in-Some-refused.is, w.refused-is) in
+          let asks = w.in-Some.ensures.some in
+          let as_idle : shown_mode w.idle-mode.result ≡ idle (drafted_mode base old name) =
+          ap shown_mode w.idle-mode.ensures ∙ ap idle w.mode_at.ensures in
+          let goes = moves_asking k c.args.self.now w.put.new.self _ name c.args.id _ refl asks (w.in_ok-put-in-Some.ensures k) in
+          let moved = subst (λ (m : Mode). drafted k w.put.new.self ≡ moves name m (drafted k c.args.self.now)) as_idle goes in (
+            Refused name c.args.code ∷ [],
+            inl (record { channel = name; asks = asks; moves = ap (λ d. drafted k d) w.self-is ∙ moved; tells = refl }),
+            told_one before after _ (Refused name c.args.code) c.in_ok-push.ensures.items (says ∙ ap (λ (b : Bor (List ℕ)). Refused b.now c.args.code) same),
+          )
+      | in-None+in_ok-refused-in-None w ↦
+          let out = channel_under c.args.id (drafted k c.args.self.now).out in
+          let found : option_map (λ (b : Bor (List ℕ)). b.now) c.match-channel_asking.refused ≡ out =
+          ap (λ o. option_map (λ (b : Bor (List ℕ)). b.now) o) w.refused-is ∙ w.in_ok-refused-in-None.ensures.found in (
+            map (λ n. Refused n c.args.code) (option_to_list out),
+            inr (w.in-None.ensures.none, (ap (λ d. drafted k d) w.self-is ∙ w.in_ok-refused-in-None.ensures.answered, refl)),
+            told_call (λ n. Refused n c.args.code) before after _ said out c.in_ok-push.ensures.items says (sym (ap (λ o. option_map (λ (b : Bor (List ℕ)). b.now) o) c.in-Some-refused.is) ∙ found),
+          )
+    ]

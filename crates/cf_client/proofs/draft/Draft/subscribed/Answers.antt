@@ -1,10 +1,9 @@
-use Rattle.std.proofs.Common.{◌≡◌, ◌∙◌, [], ◌∷◌, map, sym, ap, refl, List, ℕ, inl, inr}
+use Rattle.std.proofs.Common.{[], ◌∷◌, map, sym, ap, refl, List, ℕ, inl, inr}
 use Rattle.std.proofs.lemmas.List.{append-nil}
 use Rattle.std.proofs.lemmas.Result.{on_ok_weaker}
 use Rattle.cf_model.specs.ClientState.{Live}
 use Rattle.cf_client.specs.AppItem.{Subscribed, published}
 use Rattle.cf_client.specs.Draft.{drafted}
-use Rattle.cf_client.specs.Shown.{shown_item}
 use Rattle.cf_client.proofs.Drafting.{moves_asking}
 use Rattle.cf_client.proofs.Taking.{told_one, told_reply}
 use Rattle.cf_client.proofs.draft.Draft.subscribed.Goals as goal
@@ -24,12 +23,10 @@ returns c =
     let sub = Subscribed name c.args.was_recovering c.args.recovered at in
     let pubs = map (published name at.epoch) c.args.publications.items in
     let goes = moves_asking k c.args.self.now to _ name c.args.id (Live at) refl asks (c.in_ok-put.ensures k) in
-    let says : shown_item c.subscribed.result ≡ sub =
-    c.subscribed.ensures ∙ ap (λ (n : List ℕ). Subscribed n c.args.was_recovering c.args.recovered at) c.in_ok-name.ensures.ok in
     on_ok_weaker c.pass_all.result (λ passed. (
       sub ∷ pubs,
       inl (record { channel = name; asks = asks; moves = goes; tells = refl }),
       told_reply c.args.events.now.items c.push.new.self.items c.pass_all.new.events.items sub pubs
-          (told_one c.args.events.now.items c.push.new.self.items c.subscribed.result sub c.in_ok-push.ensures.items says) passed,
+          (told_one c.args.events.now.items c.push.new.self.items _ sub c.in_ok-push.ensures.items (ap (λ (n : List ℕ). Subscribed n c.args.was_recovering c.args.recovered at) c.in_ok-name.ensures.ok)) passed,
     ))
     c.pass_all.ensures
