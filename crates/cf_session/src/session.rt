@@ -436,7 +436,7 @@ impl<'a> Session<'a> {
         ensures frame { self.new.frame ≡ self.old.frame }
         ensures work { work_at self.new.stage ≡ work_at waits }
     {
-        drop(mem::replace(&mut self.stage, waits));
+        self.stage = waits;
         action
     }
 
@@ -538,7 +538,7 @@ impl<'a> Session<'a> {
         ensures refusals { refusals self.new ≡ refusals self.old }
         ensures work { work_at self.new.stage ≡ 0 }
     {
-        drop(mem::replace(&mut self.stage, Stage::Closed));
+        self.stage = Stage::Closed;
         Action::Close(code)
     }
 }

@@ -15,7 +15,7 @@ use std::marker::Model;
 pub const MOST_ROWS: usize = 65_536;
 
 /// A session that follows a channel, both by their numbers.
-#[derive(Clone, Copy, Drop)]
+#[derive(Clone, Copy, Debug, PartialEq, Eq, Drop)]
 pub struct Row {
     /// The number of the channel.
     pub channel: u32,
