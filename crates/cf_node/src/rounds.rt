@@ -1,6 +1,6 @@
 //! What is looked after every 25 seconds for each client: where its subscriptions stand, and that
 //! it is present.
-use crate::attached_client::Present;
+use crate::attached_client::{AttachedClient, Present};
 use crate::backend::Backend;
 use crate::command_handler::CommandHandler;
 use cf_dispatch::{goes_on, is_close_over, mark_after};
@@ -15,7 +15,12 @@ impl<'a, B: Backend> CommandHandler<'a, B> {
     pub(crate) fn refresh(&mut self, now: u64) -> bool {
         self.now = now;
         if self.sees_end() {
-            return self.still_closes();
+            // Its socket may take what waits for it for a while.
+            let is_over = is_close_over(self.client.ended, now);
+            if is_over {
+                self.note_slow();
+            }
+            return !is_over;
         }
         if let Some(number) = self.client.standing.number() {
             if now.saturating_sub(self.client.refreshed) >= ROUND {
@@ -26,51 +31,26 @@ impl<'a, B: Backend> CommandHandler<'a, B> {
         true
     }
 
-    // Whether the connection of a session that is over still stands: its socket may take what waits
-    // for it for a while.
-    fn still_closes(&mut self) -> bool {
-        let is_over = is_close_over(self.client.ended, self.now);
-        if is_over {
-            self.note_slow();
-        }
-        !is_over
-    }
-
-    // A round of the client.
+    // A round of the client: where a subscription goes on, it is present there again, else no more.
     fn go_round(&mut self, number: u32) {
         self.client.forgets_ended(&self.backend.hub(), number);
-        for _ in 0..self.client.channels.len() {
-            // Each is taken from the front and, where it stands, put back behind the others.
-            if let Some(present) = self.client.channels.pop_front() {
-                self.look_at(number, present);
+        let (backend, now) = (self.backend, self.now);
+        let AttachedClient {
+            channels,
+            id,
+            user,
+            ..
+        } = &mut self.client;
+        channels.retain_mut(|present| {
+            let goes_on = is_on(backend, number, present);
+            let channel = present.channel.as_str();
+            if goes_on {
+                backend.enter(channel, id.as_str(), user.as_str(), now);
+            } else {
+                backend.leave(channel, id.as_str());
             }
-        }
-    }
-
-    // A subscription's position is checked, and where it goes on, the client is present again.
-    fn look_at(&mut self, number: u32, mut present: Present) {
-        if self.stands(number, &mut present) {
-            self.enter(present.channel.as_str());
-            let _ = self.client.channels.push_back(present);
-        } else {
-            self.backend
-                .leave(present.channel.as_str(), self.client.id.as_str());
-        }
-    }
-
-    // Checks the position of a subscription, and says whether it goes on. Where its last check was
-    // fine, and its shard's log is as it was then, this one would be fine too, and is left out.
-    fn stands(&self, number: u32, present: &mut Present) -> bool {
-        let channel = present.channel.as_str();
-        if let Some(mark) = present.mark {
-            if self.backend.is_quiet_since(channel, mark) {
-                return true;
-            }
-        }
-        let (top, mark) = self.backend.position(channel);
-        let checked = self.backend.hub().check(number, channel, top);
-        present.mark = mark_after(checked, mark);
-        goes_on(checked)
+            goes_on
+        });
     }
 
     /// The connection is over: the client's session goes, and it is present nowhere.
@@ -89,4 +69,16 @@ impl<'a, B: Backend> CommandHandler<'a, B> {
         }
         self.client.channels.clear();
     }
+}
+
+// Checks the position of a subscription, and says whether it goes on. Where its last check was fine,
+// and its shard's log is as it was then, this one would be fine too, and is left out.
+fn is_on<B: Backend>(backend: &B, number: u32, present: &mut Present) -> bool {
+    let channel = present.channel.as_str();
+    let Some((top, mark)) = backend.position_since(channel, present.mark) else {
+        return true;
+    };
+    let checked = backend.hub().check(number, channel, top);
+    present.mark = mark_after(checked, mark);
+    goes_on(checked)
 }
