@@ -52,18 +52,15 @@ impl AttachedClient {
     /// The client is present in one channel more. Where memory is refused, it isn't noted, and its
     /// presence ends by itself.
     pub(crate) fn add(&mut self, channel: String) {
-        if !self.is_in(channel.as_str()) {
-            let _ = self.channels.push_back(Present {
-                channel,
-                mark: None,
-            });
+        for present in self.channels.iter() {
+            if present.channel.as_str() == channel.as_str() {
+                return;
+            }
         }
-    }
-
-    // Whether the client is present in a channel.
-    fn is_in(&self, channel: &str) -> bool {
-        let mut channels = self.channels.iter();
-        channels.any(|present| present.channel.as_str() == channel)
+        let _ = self.channels.push_back(Present {
+            channel,
+            mark: None,
+        });
     }
 
     /// A session for a user. The answer is the client's id.

@@ -115,9 +115,9 @@ impl<'a, B: Backend> Connection<'a, B> {
             Connection::Empty => false,
             Connection::Head(_) | Connection::Refusing(_) => true,
             Connection::Open(open) => {
-                let Open { wire, desk, .. } = Box::into_inner(open);
+                let Open { wire, mut desk, .. } = Box::into_inner(open);
                 drop(wire);
-                desk.end();
+                desk.handler.give_up();
                 true
             }
         }

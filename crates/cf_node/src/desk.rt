@@ -165,11 +165,6 @@ impl<'a, B: Backend> SessionDesk<'a, B> {
         self.goes_on() || left_off && self.has_heard
     }
 
-    /// The connection is over: the client's session goes.
-    pub(crate) fn end(mut self) {
-        self.handler.give_up();
-    }
-
     // What goes out next.
     fn take(&mut self) -> Option<Out> {
         if self.taken.is_empty() {

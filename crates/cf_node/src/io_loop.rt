@@ -153,13 +153,15 @@ fn seated<'a, B: Backend>(
     wire: Wire<Gather<Socket>>,
     now: u64,
 ) -> Connection<'a, B> {
-    let desk = SessionDesk::new(backend, now);
-    let open = Open {
-        wire,
-        desk,
-        is_spent: false,
-    };
-    match Box::new(backend.alloc(), open) {
+    let open = Box::new(
+        backend.alloc(),
+        Open {
+            wire,
+            desk: SessionDesk::new(backend, now),
+            is_spent: false,
+        },
+    );
+    match open {
         Ok(open) => Connection::Open(open),
         Err(_) => Connection::Empty,
     }

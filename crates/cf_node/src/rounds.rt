@@ -1,6 +1,6 @@
 //! What is looked after every 25 seconds for each client: where its subscriptions stand, and that
 //! it is present.
-use crate::attached_client::{AttachedClient, Present};
+use crate::attached_client::Present;
 use crate::backend::Backend;
 use crate::command_handler::CommandHandler;
 use cf_dispatch::{goes_on, is_close_over, mark_after};
@@ -31,26 +31,38 @@ impl<'a, B: Backend> CommandHandler<'a, B> {
         true
     }
 
-    // A round of the client: where a subscription goes on, it is present there again, else no more.
+    // A round of the client.
     fn go_round(&mut self, number: u32) {
         self.client.forgets_ended(&self.backend.hub(), number);
-        let (backend, now) = (self.backend, self.now);
-        let AttachedClient {
-            channels,
-            id,
-            user,
-            ..
-        } = &mut self.client;
-        channels.retain_mut(|present| {
-            let goes_on = is_on(backend, number, present);
-            let channel = present.channel.as_str();
-            if goes_on {
-                backend.enter(channel, id.as_str(), user.as_str(), now);
-            } else {
-                backend.leave(channel, id.as_str());
+        for _ in 0..self.client.channels.len() {
+            // Each is taken from the front and, where it stands, put back behind the others.
+            if let Some(present) = self.client.channels.pop_front() {
+                self.look_at(number, present);
             }
-            goes_on
-        });
+        }
+    }
+
+    // A subscription's position is checked, and where it goes on, the client is present again.
+    fn look_at(&mut self, number: u32, mut present: Present) {
+        if self.stands(number, &mut present) {
+            self.enter(present.channel.as_str());
+            let _ = self.client.channels.push_back(present);
+        } else {
+            self.backend
+                .leave(present.channel.as_str(), self.client.id.as_str());
+        }
+    }
+
+    // Checks the position of a subscription, and says whether it goes on. Where its last check was
+    // fine, and its shard's log is as it was then, this one would be fine too, and is left out.
+    fn stands(&self, number: u32, present: &mut Present) -> bool {
+        let channel = present.channel.as_str();
+        let Some((top, mark)) = self.backend.position_since(channel, present.mark) else {
+            return true;
+        };
+        let checked = self.backend.hub().check(number, channel, top);
+        present.mark = mark_after(checked, mark);
+        goes_on(checked)
     }
 
     /// The connection is over: the client's session goes, and it is present nowhere.
@@ -69,16 +81,4 @@ impl<'a, B: Backend> CommandHandler<'a, B> {
         }
         self.client.channels.clear();
     }
-}
-
-// Checks the position of a subscription, and says whether it goes on. Where its last check was fine,
-// and its shard's log is as it was then, this one would be fine too, and is left out.
-fn is_on<B: Backend>(backend: &B, number: u32, present: &mut Present) -> bool {
-    let channel = present.channel.as_str();
-    let Some((top, mark)) = backend.position_since(channel, present.mark) else {
-        return true;
-    };
-    let checked = backend.hub().check(number, channel, top);
-    present.mark = mark_after(checked, mark);
-    goes_on(checked)
 }
