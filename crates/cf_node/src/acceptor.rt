@@ -1,6 +1,6 @@
 //! Where a node's clients come in: its listener, and the readiness of all its sockets.
 use mio::net::{TcpListener, TcpStream};
-use mio::{Events, Interest, Poll, Token, Waker};
+use mio::{Events, Interest, Poll, Registry, Token, Waker};
 use std::io;
 use std::io::ErrorKind;
 use std::net::Net;
@@ -19,16 +19,10 @@ pub(crate) struct Acceptor {
     listener: TcpListener,
 }
 
-/// What a try to accept a connection gave.
-#[derive(Drop)]
-pub(crate) enum Accepted {
-    Stream(TcpStream),
-    /// The connection was gone before it was accepted.
-    Gone,
-    /// None waits.
-    Nothing,
-    /// One may wait.
-    Failed,
+// Asks to be told when a connection waits at a listener, and gives what ends a wait for that.
+fn listens(registry: &Registry, listener: &mut TcpListener) -> io::Result<Waker> {
+    registry.register(listener, LISTENER, Interest::READABLE)?;
+    Waker::new(registry, WAKER)
 }
 
 impl Acceptor {
@@ -36,9 +30,7 @@ impl Acceptor {
     /// set up.
     pub(crate) fn open<R: Net>(rt: &R, mut listener: TcpListener) -> io::Result<(Acceptor, Waker)> {
         let poll = Poll::new(rt)?;
-        poll.registry()
-            .register(&mut listener, LISTENER, Interest::READABLE)?;
-        let waker = Waker::new(poll.registry(), WAKER)?;
+        let waker = listens(poll.registry(), &mut listener)?;
         Ok((Acceptor { poll, listener }, waker))
     }
 
@@ -53,19 +45,11 @@ impl Acceptor {
         }
     }
 
-    /// Accepts a connection, if one waits.
-    pub(crate) fn accept(&self) -> Accepted {
-        match self.listener.accept() {
-            Ok((stream, _)) => {
-                let _ = stream.set_nodelay(true);
-                Accepted::Stream(stream)
-            }
-            Err(error) => match error.kind() {
-                ErrorKind::ConnectionAborted => Accepted::Gone,
-                ErrorKind::WouldBlock => Accepted::Nothing,
-                _ => Accepted::Failed,
-            },
-        }
+    /// Accepts a connection, whose texts are sent as soon as they are written.
+    pub(crate) fn accept(&self) -> io::Result<TcpStream> {
+        let (stream, _) = self.listener.accept()?;
+        let _ = stream.set_nodelay(true);
+        Ok(stream)
     }
 
     /// Asks to be told when a connection's socket is ready, by the number of its place. `false`

@@ -3,7 +3,7 @@ use cf_dispatch::Standing;
 use cf_hub::Hub;
 use cf_protocol::{ErrorCode, Position};
 use cf_session::hub_error;
-use std::alloc::{AllocError, Global};
+use std::alloc::Global;
 use std::collections::VecDeque;
 
 /// A channel in which a client is present.
@@ -63,11 +63,6 @@ impl AttachedClient {
         });
     }
 
-    /// The client is present in a channel no more.
-    pub(crate) fn remove(&mut self, channel: &str) {
-        self.channels.retain(|one| one.channel.as_str() != channel);
-    }
-
     /// A session for a user. The answer is the client's id.
     pub(crate) fn attach(
         &mut self,
@@ -76,21 +71,21 @@ impl AttachedClient {
         user: String,
         now: u64,
     ) -> Result<String, ErrorCode> {
-        let Ok(kept) = user.clone() else {
-            return Err(ErrorCode::Internal);
-        };
+        match user.clone() {
+            Ok(kept) => self.user = kept,
+            Err(_) => return Err(ErrorCode::Internal),
+        }
         let number = match hub.attach(user, now) {
             Ok(number) => number,
             Err(refusal) => return Err(hub_error(&refusal)),
         };
         self.standing.attach(number);
-        self.user = kept;
-        let client = hub.client_id(number).unwrap_or("");
-        match two_of(alloc, client) {
-            Ok((kept, given)) => {
-                self.id = kept;
-                Ok(given)
-            }
+        match String::from_str(alloc, hub.client_id(number).unwrap_or("")) {
+            Ok(id) => self.id = id,
+            Err(_) => return Err(ErrorCode::Internal),
+        }
+        match self.id.clone() {
+            Ok(given) => Ok(given),
             Err(_) => Err(ErrorCode::Internal),
         }
     }
@@ -106,22 +101,18 @@ impl AttachedClient {
         let Some(number) = self.standing.number() else {
             return Err(ErrorCode::Internal);
         };
-        if self.make_room().is_err() {
+        // Most clients have one channel, so the first brings no room for more.
+        let room = if self.channels.is_empty() {
+            self.channels.reserve_exact(1)
+        } else {
+            self.channels.reserve(1)
+        };
+        if room.is_err() {
             return Err(ErrorCode::Internal);
         }
         match hub.begin(number, channel, id, since) {
             Ok(()) => Ok(()),
             Err(refusal) => Err(hub_error(&refusal)),
-        }
-    }
-
-    // Room for the channel at which the client will be present. Most clients have one channel, so the
-    // first brings no room for more.
-    fn make_room(&mut self) -> Result<(), AllocError> {
-        if self.channels.is_empty() {
-            self.channels.reserve_exact(1)
-        } else {
-            self.channels.reserve(1)
         }
     }
 
@@ -134,13 +125,6 @@ impl AttachedClient {
         hub.is_on(number, channel)
     }
 
-    /// A subscription ends.
-    pub(crate) fn leave(&self, hub: &mut Hub, channel: &str) {
-        if let Some(number) = self.standing.number() {
-            hub.leave(number, channel);
-        }
-    }
-
     /// Forgets the mark of each subscription that has ended meanwhile.
     pub(crate) fn forgets_ended(&mut self, hub: &Hub, number: u32) {
         for present in self.channels.iter_mut() {
@@ -149,10 +133,4 @@ impl AttachedClient {
             }
         }
     }
-}
-
-fn two_of(alloc: Global, text: &str) -> Result<(String, String), AllocError> {
-    let one = String::from_str(alloc, text)?;
-    let other = String::from_str(alloc, text)?;
-    Ok((one, other))
 }

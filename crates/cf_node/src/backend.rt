@@ -3,6 +3,8 @@ ghost use Rattle.std.specs.Prelude.{◌≡◌, true, IsSome};
 ghost use Rattle.cf_protocol.specs.Settings.{settings_of};
 ghost use Rattle.cf_session.specs.Standing.{is_idle, tables_of};
 
+use crate::fault_counts::Fault;
+use crate::shared::Shared;
 use cf_hub::Hub;
 use cf_presence::Stats;
 use cf_protocol::{Info, Position};
@@ -32,14 +34,8 @@ pub(crate) trait Backend {
     /// The hub, under its lock.
     fn hub(&self) -> MutexGuard<'_, Hub>;
 
-    /// The worker that serves looks at the hub: from now on it is woken again.
-    fn look(&self);
-
-    /// The worker that serves has sent what waited in the hub, as far as the sockets took it.
-    fn catch_up(&self);
-
-    /// Whether the worker that brings publications has turned within two seconds.
-    fn is_well(&self, now: u64) -> bool;
+    /// What is shared with the worker that brings publications.
+    fn shared(&self) -> &Shared;
 
     /// Whether some node is behind with what was published, so that who publishes is to wait.
     fn is_crowded(&self) -> bool;
@@ -47,19 +43,11 @@ pub(crate) trait Backend {
     /// Wakes the workers that bring on what was published, on every node.
     fn ring(&self);
 
-    /// Wakes the one of this node.
-    fn ring_here(&self);
+    /// Something goes wrong that is counted.
+    fn count(&self, fault: Fault);
 
-    /// Whether what was published last went to many of the node's clients.
-    fn meets_many(&self) -> bool;
-
-    /// A connection is not served, for want of descriptors or memory.
-    fn note_refused(&self);
-
-    /// A session was closed since its client was too slow.
-    fn note_slow(&self);
-
-    /// A publish by a client, under a key, which may be none.
+    /// A publish by a client, under a key, which may be none. Where what was published before went
+    /// to many of the node's clients, the worker of this node that brings it on is woken at once.
     fn publish(
         &self,
         channel: &str,
@@ -84,12 +72,9 @@ pub(crate) trait Backend {
     ) -> Result<History, Refused>
         requires { IsSome (settings_of namespaces channel.now) };
 
-    /// Where a channel's stream stands, and the length of its shard's log.
-    fn position(&self, channel: &str) -> (Option<Position>, u64);
-
-    /// Whether nothing happened in a channel's shard since its log had so many entries. It takes no
-    /// lock.
-    fn is_quiet_since(&self, channel: &str, mark: u64) -> bool;
+    /// Where a channel's stream stands, and the length of its shard's log. `None` where nothing
+    /// happened in the shard since its log had as many entries as a mark says; that takes no lock.
+    fn position_since(&self, channel: &str, mark: Option<u64>) -> Option<(Option<Position>, u64)>;
 
     /// Brings a moment to all shards of the broker, where this is the node that does.
     fn tick(&self, now: u64);

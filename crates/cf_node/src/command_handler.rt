@@ -1,8 +1,7 @@
 //! What a session asks for, done on hub and broker.
-ghost use Rattle.std.specs.Prelude.{◌≡◌};
-
 use crate::attached_client::AttachedClient;
 use crate::backend::Backend;
+use crate::fault_counts::Fault;
 use cf_dispatch::{broker_error, take_for};
 use cf_hub::Queued;
 use cf_presence::Stats;
@@ -76,12 +75,10 @@ impl<'a, B: Backend> Node for CommandHandler<'a, B> {
 
     // The subscription is finished, and where it stands then, its client is present.
     fn finish(&mut self, channel: String) {
-        if self.sees_end() {
-            return;
-        }
-        if self
-            .client
-            .finish(&mut self.backend.hub(), channel.as_str())
+        if !self.sees_end()
+            && self
+                .client
+                .finish(&mut self.backend.hub(), channel.as_str())
         {
             self.enter(channel.as_str());
             self.client.add(channel);
@@ -92,9 +89,12 @@ impl<'a, B: Backend> Node for CommandHandler<'a, B> {
         if self.sees_end() {
             return;
         }
-        self.client.leave(&mut self.backend.hub(), channel);
+        if let Some(number) = self.client.standing.number() {
+            self.backend.hub().leave(number, channel);
+        }
         self.backend.leave(channel, self.client.id.as_str());
-        self.client.remove(channel);
+        let channels = &mut self.client.channels;
+        channels.retain(|one| one.channel.as_str() != channel);
     }
 
     fn publish(
@@ -111,10 +111,6 @@ impl<'a, B: Backend> Node for CommandHandler<'a, B> {
             .backend
             .publish(channel.as_str(), body, key, info, self.now);
         self.has_published = true;
-        if self.backend.meets_many() {
-            // What goes to many of the node's clients is brought on meanwhile.
-            self.backend.ring_here();
-        }
         self.is_held = self.is_held || self.backend.is_crowded();
         match answer {
             Ok(_) => Ok(()),
@@ -206,22 +202,15 @@ impl<'a, B: Backend> CommandHandler<'a, B> {
     /// Whether the session is over, as the hub has it now. Where it is, its client is present
     /// nowhere from now on.
     pub(crate) fn sees_end(&mut self) -> bool {
-        if self.client.standing.is_over() {
+        if self.is_closed() {
             return true;
         }
         self.client.standing.look(&self.backend.hub());
-        if !self.client.standing.is_over() {
+        if !self.is_closed() {
             return false;
         }
         self.end();
         true
-    }
-
-    /// Whether the session is over, as far as the handler has seen.
-    pub(crate) fn is_over(&self) -> bool
-        ensures { result ≡ self.entry.now.client.standing.is_over }
-    {
-        self.client.standing.is_over()
     }
 
     /// The close goes out to the client.
@@ -234,7 +223,7 @@ impl<'a, B: Backend> CommandHandler<'a, B> {
 
     /// The session does nothing more from now on.
     pub(crate) fn stop(&mut self) {
-        if !self.is_over() {
+        if !self.is_closed() {
             self.end();
         }
     }
@@ -243,7 +232,7 @@ impl<'a, B: Backend> CommandHandler<'a, B> {
     pub(crate) fn note_slow(&mut self) {
         if !self.client.is_slow {
             self.client.is_slow = true;
-            self.backend.note_slow();
+            self.backend.count(Fault::Slow);
         }
     }
 

@@ -7,11 +7,8 @@ use cf_dispatch::is_head_over;
 use cf_queue::Out;
 use cf_session::{TurnEnd, Wire};
 use cf_wire::Gather;
-use mio::net::TcpStream;
-use std::alloc::Global;
 use std::collections::VecDeque;
-use std::io;
-use std::io::{ErrorKind, Read};
+use std::io::ErrorKind;
 
 /// The most bytes that a head may have.
 const LONGEST_HEAD: usize = 16_384;
@@ -27,13 +24,21 @@ pub(crate) enum Connection<'a, B: Backend> {
     Refusing(Refusing),
 }
 
-/// A socket, and what came of its head.
+/// A socket that keeps what came of its head, to read it once more.
 #[derive(Drop)]
 pub(crate) struct Head {
     pub(crate) socket: Socket,
-    bytes: Vec<u8>,
-    // When it was accepted, in seconds.
-    accepted: u64,
+    /// When it was accepted, in seconds.
+    pub(crate) accepted: u64,
+}
+
+/// How far a head has come.
+#[derive(Clone, Copy, Drop)]
+pub(crate) enum HeadStage {
+    Partial,
+    Whole,
+    /// It will not come whole: the connection is over, or the head too long.
+    Lost,
 }
 
 /// A connection that speaks: its wire, and the desk at which its session sits.
@@ -46,58 +51,35 @@ pub(crate) struct Open<'a, B: Backend> {
 }
 
 impl Head {
-    /// A socket that is accepted at this moment.
-    pub(crate) fn new(alloc: Global, stream: TcpStream, now: u64) -> Head {
-        Head {
-            socket: Socket::new(alloc, stream),
-            bytes: Vec::new(alloc),
-            accepted: now,
-        }
-    }
-
-    /// Reads on. Whether the head is whole; an error where the connection is over, or the head too
-    /// long.
-    pub(crate) fn read_on(&mut self) -> io::Result<bool> {
+    /// Reads on, and says how far the head has come by that.
+    pub(crate) fn read_on(&mut self) -> HeadStage {
         let mut chunk = [0u8; 1024];
         for _ in 0..LONGEST_HEAD {
-            let count = match self.socket.read(&mut chunk) {
-                Ok(count) => count,
-                Err(error) if error.kind() == ErrorKind::WouldBlock => return Ok(false),
-                Err(error) => return Err(error),
+            let stage = match self.socket.read_new(&mut chunk) {
+                Ok(count) => self.keep(chunk.get(..count).unwrap_or(&[])),
+                Err(error) if error.kind() == ErrorKind::WouldBlock => return HeadStage::Partial,
+                Err(_) => HeadStage::Lost,
             };
-            if self.keep(chunk.get(..count).unwrap_or(&[]))? {
-                return Ok(true);
+            if !matches!(stage, HeadStage::Partial) {
+                return stage;
             }
         }
-        Ok(false)
+        HeadStage::Partial
     }
 
-    // Keeps what was read, and says whether the head is whole; an error where nothing was, or the
-    // head is too long.
-    fn keep(&mut self, part: &[u8]) -> io::Result<bool> {
-        if part.is_empty() {
-            return Err(io::Error::from(ErrorKind::UnexpectedEof));
+    // Keeps what was read, and says how far the head has come by it. It is lost where nothing was.
+    fn keep(&mut self, part: &[u8]) -> HeadStage {
+        let early = &mut self.socket.early;
+        let known = early.len().saturating_sub(3);
+        if part.is_empty() || early.extend_from_slice(part).is_err() {
+            HeadStage::Lost
+        } else if has_blank_line(early.get(known..).unwrap_or(&[])) {
+            HeadStage::Whole
+        } else if early.len() >= LONGEST_HEAD {
+            HeadStage::Lost
+        } else {
+            HeadStage::Partial
         }
-        let known = self.bytes.len().saturating_sub(3);
-        self.bytes.extend_from_slice(part)?;
-        if has_blank_line(self.bytes.get(known..).unwrap_or(&[])) {
-            return Ok(true);
-        }
-        if self.bytes.len() >= LONGEST_HEAD {
-            return Err(io::Error::from(ErrorKind::InvalidData));
-        }
-        Ok(false)
-    }
-
-    /// The socket, whose next reads give the head and what came behind it.
-    pub(crate) fn into_socket(self) -> Socket {
-        let Head {
-            mut socket,
-            bytes,
-            ..
-        } = self;
-        socket.give_first(bytes);
-        socket
     }
 }
 
@@ -108,7 +90,7 @@ impl<'a, B: Backend> Connection<'a, B> {
             Connection::Empty => true,
             Connection::Head(head) => !is_head_over(head.accepted, now),
             Connection::Open(open) => open.desk.handler.refresh(now),
-            Connection::Refusing(refusing) => !refusing.is_over(now),
+            Connection::Refusing(refusing) => !is_head_over(refusing.answered, now),
         }
     }
 
@@ -126,14 +108,16 @@ impl<'a, B: Backend> Connection<'a, B> {
         }
     }
 
-    /// The connection is over: its socket is closed, and its client's session goes. Whether there was
-    /// one.
+    /// The connection is over: its socket is closed, and then its client's session goes. Whether
+    /// there was one.
     pub(crate) fn gives_up(self) -> bool {
         match self {
             Connection::Empty => false,
             Connection::Head(_) | Connection::Refusing(_) => true,
             Connection::Open(open) => {
-                Box::into_inner(open).give_up();
+                let Open { wire, mut desk, .. } = Box::into_inner(open);
+                drop(wire);
+                desk.handler.give_up();
                 true
             }
         }
@@ -147,22 +131,13 @@ impl<'a, B: Backend> Connection<'a, B> {
         }
     }
 
-    /// The socket is ready to be read, or at its end, or takes more. Whether there is one.
-    pub(crate) fn notice(&mut self, readable: bool, ended: bool) -> bool {
+    /// Its socket, if there is one.
+    pub(crate) fn socket_mut(&mut self) -> Option<&mut Socket> {
         match self {
-            Connection::Empty => false,
-            Connection::Head(head) => {
-                head.socket.notice(readable, ended);
-                true
-            }
-            Connection::Open(open) => {
-                open.wire.stream_mut().stream_mut().notice(readable, ended);
-                true
-            }
-            Connection::Refusing(refusing) => {
-                refusing.notice(readable, ended);
-                true
-            }
+            Connection::Empty => None,
+            Connection::Head(head) => Some(&mut head.socket),
+            Connection::Open(open) => Some(open.wire.stream_mut().stream_mut()),
+            Connection::Refusing(refusing) => Some(refusing.stream.stream_mut()),
         }
     }
 }
@@ -190,7 +165,10 @@ impl<'a, B: Backend> Open<'a, B> {
         self.wire.stream_mut().lend(buffer);
         self.desk.begin(now, hears);
         let end = self.wire.turn(&mut self.desk);
-        if !gives_back(&mut self.wire, buffer) {
+        let stands = drains(&mut self.wire);
+        // The buffer comes back where all that was gathered is written.
+        self.wire.stream_mut().lend(buffer);
+        if !stands {
             return Turned::Over;
         }
         if hears {
@@ -203,13 +181,6 @@ impl<'a, B: Backend> Open<'a, B> {
             TurnEnd::Closed(_) => self.closes(),
             TurnEnd::StreamFault | TurnEnd::Memory => Turned::Over,
         }
-    }
-
-    // The connection is over: its socket is closed, and then its client's session goes.
-    fn give_up(self) {
-        let Open { wire, mut desk, .. } = self;
-        drop(wire);
-        desk.handler.give_up();
     }
 
     // The wire is closed, by either side: from now on its session does nothing more, and what was
@@ -228,21 +199,8 @@ impl<'a, B: Backend> Open<'a, B> {
     }
 }
 
-// Writes what a turn gathered, and takes the buffer back that was lent to it, where all of it is
-// written. `false` where the socket fails.
-fn gives_back(wire: &mut Wire<Gather<Socket>>, buffer: &mut Vec<u8>) -> bool {
-    let goes_on = drains(wire);
-    if wire.stream().is_drained() {
-        wire.stream_mut().lend(buffer);
-    }
-    goes_on
-}
-
 // Writes what was gathered, as far as the socket takes it. `false` where the socket fails.
 fn drains(wire: &mut Wire<Gather<Socket>>) -> bool {
-    if wire.stream().is_drained() {
-        return true;
-    }
     match wire.stream_mut().drain() {
         Ok(()) => true,
         Err(error) => error.kind() == ErrorKind::WouldBlock,

@@ -10,7 +10,7 @@ use crate::backend::Backend;
 use crate::command_handler::CommandHandler;
 use cf_queue::Out;
 use cf_session::laws::idle_can_go_on;
-use cf_session::{Budget, Desk, Session, carry_on, hear_text};
+use cf_session::{Budget, Desk, Node, Session, carry_on, hear_text};
 use std::collections::VecDeque;
 use std::marker::PhantomData;
 
@@ -93,7 +93,7 @@ impl<'a, B: Backend> Desk for SessionDesk<'a, B> {
     fn is_ready(&self) -> bool {
         self.hears
             && !self.budget.is_spent()
-            && !self.handler.is_over()
+            && !self.handler.is_closed()
             && self.talk.session.is_idle()
     }
 
@@ -104,11 +104,13 @@ impl<'a, B: Backend> Desk for SessionDesk<'a, B> {
     }
 
     fn next(&mut self) -> Option<Out> {
-        let out = self.take();
-        if let Some(Out::Close(code)) = &out {
-            self.handler.sees_close(*code);
+        match self.take()? {
+            Out::Close(code) => {
+                self.handler.sees_close(code);
+                Some(Out::Close(code))
+            }
+            text => Some(text),
         }
-        out
     }
 }
 
@@ -139,7 +141,8 @@ impl<'a, B: Backend> SessionDesk<'a, B> {
         self.hears = hears;
         self.has_heard = false;
         if hears {
-            self.budget = Budget::new(self.units());
+            let is_slowed = self.handler.is_held || self.handler.backend.is_crowded();
+            self.budget = Budget::new(if is_slowed { FEW_UNITS } else { UNITS });
             self.handler.is_held = false;
             if !self.talk.session.is_idle() {
                 self.talk.go_on(&mut self.handler, &mut self.budget);
@@ -149,19 +152,10 @@ impl<'a, B: Backend> SessionDesk<'a, B> {
         }
     }
 
-    // What this turn may carry out.
-    fn units(&self) -> usize {
-        if self.handler.is_held || self.handler.backend.is_crowded() {
-            FEW_UNITS
-        } else {
-            UNITS
-        }
-    }
-
     /// Whether a turn in which texts were heard left something to do at once.
     pub(crate) fn goes_on(&self) -> bool {
         self.hears
-            && !self.handler.is_over()
+            && !self.handler.is_closed()
             && (self.budget.is_spent() || !self.talk.session.is_idle())
     }
 
@@ -173,20 +167,18 @@ impl<'a, B: Backend> SessionDesk<'a, B> {
 
     // What goes out next.
     fn take(&mut self) -> Option<Out> {
-        if let Some(out) = self.taken.pop_front() {
-            return Some(out);
+        if self.taken.is_empty() {
+            if let Some(code) = self.handler.client.refused.take() {
+                return Some(Out::Close(code));
+            }
+            if self.owed {
+                self.owed = self.handler.take(&mut self.taken);
+            }
+            if self.taken.is_empty() {
+                // An idle connection keeps room for what comes one by one, so that this takes no memory.
+                self.taken.shrink_to(2);
+            }
         }
-        if let Some(code) = self.handler.client.refused.take() {
-            return Some(Out::Close(code));
-        }
-        if self.owed {
-            self.owed = self.handler.take(&mut self.taken);
-        }
-        let out = self.taken.pop_front();
-        if out.is_none() {
-            // An idle connection keeps room for what comes one by one, so that this takes no memory.
-            self.taken.shrink_to(2);
-        }
-        out
+        self.taken.pop_front()
     }
 }

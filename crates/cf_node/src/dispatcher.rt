@@ -87,11 +87,13 @@ impl<'a, R: Wait + Clock, G: Gate> Mailbox for NodeMailbox<'a, R, G> {
                 self.shared.lock(self.rt)
             }
         };
-        let delivered = deliver(&mut hub, delivery);
-        self.shared.note_met(delivered.passed);
-        if delivered.passed > 0 {
-            self.shared.fall_behind(delivery.publication.body.len());
-        }
+        let delivered = hub.deliver(
+            delivery.channel.as_str(),
+            &delivery.epoch,
+            &delivery.publication,
+        );
+        self.shared
+            .note_brought(delivered.passed, delivery.publication.body.len());
         if self.goes_on(&delivered) {
             self.hub = Some(hub);
         }
@@ -101,15 +103,6 @@ impl<'a, R: Wait + Clock, G: Gate> Mailbox for NodeMailbox<'a, R, G> {
     fn wake(&mut self) {
         self.shared.wake();
     }
-}
-
-// Brings a publication to a hub.
-fn deliver(hub: &mut Hub, delivery: &Delivery) -> Delivered {
-    hub.deliver(
-        delivery.channel.as_str(),
-        &delivery.epoch,
-        &delivery.publication,
-    )
 }
 
 /// Takes turns until `stop` isn't 0.

@@ -8,6 +8,15 @@ pub struct FaultCounts {
     slow: AtomicU64,
 }
 
+/// What goes wrong.
+#[derive(Clone, Copy, Drop)]
+pub(crate) enum Fault {
+    /// A connection is not served, for want of descriptors or memory.
+    Refused,
+    /// A session was closed since its client was too slow.
+    Slow,
+}
+
 impl FaultCounts {
     /// Nothing went wrong yet.
     pub fn new() -> FaultCounts {
@@ -27,13 +36,12 @@ impl FaultCounts {
         self.slow.load(Ordering::SeqCst)
     }
 
-    /// A connection is not served.
-    pub(crate) fn add_refused(&self) {
-        self.refused.fetch_add(1, Ordering::SeqCst);
-    }
-
-    /// A session was closed since its client was too slow.
-    pub(crate) fn add_slow(&self) {
-        self.slow.fetch_add(1, Ordering::SeqCst);
+    /// One thing more goes wrong.
+    pub(crate) fn add(&self, fault: Fault) {
+        let count = match fault {
+            Fault::Refused => &self.refused,
+            Fault::Slow => &self.slow,
+        };
+        count.fetch_add(1, Ordering::SeqCst);
     }
 }

@@ -1,10 +1,11 @@
 //! The worker that serves the sockets: it turns a connection that has something to read or
 //! something to send, and no other, in the order of an agenda. A connection that has spent what one
 //! turn carries out goes on behind all others, and once what it brought them is sent.
-use crate::acceptor::{Accepted, Acceptor, LISTENER, WAKER};
+use crate::acceptor::{Acceptor, LISTENER, WAKER};
 use crate::backend::Backend;
-use crate::connection::{Connection, Head, Open, Turned, takes_more};
+use crate::connection::{Connection, Head, HeadStage, Open, Turned, takes_more};
 use crate::desk::SessionDesk;
+use crate::fault_counts::Fault;
 use crate::gate::{Gate, IO_LOOP};
 use crate::refusing::Refusing;
 use crate::socket::Socket;
@@ -15,8 +16,10 @@ use cf_session::Wire;
 use cf_wire::Gather;
 use mio::Events;
 use mio::event::Event;
+use mio::net::TcpStream;
 use std::alloc::AllocError;
 use std::collections::VecDeque;
+use std::io::ErrorKind;
 use std::sync::Wait;
 use std::sync::atomic::{AtomicU64, Ordering};
 use std::time::{Clock, Duration};
@@ -103,7 +106,25 @@ pub(crate) fn serve<R: Wait + Clock, B: Backend, G: Gate>(
     gate: &G,
     stop: &AtomicU64,
 ) -> io::Result<()> {
-    IoLoop::new(backend, acceptor).run(rt, node, gate, stop)
+    let alloc = backend.alloc();
+    let mut io_loop = IoLoop {
+        backend,
+        acceptor,
+        places: Vec::new(alloc),
+        free: Vec::new(alloc),
+        owners: Vec::new(alloc),
+        agenda: Agenda::new(alloc),
+        spenders: Agenda::new(alloc),
+        waited: 0,
+        held: Agenda::new(alloc),
+        is_behind: false,
+        batch: Vec::new(alloc),
+        buffer: Vec::new(alloc),
+        accepts: Accepts::All,
+        seconds: Seconds::new(),
+        now: 0,
+    };
+    io_loop.run(rt, node, gate, stop)
 }
 
 // A connection whose head is whole: the handshake is answered, or the question whether the node
@@ -116,10 +137,10 @@ fn opened<'a, B: Backend>(
     let Connection::Head(head) = connection else {
         return Connection::Empty;
     };
-    let gather = Gather::new(backend.alloc(), head.into_socket(), GATHERED);
+    let gather = Gather::new(backend.alloc(), head.socket, GATHERED);
     match Wire::accept(backend.alloc(), gather) {
         Ok(wire) => seated(backend, wire, now),
-        Err(refused) => match Refusing::new(refused, backend.is_well(now), now) {
+        Err(refused) => match Refusing::new(refused, backend.shared().is_well(now), now) {
             Some(refusing) => Connection::Refusing(refusing),
             None => Connection::Empty,
         },
@@ -132,40 +153,21 @@ fn seated<'a, B: Backend>(
     wire: Wire<Gather<Socket>>,
     now: u64,
 ) -> Connection<'a, B> {
-    let desk = SessionDesk::new(backend, now);
-    let open = Open {
-        wire,
-        desk,
-        is_spent: false,
-    };
-    match Box::new(backend.alloc(), open) {
+    let open = Box::new(
+        backend.alloc(),
+        Open {
+            wire,
+            desk: SessionDesk::new(backend, now),
+            is_spent: false,
+        },
+    );
+    match open {
         Ok(open) => Connection::Open(open),
         Err(_) => Connection::Empty,
     }
 }
 
 impl<'a, B: Backend> IoLoop<'a, B> {
-    fn new(backend: &'a B, acceptor: Acceptor) -> IoLoop<'a, B> {
-        let alloc = backend.alloc();
-        IoLoop {
-            backend,
-            acceptor,
-            places: Vec::new(alloc),
-            free: Vec::new(alloc),
-            owners: Vec::new(alloc),
-            agenda: Agenda::new(alloc),
-            spenders: Agenda::new(alloc),
-            waited: 0,
-            held: Agenda::new(alloc),
-            is_behind: false,
-            batch: Vec::new(alloc),
-            buffer: Vec::new(alloc),
-            accepts: Accepts::All,
-            seconds: Seconds::new(),
-            now: 0,
-        }
-    }
-
     // Takes turns until `stop` isn't 0, and then closes all sessions.
     fn run<R: Wait + Clock, G: Gate>(
         &mut self,
@@ -219,7 +221,7 @@ impl<'a, B: Backend> IoLoop<'a, B> {
     // One turn: what is ready is noted, who has a turn to come has it, and then comes a new second.
     fn turn(&mut self, events: &Events, now: u64) {
         self.now = now;
-        self.backend.look();
+        self.backend.shared().look();
         let mut count: usize = 0;
         for event in events {
             count = count.saturating_add(1);
@@ -233,7 +235,7 @@ impl<'a, B: Backend> IoLoop<'a, B> {
         self.serve_spender();
         self.serve_held();
         if !self.is_behind {
-            self.backend.catch_up();
+            self.backend.shared().catch_up();
         }
         if self.seconds.turn_ends(now, count >= MOST_EVENTS) {
             self.on_second();
@@ -244,8 +246,10 @@ impl<'a, B: Backend> IoLoop<'a, B> {
     fn on_second(&mut self) {
         self.backend.hub().tick(self.seconds.done());
         for place in 0..self.places.len() {
-            if !self.refresh(place) {
-                self.end(place);
+            if let Some(connection) = self.places.get_mut(place) {
+                if !connection.refresh(self.seconds.done()) {
+                    self.end(place);
+                }
             }
         }
         self.backend.tick(self.seconds.done());
@@ -253,14 +257,6 @@ impl<'a, B: Backend> IoLoop<'a, B> {
             self.accept_some();
         }
         self.serve_named();
-    }
-
-    // What a second brings to the connection at a place. `false` where it is over.
-    fn refresh(&mut self, place: usize) -> bool {
-        match self.places.get_mut(place) {
-            Some(connection) => connection.refresh(self.seconds.done()),
-            None => true,
-        }
     }
 
     // A socket is ready.
@@ -271,21 +267,41 @@ impl<'a, B: Backend> IoLoop<'a, B> {
         } else if token != WAKER {
             let place = token.0;
             let ended = event.is_read_closed() || event.is_error();
-            let is_there = match self.places.get_mut(place) {
-                Some(connection) => connection.notice(event.is_readable(), ended),
-                None => false,
-            };
-            if is_there {
-                self.owe(place);
+            if let Some(connection) = self.places.get_mut(place) {
+                if let Some(socket) = connection.socket_mut() {
+                    socket.notice(event.is_readable(), ended);
+                    self.owe(place);
+                }
             }
         }
     }
 
-    // A turn of the connection at a place is to come.
+    // The connection at a place, where it speaks.
+    fn open_at(&self, place: usize) -> Option<&Open<'a, B>> {
+        match self.places.get(place) {
+            Some(Connection::Open(open)) => Some(open),
+            _ => None,
+        }
+    }
+
+    // The same, to be changed.
+    fn open_at_mut(&mut self, place: usize) -> Option<&mut Open<'a, B>> {
+        match self.places.get_mut(place) {
+            Some(Connection::Open(open)) => Some(open),
+            _ => None,
+        }
+    }
+
+    // A turn of the connection at a place is to come: held back, where it published while some node
+    // was behind; behind all others, where it has spent the bounds of its last turn.
     fn owe(&mut self, place: usize) {
-        let added = if self.is_held(place) {
+        let (is_held, is_spent) = match self.open_at(place) {
+            Some(open) => (open.desk.handler.is_held, open.is_spent),
+            None => (false, false),
+        };
+        let added = if is_held {
             self.held.add(place)
-        } else if self.has_spent(place) {
+        } else if is_spent {
             self.spenders.add(place)
         } else {
             self.agenda.add(place)
@@ -295,66 +311,57 @@ impl<'a, B: Backend> IoLoop<'a, B> {
         }
     }
 
-    // Whether the connection at a place published while some node was behind.
-    fn is_held(&self, place: usize) -> bool {
-        match self.places.get(place) {
-            Some(Connection::Open(open)) => open.desk.handler.is_held,
-            _ => false,
-        }
-    }
-
-    // Whether the connection at a place has spent the bounds of its last turn.
-    fn has_spent(&self, place: usize) -> bool {
-        match self.places.get(place) {
-            Some(Connection::Open(open)) => open.is_spent,
-            _ => false,
-        }
-    }
-
     // Accepts some of what waits to be.
     fn accept_some(&mut self) {
-        self.accepts = Accepts::More;
         for _ in 0..MOST_ACCEPTED {
-            match self.accept() {
-                Accepts::More => {}
-                accepts => {
-                    self.accepts = accepts;
-                    return;
-                }
+            self.accepts = self.accept();
+            if self.accepts != Accepts::More {
+                return;
             }
         }
     }
 
     // Accepts a connection, if one waits.
     fn accept(&mut self) -> Accepts {
-        let stream = match self.acceptor.accept() {
-            Accepted::Stream(stream) => stream,
-            Accepted::Gone => return Accepts::More,
-            Accepted::Nothing => return Accepts::All,
-            Accepted::Failed => {
-                self.backend.note_refused();
-                return Accepts::Failed;
+        match self.acceptor.accept() {
+            Ok(stream) => {
+                if !self.put(stream) {
+                    self.backend.count(Fault::Refused);
+                }
+                Accepts::More
             }
-        };
-        let head = Head::new(self.backend.alloc(), stream, self.seconds.done());
-        if self.put(head).is_err() {
-            self.backend.note_refused();
+            Err(error) => match error.kind() {
+                // It was gone before it was accepted.
+                ErrorKind::ConnectionAborted => Accepts::More,
+                ErrorKind::WouldBlock => Accepts::All,
+                _ => {
+                    self.backend.count(Fault::Refused);
+                    Accepts::Failed
+                }
+            },
         }
-        Accepts::More
     }
 
-    // Gives a new connection its place. Where that fails the connection is dropped.
-    fn put(&mut self, mut head: Head) -> Result<(), AllocError> {
-        let place = self.empty_place()?;
-        let is_registered = self.acceptor.registers(&mut head.socket.stream, place);
+    // Gives a new connection its place. Where that fails, which is answered by `false`, the
+    // connection is dropped.
+    fn put(&mut self, mut stream: TcpStream) -> bool {
+        let Ok(place) = self.empty_place() else {
+            return false;
+        };
+        let is_registered = self.acceptor.registers(&mut stream, place);
         match self.places.get_mut(place) {
-            Some(connection) if is_registered => *connection = Connection::Head(head),
+            Some(connection) if is_registered => {
+                *connection = Connection::Head(Head {
+                    socket: Socket::new(self.backend.alloc(), stream),
+                    accepted: self.seconds.done(),
+                });
+                true
+            }
             _ => {
-                self.backend.note_refused();
                 let _ = self.free.push(place);
+                false
             }
         }
-        Ok(())
     }
 
     // A place that stands empty: a free one, or one more, with room for the owner of one session
@@ -415,9 +422,9 @@ impl<'a, B: Backend> IoLoop<'a, B> {
     fn hear(&mut self, place: usize) {
         if let Some(Connection::Head(head)) = self.places.get_mut(place) {
             match head.read_on() {
-                Ok(false) => {}
-                Ok(true) => self.open(place),
-                Err(_) => self.end(place),
+                HeadStage::Partial => {}
+                HeadStage::Whole => self.open(place),
+                HeadStage::Lost => self.end(place),
             }
         } else {
             self.serve(place, true);
@@ -438,25 +445,21 @@ impl<'a, B: Backend> IoLoop<'a, B> {
         }
     }
 
-    // Turns the connection at a place, where its client is heard or only served.
+    // Turns the connection at a place, where its client is heard or only served. The place is its
+    // session's from then on.
     fn serve(&mut self, place: usize, hears: bool) {
-        match self.turn_at(place, hears) {
-            Turned::Idle => {}
-            Turned::More => self.owe(place),
-            Turned::Over => self.end(place),
-        }
-    }
-
-    // The turn of the connection at a place. The place is its session's from then on.
-    fn turn_at(&mut self, place: usize, hears: bool) -> Turned {
         let Some(connection) = self.places.get_mut(place) else {
-            return Turned::Idle;
+            return;
         };
         let turned = connection.turn(&mut self.buffer, self.seconds.done(), hears);
         if let Some(number) = connection.session() {
             note_place(&mut self.owners, number, place);
         }
-        turned
+        match turned {
+            Turned::Idle => {}
+            Turned::More => self.owe(place),
+            Turned::Over => self.end(place),
+        }
     }
 
     // The connection at a place is over.
@@ -478,13 +481,15 @@ impl<'a, B: Backend> IoLoop<'a, B> {
     }
 
     // Turns those for which the hub has something, some of them, and notes whether there may be more.
+    // What waits for some sessions is taken under one lock of the hub; what a socket has no room for
+    // stays there.
     fn serve_named(&mut self) {
         self.is_behind = false;
         if self.batch.reserve(SESSIONS_AT_ONCE).is_err() {
             return;
         }
         for _ in 0..MOST_BATCHES {
-            self.take_some();
+            take_batch(&mut self.backend.hub(), self);
             if self.batch.is_empty() {
                 return;
             }
@@ -493,53 +498,43 @@ impl<'a, B: Backend> IoLoop<'a, B> {
         self.is_behind = true;
     }
 
-    // Turns those for which something was taken. The room for the next ones is kept.
+    // Turns those for which something was taken, and looks whether the session of one whose socket
+    // takes nothing was closed.
     fn serve_batch(&mut self) {
-        let mut batch = mem::replace(&mut self.batch, Vec::new(self.backend.alloc()));
-        for named in batch.iter() {
-            if named.is_free {
-                self.serve(named.place, false);
-            } else {
-                self.look_over(named.place);
+        for index in 0..self.batch.len() {
+            match self.batch.get(index).copied() {
+                Some(named) if named.is_free => self.serve(named.place, false),
+                Some(named) => self.look_over(named.place),
+                None => {}
             }
         }
-        batch.clear();
-        self.batch = batch;
+        self.batch.clear();
     }
 
     // Looks whether the session at a place whose socket takes nothing was closed.
     fn look_over(&mut self, place: usize) {
-        if let Some(Connection::Open(open)) = self.places.get_mut(place) {
+        if let Some(open) = self.open_at_mut(place) {
             open.desk.handler.sees_end();
-        }
-    }
-
-    // Takes what waits for some sessions under one lock of the hub, and notes their places. What a
-    // socket has no room for stays in the hub.
-    fn take_some(&mut self) {
-        let mut hub = self.backend.hub();
-        take_batch(&mut hub, self);
-    }
-
-    // The session of the connection at a place, from which something is owed from now on.
-    fn owes(&mut self, place: usize) -> Option<u32> {
-        match self.places.get_mut(place) {
-            Some(Connection::Open(open)) => {
-                open.desk.owed = true;
-                open.desk.handler.client.standing.number()
-            }
-            _ => None,
         }
     }
 
     // All sessions are closed with 3001, and told so as far as their sockets take it.
     fn shut_down(&mut self) {
         for place in 0..self.places.len() {
-            if let Some(number) = self.owes(place) {
-                self.backend.hub().close(number, CloseCode::Shutdown.code());
-            }
+            self.close(place);
             self.serve(place, false);
             self.end(place);
+        }
+    }
+
+    // The session of the connection at a place is closed, which is still to be told.
+    fn close(&mut self, place: usize) {
+        let Some(open) = self.open_at_mut(place) else {
+            return;
+        };
+        open.desk.owed = true;
+        if let Some(number) = open.desk.handler.client.standing.number() {
+            self.backend.hub().close(number, CloseCode::Shutdown.code());
         }
     }
 }
@@ -565,27 +560,27 @@ impl<'a, B: Backend> Outlets for IoLoop<'a, B> {
     ghost gets = { λ _ _ _ _ _. Unit {0} };
 
     fn is_free(&self, session: u32) -> bool {
-        match self.places.get(place_of(&self.owners, session)) {
-            Some(Connection::Open(open)) => {
+        match self.open_at(place_of(&self.owners, session)) {
+            Some(open) => {
                 open.desk.handler.client.standing.number() == Some(session)
                     && takes_more(&open.wire, &open.desk.taken)
             }
-            _ => false,
+            None => false,
         }
     }
 
     fn lend(&mut self, session: u32) -> VecDeque<Out> {
         let nothing = VecDeque::new(self.backend.alloc());
         let place = place_of(&self.owners, session);
-        match self.places.get_mut(place) {
-            Some(Connection::Open(open)) => mem::replace(&mut open.desk.taken, nothing),
-            _ => nothing,
+        match self.open_at_mut(place) {
+            Some(open) => mem::replace(&mut open.desk.taken, nothing),
+            None => nothing,
         }
     }
 
     fn give(&mut self, session: u32, taken: VecDeque<Out>, more: bool) {
         let place = place_of(&self.owners, session);
-        let Some(Connection::Open(open)) = self.places.get_mut(place) else {
+        let Some(open) = self.open_at_mut(place) else {
             return;
         };
         let is_free = takes_more(&open.wire, &open.desk.taken);

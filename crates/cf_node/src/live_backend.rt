@@ -3,6 +3,7 @@
 ghost use Rattle.std.specs.Prelude.{◌≡◌, ◌<◌, IfSome};
 
 use crate::backend::Backend;
+use crate::fault_counts::Fault;
 use crate::node::Setup;
 use crate::shared::Shared;
 use cf_broker::{Broker, Passes, SHARDS, shard_of};
@@ -69,16 +70,8 @@ impl<'a, R: Wait, N: Naming, E: Epochs + Drop> Backend for LiveBackend<'a, R, N,
         self.shared.hub(self.rt)
     }
 
-    fn look(&self) {
-        self.shared.look();
-    }
-
-    fn catch_up(&self) {
-        self.shared.catch_up();
-    }
-
-    fn is_well(&self, now: u64) -> bool {
-        self.shared.is_well(now)
+    fn shared(&self) -> &Shared {
+        self.shared
     }
 
     fn is_crowded(&self) -> bool {
@@ -89,23 +82,9 @@ impl<'a, R: Wait, N: Naming, E: Epochs + Drop> Backend for LiveBackend<'a, R, N,
         self.broker.ring(self.rt);
     }
 
-    fn ring_here(&self) {
-        self.broker.ring_at(self.rt, usize::from(self.setup.node()));
-    }
-
-    fn meets_many(&self) -> bool {
-        self.shared.meets_many()
-    }
-
-    fn note_refused(&self) {
+    fn count(&self, fault: Fault) {
         if let Some(counts) = self.setup.counts {
-            counts.add_refused();
-        }
-    }
-
-    fn note_slow(&self) {
-        if let Some(counts) = self.setup.counts {
-            counts.add_slow();
+            counts.add(fault);
         }
     }
 
@@ -125,6 +104,10 @@ impl<'a, R: Wait, N: Naming, E: Epochs + Drop> Backend for LiveBackend<'a, R, N,
             .broker
             .publish(self.rt, &mut pass, channel, body, key, Some(info), now);
         put_back(&self.passes, shard, pass);
+        if self.shared.meets_many() {
+            // What goes to many of the node's clients is brought on meanwhile.
+            self.broker.ring_at(self.rt, usize::from(self.setup.node()));
+        }
         answer
     }
 
@@ -161,22 +144,15 @@ impl<'a, R: Wait, N: Naming, E: Epochs + Drop> Backend for LiveBackend<'a, R, N,
         answer
     }
 
-    fn position(&self, channel: &str) -> (Option<Position>, u64) {
+    fn position_since(&self, channel: &str, mark: Option<u64>) -> Option<(Option<Position>, u64)> {
         let shard = shard_of(channel);
         let Some(mut pass) = taken(&self.passes, self.broker, shard) else {
-            return (None, 0);
+            return Some((None, 0));
         };
-        let answer = self.broker.position(self.rt, &mut pass, channel);
-        put_back(&self.passes, shard, pass);
-        answer
-    }
-
-    fn is_quiet_since(&self, channel: &str, mark: u64) -> bool {
-        let shard = shard_of(channel);
-        let Some(mut pass) = taken(&self.passes, self.broker, shard) else {
-            return false;
+        let answer = match mark {
+            Some(mark) if self.broker.quiet_since(&mut pass, channel, mark) => None,
+            _ => Some(self.broker.position(self.rt, &mut pass, channel)),
         };
-        let answer = self.broker.quiet_since(&mut pass, channel, mark);
         put_back(&self.passes, shard, pass);
         answer
     }

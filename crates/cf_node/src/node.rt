@@ -9,7 +9,6 @@ use crate::io_loop::serve;
 use crate::live_backend::LiveBackend;
 use crate::shared::Shared;
 use cf_broker::{Broker, Passes};
-use cf_hub::Hub;
 use cf_link::Receiver;
 use cf_protocol::{Namespaces, Tokens};
 use cf_shard::{Delivery, Naming};
@@ -87,8 +86,7 @@ impl<'a, N: Naming> Node<'a, N> {
         listener: TcpListener,
     ) -> io::Result<Node<'a, N>> {
         let (acceptor, waker) = Acceptor::open(rt, listener)?;
-        let hub = Hub::new(rt.alloc(), setup.node, setup.boot);
-        let shared = Shared::new(hub, waker);
+        let shared = Shared::new(rt.alloc(), setup.node, setup.boot, waker);
         Ok(Node {
             setup,
             acceptor,

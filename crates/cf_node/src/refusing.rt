@@ -2,7 +2,6 @@
 //! A socket that is closed while its client still sends is reset, and the answer may be lost by it.
 use crate::connection::Turned;
 use crate::socket::Socket;
-use cf_dispatch::is_head_over;
 use cf_handshake::health_answer;
 use cf_session::WireFault;
 use cf_wire::{Gather, Refused};
@@ -14,9 +13,9 @@ const MOST_READS: usize = 16;
 /// A socket that is answered, and what is left to be written to it.
 #[derive(Drop)]
 pub(crate) struct Refusing {
-    stream: Gather<Socket>,
-    // When it was answered, in seconds.
-    answered: u64,
+    pub(crate) stream: Gather<Socket>,
+    /// When it was answered, in seconds: its client has as long to read that as one has for a head.
+    pub(crate) answered: u64,
     // Its client was told that nothing more is written.
     is_shut: bool,
 }
@@ -74,15 +73,5 @@ impl Refusing {
             }
         }
         Turned::More
-    }
-
-    /// Whether its client has had time enough to read the answer: as long as one has for a head.
-    pub(crate) fn is_over(&self, now: u64) -> bool {
-        is_head_over(self.answered, now)
-    }
-
-    /// The socket is ready to be read, or at its end, or takes more.
-    pub(crate) fn notice(&mut self, readable: bool, ended: bool) {
-        self.stream.stream_mut().notice(readable, ended);
     }
 }

@@ -15,7 +15,12 @@ impl<'a, B: Backend> CommandHandler<'a, B> {
     pub(crate) fn refresh(&mut self, now: u64) -> bool {
         self.now = now;
         if self.sees_end() {
-            return self.still_closes();
+            // Its socket may take what waits for it for a while.
+            let is_over = is_close_over(self.client.ended, now);
+            if is_over {
+                self.note_slow();
+            }
+            return !is_over;
         }
         if let Some(number) = self.client.standing.number() {
             if now.saturating_sub(self.client.refreshed) >= ROUND {
@@ -24,16 +29,6 @@ impl<'a, B: Backend> CommandHandler<'a, B> {
             }
         }
         true
-    }
-
-    // Whether the connection of a session that is over still stands: its socket may take what waits
-    // for it for a while.
-    fn still_closes(&mut self) -> bool {
-        let is_over = is_close_over(self.client.ended, self.now);
-        if is_over {
-            self.note_slow();
-        }
-        !is_over
     }
 
     // A round of the client.
@@ -62,12 +57,9 @@ impl<'a, B: Backend> CommandHandler<'a, B> {
     // fine, and its shard's log is as it was then, this one would be fine too, and is left out.
     fn stands(&self, number: u32, present: &mut Present) -> bool {
         let channel = present.channel.as_str();
-        if let Some(mark) = present.mark {
-            if self.backend.is_quiet_since(channel, mark) {
-                return true;
-            }
-        }
-        let (top, mark) = self.backend.position(channel);
+        let Some((top, mark)) = self.backend.position_since(channel, present.mark) else {
+            return true;
+        };
         let checked = self.backend.hub().check(number, channel, top);
         present.mark = mark_after(checked, mark);
         goes_on(checked)

@@ -3,6 +3,7 @@ ghost use Rattle.std.specs.Prelude.{◌≤◌, ◌+◌, ◌↔◌, IsTrue};
 
 use cf_hub::Hub;
 use mio::Waker;
+use std::alloc::Global;
 use std::sync::atomic::{AtomicU64, Ordering};
 use std::sync::{Mutex, MutexGuard, Wait};
 use std::thread;
@@ -57,9 +58,10 @@ fn lives(turned: u64, now: u64) -> bool
 }
 
 impl Shared {
-    pub(crate) fn new(hub: Hub, waker: Waker) -> Shared {
+    /// The hub of a node of this number, at this start of the program, with no session yet.
+    pub(crate) fn new(alloc: Global, node: u8, boot: u64, waker: Waker) -> Shared {
         Shared {
-            hub: Mutex::new(hub),
+            hub: Mutex::new(Hub::new(alloc, node, boot)),
             waker,
             woken: AtomicU64::new(0),
             behind: AtomicU64::new(0),
@@ -78,11 +80,6 @@ impl Shared {
     /// Whether the dispatcher has turned within two seconds.
     pub(crate) fn is_well(&self, now: u64) -> bool {
         lives(self.turned_at.load(Ordering::SeqCst), now)
-    }
-
-    /// The last publication was pushed to so many clients.
-    pub(crate) fn note_met(&self, count: u32) {
-        self.met.store(count as u64, Ordering::SeqCst);
     }
 
     /// Whether the last publication was pushed to many clients.
@@ -121,9 +118,13 @@ impl Shared {
         self.behind.store(0, Ordering::SeqCst);
     }
 
-    /// So many bytes more were brought to clients' queues in the hub. Where they are a large
-    /// publication, its readers are left some time for it, a millisecond for each 32,768 bytes begun.
-    pub(crate) fn fall_behind(&self, bytes: usize) {
+    /// A publication of so many bytes was pushed to so many clients' queues in the hub. Where it is a
+    /// large one, its readers are left some time for it, a millisecond for each 32,768 bytes begun.
+    pub(crate) fn note_brought(&self, count: u32, bytes: usize) {
+        self.met.store(count as u64, Ordering::SeqCst);
+        if count == 0 {
+            return;
+        }
         self.behind.fetch_add(bytes as u64, Ordering::SeqCst);
         if bytes >= LARGE {
             self.rest.store((bytes / PACE) as u64 + 1, Ordering::SeqCst);

@@ -1,6 +1,6 @@
 //! A client's socket: what came with its head is read first, and a read is tried only where it may
 //! find something.
-ghost use Rattle.std.specs.Prelude.{◌≤◌, length};
+ghost use Rattle.std.specs.Prelude.{◌≤◌, IfOk, length};
 
 use mio::net::TcpStream;
 use std::alloc::Global;
@@ -12,8 +12,9 @@ use std::net::Shutdown;
 pub(crate) struct Socket {
     alloc: Global,
     pub(crate) stream: TcpStream,
-    // What was read before the handshake, and how much of it was given.
-    early: Vec<u8>,
+    /// What was read before the handshake, to be read once more.
+    pub(crate) early: Vec<u8>,
+    // How much of it was given.
     given: usize,
     // Whether a read may find something. It spares the reads that would block.
     readable: bool,
@@ -44,12 +45,6 @@ impl Socket {
         self.stream.shutdown(Shutdown::Write)
     }
 
-    /// Gives these bytes to the next reads, before what the peer sends from now on.
-    pub(crate) fn give_first(&mut self, bytes: Vec<u8>) {
-        self.early = bytes;
-        self.given = 0;
-    }
-
     // What was read early and not given yet.
     fn read_early(&mut self, room: &mut [u8]) -> usize
         ensures { result ≤ length room.new }
@@ -66,13 +61,11 @@ impl Socket {
         }
         count
     }
-}
 
-impl Read for Socket {
-    fn read(&mut self, room: &mut [u8]) -> io::Result<usize> {
-        if !self.early.is_empty() {
-            return Ok(self.read_early(room));
-        }
+    /// Reads what the peer sends, where a read may find something.
+    pub(crate) fn read_new(&mut self, room: &mut [u8]) -> io::Result<usize>
+        ensures { IfOk result (λ count. count ≤ length room.new) }
+    {
         if !self.readable {
             return Err(io::Error::from(ErrorKind::WouldBlock));
         }
@@ -89,6 +82,16 @@ impl Read for Socket {
                 }
                 Err(error)
             }
+        }
+    }
+}
+
+impl Read for Socket {
+    fn read(&mut self, room: &mut [u8]) -> io::Result<usize> {
+        if self.early.is_empty() {
+            self.read_new(room)
+        } else {
+            Ok(self.read_early(room))
         }
     }
 }
