@@ -9,7 +9,7 @@ use httparse::is_space_or_tab;
 use httparse::spans::HeaderSpan;
 
 /// Whether the case of letters matters where an item of a list is looked for.
-#[derive(Clone, Copy, Debug, PartialEq, Eq)]
+#[derive(Clone, Copy)]
 pub(crate) enum Case {
     Matters,
     Ignored,

@@ -2,19 +2,17 @@
 ghost use Rattle.std.specs.Prelude.{◌≡◌, ◌↔◌, ℕ, List, false, true, not, IsTrue};
 ghost use Rattle.std.specs.List.{list_all};
 ghost use Rattle.std.specs.String.{string_eq};
-ghost use Rattle.cf_hub.specs.Asking.{asked_of};
 ghost use Rattle.cf_model.specs.SessionState.{is_unfinished};
 ghost use Rattle.cf_hub.specs.Subscriptions.{sub_of};
 ghost use Rattle.indexmap.specs.IndexMap.{IsUnique};
 
 use crate::hub::Hub;
-use crate::session::Session;
 use crate::subscription::Progress;
 use cf_protocol::Position;
 use indexmap::IndexMap;
 
 /// A subscription for which the stream was not read yet.
-#[derive(Clone, Copy, PartialEq, Eq, Debug)]
+#[derive(Clone, Copy)]
 pub struct Asked {
     /// The position from which it asked, if it did from one.
     pub since: Option<Position>,
@@ -30,9 +28,9 @@ impl Hub {
     pub fn asked(&self, session: u32, channel: &str) -> Option<Asked>
         ensures { result ≡ asked_of (sub_at self.now session channel.now) }
     {
-        match self.session(session) {
-            None => None,
-            Some(session) => session.asked(channel),
+        match self.progress(session, channel)? {
+            Progress::Asked { since, .. } => Some(Asked { since: *since }),
+            _ => None,
         }
     }
 
@@ -48,29 +46,7 @@ impl Hub {
     }
 }
 
-impl Session {
-    ghost use Rattle.std.specs.Prelude.{◌≡◌};
-    ghost use Rattle.cf_hub.specs.Asking.{asked_of};
-    ghost use Rattle.cf_hub.specs.Session.{state_of};
-
-    fn asked(&self, channel: &str) -> Option<Asked>
-        ensures { result ≡ asked_of ((state_of self.now).subs channel.now) }
-    {
-        self.subscriptions.get(channel)?.asked()
-    }
-}
-
 impl Progress {
-    /// The position from which it asked, while the stream was not read for it.
-    fn asked(&self) -> Option<Asked>
-        ensures { result ≡ asked_of (sub_of (Some self.now)) }
-    {
-        match self {
-            Progress::Asked { since, .. } => Some(Asked { since: *since }),
-            _ => None,
-        }
-    }
-
     /// Whether its reply was queued.
     fn is_finished(&self) -> bool
         ensures { result ≡ not (is_unfinished (sub_of (Some self.now))) }

@@ -1,11 +1,12 @@
 //! One node's sessions and rows.
-ghost use Rattle.std.specs.Prelude.{◌≡◌, ◌==◌, None, length, not, slice_get, option_map, option_and_then};
+ghost use Rattle.std.specs.Prelude.{◌≡◌, ◌==◌, ◌≤◌, None, length, not, slice_get, option_map, option_and_then};
 ghost use Rattle.cf_subscribers.specs.Follows.{AreFollows, channels_of, sessions_of};
 ghost use Rattle.cf_queue.specs.Meaning.{meaning};
 ghost use Rattle.cf_queue.specs.OutQueue.{Close};
 ghost use Rattle.cf_hub.specs.Delivery.{total};
 ghost use Rattle.cf_hub.specs.Hub.{Delivers, EachGetsTurn, IsBounded, One, OthersStay, SameNode, SameRest, attached_at, empty, met_refusal, sub_at, tallied};
 ghost use Rattle.cf_hub.specs.Rows.{Agrees};
+ghost use Rattle.cf_model.specs.Limits.{largest};
 ghost use Rattle.cf_model.specs.SessionState.{closes_now, is_off, leaves, takes_front};
 ghost use Rattle.cf_hub.specs.Turns.{gets_turn};
 ghost use Rattle.cf_hub.specs.Wordings.{IsWritten};
@@ -92,15 +93,17 @@ impl Hub {
         self.boot
     }
 
-    /// What always holds of a node: a row stands exactly where a session's channel isn't off, each once, and the sessions have
-    /// numbers below the most.
+    /// What always holds of a node: a row stands exactly where a session's channel isn't off, each once, the sessions have
+    /// numbers below the most, and the count of refused requests fits 64 bits.
     pub fn invariant(&self)
         ensures agrees { Agrees (attached_at self.now) self.now.rows }
         ensures bounded { IsBounded (attached_at self.now) }
         ensures rows { AreFollows self.now.rows }
+        ensures small { self.now.refused ≤ largest }
     {
         let _sessions = &self.sessions;
         let _first = self.rows.first("");
+        let _refused = self.refused;
     }
 
     /// Brings a publication to each session that follows its channel, each once, in order of their subscribing. Where memory is

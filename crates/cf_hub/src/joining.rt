@@ -105,7 +105,7 @@ impl Hub {
     {
         match self.session(session) {
             None => true,
-            Some(session) => session.is_closed(),
+            Some(session) => session.queue.is_closed(),
         }
     }
 
@@ -155,14 +155,6 @@ impl Hub {
         }
     }
 
-    /// Whether a session has all channels that it may have, or the node all rows.
-    fn is_full(&self, session: u32) -> bool
-        ensures full { (result ≡ true) ↔ IsFull session self.now }
-        ensures room { result ≡ false → length self.now.rows < most_rows }
-    {
-        self.rows.count(session) >= MOST_CHANNELS || self.rows.len() >= MOST_ROWS
-    }
-
     /// Whether a session may ask for a channel, but for memory.
     fn may_begin(&self, session: u32, channel: &str) -> Result<(), HubRefusal>
         ensures ok { OnOk result
@@ -183,7 +175,7 @@ impl Hub {
         if self.has(session, channel) {
             return Err(HubRefusal::Already);
         }
-        if self.is_full(session) {
+        if self.rows.count(session) >= MOST_CHANNELS || self.rows.len() >= MOST_ROWS {
             return Err(HubRefusal::TooMany);
         }
         Ok(())

@@ -18,6 +18,7 @@ use crate::queued::Queued;
 use crate::reply::read_at;
 use crate::session_table::Sessions;
 use crate::step::Step;
+use crate::subscription::add;
 use bytes::ByteStr;
 use cf_protocol::{Epoch, Position, Publication};
 use cf_queue::Out;
@@ -103,7 +104,7 @@ pub(crate) fn begin_one(
 {
     match sessions.get_mut(number) {
         None => Ok(()),
-        Some(session) => session.begin(alloc, channel, id, since),
+        Some(session) => add(&mut session.subscriptions, alloc, channel, id, since),
     }
 }
 
@@ -153,7 +154,7 @@ pub(crate) fn say_one(sessions: &mut Sessions, number: u32, text: String) -> (Qu
         None => (Queued::Gone, Step::none()),
         Some(session) => {
             let step = session.tell(text);
-            if session.is_closed() {
+            if session.queue.is_closed() {
                 (Queued::Closed, step)
             } else {
                 (Queued::Kept, step)

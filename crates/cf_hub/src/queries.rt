@@ -12,6 +12,7 @@ impl Hub {
     ghost use Rattle.cf_hub.specs.Checked.{place_of};
     ghost use Rattle.cf_hub.specs.Hub.{attached_at, sub_at, waits_in};
     ghost use Rattle.cf_hub.specs.Session.{attached_of};
+    ghost use Rattle.cf_hub.specs.Subscriptions.{sub_of};
 
     /// The session of a number.
     pub(crate) fn session(&self, number: u32) -> Option<&Session>
@@ -20,13 +21,23 @@ impl Hub {
         self.sessions.get(number)
     }
 
+    /// How far a session is with a channel.
+    pub(crate) fn progress(&self, session: u32, channel: &str) -> Option<&Progress>
+        ensures { sub_of (option_copied result) ≡ sub_at self.now session channel.now }
+    {
+        match self.session(session)?.subscriptions.get(channel) {
+            None => None,
+            Some(progress) => Some(progress.as_ref()),
+        }
+    }
+
     /// Where a session's finished subscription to a channel stands. It takes no memory.
     pub fn place(&self, session: u32, channel: &str) -> Option<Position>
         ensures { result ≡ place_of (sub_at self.now session channel.now) }
     {
-        match self.session(session) {
-            None => None,
-            Some(session) => session.place(channel),
+        match self.progress(session, channel)? {
+            Progress::On { at, .. } => Some(*at),
+            _ => None,
         }
     }
 
@@ -48,34 +59,6 @@ impl Hub {
         match self.session(session) {
             None => None,
             Some(session) => session.queue.front(),
-        }
-    }
-}
-
-impl Session {
-    ghost use Rattle.std.specs.Prelude.{◌≡◌};
-    ghost use Rattle.cf_hub.specs.Checked.{place_of};
-    ghost use Rattle.cf_hub.specs.Session.{state_of};
-
-    fn place(&self, channel: &str) -> Option<Position>
-        ensures { result ≡ place_of ((state_of self.now).subs channel.now) }
-    {
-        self.subscriptions.get(channel)?.place()
-    }
-}
-
-impl Progress {
-    ghost use Rattle.std.specs.Prelude.{◌≡◌, Some};
-    ghost use Rattle.cf_hub.specs.Checked.{place_of};
-    ghost use Rattle.cf_hub.specs.Subscriptions.{sub_of};
-
-    /// Where it stands, once its reply was queued.
-    fn place(&self) -> Option<Position>
-        ensures { result ≡ place_of (sub_of (Some self.now)) }
-    {
-        match self {
-            Progress::On { at, .. } => Some(*at),
-            _ => None,
         }
     }
 }

@@ -8,13 +8,13 @@ ghost use Rattle.cf_hub.specs.Subscriptions.{SetsAt, names, progress_at, sub_of}
 use crate::fate::Fate;
 use crate::session::{Session, either};
 use crate::step::Step;
-use crate::subscription::{Progress, add};
+use crate::subscription::Progress;
 use crate::wording::{end_text, reply_text};
 use cf_protocol::{Epoch, Position, Publication};
 use cf_recovery::Released;
 use cf_stream::Recovery;
 use indexmap::IndexMap;
-use std::alloc::{AllocError, Global};
+use std::alloc::Global;
 use std::mem;
 
 /// The reply of a subscription, and what follows it.
@@ -67,6 +67,7 @@ impl Progress {
                 (other, false)
             }
         };
+        // By a call, since what an assignment lets go is spelled out by variant.
         drop(mem::replace(self, progress));
         was_asked
     }
@@ -100,6 +101,7 @@ impl Progress {
             }
             other => (other, None),
         };
+        // By a call, as in `read`.
         drop(mem::replace(self, progress));
         answered
     }
@@ -141,28 +143,11 @@ fn answer_at(subscriptions: &mut IndexMap<String, Box<Progress>>, channel: &str)
 }
 
 impl Session {
-    ghost use Rattle.std.specs.Prelude.{◌≡◌, ◌&&◌, not, if◌then◌else◌, OnOk, OnErr, MatchOption, List, ℕ, true, false};
+    ghost use Rattle.std.specs.Prelude.{◌≡◌, ◌&&◌, not, if◌then◌else◌, MatchOption, List, ℕ, true, false};
     ghost use Rattle.cf_hub.specs.Reply.{answer_notes, finish_texts};
     ghost use Rattle.cf_hub.specs.Session.{badge_of, state_of};
-    ghost use Rattle.cf_model.specs.SessionState.{begins, is_asked, is_off, is_ready};
+    ghost use Rattle.cf_model.specs.SessionState.{is_asked, is_ready};
     ghost use Rattle.cf_hub.specs.Sessions.{AnswersTo, EndsAs, FinishesSession, Moves, Tells, closed_or, finish_fate, leaves_if};
-    ghost use Rattle.cf_hub.specs.Wordings.{plain};
-
-    /// Makes a subscription that the command `id` asked for.
-    pub(crate) fn begin(
-        &mut self,
-        alloc: Global,
-        channel: &str,
-        id: u32,
-        since: Option<Position>,
-    ) -> Result<(), AllocError>
-        requires { is_off ((state_of self.old).subs channel.now) ≡ true }
-        ensures ok { OnOk result (Moves (begins plain channel.now id since) self.old self.new) }
-        ensures err { OnErr result (state_of self.new ≡ state_of self.old) }
-        ensures badge { badge_of self.new ≡ badge_of self.old }
-    {
-        add(&mut self.subscriptions, alloc, channel, id, since)
-    }
 
     /// Gives a channel's reply and what follows it, where the stream was read. The subscription then stands behind both, or is
     /// over.
@@ -197,7 +182,7 @@ impl Session {
         ensures offs { EndsAs result.1.fate channel.now self.old self.new }
         ensures badge { badge_of self.new ≡ badge_of self.old }
     {
-        let was_closed = self.is_closed();
+        let was_closed = self.queue.is_closed();
         match self.answer(channel) {
             None => (false, Step::none()),
             Some(answered) => (true, self.say_finish(alloc, channel, was_closed, answered)),

@@ -15,9 +15,8 @@ impl Hub {
     ghost use Rattle.cf_queue.specs.OutQueue.{Text};
     ghost use Rattle.cf_hub.specs.Checked.{check_answer, stand_of};
     ghost use Rattle.cf_hub.specs.Finish.{FinishesAt};
-    ghost use Rattle.cf_hub.specs.Hub.{HasNoneFrom, IsBounded, IsNextFrom, IsNextTurn, Meets, One, PingStep, SameNode, SameRest, Ticks, attached_at, is_open, queued_in, sub_at, waits_in};
-    ghost use Rattle.cf_model.specs.Limits.{largest, most_sessions};
-    ghost use Rattle.cf_hub.specs.Rows.{Agrees};
+    ghost use Rattle.cf_hub.specs.Hub.{HasNoneFrom, IsNextFrom, IsNextTurn, Meets, One, PingStep, SameNode, SameRest, Ticks, attached_at, is_open, queued_in, sub_at, waits_in};
+    ghost use Rattle.cf_model.specs.Limits.{most_sessions};
     ghost use Rattle.cf_hub.specs.Session.{badge_ponged};
     ghost use Rattle.cf_model.specs.SessionState.{checks, is_asked, is_ready, push, reads};
     ghost use Rattle.cf_hub.specs.Subscriptions.{reading_of};
@@ -105,7 +104,7 @@ impl Hub {
         ensures each { Ticks now self.old self.new }
         ensures rest { SameNode self.old self.new }
     {
-        self.known();
+        self.invariant();
         let mut from = 0;
         while let Some(number) = self.next_from(from) {
             self.ping(number, now);
@@ -121,16 +120,6 @@ impl Hub {
         ensures same { self.new ≡ record self.old { turns = self.new.turns } }
     {
         next_in(&mut self.pending, &self.sessions)
-    }
-
-    // What always holds of it.
-    fn known(&self)
-        ensures agrees { Agrees (attached_at self.now) self.now.rows }
-        ensures bounded { IsBounded (attached_at self.now) }
-        ensures small { self.now.refused ≤ largest }
-    {
-        let _sessions = &self.sessions;
-        let _refused = self.refused;
     }
 
     /// The least number from this one on that has a session.

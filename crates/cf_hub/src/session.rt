@@ -50,13 +50,6 @@ impl Session {
         }
     }
 
-    /// Whether it is closed.
-    pub(crate) fn is_closed(&self) -> bool
-        ensures { result ≡ (state_of self.now).closed }
-    {
-        self.queue.is_closed()
-    }
-
     /// Closes it, unless it is closed, and says whether it was open. It takes no memory.
     pub(crate) fn close(&mut self, code: u16) -> bool
         ensures state { state_of self.new ≡ closes_now (Close code) (state_of self.old) }

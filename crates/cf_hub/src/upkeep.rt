@@ -58,7 +58,7 @@ fn check_at(
 impl Session {
     ghost use Rattle.std.specs.Prelude.{◌≡◌, ◌&&◌, ◌-◌, nat_le, List, ℕ, Some, None, []};
     ghost use Rattle.cf_hub.specs.Checked.{check_answer};
-    ghost use Rattle.cf_hub.specs.Session.{badge_of, is_ping_due, is_unanswered, state_of, ticked};
+    ghost use Rattle.cf_hub.specs.Session.{badge_of, state_of, ticked};
     ghost use Rattle.cf_model.specs.SessionState.{checks};
     ghost use Rattle.cf_hub.specs.Sessions.{Acts, EndsAs, ticks_of};
     ghost use Rattle.cf_hub.specs.Wordings.{plain};
@@ -75,7 +75,7 @@ impl Session {
         ensures offs { EndsAs result.1.fate channel.now self.old self.new }
         ensures badge { badge_of self.new ≡ badge_of self.old }
     {
-        let was_closed = self.is_closed();
+        let was_closed = self.queue.is_closed();
         let checked = check_at(&mut self.subscriptions, channel, top);
         match checked {
             Checked::Ended => {
@@ -87,32 +87,19 @@ impl Session {
         }
     }
 
-    /// Whether a ping is unanswered for too long.
-    fn is_unanswered(&self, now: u64) -> bool
-        ensures { result ≡ is_unanswered now (badge_of self.now) }
-    {
-        self.awaits_pong && now.saturating_sub(self.pinged) >= PONG_SECONDS
-    }
-
-    /// Whether the next ping is due.
-    fn is_ping_due(&self, now: u64) -> bool
-        ensures { result ≡ is_ping_due now (badge_of self.now) }
-    {
-        now.saturating_sub(self.pinged) >= PING_SECONDS
-    }
-
     /// Queues a ping where one is due, and closes the session where the last one is unanswered for too long.
     pub(crate) fn tick(&mut self, alloc: Global, now: u64) -> Step
         ensures state { Acts result.refused (ticks_of now self.old) self.old self.new }
         ensures badge { badge_of self.new ≡ ticked now (badge_of self.old) }
         ensures offs { EndsAs result.fate [] self.old self.new }
     {
-        let was_closed = self.is_closed();
-        if self.is_unanswered(now) {
+        let was_closed = self.queue.is_closed();
+        let seconds = now.saturating_sub(self.pinged);
+        if self.awaits_pong && seconds >= PONG_SECONDS {
             let _open = self.close(CloseCode::NoPong.code());
             return self.step(was_closed, Fate::Passed, false);
         }
-        if !self.is_ping_due(now) {
+        if seconds < PING_SECONDS {
             return Step::passed();
         }
         self.pinged = now;

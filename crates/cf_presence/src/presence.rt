@@ -4,7 +4,7 @@ ghost use Rattle.std.specs.BTreeMap.{get_by_text};
 ghost use Rattle.std.specs.FinMap as fin;
 ghost use Rattle.cf_protocol.specs.Shown.{shown_users};
 ghost use Rattle.cf_presence.specs.Presence.{IsThere, clients_of, entered, left, still, users_of, user_count};
-ghost use Rattle.cf_presence.specs.Maps.{SetsAt, if_any, after_tick};
+ghost use Rattle.cf_presence.specs.Maps.{SetsAt, if_any};
 
 use crate::clients::ChannelClients;
 use crate::maps::put;
@@ -14,7 +14,7 @@ use std::collections::BTreeMap;
 use std::marker::Model;
 
 /// How many clients are there in a channel, and how many different users they are.
-#[derive(Clone, Copy, PartialEq, Eq, Debug)]
+#[derive(Clone, Copy, PartialEq, Eq)]
 pub struct Stats {
     pub clients: u64,
     pub users: u64,
@@ -103,7 +103,8 @@ impl Presence {
         ensures left { (q : List ℕ) → clients_of self.new q ≡ still now (clients_of self.old q) }
         ensures nowhere_none { (q : List ℕ) → fin.get self.new q ≢ Some fin.empty }
     {
-        tick_in(&mut self.map, now);
+        self.map
+            .retain(|_channel, clients| { clients.outlasts(now) });
     }
 }
 
@@ -149,10 +150,4 @@ fn leave_in(map: &mut BTreeMap<String, ChannelClients>, channel: &str, client: &
             map.remove(channel);
         }
     }
-}
-
-fn tick_in(map: &mut BTreeMap<String, ChannelClients>, now: u64)
-    ensures { (q : List ℕ) → get_by_text map.new q ≡ after_tick now (get_by_text map.old q) }
-{
-    map.retain(|_channel, clients| { clients.outlasts(now) });
 }

@@ -79,23 +79,16 @@ impl RecentKeys {
     pub(crate) fn offset_of(&self, key: &str) -> Option<u64>
         ensures { result ≡ offset_of key.now self.now.items }
     {
-        offset_in(&self.ring, key)
-    }
-}
-
-/// The offset at which a key stands.
-fn offset_in(keys: &Ring<KeptKey>, key: &str) -> Option<u64>
-    ensures { result ≡ offset_of key.now keys.now.items }
-{
-    for i in 0..keys.len() {
-        match keys.get(i) {
-            None => unreachable!(),
-            Some(at) => {
-                if at.key.as_str() == key {
-                    return Some(at.offset);
+        for i in 0..self.ring.len() {
+            match self.ring.get(i) {
+                None => unreachable!(),
+                Some(at) => {
+                    if at.key.as_str() == key {
+                        return Some(at.offset);
+                    }
                 }
             }
         }
+        None
     }
-    None
 }

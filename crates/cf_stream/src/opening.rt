@@ -1,5 +1,5 @@
 //! How a channel's stream opens. All room is made before its epoch is drawn, so that a refused call draws none.
-ghost use Rattle.std.specs.Prelude.{◌≡◌, ◌≢◌, ◌≤◌, IfOk, IfErr, OnErr, OnOk, IfSome, IfNone, false, Option, Some, None, Err, List, ℕ};
+ghost use Rattle.std.specs.Prelude.{◌≡◌, ◌≢◌, ◌≤◌, IfOk, IfErr, OnErr, OnOk, false, Option, Some, None, Err, List, ℕ};
 ghost use Rattle.std.specs.Option.{option_map};
 ghost use Rattle.std.specs.BTreeMap.{get_by_text};
 ghost use Rattle.std.specs.String.{string_bytes};
@@ -24,15 +24,6 @@ pub trait Epochs {
     /// The next epoch, if there is one. An empty epoch counts as none.
     fn draw(&mut self) -> Option<Epoch>
         ensures { draws self.old result self.new };
-}
-
-/// The epoch of a new stream, if there is one.
-fn drawn<E: Epochs>(epochs: &mut E) -> Option<Epoch>
-    ensures some { IfSome result (λ e. DrawsEpoch E.draws e epochs.old epochs.new) }
-    ensures none { IfNone result (DrawsNone E.draws epochs.old epochs.new) }
-{
-    let epoch = epochs.draw()?;
-    if epoch.is_empty() { None } else { Some(epoch) }
 }
 
 /// Opens a stream that is used at a moment.
@@ -119,12 +110,12 @@ fn open<E: Epochs>(
 {
     let offset = stream.position().offset;
     put(map, alloc, channel, stream)?;
-    match drawn(epochs) {
-        Some(epoch) => {
+    match epochs.draw() {
+        Some(epoch) if !epoch.is_empty() => {
             name(map, channel, epoch);
             Ok(Position { epoch, offset })
         }
-        None => {
+        _ => {
             map.remove(channel);
             Err(StreamRefusal::NoEpoch)
         }

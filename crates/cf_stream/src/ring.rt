@@ -74,7 +74,8 @@ impl<T: Drop> Ring<T> {
         match &mut self.block {
             Some(block) => grow(block.as_mut(), size),
             None => {
-                self.block = Some(block_of_one(alloc)?);
+                let block = HeapCircularBuffer::with_capacity(alloc, 1)?;
+                self.block = Some(Box::new(alloc, block)?);
                 Ok(())
             }
         }
@@ -86,10 +87,14 @@ impl<T: Drop> Ring<T> {
         requires room { min size (length self.old.items + 1) ≤ self.old.capacity }
         ensures { self.new.items ≡ newest size (self.old.items ++ item ∷ []) }
     {
-        match &mut self.block {
-            None => unreachable!(),
-            Some(block) => push(block.as_mut(), size, item),
+        let Some(block) = &mut self.block else {
+            unreachable!()
+        };
+        let block = block.as_mut();
+        if block.len() >= size {
+            block.truncate_front(size - 1);
         }
+        block.push_back(item);
     }
 
     /// Keeps at most the last `count` items. It takes no memory.
@@ -110,14 +115,6 @@ impl<T: Drop> Ring<T> {
     }
 }
 
-/// A block with room for one item.
-fn block_of_one<T: Drop>(alloc: Global) -> Result<Box<HeapCircularBuffer<T>>, AllocError>
-    ensures { IfOk result (λ b. b.value ≡ buffer [] 1) }
-{
-    let block = HeapCircularBuffer::with_capacity(alloc, 1)?;
-    Box::new(alloc, block).map_err(AllocError::from)
-}
-
 /// Makes room for one item more in a block, where `size` allows it.
 fn grow<T: Drop>(block: &mut HeapCircularBuffer<T>, size: usize) -> Result<(), AllocError>
     requires { (1 ≤ size) × (size ≤ 10000) × (length block.old.items ≤ size) }
@@ -130,18 +127,6 @@ fn grow<T: Drop>(block: &mut HeapCircularBuffer<T>, size: usize) -> Result<(), A
     } else {
         Ok(())
     }
-}
-
-/// Appends an item to a block and lets the oldest go past `size`.
-fn push<T: Drop>(block: &mut HeapCircularBuffer<T>, size: usize, item: T)
-    requires sized { (1 ≤ size) × (length block.old.items ≤ size) }
-    requires room { min size (length block.old.items + 1) ≤ block.old.capacity }
-    ensures { block.new.items ≡ newest size (block.old.items ++ item ∷ []) }
-{
-    if block.len() >= size {
-        block.truncate_front(size - 1);
-    }
-    block.push_back(item);
 }
 
 /// Copies of `count` items from the place `from` on.

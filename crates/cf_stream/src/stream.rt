@@ -31,7 +31,7 @@ pub const UNUSED_SECONDS: u64 = 2592000;
 const MOST_ANSWERED: usize = 300;
 
 /// Whether a stream still stands after a tick.
-#[derive(Clone, Copy, PartialEq, Eq, Debug)]
+#[derive(Clone, Copy)]
 pub enum TickOutcome {
     Alive,
     Forgotten,
@@ -370,7 +370,7 @@ impl Stream {
         ensures stays { result ≡ stays now self.old }
         ensures ticked { self.new ≡ ticked now seconds self.old }
     {
-        self.tick(now, seconds) == TickOutcome::Alive
+        matches!(self.tick(now, seconds), TickOutcome::Alive)
     }
 
     /// What a tick would do.

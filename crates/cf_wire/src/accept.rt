@@ -12,7 +12,7 @@ use crate::gather::write_all_of;
 use crate::head::read_head;
 use crate::wire::Wire;
 use cf_handshake::{Asked, Opening, Refusal, asked_of};
-use std::alloc::{AllocError, AllocFailed, Global};
+use std::alloc::{AllocError, Global};
 use std::io;
 use std::io::{ErrorKind, Read, Write};
 use thiserror::Error as ErrorType;
@@ -49,16 +49,6 @@ impl From<AllocError> for WireFault {
     ghost from_gives = { λ _ fault. fault ≡ Memory };
 
     fn from(_error: AllocError) -> WireFault {
-        WireFault::Memory
-    }
-}
-
-impl<T: Drop> From<AllocFailed<T>> for WireFault {
-    ghost use Rattle.cf_wire.specs.declared.accept.WireFault.TheVariants.{Memory};
-
-    ghost from_gives = { λ _ fault. fault ≡ Memory };
-
-    fn from(_error: AllocFailed<T>) -> WireFault {
         WireFault::Memory
     }
 }

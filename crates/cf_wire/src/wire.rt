@@ -295,13 +295,11 @@ impl<S: Read + Write + Drop> Wire<S> {
         ensures open { OnOk result (self.new.stage ≡ Stage.Open) }
         ensures ends { IfErr result (λ end. Stops end self.new.stage) }
     {
-        match self.socket.flush() {
-            Ok(()) => self.reopen(close),
-            Err(error) => Err(self.pause(error, Stage::Unflushed(close))),
-        }
+        let answer = self.socket.flush();
+        self.settle(answer, close)
     }
 
-    /// What a `send` or a `close` answered, the latter with this code.
+    /// What a `send`, a `close` or a `flush` answered, where a close waits with this code.
     fn settle(&mut self, answer: Result<(), Error>, close: Option<u16>) -> Result<(), TurnEnd>
         ensures same { self.new.socket ≡ self.old.socket }
         ensures ok { OnOk answer (self.new.stage ≡ settled close) }

@@ -3,7 +3,7 @@ use Rattle.cf_hub.proofs.Pinging.{begins_pinging, ends_pinging, goes_on_pinging,
 use Rattle.cf_hub.proofs.hub.Hub.tick.Goals as goal
 
 pub loop-number-init : goal.loop-number-init
-loop-number-init c = record { pinging = begins_pinging c.args.now c.args.self.now c.known.ensures.agrees c.known.ensures.small; same = search rules; within = omega arith }
+loop-number-init c = record { pinging = begins_pinging c.args.now c.args.self.now c.invariant.ensures.agrees c.invariant.ensures.small; same = search rules; within = omega arith }
 
 pub loop-number-preserved : goal.loop-number-preserved
 loop-number-preserved c =

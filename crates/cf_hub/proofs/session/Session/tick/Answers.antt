@@ -8,8 +8,8 @@ use Rattle.cf_hub.specs.Wordings.{plain, ping_text}
 use Rattle.cf_hub.proofs.States.{said_off, closed_now_off}
 use Rattle.cf_hub.proofs.session.Session.tick.Goals as goal
 
-pub returns-then-is_unanswered-clause-offs : goal.returns-then-is_unanswered-clause-offs
-returns-then-is_unanswered-clause-offs c = λ d.
+pub returns-then-seconds-ge-PONG_SECONDS-clause-offs : goal.returns-then-seconds-ge-PONG_SECONDS-clause-offs
+returns-then-seconds-ge-PONG_SECONDS-clause-offs c = λ d.
     closed_now_off [] d (Close c.code.result) (state_of c.args.self.now) (state_of c.close-open.new.self) fate.Passed c.close-open.ensures.state
     ∙ ap (λ f. off_after f [] d (is_off ((state_of c.args.self.now).subs d)))
     (sym (c.step.ensures.fate ∙ ap (λ t. if not t && (state_of c.close-open.new.self).closed then fate.Closed else fate.Passed) c.is_closed-was_closed.ensures))
