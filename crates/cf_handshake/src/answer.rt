@@ -5,7 +5,7 @@ ghost use Rattle.cf_handshake.specs.Answers.{health_text, opening_end, opening_t
 use std::alloc::{AllocError, Global};
 
 /// How a WebSocket is opened.
-#[derive(Clone, Copy)]
+#[derive(Clone, Copy, Debug, PartialEq, Eq)]
 pub struct Opening {
     /// The key that answers the client's.
     pub accept: [u8; 28],
@@ -14,7 +14,7 @@ pub struct Opening {
 }
 
 /// Why a request is refused.
-#[derive(Clone, Copy)]
+#[derive(Clone, Copy, Debug, PartialEq, Eq)]
 pub enum Refusal {
     /// It is no request, or no opening handshake of a WebSocket.
     BadRequest,

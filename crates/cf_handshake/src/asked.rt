@@ -15,7 +15,7 @@ use websocket::handshake::server::accept_key;
 const MOST_LINES: usize = 124;
 
 /// What the head of a request asks for.
-#[derive(Clone, Copy)]
+#[derive(Clone, Copy, Debug, PartialEq, Eq)]
 pub enum Asked {
     /// A WebSocket.
     Socket(Opening),

@@ -12,7 +12,7 @@ use cf_protocol::Position;
 use indexmap::IndexMap;
 
 /// A subscription for which the stream was not read yet.
-#[derive(Clone, Copy)]
+#[derive(Clone, Copy, PartialEq, Eq, Debug)]
 pub struct Asked {
     /// The position from which it asked, if it did from one.
     pub since: Option<Position>,

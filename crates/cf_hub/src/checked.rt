@@ -6,7 +6,7 @@ ghost use Rattle.cf_model.specs.PositionCheck.{position_check};
 use cf_protocol::Position;
 
 /// What a position check answers.
-#[derive(Clone, Copy, Debug, Drop)]
+#[derive(Clone, Copy, PartialEq, Eq, Debug, Drop)]
 pub enum Checked {
     /// There is no finished subscription to check, and nothing changed.
     Nothing,

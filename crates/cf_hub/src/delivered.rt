@@ -5,7 +5,7 @@ ghost use Rattle.cf_hub.specs.Delivery.{none, one_more, total};
 use crate::fate::Fate;
 
 /// How many subscribers a delivery met, by what it did with them.
-#[derive(Clone, Copy, Debug, Drop)]
+#[derive(Clone, Copy, PartialEq, Eq, Debug, Drop)]
 pub struct Delivered {
     /// It was pushed to them.
     pub passed: u32,

@@ -2,7 +2,7 @@
 use thiserror::Error;
 
 /// Why a session or a subscription isn't made. Of several causes the first named here is given. A refused call changes nothing.
-#[derive(Clone, Copy, Debug, Drop, Error)]
+#[derive(Clone, Copy, Debug, PartialEq, Eq, Drop, Error)]
 pub enum HubRefusal {
     /// There is no such session, or it is closed.
     #[error("there is no such session")]

@@ -6,7 +6,7 @@ ghost use Rattle.cf_model.specs.Verdict.{verdict};
 use cf_protocol::{Epoch, Position};
 
 /// What becomes of a publication that is delivered to a subscription.
-#[derive(Clone, Copy, PartialEq, Eq)]
+#[derive(Clone, Copy, PartialEq, Eq, Debug)]
 pub enum Verdict {
     /// It is not above the position, so the client has it already.
     Drop,

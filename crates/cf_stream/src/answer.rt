@@ -2,7 +2,7 @@
 use cf_protocol::{Position, Publication};
 
 /// What becomes of a publish.
-#[derive(Clone, Copy)]
+#[derive(Clone, Copy, Debug)]
 pub struct Published {
     /// Where the publication stands: that which was made, or that which is repeated.
     pub position: Position,

@@ -9,7 +9,7 @@ use std::collections::btree_map;
 use std::marker::Model;
 
 /// What a tick would do to a stream.
-#[derive(Clone, Copy, PartialEq, Eq)]
+#[derive(Clone, Copy, PartialEq, Eq, Debug)]
 pub enum Due {
     /// The stream was not used for long, and ends.
     Forget,

@@ -31,7 +31,7 @@ pub const UNUSED_SECONDS: u64 = 2592000;
 const MOST_ANSWERED: usize = 300;
 
 /// Whether a stream still stands after a tick.
-#[derive(Clone, Copy)]
+#[derive(Clone, Copy, PartialEq, Eq, Debug)]
 pub enum TickOutcome {
     Alive,
     Forgotten,
