@@ -19,15 +19,15 @@ use Rattle.cf_stream.specs.Streams.{StreamMap, size_of as stream_size, stream_of
 use Rattle.cf_model.specs.StreamState.{in_namespace}
 use Rattle.cf_stream.specs.PublicationList.{kept_newest, state_of, IsListed, IsRead}
 use Rattle.cf_model.specs.Life.{Life}
-use Rattle.cf_stream.specs.ChannelLists.{AreShown, ChangesAt, ChangesSize, ListsAt, ReadsAt, life_or}
+use Rattle.cf_stream.specs.ChannelLists.{AreShown, ChangesAt, ChangesSize, ListsAt, ReadsAt, StandsAt, life_or, stands_at as life_stands}
 use Rattle.cf_stream.specs.FreshEpochs.{Draws}
 use Rattle.cf_stream.specs.declared.answer.History.{History}
 use Rattle.cf_stream.specs.declared.answer.Recovery.{Recovery}
 use Rattle.cf_world.specs.BrokerTie.{AreSized, IsAccepted, IsStanding, IsDatum, ShowsBroker, Brings, Finds, FindsPast}
 use Rattle.cf_machine.specs.FreshEpochs.{AreFresh}
 use Rattle.cf_machine.specs.IntervalMachine.{size_by}
-use Rattle.cf_machine.specs.Lives.{life_at}
-use Rattle.cf_machine.specs.PublicationList.{Broker, Keys, epoch_comes, no_stream, opened, set_size, trim, trim_at, forget, forget_all}
+use Rattle.cf_machine.specs.Lives.{life_at, life_by}
+use Rattle.cf_machine.specs.PublicationList.{Broker, Keys, epoch_comes, no_stream, opened, set_size, stands_at, trim, trim_at, forget, forget_all}
 use Rattle.cf_world.specs.declared.broker.Broker.{Broker as Code}
 use Rattle.cf_world.specs.declared.epochs.WaitingEpochs.{WaitingEpochs}
 use Rattle.cf_world.proofs.Boards.{shown-as, shown-changed, sized-still, life_of, takes_front, Opened, draws_opened}
@@ -220,6 +220,16 @@ opened_shows table b new m m1 h k c e o ns change ch here accepted = record {
   keyed = subst (λ (ks : Keys). (x i : List ℕ) → length (ks x i) ≡ length (m1.lists x i)) (sym o.keys)
       (subst (λ (t : Lists). (x i : List ℕ) → length (m.keys x i) ≡ length (t x i)) (sym o.lists) h.keyed);
 }
+
+-- ---- where a stream stands
+
+stands-by : (lists : Lists) (keys : Keys) (c : List ℕ) (o : Option StreamState) → ((s : StreamState) → o ≡ Some s → IsStanding lists c s)
+    → option_map life_stands (life_by (lists c) (keys c) o) ≡ stands_at o
+stands-by lists keys c None h = refl
+stands-by lists keys c (Some s) h = ap (λ (n : ℕ). Some (record { epoch = s.epoch; offset = n })) (sym (h s refl).top)
+
+pub top-stands : (table : NamespaceTable) (b : Code) (m : Broker) → ShowsBroker table b m → (c : List ℕ) (o : Option Position) → StandsAt b.streams c o → o ≡ stands_at (m.streams c)
+top-stands table b m h c o at = at.off (life_at m) h.streams ∙ stands-by m.lists m.keys c (m.streams c) (h.standing c)
 
 -- ---- a read
 

@@ -11,7 +11,8 @@ use Rattle.cf_model.specs.SessionState.{push}
 use Rattle.cf_hub.specs.WantOfMemory.{Both, OrCloses}
 use Rattle.cf_hub.specs.Wordings.{plain}
 use Rattle.cf_hub.specs.declared.refusal.HubRefusal.{HubRefusal}
-use Rattle.cf_world.specs.HubCalls.{AtHub, Told}
+use Rattle.cf_world.specs.HubCalls.{AtHub, Moves, Told}
+use Rattle.cf_world.proofs.AtHubs.{moved}
 
 pub set-here : {X : Type 0} (xs : List X) (n : ℕ) (x y : X) → slice_get xs n ≡ Some y → slice_get (slice_set xs n x) n ≡ Some x
 set-here [] n x y h = cc
@@ -29,27 +30,23 @@ set-other (z ∷ xs) (suc n) (suc m) x h = set-other xs n m x (λ e. h (ap suc e
 pub found : (hubs : Vec Node Global) (n : ℕ) (h : Node) → n < vec_len hubs → h ≡ slice_index_or hubs.items n h → slice_get hubs.items n ≡ Some h
 found hubs n h within e = slice_get-get_or hubs.items n h (subst (λ l. n < l) hubs.ok.0 within) ∙ ap Some (sym e)
 
-some-same : (x y : Node) → Some x ≡ Some y → x ≡ y
-some-same x y h = cc
-
 -- the lent hub goes from `lent` to `g`
+pub lends : (hubs : Vec Node Global) (n : ℕ) (lent g : Node) → n < vec_len hubs → lent ≡ slice_index_or hubs.items n lent
+    → Moves n lent g (slice_get hubs.items) (slice_get (slice_set hubs.items n g))
+lends hubs n lent g within e =
+    let here = found hubs n lent within e in
+    record { was = here; now = set-here hubs.items n g lent here; others = λ j ne. set-other hubs.items n j g ne }
+
 pub changed : (hubs : Vec Node Global) (n : ℕ) (lent g : Node) (P : Node → Node → Type 0) → n < vec_len hubs → lent ≡ slice_index_or hubs.items n lent
     → P lent g → AtHub n P (slice_get hubs.items) (slice_get (slice_set hubs.items n g))
-changed hubs n lent g P within e does = λ h is.
-    let here = found hubs n lent within e in
-    record {
-      hub = g;
-      now = set-here hubs.items n g lent here;
-      changes = subst (λ (z : Node). P z g) (some-same lent h (sym here ∙ is)) does;
-      others = λ j ne. set-other hubs.items n j g ne;
-    }
+changed hubs n lent g P within e does = moved (lends hubs n lent g within e) P does
 
 -- there is no hub of this number
+pub none-there : (hubs : Vec Node Global) (n : ℕ) → (n < vec_len hubs → false ≡ true) → slice_get hubs.items n ≡ None
+none-there hubs n past = slice_get_past hubs.items n (elim (cases_lt n (length hubs.items)) [ inl l ↦ absurd (let e = past (subst (λ m. n < m) (sym hubs.ok.0) l) in cc) | inr l ↦ l ])
+
 pub missing : (hubs : Vec Node Global) (n : ℕ) (P : Node → Node → Type 0) (new : ℕ → Option Node) → (n < vec_len hubs → false ≡ true) → AtHub n P (slice_get hubs.items) new
-missing hubs n P new h = λ hub is. let none = gone hubs n h in absurd (cc)
-  where
-    gone : (hubs : Vec Node Global) (n : ℕ) → (n < vec_len hubs → false ≡ true) → slice_get hubs.items n ≡ None
-    gone hubs n past = slice_get_past hubs.items n (elim (cases_lt n (length hubs.items)) [ inl l ↦ absurd (let e = past (subst (λ m. n < m) (sym hubs.ok.0) l) in cc) | inr l ↦ l ])
+missing hubs n P new h = λ hub is. let none = none-there hubs n h in absurd (cc)
 
 pub unrefused : (n : ℕ) → not (n == 0) ≡ false → n ≡ 0
 unrefused n h = grind (arith, nat_tests, h)

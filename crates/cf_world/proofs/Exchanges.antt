@@ -7,10 +7,12 @@ use Rattle.cf_protocol.specs.Regular.{IsBody, IsInfo}
 use Rattle.cf_protocol.specs.Request.{Command}
 use Rattle.cf_protocol.specs.Settings.{NamespaceTable}
 use Rattle.cf_protocol.specs.Shown.{shown_command, shown_request}
+use Rattle.cf_protocol.specs.declared.command.Command.{Command as CodeCommand}
 use Rattle.cf_client.specs.ClientView.{state_of}
 use Rattle.cf_hub.specs.AlikeMoves.{CallsAreAlike, MovesAreAlike}
 use Rattle.cf_hub.specs.Counts.{CountsAll, CountsSession}
-use Rattle.cf_hub.specs.Hub.{Node}
+use Rattle.cf_hub.specs.Hub.{Node, attached_at}
+use Rattle.cf_hub.specs.Session.{Attached}
 use Rattle.cf_machine.specs.ClientRequest.{ClientRequest, Subscribe, Unsubscribe, Publish, History, command_of, request_of}
 use Rattle.cf_machine.specs.Config.{Config}
 use Rattle.cf_machine.specs.FreshEpochs.{AreFresh}
@@ -19,17 +21,17 @@ use Rattle.cf_machine.specs.PublicationList.{can_open}
 use Rattle.cf_machine.specs.World.{World}
 use Rattle.cf_world.specs.ClientTie.{Becomes, request_by, sent_state}
 use Rattle.cf_world.specs.ClientCommands.{IsReadBack, event_by}
-use Rattle.cf_world.specs.Exchange.{IsGranted, Lists, Puts, Serves, asks_too_much}
-use Rattle.cf_world.specs.HubCalls.{Asks, AtHub, Hubs, LeftTold, who_in}
+use Rattle.cf_world.specs.Exchange.{IsGranted, Serves, asks_too_much}
+use Rattle.cf_world.specs.HubCalls.{Asks, AtHub, Hubs, LeftTold, Moves, who_in}
 use Rattle.cf_world.specs.NodesTie.{seated}
-use Rattle.cf_world.specs.Sending.{IsSent, Keeps}
+use Rattle.cf_world.specs.Sending.{IsSent}
 use Rattle.cf_world.specs.Tie.{AreTied}
 use Rattle.cf_world.specs.declared.broker.Broker.{Broker as Code}
 use Rattle.cf_world.specs.declared.client_command.ClientCommand.{ClientCommand}
 use Rattle.cf_world.specs.declared.client_command.ClientCommand.TheVariants as client_command
 use Rattle.cf_world.specs.declared.clients.Peer.{Peer}
-use Rattle.cf_world.specs.declared.sending.Granted.{Granted}
-use Rattle.cf_world.specs.declared.world.World.{World as Whole}
+use Rattle.cf_world.specs.declared.clients.Seat.{Seat}
+use Rattle.cf_world.proofs.AtHubs.{ListsAt, PutsAt, lists-at, moved, puts-at, seated-here}
 use Rattle.cf_world.proofs.Going.{Stays}
 use Rattle.cf_world.proofs.Granting.{ask_granted, info_regular, leave_granted, list_granted, put_granted}
 use Rattle.cf_world.proofs.Passing.{list-set-up}
@@ -37,7 +39,7 @@ use Rattle.cf_world.proofs.Reading.{Missing}
 
 module _ {cfg : Config} {table : NamespaceTable} {b : Code} {hubs : ℕ → Option Node} {peers : List ℕ → Option Peer} {m : World}
     (t : AreTied cfg table b hubs peers m) (x : List ℕ) (e : ClientCommand) (mid : ℕ → Option Node) (peers' : List ℕ → Option Peer)
-    (g : Granted) (sent : IsSent cfg m x e hubs mid peers peers' g) (stays : Stays)
+    (s : Seat) (k : CodeCommand) (sent : IsSent cfg m x e hubs mid peers peers' s k) (stays : Stays)
     (calls : (lists : PublicationLists) → CallsAreAlike lists) (moves : (lists : PublicationLists) → MovesAreAlike lists) where
   abbrev p : Peer
   p = sent.peer
@@ -56,8 +58,8 @@ module _ {cfg : Config} {table : NamespaceTable} {b : Code} {hubs : ℕ → Opti
     granted : IsGranted cfg m x p q
     granted = subst (λ (r : ClientRequest). IsGranted cfg m x p r) is sent.granted
 
-    command : shown_command g.command ≡ command_of (command_by x q m)
-    command = sent.command ∙ ap (λ (r : ClientRequest). command_of (command_by x r m)) is
+    command : shown_command k ≡ command_of (command_by x q m)
+    command = sent.is ∙ ap (λ (r : ClientRequest). command_of (command_by x r m)) is
 
     opens : asks_too_much q m.broker ≡ false
     opens = ap (λ (r : ClientRequest). asks_too_much r m.broker) (sym is) ∙ sent.opens
@@ -67,9 +69,9 @@ module _ {cfg : Config} {table : NamespaceTable} {b : Code} {hubs : ℕ → Opti
         subst (λ (w : World). AreTied cfg table new hubs' peers' w) (sym (sent.happens ∙ ap (λ (r : ClientRequest). exchange cfg x r m) is)) tied
 
   -- what was done of the command, by the request that it is
-  module _ (new : Code) (hubs' : ℕ → Option Node) (did : Serves (shown_request g.command.request) g.command.id g.seat b new mid hubs') where
-    did_so : (q : ClientRequest) → asked ≡ q → Serves (request_of q) (m.links x).client.fresh g.seat b new mid hubs'
-    did_so q is = subst (λ (k : Command). Serves k.request k.id g.seat b new mid hubs') (command q is) did
+  module _ (new : Code) (hubs' : ℕ → Option Node) (h h' : Node) (v : Moves s.node h h' mid hubs') (did : Serves (shown_request k.request) k.id s.session b new h h') where
+    did_so : (q : ClientRequest) → asked ≡ q → Serves (request_of q) (m.links x).client.fresh s.session b new h h'
+    did_so q is = subst (λ (c : Command). Serves c.request c.id s.session b new h h') (command q is) did
 
     unpublished : (q : ClientRequest) → new ≡ b → AreTied cfg table b hubs' peers' (exchange cfg x q m) → AreTied cfg table new hubs' peers' (exchange cfg x q m)
     unpublished q same tied = subst (λ (v : Code). AreTied cfg table v hubs' peers' (exchange cfg x q m)) (sym same) tied
@@ -80,8 +82,8 @@ module _ {cfg : Config} {table : NamespaceTable} {b : Code} {hubs : ℕ → Opti
         let n : ℕ = (m.links x).client.fresh in
         let d = did_so q is in
         happened q is new hubs' (unpublished q d.0
-        (ask_granted t x g.seat p sent.found sent.sits c since peers' (becomes q is) stays calls moves (granted q is) session all n refl hubs'
-        (as_before (λ (f : Hubs). AtHub g.seat.node (Asks g.seat.session c n since) f hubs') d.1)))
+        (ask_granted t x s p sent.found sent.sits c since peers' (becomes q is) stays calls moves (granted q is) session all n refl hubs'
+        (as_before (λ (f : Hubs). AtHub s.node (Asks s.session c n since) f hubs') (moved v (Asks s.session c n since) d.1))))
 
     pub leave_done : (c : List ℕ) → asked ≡ Unsubscribe c → AreTied cfg table new hubs' peers' (happens cfg m (event_by e x))
     leave_done c is =
@@ -89,47 +91,42 @@ module _ {cfg : Config} {table : NamespaceTable} {b : Code} {hubs : ℕ → Opti
         let n : ℕ = (m.links x).client.fresh in
         let d = did_so q is in
         happened q is new hubs' (unpublished q d.0
-        (leave_granted t x g.seat p sent.found sent.sits c peers' (becomes q is) stays calls moves (granted q is) n refl hubs'
-        (as_before (λ (f : Hubs). AtHub g.seat.node (LeftTold g.seat.session c n) f hubs') d.1)))
+        (leave_granted t x s p sent.found sent.sits c peers' (becomes q is) stays calls moves (granted q is) n refl hubs'
+        (as_before (λ (f : Hubs). AtHub s.node (LeftTold s.session c n) f hubs') (moved v (LeftTold s.session c n) d.1))))
 
     pub put_done : (c key body : List ℕ) → asked ≡ Publish c key body → AreFresh m.broker → IsBody body → AreTied cfg table new hubs' peers' (happens cfg m (event_by e x))
     put_done c key body is fresh is_body =
         let q : ClientRequest = Publish c key body in
         let n : ℕ = (m.links x).client.fresh in
-        let info : IsInfo (who_in (seated hubs g.seat)) = info_regular t x g.seat p sent.found sent.sits c key body peers' (becomes q is) stays calls moves (granted q is) in
-        let here : IsInfo (who_in (seated mid g.seat)) = subst (λ (f : Hubs). IsInfo (who_in (seated f g.seat))) (λ i j. sym (sent.same j) i) info in
+        let info : IsInfo (who_in (seated hubs s)) = info_regular t x s p sent.found sent.sits c key body peers' (becomes q is) stays calls moves (granted q is) in
+        let mid_info : IsInfo (who_in (seated mid s)) = subst (λ (f : Hubs). IsInfo (who_in (seated f s))) (λ i j. sym (sent.same j) i) info in
+        let here : IsInfo (who_in (attached_at h s.session)) = subst (λ (o : Option Attached). IsInfo (who_in o)) (seated-here s v) mid_info in
         happened q is new hubs'
-        (put_granted t x g.seat p sent.found sent.sits c key body peers' (becomes q is) stays calls moves (granted q is) n refl (not-false (can_open c m.broker) (opens q is)) new hubs'
-        (as_before (λ (f : Hubs). Puts cfg.namespaces m.broker g.seat c key body n new f hubs') (did_so q is cfg.namespaces m.broker fresh is_body here t.broker)))
+        (put_granted t x s p sent.found sent.sits c key body peers' (becomes q is) stays calls moves (granted q is) n refl (not-false (can_open c m.broker) (opens q is)) new hubs'
+        (as_before (λ (f : Hubs). PutsAt cfg.namespaces m.broker s c key body n new f hubs') (puts-at s v (did_so q is cfg.namespaces m.broker fresh is_body here t.broker))))
 
     pub list_done : (c : List ℕ) (limit : ℤ) → asked ≡ History c limit → AreFresh m.broker → Missing → AreTied cfg table new hubs' peers' (happens cfg m (event_by e x))
     list_done c limit is fresh missing =
         let q : ClientRequest = History c limit in
         let n : ℕ = (m.links x).client.fresh in
         happened q is new hubs'
-        (list_granted t x g.seat p sent.found sent.sits c limit peers' (becomes q is) stays missing calls moves (granted q is) n refl (not-false (can_open c m.broker) (opens q is)) new hubs'
-        (as_before (λ (f : Hubs). Lists cfg.namespaces m.broker g.seat c limit n new f hubs') (did_so q is cfg.namespaces m.broker fresh (list-set-up cfg.namespaces c limit (granted q is).checked) t.broker)))
+        (list_granted t x s p sent.found sent.sits c limit peers' (becomes q is) stays missing calls moves (granted q is) n refl (not-false (can_open c m.broker) (opens q is)) new hubs'
+        (as_before (λ (f : Hubs). ListsAt cfg.namespaces m.broker s c limit n new f hubs') (lists-at s v (did_so q is cfg.namespaces m.broker fresh (list-set-up cfg.namespaces c limit (granted q is).checked) t.broker))))
 
 -- the event has happened, whichever command it was
 pub served : {cfg : Config} {table : NamespaceTable} {b : Code} {hubs : ℕ → Option Node} {peers : List ℕ → Option Peer} {m : World}
     (t : AreTied cfg table b hubs peers m) (x : List ℕ) (e : ClientCommand) (mid : ℕ → Option Node) (peers' : List ℕ → Option Peer)
-    (g : Granted) (sent : IsSent cfg m x e hubs mid peers peers' g) (stays : Stays)
+    (s : Seat) (k : CodeCommand) (sent : IsSent cfg m x e hubs mid peers peers' s k) (stays : Stays)
     (calls : (lists : PublicationLists) → CallsAreAlike lists) (moves : (lists : PublicationLists) → MovesAreAlike lists)
-    (new : Code) (hubs' : ℕ → Option Node) (did : Serves (shown_request g.command.request) g.command.id g.seat b new mid hubs')
+    (new : Code) (hubs' : ℕ → Option Node) (h h' : Node) (v : Moves s.node h h' mid hubs') (did : Serves (shown_request k.request) k.id s.session b new h h')
     → IsReadBack e → CountsSession → CountsAll → AreFresh m.broker → Missing → AreTied cfg table new hubs' peers' (happens cfg m (event_by e x))
-served t x (client_command.Ask c) mid peers' g sent stays calls moves new hubs' did back session all fresh missing =
-    asks_done t x (client_command.Ask c) mid peers' g sent stays calls moves new hubs' did c.now None refl session all
-served t x (client_command.AskFrom c) mid peers' g sent stays calls moves new hubs' did back session all fresh missing =
-    asks_done t x (client_command.AskFrom c) mid peers' g sent stays calls moves new hubs' did c.now _ refl session all
-served t x (client_command.Leave c) mid peers' g sent stays calls moves new hubs' did back session all fresh missing =
-    leave_done t x (client_command.Leave c) mid peers' g sent stays calls moves new hubs' did c.now refl
-served t x (client_command.Put c key body) mid peers' g sent stays calls moves new hubs' did back session all fresh missing =
-    put_done t x (client_command.Put c key body) mid peers' g sent stays calls moves new hubs' did c.now key.now body.now refl fresh back
-served t x (client_command.List c limit) mid peers' g sent stays calls moves new hubs' did back session all fresh missing =
-    list_done t x (client_command.List c limit) mid peers' g sent stays calls moves new hubs' did c.now limit refl fresh missing
-
--- a tie stays where what is set up and the broker do
-pub tied_still : {cfg : Config} {old new : Whole} {hubs : ℕ → Option Node} {peers : List ℕ → Option Peer} {m : World} → Keeps old new
-    → AreTied cfg old.namespaces old.broker hubs peers m → AreTied cfg new.namespaces new.broker hubs peers m
-tied_still {cfg} {old} {new} {hubs} {peers} {m} k t =
-    subst (λ (b : Code). AreTied cfg new.namespaces b hubs peers m) (sym k.broker) (subst (λ (n : NamespaceTable). AreTied cfg n old.broker hubs peers m) (sym k.namespaces) t)
+served t x (client_command.Ask c) mid peers' s k sent stays calls moves new hubs' h h' v did back session all fresh missing =
+    asks_done t x (client_command.Ask c) mid peers' s k sent stays calls moves new hubs' h h' v did c.now None refl session all
+served t x (client_command.AskFrom c) mid peers' s k sent stays calls moves new hubs' h h' v did back session all fresh missing =
+    asks_done t x (client_command.AskFrom c) mid peers' s k sent stays calls moves new hubs' h h' v did c.now _ refl session all
+served t x (client_command.Leave c) mid peers' s k sent stays calls moves new hubs' h h' v did back session all fresh missing =
+    leave_done t x (client_command.Leave c) mid peers' s k sent stays calls moves new hubs' h h' v did c.now refl
+served t x (client_command.Put c key body) mid peers' s k sent stays calls moves new hubs' h h' v did back session all fresh missing =
+    put_done t x (client_command.Put c key body) mid peers' s k sent stays calls moves new hubs' h h' v did c.now key.now body.now refl fresh back
+served t x (client_command.List c limit) mid peers' s k sent stays calls moves new hubs' h h' v did back session all fresh missing =
+    list_done t x (client_command.List c limit) mid peers' s k sent stays calls moves new hubs' h h' v did c.now limit refl fresh missing

@@ -40,7 +40,7 @@ use Rattle.cf_machine.specs.World.{World}
 use Rattle.cf_machine.proofs.Brokering.{lists-opened}
 use Rattle.cf_world.specs.BrokerTie.{Histories, IsStanding, Publishes, ShowsBroker}
 use Rattle.cf_world.specs.ClientTie.{Becomes, IsOwn, ShowsPeer, sent_state}
-use Rattle.cf_world.specs.Exchange.{IsGranted, Lists, Puts, PutAnswered, ListAnswered}
+use Rattle.cf_world.specs.Exchange.{IsGranted}
 use Rattle.cf_world.specs.HubCalls.{Answered, AskedTooMuch, AskedTwice, Asks, AtHub, Began, Hubs, LeftTold, OneHub, Told, error_text, reply_text, who_in}
 use Rattle.cf_world.specs.NodesTie.{IsSeated, name_of, seated, session_in}
 use Rattle.cf_world.specs.Tie.{AreTied}
@@ -50,6 +50,7 @@ use Rattle.cf_world.specs.declared.broker.Published.TheVariants as outcome
 use Rattle.cf_world.specs.declared.clients.Peer.{Peer}
 use Rattle.cf_world.specs.declared.clients.Seat.{Seat}
 use Rattle.cf_world.proofs.Answering.{answer_goes, begin_goes}
+use Rattle.cf_world.proofs.AtHubs.{ListAnsweredAt, ListsAt, PutAnsweredAt, PutsAt}
 use Rattle.cf_world.proofs.BoardLists.{grown-refl}
 use Rattle.cf_world.proofs.Ends.{Keeps, leaves_keeps, push_keeps}
 use Rattle.cf_world.proofs.Exchanged.{after, exchange_as, met, met_ask, met_history, met_refused}
@@ -293,7 +294,7 @@ module _ {cfg : Config} {table : NamespaceTable} {b : Code} {hubs : ℕ → Opti
       (reply_text (m.links x).client.fresh PublishedOutcome) (PutDone (m.links x).client.fresh)
       (says_put after_it.lists (m.links x).client.fresh (code t x s p found sits puts peers' becomes stays calls moves g)) tt hubs' at)
 
-  by_result : (new : Code) (hubs' : ℕ → Option Node) → can_open c m.broker ≡ true → (r : Published) → Publishes cfg.namespaces m.broker c key datum new r → PutAnswered r s (m.links x).client.fresh hubs hubs' → AreTied cfg table new hubs' peers' (exchange cfg x puts m)
+  by_result : (new : Code) (hubs' : ℕ → Option Node) → can_open c m.broker ≡ true → (r : Published) → Publishes cfg.namespaces m.broker c key datum new r → PutAnsweredAt r s (m.links x).client.fresh hubs hubs' → AreTied cfg table new hubs' peers' (exchange cfg x puts m)
   by_result new hubs' can outcome.Accepted y at =
       done new hubs' (unfull (is_repeat c key m.broker) (at_last_offset c m.broker) y.3)
       (subst (λ (d : Datum). ShowsBroker cfg.namespaces new (publish (size_of cfg c m.broker) c key d m.broker)) datum_is y.4) at
@@ -307,8 +308,8 @@ module _ {cfg : Config} {table : NamespaceTable} {b : Code} {hubs : ℕ → Opti
   by_result new hubs' can outcome.NotSetUp y at = absurd (both_ways (is_some (settings_of cfg.namespaces c)) (ap is_some y.0) (publish-set-up cfg.namespaces c key body g.checked))
 
   -- A CLIENT PUBLISHES
-  pub put_granted : (id : ℕ) → id ≡ (m.links x).client.fresh → can_open c m.broker ≡ true → (new : Code) (hubs' : ℕ → Option Node) → Puts cfg.namespaces m.broker s c key body id new hubs hubs' → AreTied cfg table new hubs' peers' (exchange cfg x puts m)
-  put_granted id is can new hubs' y = by_result new hubs' can y.result y.publishes (subst (λ (i : ℕ). PutAnswered y.result s i hubs hubs') is y.answered)
+  pub put_granted : (id : ℕ) → id ≡ (m.links x).client.fresh → can_open c m.broker ≡ true → (new : Code) (hubs' : ℕ → Option Node) → PutsAt cfg.namespaces m.broker s c key body id new hubs hubs' → AreTied cfg table new hubs' peers' (exchange cfg x puts m)
+  put_granted id is can new hubs' y = by_result new hubs' can y.result y.publishes (subst (λ (i : ℕ). PutAnsweredAt y.result s i hubs hubs') is y.answered)
 
 -- ---- a history
 
@@ -325,7 +326,7 @@ module _ {cfg : Config} {table : NamespaceTable} {b : Code} {hubs : ℕ → Opti
   abbrev lists_it : ClientRequest
   lists_it = ListHistory c limit
 
-  by_found : (new : Code) (hubs' : ℕ → Option Node) → can_open c m.broker ≡ true → (o : Option History) → Histories cfg.namespaces m.broker c limit new o → ListAnswered o s (m.links x).client.fresh hubs hubs' → AreTied cfg table new hubs' peers' (exchange cfg x lists_it m)
+  by_found : (new : Code) (hubs' : ℕ → Option Node) → can_open c m.broker ≡ true → (o : Option History) → Histories cfg.namespaces m.broker c limit new o → ListAnsweredAt o s (m.links x).client.fresh hubs hubs' → AreTied cfg table new hubs' peers' (exchange cfg x lists_it m)
   by_found new hubs' can (Some y) f at =
       let st : StreamState = f.state in
       let broker : Broker = opened c m.broker in
@@ -353,5 +354,5 @@ module _ {cfg : Config} {table : NamespaceTable} {b : Code} {hubs : ℕ → Opti
   by_found new hubs' can None f at = absurd (both_ways (can_open c m.broker) f.none can)
 
   -- A CLIENT LISTS A CHANNEL'S HISTORY
-  pub list_granted : (id : ℕ) → id ≡ (m.links x).client.fresh → can_open c m.broker ≡ true → (new : Code) (hubs' : ℕ → Option Node) → Lists cfg.namespaces m.broker s c limit id new hubs hubs' → AreTied cfg table new hubs' peers' (exchange cfg x lists_it m)
-  list_granted id is can new hubs' y = by_found new hubs' can y.result y.finds (subst (λ (i : ℕ). ListAnswered y.result s i hubs hubs') is y.answered)
+  pub list_granted : (id : ℕ) → id ≡ (m.links x).client.fresh → can_open c m.broker ≡ true → (new : Code) (hubs' : ℕ → Option Node) → ListsAt cfg.namespaces m.broker s c limit id new hubs hubs' → AreTied cfg table new hubs' peers' (exchange cfg x lists_it m)
+  list_granted id is can new hubs' y = by_found new hubs' can y.result y.finds (subst (λ (i : ℕ). ListAnsweredAt y.result s i hubs hubs') is y.answered)

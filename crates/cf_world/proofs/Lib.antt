@@ -2,6 +2,7 @@ pub mod Boards
 pub mod BoardLists
 pub mod BoardCalls
 pub mod BoardPublishes
+pub mod AtHubs
 pub mod Changed
 pub mod Named
 pub mod Ends
@@ -36,5 +37,6 @@ pub mod Passing
 pub mod Hearing
 pub mod Sendable
 pub mod Sends
+pub mod SentSo
 pub mod Granting
 pub mod Exchanges

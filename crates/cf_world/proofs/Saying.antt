@@ -1,20 +1,20 @@
 -- The texts of answers say the notes that the machine says.
-use Rattle.std.proofs.Common.{◌≡◌, ◌≤◌, ℕ, ◌+◌, ◌-◌, true, Option, Some, List, length, arith, refl, sym, ap, ◌∙◌, subst}
-use Rattle.cf_protocol.specs.Datum.{Placed, Who}
+use Rattle.std.proofs.Common.{◌≡◌, ◌≤◌, ℕ, ◌+◌, ◌-◌, true, Option, Some, option_map, List, length, arith, refl, sym, ap, ◌∙◌, subst}
+use Rattle.cf_protocol.specs.Datum.{Placed}
 use Rattle.cf_protocol.specs.Note.{Lists, Fails, Put as PutDone, Left, Listed, Reading, placed_from}
 use Rattle.cf_protocol.specs.Outgoing.{Answer, Failed, Past, Published as PublishedOutcome, Unsubscribed}
 use Rattle.cf_protocol.specs.Position.{Position}
 use Rattle.cf_protocol.specs.Regular.{ArePlaced, IsBody, IsCode, IsInfo, IsPosition}
 use Rattle.cf_protocol.specs.Settings.{NamespaceTable}
+use Rattle.cf_hub.specs.Hub.{Node, attached_at}
 use Rattle.cf_hub.specs.InNotes.{AreMissed, IsSaid}
+use Rattle.cf_hub.specs.Session.{Attached}
 use Rattle.cf_machine.specs.PublicationList.{Broker}
-use Rattle.cf_world.specs.BrokerTie.{IsDatum, Publishes}
+use Rattle.cf_world.specs.BrokerTie.{IsDatum, Publishes, datum_from, who_by}
 use Rattle.cf_world.specs.Exchange.{PutAnswered, Puts}
-use Rattle.cf_world.specs.HubCalls.{Hubs, reply_text, who_in}
-use Rattle.cf_world.specs.NodesTie.{seated}
+use Rattle.cf_world.specs.HubCalls.{reply_text, who_in}
 use Rattle.cf_world.specs.declared.broker.Broker.{Broker as Code}
 use Rattle.cf_world.specs.declared.broker.Published.{Published}
-use Rattle.cf_world.specs.declared.clients.Seat.{Seat}
 use Rattle.cf_world.proofs.Reading.{Missing}
 
 module _ (lists : Lists) (id : ℕ) (is-code : IsCode id) where
@@ -44,13 +44,14 @@ module _ (lists : Lists) (id : ℕ) (is-code : IsCode id) where
       }
 
 -- what was published by the session's client, and what it was told
-pub puts_so : (table : NamespaceTable) (m : Broker) (s : Seat) (c key body : List ℕ) (id : ℕ) (new : Code) (hubs hubs' : Hubs) (info : Option Who) (r found : Published) → info ≡ who_in (seated hubs s) → r ≡ found
-    → (IsDatum (record { body = body; info = info }) → Publishes table m c key (record { body = body; info = info }) new r) → IsBody body → IsInfo (who_in (seated hubs s)) → PutAnswered found s id hubs hubs'
-    → Puts table m s c key body id new hubs hubs'
-puts_so table m s c key body id new hubs hubs' info r found who is publishes regular named answered = record {
+pub puts_so : (table : NamespaceTable) (m : Broker) (k : ℕ) (c key body : List ℕ) (id : ℕ) (new : Code) (h g : Node) (client : Option (List ℕ)) (r found : Published)
+    → client ≡ option_map (λ (a : Attached). a.badge.client) (attached_at h k) → r ≡ found
+    → (IsDatum (datum_from body client) → Publishes table m c key (datum_from body client) new r) → IsBody body → IsInfo (who_in (attached_at h k)) → PutAnswered found k id h g
+    → Puts table m k c key body id new h g
+puts_so table m k c key body id new h g client r found who is publishes regular named answered = record {
   result = found;
   publishes =
-      subst (λ (w : Option Who). Publishes table m c key (record { body = body; info = w }) new found) who
-      (subst (λ (z : Published). Publishes table m c key (record { body = body; info = info }) new z) is (publishes (regular, subst IsInfo (sym who) named)));
+      subst (λ (w : Option (List ℕ)). Publishes table m c key (datum_from body w) new found) who
+      (subst (λ (z : Published). Publishes table m c key (datum_from body client) new z) is (publishes (regular, subst (λ (w : Option (List ℕ)). IsInfo (who_by w)) (sym who) named)));
   answered = answered;
 }

@@ -37,7 +37,7 @@ use Rattle.cf_world.specs.Exchange.{asks_too_much, lacks_by, sent_by}
 use Rattle.cf_world.specs.HubCalls.{AtHub, Told, reply_text}
 use Rattle.cf_world.specs.Judging.{Judges, Passes}
 use Rattle.cf_world.specs.NodesTie.{IsSeated, ShowsNodes, seated}
-use Rattle.cf_world.specs.Sending.{Acts, Hears, IsSent}
+use Rattle.cf_world.specs.Sending.{IsSent}
 use Rattle.cf_world.specs.Tie.{AreTied, seats_of}
 use Rattle.cf_world.specs.declared.broker.Broker.{Broker as Code}
 use Rattle.cf_world.specs.declared.client_command.ClientCommand.{ClientCommand}
@@ -46,6 +46,7 @@ use Rattle.cf_world.specs.declared.judging.Judged.{Judged}
 use Rattle.cf_world.specs.declared.judging.Judged.TheVariants as judged
 use Rattle.cf_world.specs.declared.clients.Peer.{Peer}
 use Rattle.cf_world.specs.declared.clients.Seat.{Seat}
+use Rattle.cf_world.proofs.AtHubs.{ActsAt, HearsAt}
 use Rattle.cf_world.proofs.Breaking.{seats-with}
 use Rattle.cf_world.proofs.Exchanged.{can_send, cannot_away, cannot_unready}
 use Rattle.cf_world.proofs.Exchanging.{same-seats}
@@ -247,7 +248,7 @@ module _ {cfg : Config} {table : NamespaceTable} {b : Code} {hubs : ℕ → Opti
             (new-less (state_of p.client) request, calls-new (state_of p.client) request (old_of p.client sent.apart))
 
         module _ (hubs' : ℕ → Option Node) where
-          by_judged : (j : Judged) (shut : Bool) → shut ≡ l.session.closed → Judges table shut text j → Acts s j hubs hubs' → IsAgainst j → AreTied cfg table b hubs' peers' (exchange cfg x request m)
+          by_judged : (j : Judged) (shut : Bool) → shut ≡ l.session.closed → Judges table shut text j → ActsAt s j hubs hubs' → IsAgainst j → AreTied cfg table b hubs' peers' (exchange cfg x request m)
           by_judged judged.Unheard shut is h acts a = unheard_goes t x s p found sits request peers' sent.becomes stays calls moves quiet (sym is ∙ h) hubs' acts
           by_judged judged.TooLong shut is h acts a = too_long_goes t x s p found sits request peers' sent.becomes stays calls moves quiet (sym is ∙ h.opened) (sym long_is ∙ h.long) hubs' acts
           by_judged judged.Unreadable shut is h acts a = absurd (h (command_of k) (subst (λ (ts : List ℕ). IsCommands ts (command_of k ∷ [])) (sym text_is) (laws (command_of k) regular)))
@@ -260,12 +261,12 @@ module _ {cfg : Config} {table : NamespaceTable} {b : Code} {hubs : ℕ → Opti
               hubs' (subst (λ (n : ℕ). AtHub s.node (Told s.session (reply_text n (Failed (code_of code)))) hubs hubs') id_is acts)
           by_judged (judged.Granted command) shut is h acts a = absurd a
 
-          pub against : (j : Judged) → Hears table s text hubs hubs' j → IsAgainst j → AreTied cfg table b hubs' peers' (happens cfg m (event_by e x))
+          pub against : (j : Judged) → HearsAt table s text hubs hubs' j → IsAgainst j → AreTied cfg table b hubs' peers' (happens cfg m (event_by e x))
           against j h a =
               subst (λ (w : World). AreTied cfg table b hubs' peers' w) (sym happens_is)
               (by_judged j h.closed (h.is_closed ∙ closed_here) h.judges h.acts a)
 
-          pub granted : (command : CodeCommand) → Hears table s text hubs hubs' (judged.Granted command) → IsSent cfg m x e hubs hubs' peers peers' (record { seat = s; command = command })
+          pub granted : (command : CodeCommand) → HearsAt table s text hubs hubs' (judged.Granted command) → IsSent cfg m x e hubs hubs' peers peers' s command
           granted command h =
               let passes : Passes table h.closed text (shown_command command) = h.judges in
               let read : shown_command command ≡ command_of k = read_is (shown_command command) passes.said in
@@ -289,6 +290,6 @@ module _ {cfg : Config} {table : NamespaceTable} {b : Code} {hubs : ℕ → Opti
                 opens = enough (asks_too_much request m.broker) (not (is_some (first_failed (checks cfg.namespaces (request_of request))))) (not (nat_lt longest_text (length (command_text (command_of k))))) l.session.closed
                     (sym (lacks_is cfg m x request) ∙ no_lack) (ap (λ (o : Option ErrorCode). not (is_some o)) checked)
                     (ap (λ (n : ℕ). not (nat_lt longest_text n)) (sym (length_is (command_of k))) ∙ ap not fits) opened;
-                command = read;
+                is = read;
                 happens = happens_is;
               }

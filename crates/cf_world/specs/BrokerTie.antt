@@ -1,11 +1,11 @@
 -- The broker beside what the machine has for it.
-use Rattle.std.specs.Prelude.{◌≡◌, ◌≤◌, ◌-◌, ℕ, ℤ, true, false, is_some, Option, Some, None, List, ⊤, length}
+use Rattle.std.specs.Prelude.{◌≡◌, ◌≤◌, ◌-◌, ℕ, ℤ, true, false, is_some, Option, Some, None, List, [], ⊤, length, option_map}
 use Rattle.std.specs.List.{All, AllZip}
 use Rattle.std.specs.String.{string_bytes}
 use Rattle.std.specs.BTreeSet.{contains_text}
 use Rattle.cf_protocol.specs.Names.{is_among}
 use Rattle.cf_protocol.specs.Epoch.{IsEpoch}
-use Rattle.cf_protocol.specs.Datum.{Datum}
+use Rattle.cf_protocol.specs.Datum.{Datum, Who}
 use Rattle.cf_protocol.specs.Note.{Lists, placed_at, placed_from}
 use Rattle.cf_protocol.specs.Position.{Position}
 use Rattle.cf_protocol.specs.Regular.{IsPlaced, IsBody, IsInfo}
@@ -40,6 +40,13 @@ pub record IsStanding (lists : Lists) (c : List ℕ) (s : StreamState) : Type 0 
   pub top : s.top ≡ length (lists c s.epoch)
   pub within : s.top ≤ last_offset
   pub epoch : IsEpoch s.epoch
+
+-- who publishes, by the client's id, if it is a client: all connect as the empty user
+abbrev pub who_by : Option (List ℕ) → Option Who
+who_by client = option_map (λ c. record { user = []; client = c }) client
+
+abbrev pub datum_from : List ℕ → Option (List ℕ) → Datum
+datum_from body client = record { body = body; info = who_by client }
 
 -- a datum whose text can be read back
 abbrev pub IsDatum : Datum → Type 0

@@ -2,8 +2,7 @@
 use Rattle.std.specs.Prelude.{⊤, ◌≡◌, ℕ, ℤ, nat_lt, ◌&&◌, not, is_some, IsSome, Bool, true, false, Option, Some, None}
 use Rattle.std.specs.Prelude.{List, length}
 use Rattle.cf_protocol.specs.Checks.{checks, first_failed, longest_text}
-use Rattle.cf_protocol.specs.Codes.{code_of}
-use Rattle.cf_protocol.specs.Outgoing.{Failed, Past, Published as PutDone}
+use Rattle.cf_protocol.specs.Outgoing.{Past, Published as PutDone}
 use Rattle.cf_protocol.specs.Regular.{IsBody, IsInfo}
 use Rattle.cf_protocol.specs.Request as request
 use Rattle.cf_protocol.specs.Request.{Command, Request}
@@ -12,6 +11,7 @@ use Rattle.cf_protocol.specs.Written.{command_text}
 use Rattle.cf_protocol.specs.declared.codes.ErrorCode.TheVariants as error
 use Rattle.cf_client.specs.ClientView.{state_of}
 use Rattle.cf_client.specs.OneAnswer.{AreApart}
+use Rattle.cf_hub.specs.Hub.{Node, attached_at}
 use Rattle.cf_model.specs.SessionState.{is_unfinished}
 use Rattle.cf_stream.specs.declared.answer.History.{History}
 use Rattle.cf_machine.specs.ClientRequest.{ClientRequest, SentCommand, Subscribe, Unsubscribe, Publish}
@@ -24,14 +24,12 @@ use Rattle.cf_machine.specs.Weights.{command_length}
 use Rattle.cf_machine.specs.World.{World}
 use Rattle.cf_world.specs.BrokerTie.{Histories, Publishes, ShowsBroker}
 use Rattle.cf_world.specs.ClientTie.{request_by}
-use Rattle.cf_world.specs.HubCalls.{Answered, AreSame, Asks, AtHub, Hubs, LeftTold, who_in}
-use Rattle.cf_world.specs.NodesTie.{seated}
+use Rattle.cf_world.specs.HubCalls.{Asks, LeftTold, Told, error_text, reply_text, who_in}
 use Rattle.cf_world.specs.declared.broker.Broker.{Broker as Code}
 use Rattle.cf_world.specs.declared.broker.Published.{Published}
 use Rattle.cf_world.specs.declared.broker.Published.TheVariants as outcome
 use Rattle.cf_world.specs.declared.client_command.ClientCommand.{ClientCommand}
 use Rattle.cf_world.specs.declared.clients.Peer.{Peer}
-use Rattle.cf_world.specs.declared.clients.Seat.{Seat}
 
 -- ---- before anything is sent
 
@@ -66,42 +64,40 @@ pub record IsGranted (cfg : Config) (m : World) (x : List ℕ) (p : Peer) (e : C
 
 -- ---- once it passed its checks
 
--- what is said to a publish
-abbrev pub PutAnswered : Published → Seat → ℕ → Hubs → Hubs → Type 0
-PutAnswered outcome.Accepted s id old new = Answered s id PutDone old new
-PutAnswered outcome.Repeated s id old new = Answered s id PutDone old new
-PutAnswered outcome.AtLastOffset s id old new = Answered s id (Failed (code_of error.LimitExceeded)) old new
-PutAnswered outcome.NoEpoch s id old new = AreSame old new
-PutAnswered outcome.NotSetUp s id old new = AreSame old new
+-- what is said to a publish of session k
+abbrev pub PutAnswered : Published → ℕ → ℕ → Node → Node → Type 0
+PutAnswered outcome.Accepted k id h g = Told k (reply_text id PutDone) h g
+PutAnswered outcome.Repeated k id h g = Told k (reply_text id PutDone) h g
+PutAnswered outcome.AtLastOffset k id h g = Told k (error_text id error.LimitExceeded) h g
+PutAnswered outcome.NoEpoch k id h g = g ≡ h
+PutAnswered outcome.NotSetUp k id h g = g ≡ h
 
 -- a client's datum, which names it, is published under a key, and the client is answered
-pub record Puts (table : NamespaceTable) (m : Broker) (s : Seat) (c key body : List ℕ) (id : ℕ) (new : Code)
-    (hubs hubs' : Hubs) : Type 0 where
+pub record Puts (table : NamespaceTable) (m : Broker) (k : ℕ) (c key body : List ℕ) (id : ℕ) (new : Code)
+    (h g : Node) : Type 0 where
   pub result : Published
-  pub publishes : Publishes table m c key (record { body = body; info = who_in (seated hubs s) }) new result
-  pub answered : PutAnswered result s id hubs hubs'
+  pub publishes : Publishes table m c key (record { body = body; info = who_in (attached_at h k) }) new result
+  pub answered : PutAnswered result k id h g
 
--- what is said to a history
-abbrev pub ListAnswered : Option History → Seat → ℕ → Hubs → Hubs → Type 0
-ListAnswered (Some h) s id old new = Answered s id (Past h.position h.publications.items) old new
-ListAnswered None s id old new = AreSame old new
+-- what is said to a history of session k
+abbrev pub ListAnswered : Option History → ℕ → ℕ → Node → Node → Type 0
+ListAnswered (Some r) k id h g = Told k (reply_text id (Past r.position r.publications.items)) h g
+ListAnswered None k id h g = g ≡ h
 
-pub record Lists (table : NamespaceTable) (m : Broker) (s : Seat) (c : List ℕ) (limit : ℤ) (id : ℕ) (new : Code)
-    (hubs hubs' : Hubs) : Type 0 where
+pub record Lists (table : NamespaceTable) (m : Broker) (k : ℕ) (c : List ℕ) (limit : ℤ) (id : ℕ) (new : Code)
+    (h g : Node) : Type 0 where
   pub result : Option History
   pub finds : Histories table m c limit new result
-  pub answered : ListAnswered result s id hubs hubs'
+  pub answered : ListAnswered result k id h g
 
--- what is done of a request that passed its checks; the others are none that a client here sends
-abbrev pub Serves : Request → ℕ → Seat → Code → Code → Hubs → Hubs → Type 0
-Serves (request.Subscribe c since) id s old new hubs hubs' =
-    (new ≡ old) × AtHub s.node (Asks s.session c id since) hubs hubs'
-Serves (request.Unsubscribe c) id s old new hubs hubs' =
-    (new ≡ old) × AtHub s.node (LeftTold s.session c id) hubs hubs'
-Serves (request.Publish c key (request.Body body)) id s old new hubs hubs' =
-    (table : NamespaceTable) (m : Broker) → AreFresh m → IsBody body → IsInfo (who_in (seated hubs s))
-    → ShowsBroker table old m → Puts table m s c key body id new hubs hubs'
-Serves (request.History c limit since reverse) id s old new hubs hubs' =
+-- what is done of a request of session k that passed its checks; the others are none that a client here sends
+abbrev pub Serves : Request → ℕ → ℕ → Code → Code → Node → Node → Type 0
+Serves (request.Subscribe c since) id k old new h g = (new ≡ old) × Asks k c id since h g
+Serves (request.Unsubscribe c) id k old new h g = (new ≡ old) × LeftTold k c id h g
+Serves (request.Publish c key (request.Body body)) id k old new h g =
+    (table : NamespaceTable) (m : Broker) → AreFresh m → IsBody body → IsInfo (who_in (attached_at h k))
+    → ShowsBroker table old m → Puts table m k c key body id new h g
+Serves (request.History c limit since reverse) id k old new h g =
     (table : NamespaceTable) (m : Broker) → AreFresh m → IsSome (settings_of table c)
-    → ShowsBroker table old m → Lists table m s c limit id new hubs hubs'
-Serves _ id s old new hubs hubs' = ⊤
+    → ShowsBroker table old m → Lists table m k c limit id new h g
+Serves _ id k old new h g = ⊤

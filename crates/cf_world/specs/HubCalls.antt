@@ -1,7 +1,6 @@
 -- What the calls of one node's hub make of all nodes.
-use Rattle.std.specs.Prelude.{◌≡◌, ◌≢◌, ◌⊎◌, ◌+◌, ℕ, suc, true, false, Option, Some, List, [], ◌∷◌, Vec}
-use Rattle.std.specs.Prelude.{option_and_then, slice_get}
-use Rattle.std.specs.declared.alloc.Global.{Global}
+use Rattle.std.specs.Prelude.{◌≡◌, ◌≢◌, ◌⊎◌, ◌+◌, ℕ, suc, true, false, Option, Some, List, [], ◌∷◌}
+use Rattle.std.specs.Prelude.{option_and_then, option_map, slice_get}
 use Rattle.cf_protocol.specs.Codes.{code_of}
 use Rattle.cf_protocol.specs.Datum.{Placed}
 use Rattle.cf_protocol.specs.Outgoing.{Answer, Failed, Outcome, Unsubscribed}
@@ -22,6 +21,7 @@ use Rattle.cf_hub.specs.WantOfMemory.{OrCloses}
 use Rattle.cf_hub.specs.Wordings.{plain, reading}
 use Rattle.cf_stream.specs.declared.answer.Recovery.{Recovery}
 use Rattle.cf_protocol.specs.Datum.{Who}
+use Rattle.cf_world.specs.BrokerTie.{who_by}
 use Rattle.cf_world.specs.declared.clients.Seat.{Seat}
 
 abbrev pub Hubs : Type 0
@@ -37,13 +37,11 @@ pub record OneHub (n : ℕ) (P : Node → Node → Type 0) (old new : Hubs) (h :
 abbrev pub AtHub : ℕ → (Node → Node → Type 0) → Hubs → Hubs → Type 0
 AtHub n P old new = (h : Node) → old n ≡ Some h → OneHub n P old new h
 
--- the hubs of a vector, by their nodes' numbers
-abbrev pub hub_at : Vec Node Global → Hubs
-hub_at hubs = slice_get hubs.items
-
--- of the hubs of a vector, that of node n changes so
-abbrev pub AtNode : ℕ → (Node → Node → Type 0) → Vec Node Global → Vec Node Global → Type 0
-AtNode n P old new = AtHub n P (hub_at old) (hub_at new)
+-- of all hubs, that of node n goes from h to g
+pub record Moves (n : ℕ) (h g : Node) (old new : Hubs) : Type 0 where
+  pub was : old n ≡ Some h
+  pub now : new n ≡ Some g
+  pub others : (j : ℕ) → j ≢ n → new j ≡ old j
 
 -- all hubs are as they were
 abbrev pub AreSame : Hubs → Hubs → Type 0
@@ -175,7 +173,6 @@ pub record Asks (k : ℕ) (c : List ℕ) (id : ℕ) (since : Option Position) (h
   pub one : is_open (attached_at h k) ≡ true
       → Began k c id since h g ⊎ (AskedTwice k c id h g ⊎ AskedTooMuch k c id h g)
 
--- who a session's client is: all clients connect as the empty user
+-- who a session's client is
 abbrev pub who_in : Option Attached → Option Who
-who_in Option.None = Option.None
-who_in (Some a) = Some (record { user = []; client = a.badge.client })
+who_in o = who_by (option_map (λ a. a.badge.client) o)

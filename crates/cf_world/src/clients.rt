@@ -1,10 +1,8 @@
 //! The clients by name, and where their sessions are.
-ghost use Rattle.std.specs.Prelude.{◌≡◌, ℕ, List, Bool, None, Some, true, false, is_some, map, IfOk, OnOk, IfErr, option_and_then, string_bytes, if◌then◌else◌};
+ghost use Rattle.std.specs.Prelude.{◌≡◌, ℕ, List, Some, map, IfOk, OnOk};
 ghost use Rattle.std.specs.BTreeMap.{get_by_text};
-ghost use Rattle.cf_client.specs.ClientCalls.{new_state, connected, reconnected};
-ghost use Rattle.cf_client.specs.ClientView.{state_of};
 ghost use Rattle.cf_client.specs.Shown.{shown_item};
-ghost use Rattle.cf_world.specs.ClientTie.{Heard, Joins, LeavesNode, Sends, Unseats, state_before};
+ghost use Rattle.cf_world.specs.ClientTie.{Heard, Joins, LeavesNode, Unseats, state_before};
 ghost use Rattle.cf_world.specs.declared.clients.Peer.{Peer as AnyPeer};
 
 use crate::client_command::ClientCommand;
@@ -27,23 +25,6 @@ pub(crate) struct Peer {
     pub(crate) seat: Option<Seat>,
 }
 
-/// Where the session of a client is, if it is connected.
-pub(crate) fn seat_of(clients: &BTreeMap<String, Peer>, name: &str) -> Option<Seat>
-    ensures { result ≡ option_and_then (λ p. p.seat) (get_by_text clients.now name.now) }
-{
-    match clients.get(name) {
-        None => None,
-        Some(peer) => peer.seat,
-    }
-}
-
-/// Whether a client was ever seen.
-fn is_known(clients: &BTreeMap<String, Peer>, name: &str) -> bool
-    ensures { result ≡ is_some (get_by_text clients.now name.now) }
-{
-    clients.contains_key(name)
-}
-
 /// A client connects, and sits here; one that was never seen comes new.
 pub(crate) fn join(
     alloc: Global,
@@ -55,37 +36,9 @@ pub(crate) fn join(
         (Joins name.now seat (state_before (get_by_text clients.old name.now))
         (get_by_text clients.old) (get_by_text clients.new)) }
 {
-    if is_known(clients, name) {
-        rejoin(clients, name, seat)?;
-    } else {
-        add(alloc, clients, name, seat)?;
+    if let Some(peer) = clients.get_mut(name) {
+        return peer.join(seat);
     }
-    Ok(())
-}
-
-/// A client that was seen before connects, and sits here.
-fn rejoin(clients: &mut BTreeMap<String, Peer>, name: &str, seat: Seat) -> Result<(), Short>
-    ensures { OnOk result ((p : AnyPeer) → get_by_text clients.old name.now ≡ Some p
-        → Joins name.now seat (state_of p.client) (get_by_text clients.old)
-        (get_by_text clients.new)) }
-{
-    let Some(peer) = clients.get_mut(name) else {
-        return Ok(());
-    };
-    peer.join(seat)?;
-    Ok(())
-}
-
-/// A new client connects, and sits here.
-fn add(
-    alloc: Global,
-    clients: &mut BTreeMap<String, Peer>,
-    name: &str,
-    seat: Seat,
-) -> Result<(), Short>
-    ensures { OnOk result
-        (Joins name.now seat new_state (get_by_text clients.old) (get_by_text clients.new)) }
-{
     let client = Client::new(alloc);
     let mut peer = Peer { client, seat: None };
     peer.join(seat)?;
@@ -113,26 +66,6 @@ pub(crate) fn unseat_all(clients: &mut BTreeMap<String, Peer>, node: u8)
         peer.leave_node(node);
         true
     });
-}
-
-/// What a client sends. None where it can't: the channel isn't idle, or is, or its ids are used up.
-pub(crate) fn send(
-    clients: &mut BTreeMap<String, Peer>,
-    name: &str,
-    command: &ClientCommand<'_>,
-) -> Result<Option<String>, Short>
-    ensures { IfOk result (λ text. (p : AnyPeer) → get_by_text clients.old name.now ≡ Some p
-        → Sends command.now name.now p (get_by_text clients.old) (get_by_text clients.new) text) }
-{
-    let Some(peer) = clients.get_mut(name) else {
-        return Ok(None);
-    };
-    match peer.send(command) {
-        Ok(text) => Ok(Some(text)),
-        Err(ClientFault::NotNow) => Ok(None),
-        Err(ClientFault::AtLastId) => Ok(None),
-        Err(_) => Err(Short),
-    }
 }
 
 /// A client takes a text.
@@ -177,17 +110,10 @@ impl Peer {
     fn leave_node(&mut self, node: u8)
         ensures { LeavesAs node self.old self.new }
     {
-        if self.is_on(node) {
+        if let Some(seat) = self.seat
+            && seat.node == node
+        {
             self.break_off();
-        }
-    }
-
-    fn is_on(&self, node: u8) -> bool
-        ensures { result ≡ is_at node self.now.seat }
-    {
-        match self.seat {
-            None => false,
-            Some(seat) => seat.node == node,
         }
     }
 
@@ -205,7 +131,8 @@ impl Peer {
         }
     }
 
-    fn send(&mut self, command: &ClientCommand<'_>) -> Result<String, ClientFault>
+    /// What a client sends. It can't where the channel isn't idle, or is, or its ids are used up.
+    pub(crate) fn send(&mut self, command: &ClientCommand<'_>) -> Result<String, ClientFault>
         ensures text { IfOk result (λ t. string_bytes t
             ≡ command_text (command_of (sent_by command.now self.old))) }
         ensures ok { OnOk result (state_of self.new.client

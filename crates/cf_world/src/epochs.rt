@@ -36,6 +36,7 @@ impl WaitingEpochs {
     }
 
     /// An epoch waits, behind the others. An empty one, and one that came before, changes nothing.
+    #[tactic(auto, using(std::proofs::lemmas::Map::Text::text_keys))]
     pub(crate) fn add(&mut self, epoch: Epoch) -> Result<(), AllocError>
         ensures waiting { OnOk result (self.new.waiting.items ≡
             (if (length epoch == 0) || contains_text self.old.came epoch
@@ -48,21 +49,11 @@ impl WaitingEpochs {
         if epoch.is_empty() || self.came.contains(epoch.as_str()) {
             return Ok(());
         }
-        mark(self.alloc, &mut self.came, epoch.as_str())?;
+        let key = String::from_str(self.alloc, epoch.as_str())?;
+        self.came.insert(key)?;
         self.waiting.push_back(epoch)?;
         Ok(())
     }
-}
-
-// An epoch came.
-#[tactic(auto, using(std::proofs::lemmas::Map::Text::text_keys))]
-fn mark(alloc: Global, came: &mut BTreeSet<String>, epoch: &str) -> Result<(), AllocError>
-    ensures { OnOk result ((e : List ℕ)
-        → contains_text came.new e ≡ (bytes_eq epoch.now e || contains_text came.old e)) }
-{
-    let key = String::from_str(alloc, epoch)?;
-    came.insert(key)?;
-    Ok(())
 }
 
 impl Epochs for WaitingEpochs {

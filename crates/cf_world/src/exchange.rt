@@ -5,20 +5,19 @@ ghost use Rattle.cf_protocol.specs.Shown.{shown_request};
 ghost use Rattle.cf_machine.specs.Event as said;
 ghost use Rattle.cf_world.specs.ClientCommands.{IsReadBack, event_by};
 ghost use Rattle.cf_world.specs.Exchange.{Serves};
-ghost use Rattle.cf_world.specs.HubCalls.{hub_at};
 ghost use Rattle.cf_world.specs.Tie.{GoesOn};
 
 use crate::broker::Broker;
 use crate::client_command::ClientCommand;
-use crate::granted::{list_in, put_in};
-use crate::hubs::{ask_in, lose_in};
-use crate::sending::Granted;
+use crate::granted::{list, put};
+use crate::replying::{ask, lose};
+use crate::sending::send;
 use crate::short::Short;
 use crate::world::World;
 use cf_hub::Hub;
 use cf_hub::laws::{calls_are_alike, moves_are_alike, rows_are_counted, what_is_said_stays};
 use cf_machine::laws::epochs_are_fresh;
-use cf_protocol::{Data, Request};
+use cf_protocol::{Command, Data, Request};
 use std::alloc::Global;
 
 impl World {
@@ -70,47 +69,65 @@ impl World {
         what_is_said_stays();
         rows_are_counted();
         epochs_are_fresh();
-        let Some(granted) = self.send(name, command)? else {
+        let Some(peer) = self.clients.get_mut(name) else {
             return Ok(());
         };
-        serve_in(&mut self.broker, &mut self.hubs, self.alloc, &granted)
+        let Some(seat) = peer.seat else {
+            return Ok(());
+        };
+        let Some(hub) = self.hubs.get_mut(seat.node as usize) else {
+            return Ok(());
+        };
+        let alloc = self.alloc;
+        let session = seat.session;
+        match send(
+            &self.namespaces,
+            &self.broker,
+            hub,
+            peer,
+            alloc,
+            session,
+            command,
+        )? {
+            None => Ok(()),
+            Some(command) => carry_out(&mut self.broker, hub, alloc, session, &command),
+        }
     }
 }
 
 // Does what a command asks for that passed its checks, and answers it.
-fn serve_in(
+fn carry_out(
     broker: &mut Broker,
-    hubs: &mut Vec<Hub>,
+    hub: &mut Hub,
     alloc: Global,
-    granted: &Granted,
+    session: u32,
+    command: &Command,
 ) -> Result<(), Short>
-    ensures { OnOk result (Serves (shown_request granted.now.command.request)
-        granted.now.command.id granted.now.seat broker.old broker.new (hub_at hubs.old)
-        (hub_at hubs.new)) }
+    ensures { OnOk result (Serves (shown_request command.now.request) command.now.id session
+        broker.old broker.new hub.old hub.new) }
 {
-    let seat = granted.seat;
-    let id = granted.command.id;
-    match &granted.command.request {
+    let id = command.id;
+    match &command.request {
         Request::Subscribe { channel, since } => {
-            ask_in(hubs, alloc, seat, id, channel.as_str(), *since)
+            ask(hub, alloc, session, id, channel.as_str(), *since)
         }
-        Request::Unsubscribe { channel } => lose_in(hubs, alloc, seat, id, channel.as_str()),
+        Request::Unsubscribe { channel } => lose(hub, alloc, session, id, channel.as_str()),
         Request::Publish {
             channel,
             key,
             body: Data::Body(body),
-        } => put_in(
+        } => put(
             broker,
-            hubs,
+            hub,
             alloc,
-            seat,
+            session,
             id,
             channel.as_str(),
             key.as_str(),
             body.as_str(),
         ),
         Request::History { channel, limit, .. } => {
-            list_in(broker, hubs, alloc, seat, id, channel.as_str(), *limit)
+            list(broker, hub, alloc, session, id, channel.as_str(), *limit)
         }
         _ => Ok(()),
     }

@@ -1,46 +1,41 @@
 //! What a command comes to at the broker, and what its session is told of it.
-ghost use Rattle.std.specs.Prelude.{◌≡◌, None, Some, IfOk, IsSome, OnOk};
-ghost use Rattle.std.specs.BTreeMap.{get_by_text};
+ghost use Rattle.std.specs.Prelude.{◌≡◌, ℕ, None, IfOk, IsSome, OnOk};
 ghost use Rattle.cf_protocol.specs.Regular.{IsBody, IsInfo};
 ghost use Rattle.cf_protocol.specs.Settings.{NamespaceTable, settings_of};
 ghost use Rattle.cf_protocol.specs.Shown.{shown_command};
 ghost use Rattle.cf_client.specs.ClientCalls.{call_fault};
 ghost use Rattle.cf_client.specs.ClientView.{state_of};
+ghost use Rattle.cf_hub.specs.Hub.{attached_at};
 ghost use Rattle.cf_machine.specs.FreshEpochs.{AreFresh};
 ghost use Rattle.cf_machine.specs.PublicationList.{Broker as Shared};
 ghost use Rattle.cf_world.specs.BrokerTie.{ShowsBroker};
 ghost use Rattle.cf_world.specs.Exchange.{Lists, Puts, lacks_by, passes, sent_by};
-ghost use Rattle.cf_world.specs.HubCalls.{hub_at, who_in};
-ghost use Rattle.cf_world.specs.NodesTie.{seated};
-ghost use Rattle.cf_world.specs.declared.clients.Peer.{Peer as AnyPeer};
+ghost use Rattle.cf_world.specs.HubCalls.{who_in};
 
 use crate::broker::{Broker, Published};
 use crate::client_command::ClientCommand;
-use crate::clients::{Peer, Seat};
-use crate::hubs::{answer_in, info_in, refuse_in};
+use crate::clients::Peer;
 use crate::judging::LONGEST_TEXT;
+use crate::replying::{answer, refuse};
 use crate::short::Short;
 use cf_hub::Hub;
 use cf_protocol::{Command, Data, ErrorCode, Namespaces, Outcome, Request, write_command};
 use cf_session::refusal_of;
 use std::alloc::Global;
-use std::collections::BTreeMap;
 
 /// Whether a client's command would pass its checks, and open a stream while no epoch waits.
 pub(crate) fn lacks_epoch(
     alloc: Global,
     namespaces: &Namespaces,
     broker: &Broker,
-    clients: &BTreeMap<String, Peer>,
-    name: &str,
+    peer: &Peer,
     command: &ClientCommand<'_>,
 ) -> Result<bool, Short>
-    ensures { IfOk result (λ lacks. (table : NamespaceTable) (m : Shared) (p : AnyPeer)
-        → ShowsBroker table broker.now m → get_by_text clients.now name.now ≡ Some p
-        → call_fault (state_of p.client) ≡ None
-        → lacks ≡ lacks_by namespaces.now (sent_by command.now p) m) }
+    ensures { IfOk result (λ lacks. (table : NamespaceTable) (m : Shared)
+        → ShowsBroker table broker.now m → call_fault (state_of peer.now.client) ≡ None
+        → lacks ≡ lacks_by namespaces.now (sent_by command.now peer.now) m) }
 {
-    let Some(id) = next_id(clients, name) else {
+    let Ok(id) = peer.client.next_id() else {
         return Ok(false);
     };
     match command {
@@ -71,15 +66,6 @@ pub(crate) fn lacks_epoch(
     }
 }
 
-/// The id of a client's next command, if it can send one.
-fn next_id(clients: &BTreeMap<String, Peer>, name: &str) -> Option<u32>
-    ensures { (p : AnyPeer) → get_by_text clients.now name.now ≡ Some p
-        → call_fault (state_of p.client) ≡ None
-        → result ≡ Some (state_of p.client).client.fresh }
-{
-    clients.get(name)?.client.next_id().ok()
-}
-
 /// Whether a command passes its checks.
 fn passes(alloc: Global, namespaces: &Namespaces, command: &Command) -> Result<bool, Short>
     ensures { IfOk result (λ pass. pass ≡ passes namespaces.now (shown_command command.now)) }
@@ -92,44 +78,42 @@ fn passes(alloc: Global, namespaces: &Namespaces, command: &Command) -> Result<b
 }
 
 /// A client's datum is published under a key, and the client is told.
-pub(crate) fn put_in(
+pub(crate) fn put(
     broker: &mut Broker,
-    hubs: &mut Vec<Hub>,
+    hub: &mut Hub,
     alloc: Global,
-    seat: Seat,
+    session: u32,
     id: u32,
     channel: &str,
     key: &str,
     body: &str,
 ) -> Result<(), Short>
     ensures { OnOk result ((table : NamespaceTable) (m : Shared) → AreFresh m → IsBody body.now
-        → IsInfo (who_in (seated (hub_at hubs.old) seat)) → ShowsBroker table broker.old m
-        → Puts table m seat channel.now key.now body.now id broker.new (hub_at hubs.old)
-        (hub_at hubs.new)) }
+        → IsInfo (who_in (attached_at hub.old session)) → ShowsBroker table broker.old m
+        → Puts table m session channel.now key.now body.now id broker.new hub.old hub.new) }
 {
-    let info = info_in(hubs, alloc, seat)?;
-    match broker.publish(channel, key, body, info)? {
-        Published::Accepted => answer_in(hubs, alloc, seat, id, Outcome::Published),
-        Published::Repeated => answer_in(hubs, alloc, seat, id, Outcome::Published),
-        Published::AtLastOffset => refuse_in(hubs, alloc, seat, id, ErrorCode::LimitExceeded),
+    match broker.publish(channel, key, body, hub.client_id(session))? {
+        Published::Accepted => answer(hub, alloc, session, id, Outcome::Published),
+        Published::Repeated => answer(hub, alloc, session, id, Outcome::Published),
+        Published::AtLastOffset => refuse(hub, alloc, session, id, ErrorCode::LimitExceeded),
         Published::NoEpoch => Ok(()),
         Published::NotSetUp => Ok(()),
     }
 }
 
 /// The history of a channel is listed for a client.
-pub(crate) fn list_in(
+pub(crate) fn list(
     broker: &mut Broker,
-    hubs: &mut Vec<Hub>,
+    hub: &mut Hub,
     alloc: Global,
-    seat: Seat,
+    session: u32,
     id: u32,
     channel: &str,
     limit: i32,
 ) -> Result<(), Short>
     ensures { OnOk result ((table : NamespaceTable) (m : Shared) → AreFresh m
         → IsSome (settings_of table channel.now) → ShowsBroker table broker.old m
-        → Lists table m seat channel.now limit id broker.new (hub_at hubs.old) (hub_at hubs.new)) }
+        → Lists table m session channel.now limit id broker.new hub.old hub.new) }
 {
     let Some(history) = broker.history(channel, limit)? else {
         return Ok(());
@@ -138,6 +122,5 @@ pub(crate) fn list_in(
         position: history.position,
         publications: history.publications,
     };
-    answer_in(hubs, alloc, seat, id, outcome)?;
-    Ok(())
+    answer(hub, alloc, session, id, outcome)
 }

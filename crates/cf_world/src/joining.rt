@@ -3,11 +3,12 @@ ghost use Rattle.std.specs.Prelude.{OnOk};
 ghost use Rattle.cf_machine.specs.Event as said;
 ghost use Rattle.cf_world.specs.Tie.{GoesOn};
 
-use crate::clients::{Seat, join, seat_of, unseat, unseat_all};
-use crate::hubs::{attach_in, detach_in, renew_in};
+use crate::broker::NOW;
+use crate::clients::{Seat, join, unseat, unseat_all};
 use crate::short::Short;
 use crate::world::World;
 use cf_hub::laws::{calls_are_alike, sessions_are_counted};
+use cf_hub::{Hub, HubRefusal};
 
 impl World {
     /// A client connects to a node, unless it is connected, there is no such node, or the node has no room.
@@ -16,35 +17,44 @@ impl World {
     {
         calls_are_alike();
         sessions_are_counted();
-        if let Some(_seat) = seat_of(&self.clients, name) {
+        if let Some(_seat) = self.seat(name) {
             return Ok(());
         }
-        let Some(session) = attach_in(&mut self.hubs, self.alloc, node)? else {
+        let Some(hub) = self.hubs.get_mut(node as usize) else {
             return Ok(());
         };
-        let seat = Seat { node, session };
-        join(self.alloc, &mut self.clients, name, seat)?;
-        Ok(())
+        hub.invariant();
+        match hub.attach(String::new(self.alloc), NOW) {
+            Ok(session) => join(self.alloc, &mut self.clients, name, Seat { node, session }),
+            Err(HubRefusal::TooMany) => Ok(()),
+            Err(_) => Err(Short),
+        }
     }
 
     /// The connection of a client breaks.
     pub fn break_off(&mut self, name: &str)
         ensures { GoesOn (said.Break name.now) self.old self.new }
     {
-        let Some(seat) = seat_of(&self.clients, name) else {
+        let Some(seat) = self.seat(name) else {
             return;
         };
-        detach_in(&mut self.hubs, seat);
-        unseat(&mut self.clients, name);
+        if let Some(hub) = self.hubs.get_mut(seat.node as usize) {
+            let _gone = hub.detach(seat.session);
+            unseat(&mut self.clients, name);
+        }
     }
+
     /// A node restarts: its sessions are gone, and its boot number grows. It answers `Short` too where the boot number is the last.
     pub fn restart(&mut self, node: u8) -> Result<(), Short>
         ensures { OnOk result (GoesOn (said.Restart node) self.old self.new) }
     {
-        if self.hub(node).is_none() {
+        let Some(hub) = self.hubs.get_mut(node as usize) else {
             return Ok(());
-        }
-        renew_in(&mut self.hubs, self.alloc, node)?;
+        };
+        let Some(boot) = hub.boot().checked_add(1) else {
+            return Err(Short);
+        };
+        *hub = Hub::new(self.alloc, node, boot);
         unseat_all(&mut self.clients, node);
         Ok(())
     }

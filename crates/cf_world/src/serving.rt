@@ -3,8 +3,6 @@ ghost use Rattle.std.specs.Prelude.{OnOk};
 ghost use Rattle.cf_machine.specs.Event as said;
 ghost use Rattle.cf_world.specs.Tie.{GoesOn};
 
-use crate::clients::seat_of;
-use crate::hubs::{asked_in, check_in, deliver_in, finish_in, read_in};
 use crate::short::Short;
 use crate::world::World;
 use cf_hub::laws::{calls_are_alike, moves_are_alike, what_is_said_stays};
@@ -19,16 +17,19 @@ impl World {
         moves_are_alike();
         what_is_said_stays();
         epochs_are_fresh();
-        let Some(seat) = seat_of(&self.clients, name) else {
+        let Some(seat) = self.seat(name) else {
             return Ok(());
         };
-        let Some(asked) = asked_in(&self.hubs, seat, channel) else {
+        let Some(hub) = self.hubs.get_mut(seat.node as usize) else {
+            return Ok(());
+        };
+        let Some(asked) = hub.asked(seat.session, channel) else {
             return Ok(());
         };
         let Some(recovery) = self.broker.read(channel, asked.since)? else {
             return Ok(());
         };
-        read_in(&mut self.hubs, seat, channel, recovery);
+        let _done = hub.read_done(seat.session, channel, recovery);
         Ok(())
     }
 
@@ -37,10 +38,16 @@ impl World {
         ensures { OnOk result (GoesOn (said.Finish name.now channel.now) self.old self.new) }
     {
         calls_are_alike();
-        let Some(seat) = seat_of(&self.clients, name) else {
+        let Some(seat) = self.seat(name) else {
             return Ok(());
         };
-        finish_in(&mut self.hubs, seat, channel)?;
+        let Some(hub) = self.hubs.get_mut(seat.node as usize) else {
+            return Ok(());
+        };
+        let _done = hub.finish(seat.session, channel);
+        if hub.short() {
+            return Err(Short);
+        }
         Ok(())
     }
 
@@ -52,7 +59,14 @@ impl World {
         let Some(accepted) = self.broker.accepted(number) else {
             return Ok(());
         };
-        deliver_in(&mut self.hubs, node, accepted)?;
+        let Some(hub) = self.hubs.get_mut(node as usize) else {
+            return Ok(());
+        };
+        let channel = accepted.channel.as_str();
+        let _counts = hub.deliver(channel, &accepted.epoch, &accepted.publication);
+        if hub.short() {
+            return Err(Short);
+        }
         Ok(())
     }
 
@@ -62,11 +76,17 @@ impl World {
     {
         calls_are_alike();
         moves_are_alike();
-        let Some(seat) = seat_of(&self.clients, name) else {
+        let Some(seat) = self.seat(name) else {
             return Ok(());
         };
-        let top = self.broker.top(channel);
-        check_in(&mut self.hubs, seat, channel, top)?;
+        let Some(hub) = self.hubs.get_mut(seat.node as usize) else {
+            return Ok(());
+        };
+        let top = self.broker.streams.position(channel);
+        let _checked = hub.check(seat.session, channel, top);
+        if hub.short() {
+            return Err(Short);
+        }
         Ok(())
     }
 }

@@ -2,7 +2,7 @@
 ghost use Rattle.std.specs.Prelude.{◌≡◌};
 ghost use Rattle.cf_world.specs.Tie.{seat_at};
 
-use crate::clients::{Seat, seat_of};
+use crate::clients::Seat;
 use crate::world::World;
 
 impl World {
@@ -10,6 +10,9 @@ impl World {
     pub fn seat(&self, name: &str) -> Option<Seat>
         ensures { result ≡ seat_at self.now name.now }
     {
-        seat_of(&self.clients, name)
+        match self.clients.get(name) {
+            None => None,
+            Some(peer) => peer.seat,
+        }
     }
 }

@@ -8,9 +8,8 @@ ghost use Rattle.cf_world.specs.Entries.{shown_entry};
 ghost use Rattle.cf_world.specs.Items.{is_got, told_of};
 ghost use Rattle.cf_world.specs.Tie.{GoesOn, Writes};
 
-use crate::clients::{hear, seat_of, unseat};
+use crate::clients::{hear, unseat};
 use crate::entry::{Entry, Item};
-use crate::hubs::{detach_in, take_in};
 use crate::short::Short;
 use crate::world::World;
 use cf_client::AppEvent;
@@ -19,7 +18,7 @@ use cf_hub::laws::{calls_are_alike, moves_are_alike};
 use cf_machine::laws::{answers_by_id, schedules_are_loose_runs, what_waits_is_listed};
 use cf_protocol::laws::replies_read_back;
 use cf_queue::Out;
-use std::alloc::{AllocError, Global};
+use std::alloc::Global;
 
 impl World {
     /// A client takes the front of what waits for it, in event number `at`.
@@ -34,33 +33,29 @@ impl World {
         answers_by_id();
         schedules_are_loose_runs();
         what_waits_is_listed();
-        let Some(seat) = seat_of(&self.clients, name) else {
+        let Some(seat) = self.seat(name) else {
             return Ok(Vec::new(self.alloc));
         };
-        match take_in(&mut self.hubs, seat) {
+        let Some(hub) = self.hubs.get_mut(seat.node as usize) else {
+            return Ok(Vec::new(self.alloc));
+        };
+        match hub.take(seat.session) {
             None => Ok(Vec::new(self.alloc)),
             Some(Out::Text(text)) => {
                 let told = hear(self.alloc, &mut self.clients, name, text.as_str())?;
-                let entries = entries(self.alloc, at, name, told)?;
-                Ok(entries)
+                entries(self.alloc, at, name, told)
             }
             Some(Out::Close(code)) => {
-                detach_in(&mut self.hubs, seat);
+                let _gone = hub.detach(seat.session);
                 unseat(&mut self.clients, name);
-                let entries = closed(self.alloc, at, name, code)?;
-                Ok(entries)
+                closed(self.alloc, at, name, code)
             }
         }
     }
 }
 
 // What the application of a client got, as entries of event number `at`.
-fn entries(
-    alloc: Global,
-    at: usize,
-    name: &str,
-    told: Vec<AppEvent>,
-) -> Result<Vec<Entry>, AllocError>
+fn entries(alloc: Global, at: usize, name: &str, told: Vec<AppEvent>) -> Result<Vec<Entry>, Short>
     ensures { IfOk result (λ es. map shown_entry es.items
         ≡ entries_of at name.now (flat_map told_of (map shown_item told.items))) }
 {
@@ -86,7 +81,7 @@ fn item_of(event: AppEvent) -> Option<Item>
 }
 
 // A close, as an entry of event number `at`.
-fn closed(alloc: Global, at: usize, name: &str, code: u16) -> Result<Vec<Entry>, AllocError>
+fn closed(alloc: Global, at: usize, name: &str, code: u16) -> Result<Vec<Entry>, Short>
     ensures { IfOk result (λ es. map shown_entry es.items
         ≡ entries_of at name.now (item.Closed code ∷ [])) }
 {

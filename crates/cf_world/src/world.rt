@@ -81,7 +81,8 @@ impl World {
         ensures { OnOk result (GoesOn (said.Epoch epoch) self.old self.new) }
     {
         what_is_said_stays();
-        self.broker.epoch(epoch)?;
+        let _letters = epoch.as_str();
+        self.broker.epochs.add(epoch)?;
         Ok(())
     }
 
@@ -103,7 +104,7 @@ impl World {
         ensures { GoesOn (said.Trim channel.now count) self.old self.new }
     {
         what_is_said_stays();
-        self.broker.trim(channel, count);
+        self.broker.streams.trim(channel, count);
     }
 
     /// A channel's stream is gone.
@@ -111,7 +112,7 @@ impl World {
         ensures { GoesOn (said.Forget channel.now) self.old self.new }
     {
         what_is_said_stays();
-        self.broker.forget(channel);
+        self.broker.streams.forget(channel);
     }
 
     /// All streams are gone.
@@ -119,7 +120,7 @@ impl World {
         ensures { GoesOn said.BrokerRestart self.old self.new }
     {
         what_is_said_stays();
-        self.broker.forget_all();
+        self.broker.streams.forget_all();
     }
 
     /// Streams of a namespace hold at most so many publications from now on, if it is set up. Of those that hold more the newest
@@ -129,7 +130,9 @@ impl World {
         ensures { GoesOn (said.SetSize name.now size) self.old self.new }
     {
         what_is_said_stays();
-        self.broker.set_size(name, size);
+        if self.broker.streams.has_namespace(name) {
+            self.broker.streams.set_size(name, size);
+        }
     }
 }
 

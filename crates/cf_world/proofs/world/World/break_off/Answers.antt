@@ -1,9 +1,11 @@
-use Rattle.std.proofs.Common.{rules, ◌≡◌, Some, None, slice_get}
+use Rattle.std.proofs.Common.{rules, ◌≡◌, Some, None, refl, slice_get, slice_set}
 use Rattle.std.specs.BTreeMap.{get_by_text}
-use Rattle.cf_machine.specs.IntervalMachine.{run}
-use Rattle.cf_machine.specs.World.{World, start}
+use Rattle.cf_hub.specs.Hub.{Node}
 use Rattle.cf_world.specs.Tie.{seats_of}
+use Rattle.cf_world.specs.HubCalls.{Gone}
 use Rattle.cf_world.proofs.Breaking.{break-away, break-goes}
+use Rattle.cf_world.proofs.Changed.{changed, none-there}
+use Rattle.cf_world.proofs.Sitting.{hub_there}
 use Rattle.cf_world.proofs.world.World.break_off.Goals as goal
 
 pub returns-in_default : goal.returns-in_default
@@ -11,8 +13,18 @@ returns-in_default c = λ cfg past t.
     let none : seats_of (get_by_text c.args.self.now.clients) c.args.name.now ≡ None = search rules in
     break-away t c.args.name.now none
 
-pub returns : goal.returns
-returns c = λ cfg past t.
-    let w : World = run cfg start past in
+pub returns-in_default-get_mut : goal.returns-in_default-get_mut
+returns-in_default-get_mut c = λ cfg past t.
     let sat : seats_of (get_by_text c.args.self.now.clients) c.args.name.now ≡ Some c.in-Some.seat = search rules in
-    break-goes t c.args.name.now c.in-Some.seat sat (slice_get c.detach_in.new.hubs.items) c.detach_in.ensures (get_by_text c.unseat.new.clients) c.unseat.ensures
+    let there = hub_there t c.args.name.now c.in-Some.seat sat in
+    let none = none-there c.args.self.now.hubs c.in-Some.seat.node c.in_default-get_mut.ensures.variant.1 in
+    absurd (cc)
+
+pub returns-in-Some-get_mut : goal.returns-in-Some-get_mut
+returns-in-Some-get_mut c = λ cfg past t.
+    let sat : seats_of (get_by_text c.args.self.now.clients) c.args.name.now ≡ Some c.in-Some.seat = search rules in
+    let g : Node = c.detach-gone.new.self in
+    break-goes t c.args.name.now c.in-Some.seat sat (slice_get (slice_set c.args.self.now.hubs.items c.in-Some.seat.node g))
+    (changed c.args.self.now.hubs c.in-Some.seat.node c.in-Some-get_mut.hub.now g (Gone c.in-Some.seat.session) (c.in-Some-get_mut.ensures.variant.0 refl) c.in-Some-get_mut.ensures.value
+    (record { gone = c.detach-gone.ensures.gone; others = c.detach-gone.ensures.others; same = c.detach-gone.ensures.rest }))
+    (get_by_text c.unseat.new.clients) c.unseat.ensures

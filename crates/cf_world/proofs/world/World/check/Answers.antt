@@ -1,8 +1,12 @@
-use Rattle.std.proofs.Common.{rules, ◌≡◌, Some, None, slice_get}
+use Rattle.std.proofs.Common.{rules, ◌≡◌, ◌∙◌, Some, None, refl, sym, slice_get, slice_set}
 use Rattle.std.specs.BTreeMap.{get_by_text}
+use Rattle.cf_hub.specs.Hub.{Node}
 use Rattle.cf_machine.specs.IntervalMachine.{run}
 use Rattle.cf_machine.specs.World.{World, start}
 use Rattle.cf_world.specs.Tie.{seats_of}
+use Rattle.cf_world.specs.HubCalls.{Checked}
+use Rattle.cf_world.proofs.BoardCalls.{top-stands}
+use Rattle.cf_world.proofs.Changed.{changed, missing, unrefused}
 use Rattle.cf_world.proofs.Served.{check-away, check-goes}
 use Rattle.cf_world.proofs.world.World.check.Goals as goal
 
@@ -11,9 +15,21 @@ returns-in_default c = λ cfg past t.
     let none : seats_of (get_by_text c.args.self.now.clients) c.args.name.now ≡ None = search rules in
     check-away t c.args.name.now c.args.channel.now none
 
+pub returns-in_default-get_mut : goal.returns-in_default-get_mut
+returns-in_default-get_mut c = λ cfg past t.
+    let w : World = run cfg start past in
+    let sat : seats_of (get_by_text c.args.self.now.clients) c.args.name.now ≡ Some c.in-Some.seat = search rules in
+    check-goes t (c.calls_are_alike.ensures w.broker.lists) (c.moves_are_alike.ensures w.broker.lists) c.args.name.now c.args.channel.now _ refl
+    c.in-Some.seat sat (slice_get c.args.self.now.hubs.items)
+    (missing c.args.self.now.hubs c.in-Some.seat.node (Checked c.in-Some.seat.session c.args.channel.now _) _ c.in_default-get_mut.ensures.variant.1)
+
 pub returns : goal.returns
 returns c = λ cfg past t.
     let w : World = run cfg start past in
     let sat : seats_of (get_by_text c.args.self.now.clients) c.args.name.now ≡ Some c.in-Some.seat = search rules in
-    check-goes t (c.calls_are_alike.ensures w.broker.lists) (c.moves_are_alike.ensures w.broker.lists) c.args.name.now c.args.channel.now c.top-top.result (c.top-top.ensures cfg.namespaces w.broker t.broker)
-    c.in-Some.seat sat (slice_get c.check_in.new.hubs.items) c.in_ok-check_in.ensures
+    let g : Node = c.check-checked.new.self in
+    let does : Checked c.in-Some.seat.session c.args.channel.now c.position-top.result c.in-Some-get_mut.hub.now g = record { does = c.check-checked.ensures.session; same = c.check-checked.ensures.rest; none = unrefused g.refused (sym c.short.ensures ∙ c.if-short.false) } in
+    check-goes t (c.calls_are_alike.ensures w.broker.lists) (c.moves_are_alike.ensures w.broker.lists) c.args.name.now c.args.channel.now c.position-top.result
+    (top-stands cfg.namespaces c.args.self.now.broker w.broker t.broker c.args.channel.now c.position-top.result c.position-top.ensures.list_answer)
+    c.in-Some.seat sat (slice_get (slice_set c.args.self.now.hubs.items c.in-Some.seat.node g))
+    (changed c.args.self.now.hubs c.in-Some.seat.node c.in-Some-get_mut.hub.now g (Checked c.in-Some.seat.session c.args.channel.now c.position-top.result) (c.in-Some-get_mut.ensures.variant.0 refl) c.in-Some-get_mut.ensures.value does)

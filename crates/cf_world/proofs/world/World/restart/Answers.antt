@@ -1,10 +1,20 @@
-use Rattle.std.proofs.Common.{rules, ◌≡◌, true, is_some, slice_get}
+use Rattle.std.proofs.Common.{rules, ◌≡◌, ◌+◌, refl, slice_get, slice_set}
 use Rattle.std.specs.BTreeMap.{get_by_text}
-use Rattle.cf_world.proofs.Leaving.{restart-goes, there}
+use Rattle.cf_hub.specs.Hub.{Node, empty}
+use Rattle.cf_world.specs.HubCalls.{Renewed}
+use Rattle.cf_world.proofs.Changed.{changed, found, none-there}
+use Rattle.cf_world.proofs.Leaving.{restart-goes, restart-nowhere}
 use Rattle.cf_world.proofs.world.World.restart.Goals as goal
+
+pub returns-in_default : goal.returns-in_default
+returns-in_default c = λ cfg past t. restart-nowhere t c.args.node (none-there c.args.self.now.hubs c.args.node c.in_default.ensures.variant.1)
 
 pub returns : goal.returns
 returns c = λ cfg past t.
-    let some : is_some (slice_get c.args.self.now.hubs.items c.args.node) ≡ true = search rules in
-    let h = there (slice_get c.args.self.now.hubs.items c.args.node) some in
-    restart-goes t c.args.node h.0 h.1 (slice_get c.renew_in.new.hubs.items) c.in_ok-renew_in.ensures (get_by_text c.unseat_all.new.clients) c.unseat_all.ensures
+    let n = c.args.node in
+    let h : Node = c.in-Some.hub.now in
+    let g : Node = c.new.result in
+    let next : g ≡ empty n (h.boot + 1) = search rules in
+    restart-goes t n h (found c.args.self.now.hubs n h (c.in-Some.ensures.variant.0 refl) c.in-Some.ensures.value) (slice_get (slice_set c.args.self.now.hubs.items n g))
+    (changed c.args.self.now.hubs n h g (Renewed n) (c.in-Some.ensures.variant.0 refl) c.in-Some.ensures.value next)
+    (get_by_text c.unseat_all.new.clients) c.unseat_all.ensures

@@ -1,23 +1,35 @@
-use Rattle.std.proofs.Common.{rules, ◌≡◌, ◌∙◌, ℕ, List, Option, Some, None, map, sym, ap, subst, slice_get}
+use Rattle.std.proofs.Common.{rules, ◌≡◌, ◌∙◌, ℕ, List, Option, Some, None, Result, Ok, Err, OnOk, map, refl, sym, ap, subst, slice_get, slice_set}
+use Rattle.std.proofs.lemmas.Result.{IfOk-weaker}
 use Rattle.std.specs.BTreeMap.{get_by_text}
 use Rattle.cf_client.specs.Shown.{shown_item}
 use Rattle.cf_queue.specs.Meaning.{meaning}
 use Rattle.cf_queue.specs.declared.queue.Out.{Out}
 use Rattle.cf_queue.specs.declared.queue.Out.TheVariants as out
-use Rattle.cf_hub.specs.Hub.{attached_at}
+use Rattle.cf_hub.specs.Hub.{Node, attached_at}
 use Rattle.cf_hub.specs.Session.{Attached}
 use Rattle.cf_machine.specs.AnswersById.{AreForChannel}
 use Rattle.cf_machine.specs.IntervalMachine.{run}
 use Rattle.cf_machine.specs.Leading.{coming}
 use Rattle.cf_machine.specs.LooseRun.{lines}
 use Rattle.cf_machine.specs.World.{World, start}
+use Rattle.cf_world.specs.HubCalls.{Gone, Moves, Taken}
 use Rattle.cf_world.specs.Tie.{seats_of}
 use Rattle.cf_world.specs.declared.clients.Peer.{Peer}
+use Rattle.cf_world.proofs.AtHubs.{moved}
+use Rattle.cf_world.proofs.Changed.{lends}
 use Rattle.cf_world.proofs.Looking.{TextFront, close_waits, none_waits, text_waits}
-use Rattle.cf_world.proofs.Sitting.{hub_there, seat_found}
+use Rattle.cf_world.proofs.Sitting.{seat_found}
 use Rattle.cf_world.proofs.TakenText.{take_goes, take_writes}
-use Rattle.cf_world.proofs.Takes.{says-there, take-away, take-close, take-none}
+use Rattle.cf_world.proofs.Takes.{says-there, take-away, take-close, take-none, writes-close}
 use Rattle.cf_world.proofs.world.World.take.Goals as goal
+
+on_ok_always : {T E P : Type 0} (r : Result T E) → P → OnOk r P
+on_ok_always (Ok v) p = p
+on_ok_always (Err e) p = tt
+
+-- what goes from h to g and to z goes from g to z
+after-another : {n : ℕ} {h g z : Node} {old mid new : ℕ → Option Node} → Moves n h g old mid → Moves n h z old new → Moves n g z mid new
+after-another v u = record { was = v.now; now = u.now; others = λ j ne. u.others j ne ∙ sym (v.others j ne) }
 
 pub returns-in_default-clause-ok : goal.returns-in_default-clause-ok
 returns-in_default-clause-ok c = λ cfg past t.
@@ -30,66 +42,99 @@ returns-in-None-clause-ok c = λ cfg past t.
     let x : List ℕ = c.args.name.now in
     let peers : List ℕ → Option Peer = get_by_text c.args.self.now.clients in
     let sat : seats_of peers x ≡ Some c.in-Some.seat = search rules in
-    let there = hub_there t x c.in-Some.seat sat in
-    let says = says-there t x c.in-Some.seat sat there.0 there.1 in
-    let o : Option Attached = attached_at there.0 c.in-Some.seat.session in
-    let none = none_waits w.broker.lists o (w.links x).session says (c.in-None.ensures.front there.0 there.1) in
-    take-none t x c.in-Some.seat sat none (c.calls_are_alike.ensures w.broker.lists) (c.moves_are_alike.ensures w.broker.lists) (slice_get c.take_in.new.hubs.items) c.in-None.ensures.taken
+    let h : Node = c.in-Some-get_mut.hub.now in
+    let g : Node = c.take.new.self in
+    let v = lends c.args.self.now.hubs c.in-Some.seat.node h g (c.in-Some-get_mut.ensures.variant.0 refl) c.in-Some-get_mut.ensures.value in
+    let says = says-there t x c.in-Some.seat sat h v.was in
+    let o : Option Attached = attached_at h c.in-Some.seat.session in
+    let taken : Taken c.in-Some.seat.session h g = record { does = c.take.ensures.sessions; same = c.take.ensures.rest } in
+    let none = none_waits w.broker.lists o (w.links x).session says c.in-None.ensures.front in
+    take-none t x c.in-Some.seat sat none (c.calls_are_alike.ensures w.broker.lists) (c.moves_are_alike.ensures w.broker.lists) (slice_get (slice_set c.args.self.now.hubs.items c.in-Some.seat.node g)) (moved v (Taken c.in-Some.seat.session) taken)
 
-pub returns-in_ok-entries-in-Some-Text-clause-ok : goal.returns-in_ok-entries-in-Some-Text-clause-ok
-returns-in_ok-entries-in-Some-Text-clause-ok c = λ cfg past t.
+pub returns-in_ok-told-in-Some-Text-clause-ok : goal.returns-in_ok-told-in-Some-Text-clause-ok
+returns-in_ok-told-in-Some-Text-clause-ok c = on_ok_always c.entries.result (λ cfg past t.
     let w : World = run cfg start past in
     let x : List ℕ = c.args.name.now in
     let peers : List ℕ → Option Peer = get_by_text c.args.self.now.clients in
     let sat : seats_of peers x ≡ Some c.in-Some.seat = search rules in
-    let there = hub_there t x c.in-Some.seat sat in
-    let says = says-there t x c.in-Some.seat sat there.0 there.1 in
-    let o : Option Attached = attached_at there.0 c.in-Some.seat.session in
+    let h : Node = c.in-Some-get_mut.hub.now in
+    let g : Node = c.take.new.self in
+    let v = lends c.args.self.now.hubs c.in-Some.seat.node h g (c.in-Some-get_mut.ensures.variant.0 refl) c.in-Some-get_mut.ensures.value in
+    let says = says-there t x c.in-Some.seat sat h v.was in
+    let o : Option Attached = attached_at h c.in-Some.seat.session in
+    let taken : Taken c.in-Some.seat.session h g = record { does = c.take.ensures.sessions; same = c.take.ensures.rest } in
     let found = seat_found (peers x) c.in-Some.seat sat in
     let name : c.in-Some-Text.text ≡ c.as_str.result.now = search rules in
     let sent : c.in-Some-Text.field-0 ≡ out.Text c.in-Some-Text.text = search rules in
     let waits : TextFront w.broker.lists c.as_str.result.now (w.links x).session.notes =
     subst (λ (ts : List ℕ). TextFront w.broker.lists ts (w.links x).session.notes) name
-    (text_waits w.broker.lists o (w.links x).session c.in-Some-Text.text says (sym (ap (λ (v : Out). Some (meaning v)) sent) ∙ c.in-Some-Text.ensures.front there.0 there.1)) in
+    (text_waits w.broker.lists o (w.links x).session c.in-Some-Text.text says (sym (ap (λ (v : Out). Some (meaning v)) sent) ∙ c.in-Some-Text.ensures.front)) in
     let heard = c.in_ok-told-in-Some-Text.ensures found.0 found.1 in
     let for : (d : List ℕ) → AreForChannel d ((w.links x).client.modes d) (coming (w.links x)) =
     λ d. subst (λ (v : World). AreForChannel d ((v.links x).client.modes d) (coming (v.links x))) (c.schedules_are_loose_runs.ensures.world cfg past) (c.answers_by_id.ensures cfg (lines past) x d) in
     take_goes t x c.in-Some.seat found.0 found.1 found.2 (c.calls_are_alike.ensures w.broker.lists) (c.moves_are_alike.ensures w.broker.lists) c.one_meaning.ensures
     c.replies_read_back.ensures.read for (c.what_waits_is_listed.ensures cfg past x) heard.apart c.as_str.result.now waits.note waits.rest waits.is waits.said
-    (slice_get c.take_in.new.hubs.items) c.in-Some-Text.ensures.taken (get_by_text c.hear.new.clients) (map shown_item c.in_ok-told-in-Some-Text.told.items) heard
+    (slice_get (slice_set c.args.self.now.hubs.items c.in-Some.seat.node g)) (moved v (Taken c.in-Some.seat.session) taken) (get_by_text c.hear.new.clients) (map shown_item c.in_ok-told-in-Some-Text.told.items) heard)
 
-pub returns-in_ok-entries-in-Some-Text-clause-writes : goal.returns-in_ok-entries-in-Some-Text-clause-writes
-returns-in_ok-entries-in-Some-Text-clause-writes c = λ cfg past t.
+pub returns-in_ok-told-in-Some-Text-clause-writes : goal.returns-in_ok-told-in-Some-Text-clause-writes
+returns-in_ok-told-in-Some-Text-clause-writes c = IfOk-weaker c.entries.result _ _ (λ es is-entries. λ cfg past t.
     let w : World = run cfg start past in
     let x : List ℕ = c.args.name.now in
     let peers : List ℕ → Option Peer = get_by_text c.args.self.now.clients in
     let sat : seats_of peers x ≡ Some c.in-Some.seat = search rules in
-    let there = hub_there t x c.in-Some.seat sat in
-    let says = says-there t x c.in-Some.seat sat there.0 there.1 in
-    let o : Option Attached = attached_at there.0 c.in-Some.seat.session in
+    let h : Node = c.in-Some-get_mut.hub.now in
+    let g : Node = c.take.new.self in
+    let v = lends c.args.self.now.hubs c.in-Some.seat.node h g (c.in-Some-get_mut.ensures.variant.0 refl) c.in-Some-get_mut.ensures.value in
+    let says = says-there t x c.in-Some.seat sat h v.was in
+    let o : Option Attached = attached_at h c.in-Some.seat.session in
+    let taken : Taken c.in-Some.seat.session h g = record { does = c.take.ensures.sessions; same = c.take.ensures.rest } in
     let found = seat_found (peers x) c.in-Some.seat sat in
     let name : c.in-Some-Text.text ≡ c.as_str.result.now = search rules in
     let sent : c.in-Some-Text.field-0 ≡ out.Text c.in-Some-Text.text = search rules in
     let waits : TextFront w.broker.lists c.as_str.result.now (w.links x).session.notes =
     subst (λ (ts : List ℕ). TextFront w.broker.lists ts (w.links x).session.notes) name
-    (text_waits w.broker.lists o (w.links x).session c.in-Some-Text.text says (sym (ap (λ (v : Out). Some (meaning v)) sent) ∙ c.in-Some-Text.ensures.front there.0 there.1)) in
+    (text_waits w.broker.lists o (w.links x).session c.in-Some-Text.text says (sym (ap (λ (v : Out). Some (meaning v)) sent) ∙ c.in-Some-Text.ensures.front)) in
     let heard = c.in_ok-told-in-Some-Text.ensures found.0 found.1 in
     let for : (d : List ℕ) → AreForChannel d ((w.links x).client.modes d) (coming (w.links x)) =
     λ d. subst (λ (v : World). AreForChannel d ((v.links x).client.modes d) (coming (v.links x))) (c.schedules_are_loose_runs.ensures.world cfg past) (c.answers_by_id.ensures cfg (lines past) x d) in
-    c.in_ok-entries-in-Some-Text.ensures ∙ sym (take_writes t x c.in-Some.seat found.0 found.1 found.2 (c.calls_are_alike.ensures w.broker.lists) (c.moves_are_alike.ensures w.broker.lists) c.one_meaning.ensures
+    is-entries ∙ sym (take_writes t x c.in-Some.seat found.0 found.1 found.2 (c.calls_are_alike.ensures w.broker.lists) (c.moves_are_alike.ensures w.broker.lists) c.one_meaning.ensures
     c.replies_read_back.ensures.read for (c.what_waits_is_listed.ensures cfg past x) heard.apart c.as_str.result.now waits.note waits.rest waits.is waits.said
-    (slice_get c.take_in.new.hubs.items) c.in-Some-Text.ensures.taken (get_by_text c.hear.new.clients) (map shown_item c.in_ok-told-in-Some-Text.told.items) heard c.args.at)
+    (slice_get (slice_set c.args.self.now.hubs.items c.in-Some.seat.node g)) (moved v (Taken c.in-Some.seat.session) taken) (get_by_text c.hear.new.clients) (map shown_item c.in_ok-told-in-Some-Text.told.items) heard c.args.at))
+    c.entries.ensures
 
-pub returns-in_ok-entries-in-Some-Close-clause-ok : goal.returns-in_ok-entries-in-Some-Close-clause-ok
-returns-in_ok-entries-in-Some-Close-clause-ok c = λ cfg past t.
+pub returns-in-Some-Close-clause-ok : goal.returns-in-Some-Close-clause-ok
+returns-in-Some-Close-clause-ok c = on_ok_always c.closed.result (λ cfg past t.
     let w : World = run cfg start past in
     let x : List ℕ = c.args.name.now in
     let peers : List ℕ → Option Peer = get_by_text c.args.self.now.clients in
     let sat : seats_of peers x ≡ Some c.in-Some.seat = search rules in
-    let there = hub_there t x c.in-Some.seat sat in
-    let says = says-there t x c.in-Some.seat sat there.0 there.1 in
-    let o : Option Attached = attached_at there.0 c.in-Some.seat.session in
+    let h : Node = c.in-Some-get_mut.hub.now in
+    let g : Node = c.take.new.self in
+    let v = lends c.args.self.now.hubs c.in-Some.seat.node h g (c.in-Some-get_mut.ensures.variant.0 refl) c.in-Some-get_mut.ensures.value in
+    let says = says-there t x c.in-Some.seat sat h v.was in
+    let o : Option Attached = attached_at h c.in-Some.seat.session in
+    let taken : Taken c.in-Some.seat.session h g = record { does = c.take.ensures.sessions; same = c.take.ensures.rest } in
+    let z : Node = c.detach-gone.new.self in
     let sent : c.in-Some-Close.field-0 ≡ out.Close c.in-Some-Close.code = search rules in
-    let closes = close_waits w.broker.lists o (w.links x).session c.in-Some-Close.code says (sym (ap (λ (v : Out). Some (meaning v)) sent) ∙ c.in-Some-Close.ensures.front there.0 there.1) in
-    take-close t x c.in-Some.seat sat c.in-Some-Close.code closes.0 closes.1 (slice_get c.take_in.new.hubs.items) (slice_get c.detach_in.new.hubs.items) c.in-Some-Close.ensures.taken c.detach_in.ensures
-    (get_by_text c.unseat.new.clients) c.unseat.ensures
+    let closes = close_waits w.broker.lists o (w.links x).session c.in-Some-Close.code says (sym (ap (λ (v : Out). Some (meaning v)) sent) ∙ c.in-Some-Close.ensures.front) in
+    let gone : Gone c.in-Some.seat.session g z = record { gone = c.detach-gone.ensures.gone; others = c.detach-gone.ensures.others; same = c.detach-gone.ensures.rest } in
+    let last = lends c.args.self.now.hubs c.in-Some.seat.node h z (c.in-Some-get_mut.ensures.variant.0 refl) c.in-Some-get_mut.ensures.value in
+    take-close t x c.in-Some.seat sat c.in-Some-Close.code closes.0 closes.1 (slice_get (slice_set c.args.self.now.hubs.items c.in-Some.seat.node g)) (slice_get (slice_set c.args.self.now.hubs.items c.in-Some.seat.node z)) (moved v (Taken c.in-Some.seat.session) taken)
+    (moved (after-another v last) (Gone c.in-Some.seat.session) gone)
+    (get_by_text c.unseat.new.clients) c.unseat.ensures)
+
+pub returns-in-Some-Close-clause-writes : goal.returns-in-Some-Close-clause-writes
+returns-in-Some-Close-clause-writes c = IfOk-weaker c.closed.result _ _ (λ es is-entries. λ cfg past t.
+    let w : World = run cfg start past in
+    let x : List ℕ = c.args.name.now in
+    let peers : List ℕ → Option Peer = get_by_text c.args.self.now.clients in
+    let sat : seats_of peers x ≡ Some c.in-Some.seat = search rules in
+    let h : Node = c.in-Some-get_mut.hub.now in
+    let g : Node = c.take.new.self in
+    let v = lends c.args.self.now.hubs c.in-Some.seat.node h g (c.in-Some-get_mut.ensures.variant.0 refl) c.in-Some-get_mut.ensures.value in
+    let says = says-there t x c.in-Some.seat sat h v.was in
+    let o : Option Attached = attached_at h c.in-Some.seat.session in
+    let sent : c.in-Some-Close.field-0 ≡ out.Close c.in-Some-Close.code = search rules in
+    let closes = close_waits w.broker.lists o (w.links x).session c.in-Some-Close.code says (sym (ap (λ (v : Out). Some (meaning v)) sent) ∙ c.in-Some-Close.ensures.front) in
+    is-entries ∙ writes-close t x c.in-Some.seat sat c.in-Some-Close.code closes.0 closes.1 c.args.at)
+    c.closed.ensures

@@ -7,7 +7,7 @@ use Rattle.cf_hub.specs.WantOfMemory.{OrCloses}
 use Rattle.cf_hub.specs.Wordings.{plain}
 use Rattle.cf_world.specs.HubCalls.{Told, reply_text}
 use Rattle.cf_world.proofs.Changed.{unrefused}
-use Rattle.cf_world.proofs.hubs.answer.Goals as goal
+use Rattle.cf_world.proofs.replying.answer.Goals as goal
 
 pub returns : goal.returns
 returns c =
