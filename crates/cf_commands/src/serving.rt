@@ -6,13 +6,13 @@ use crate::command_line::ServeOptions;
 use crate::fault::{Fault, Setting};
 use crate::report::report;
 use crate::running::{Running, hear, wait_for_workers};
-use crate::settings::{namespaces_of, tokens_of};
+use crate::settings::usable;
 use crate::sizes::{Listener, Sizes};
 use cf_broker::{Broker, Passes, Words};
 use cf_epochs::{Boot, BootEpochs};
 use cf_link::{Receiver, Sender, pair};
 use cf_node::{FaultCounts, Node, Setup};
-use cf_protocol::{Namespaces, Tokens};
+use cf_protocol::{Namespaces, Tokens, read_namespaces, read_tokens};
 use cf_shard::{Delivery, Naming};
 use mio::net::TcpListener;
 use std::alloc::{AllocError, Global};
@@ -55,8 +55,9 @@ where
     R: Input + Print + Eprint + AllocGlobal + Threads + Wait + Clock + Net + Sync,
 {
     let alloc = rt.alloc();
-    let namespaces = namespaces_of(alloc, options.namespaces)?;
-    let tokens = tokens_of(alloc, options.tokens)?;
+    let namespaces = read_namespaces(alloc, options.namespaces);
+    let namespaces = usable(Setting::Namespaces, namespaces)?;
+    let tokens = usable(Setting::Tokens, read_tokens(alloc, options.tokens))?;
     let boot = boot_of(options)?;
     serve_on::<Brand, R>(rt, options, boot, Words::new(alloc)?, &namespaces, &tokens)
 }
@@ -101,25 +102,40 @@ where
     requires words { words ≡ names N.words 16 }
     requires namespaces { namespaces.now ≡ N.namespaces }
 {
-    let alloc = rt.alloc();
     let running = Running::new(rt, options.is_quiet)?;
     let Opened {
         senders,
         nodes,
         addresses,
     } = open_nodes::<N, R>(rt, options, &running.counts, namespaces, tokens)?;
-    let (broker, mut passes) = open_broker::<N>(alloc, boot, words, namespaces, senders)?;
-    let broker = &*broker;
-    let nodes = with_passes(alloc, broker, &mut passes, nodes)?;
-    let mut sizes = Sizes::new(rt, broker, passes, namespaces);
-    run_nodes(
+    let (broker, passes) = open_broker::<N>(rt.alloc(), boot, words, namespaces, senders)?;
+    let addresses = addresses.as_slice();
+    serve_by(rt, &*broker, passes, namespaces, nodes, addresses, &running)
+}
+
+// The same by this broker, at these nodes.
+fn serve_by<N, R>(
+    rt: &R,
+    broker: &Broker<N, BootEpochs>,
+    mut passes: Passes<N>,
+    namespaces: &Namespaces,
+    nodes: Vec<Node<'_, N>>,
+    addresses: &[SocketAddr],
+    running: &Running,
+) -> Result<(), Fault>
+where
+    N: Naming + Send + Sync,
+    R: Input + Print + Eprint + AllocGlobal + Threads + Wait + Clock + Net + Sync,
+    requires { namespaces.now ≡ N.namespaces }
+{
+    let nodes = with_passes(rt.alloc(), broker, &mut passes, nodes)?;
+    let mut sizes = Sizes {
         rt,
         broker,
-        &running,
-        nodes,
-        addresses.as_slice(),
-        &mut sizes,
-    )
+        passes,
+        namespaces,
+    };
+    run_nodes(rt, broker, running, nodes, addresses, &mut sizes)
 }
 
 // The broker and its passes. It lies in a box, since a function that lends a broker of its own is dear to prove.
@@ -168,24 +184,24 @@ fn add_node<'a, N: Naming, R: Net + AllocGlobal>(
     setup: Setup<'a, N>,
     opened: &mut Opened<'a, N>,
 ) -> Result<(), Fault> {
-    let (sender, receiver) = pair(rt.alloc(), room_of(options)?)?;
-    let (listener, address) = listen(rt, options, setup.node())?;
-    opened.senders.push(sender)?;
-    opened.addresses.push(address)?;
-    opened
-        .nodes
-        .push(open_node(rt, setup, receiver, listener)?)?;
-    Ok(())
+    let link = pair(rt.alloc(), room_of(options)?)?;
+    let listener = listen(rt, options, setup.node(), &mut opened.addresses)?;
+    opened.add(rt, setup, link, listener)
 }
 
-// A node at this listener.
-fn open_node<'a, N: Naming, R: Net + AllocGlobal>(
-    rt: &R,
-    setup: Setup<'a, N>,
-    receiver: Receiver<Delivery>,
-    listener: TcpListener,
-) -> Result<Node<'a, N>, Fault> {
-    Ok(Node::open(rt, setup, receiver, listener)?)
+impl<'a, N: Naming> Opened<'a, N> {
+    // Puts one more node behind the others, at this listener and behind this link.
+    fn add<R: Net + AllocGlobal>(
+        &mut self,
+        rt: &R,
+        setup: Setup<'a, N>,
+        (sender, receiver): (Sender<Delivery>, Receiver<Delivery>),
+        listener: TcpListener,
+    ) -> Result<(), Fault> {
+        self.senders.push(sender)?;
+        let node = Node::open(rt, setup, receiver, listener)?;
+        Ok(self.nodes.push(node)?)
+    }
 }
 
 // Each node with passes of its own.
@@ -209,12 +225,13 @@ fn with_passes<'a, N: Naming>(
     Ok(ready)
 }
 
-// Listens at the node's port. Also says where, since a port may be any that is free.
+// Listens at the node's port, and notes where, since a port may be any that is free.
 fn listen<R: Net>(
     rt: &R,
     options: ServeOptions<'_>,
     node: u8,
-) -> Result<(TcpListener, SocketAddr), Fault> {
+    addresses: &mut Vec<SocketAddr>,
+) -> Result<TcpListener, Fault> {
     let port = if options.port == 0 {
         0
     } else {
@@ -223,8 +240,8 @@ fn listen<R: Net>(
     let address = SocketAddr::from((Ipv4Addr::LOCALHOST, port));
     match TcpListener::bind(rt, address) {
         Ok(listener) => {
-            let address = listener.local_addr()?;
-            Ok((listener, address))
+            addresses.push(listener.local_addr()?)?;
+            Ok(listener)
         }
         Err(error) if error.kind() == ErrorKind::OutOfMemory => Err(Fault::Memory),
         Err(_) => Err(Fault::Listen { node, address }),
@@ -280,11 +297,9 @@ where
 // Says where the nodes listen, by way of a large buffer that is freed behind it: so glibc keeps what is freed later for what is
 // asked for next, where it would else give it back to the system, and ask for it again, with each large publication.
 fn say_addresses<R: Print + AllocGlobal>(rt: &R, addresses: &[SocketAddr]) -> io::Result<()> {
-    let alloc = rt.alloc();
-    let mut writer = BufWriter::with_capacity(alloc, LARGE_BUFFER, io::writer(rt))?;
+    let mut writer = BufWriter::with_capacity(rt.alloc(), LARGE_BUFFER, io::writer(rt))?;
     for (node, address) in addresses.iter().enumerate() {
-        let line = format!(in alloc; "node {node} {address}\n")?;
-        writer.write_all(line.as_bytes())?;
+        writeln!(writer, "node {node} {address}")?;
     }
     writer.flush()
 }
