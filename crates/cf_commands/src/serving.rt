@@ -1,6 +1,7 @@
 //! The command `serve`: nodes that clients connect to.
 ghost use Rattle.std.specs.Prelude.{◌≡◌, ◌<◌, IfOk};
 ghost use Rattle.cf_broker.specs.Shards.{names};
+ghost use denote.Param.Send.{IsSend, IsSync};
 
 use crate::command_line::ServeOptions;
 use crate::fault::{Fault, Setting};
@@ -21,7 +22,7 @@ use std::marker::Brand;
 use std::net::{Ipv4Addr, Net, SocketAddr};
 use std::sync::Wait;
 use std::sync::atomic::{AtomicU64, Ordering};
-use std::thread::Threads;
+use std::thread::{Scope, Threads};
 use std::time::Clock;
 use std::{io, thread};
 
@@ -102,40 +103,30 @@ where
     requires words { words ≡ names N.words 16 }
     requires namespaces { namespaces.now ≡ N.namespaces }
 {
+    let alloc = rt.alloc();
     let running = Running::new(rt, options.is_quiet)?;
     let Opened {
         senders,
         nodes,
         addresses,
     } = open_nodes::<N, R>(rt, options, &running.counts, namespaces, tokens)?;
-    let (broker, passes) = open_broker::<N>(rt.alloc(), boot, words, namespaces, senders)?;
-    let addresses = addresses.as_slice();
-    serve_by(rt, &*broker, passes, namespaces, nodes, addresses, &running)
-}
-
-// The same by this broker, at these nodes.
-fn serve_by<N, R>(
-    rt: &R,
-    broker: &Broker<N, BootEpochs>,
-    mut passes: Passes<N>,
-    namespaces: &Namespaces,
-    nodes: Vec<Node<'_, N>>,
-    addresses: &[SocketAddr],
-    running: &Running,
-) -> Result<(), Fault>
-where
-    N: Naming + Send + Sync,
-    R: Input + Print + Eprint + AllocGlobal + Threads + Wait + Clock + Net + Sync,
-    requires { namespaces.now ≡ N.namespaces }
-{
-    let nodes = with_passes(rt.alloc(), broker, &mut passes, nodes)?;
+    let (broker, mut passes) = open_broker::<N>(alloc, boot, words, namespaces, senders)?;
+    let broker = &*broker;
+    let nodes = with_passes(alloc, broker, &mut passes, nodes)?;
     let mut sizes = Sizes {
         rt,
         broker,
         passes,
         namespaces,
     };
-    run_nodes(rt, broker, running, nodes, addresses, &mut sizes)
+    run_nodes(
+        rt,
+        broker,
+        &running,
+        nodes,
+        addresses.as_slice(),
+        &mut sizes,
+    )
 }
 
 // The broker and its passes. It lies in a box, since a function that lends a broker of its own is dear to prove.
@@ -248,6 +239,54 @@ fn listen<R: Net>(
     }
 }
 
+// Starts a node in a thread of its own.
+fn start<'s, N, R, E>(
+    scope: &Scope<'s, E>,
+    rt: &'s R,
+    broker: &'s Broker<N, BootEpochs>,
+    running: &'s Running,
+    ready: Ready<'s, N>,
+    stop: &'s AtomicU64,
+) -> Result<(), Fault>
+where
+    N: Naming + Send + Sync,
+    R: AllocGlobal + Threads + Wait + Clock + Sync,
+{
+    let Ready {
+        number,
+        node,
+        passes,
+    } = ready;
+    let started = scope.spawn(move || {
+        if node.run(rt, broker, passes, running, stop).is_err() {
+            running.fail(number);
+        }
+    });
+    match started {
+        Ok(_) => Ok(()),
+        Err(_) => Err(Fault::NotStarted { node: number }),
+    }
+}
+
+// Starts each node in a thread of its own.
+fn start_all<'s, N, R, E>(
+    scope: &Scope<'s, E>,
+    rt: &'s R,
+    broker: &'s Broker<N, BootEpochs>,
+    running: &'s Running,
+    nodes: Vec<Ready<'s, N>>,
+    stop: &'s AtomicU64,
+) -> Result<(), Fault>
+where
+    N: Naming + Send + Sync,
+    R: AllocGlobal + Threads + Wait + Clock + Sync,
+{
+    for ready in nodes {
+        start(scope, rt, broker, running, ready, stop)?;
+    }
+    Ok(())
+}
+
 // Runs each node in a thread of its own until standard input, whose lines are heard, ends, or a node doesn't go on.
 fn run_nodes<N, R, L>(
     rt: &R,
@@ -264,34 +303,26 @@ where
 {
     let stop = AtomicU64::new(0);
     let stop = &stop;
-    thread::scope(thread::scope_env(), rt, |scope| {
-        let mut refused = None;
-        for Ready {
-            number,
-            node,
-            passes,
-        } in nodes {
-            let started = scope.spawn(move || {
-                if node.run(rt, broker, passes, running, stop).is_err() {
-                    running.fail(number);
+    thread::scope(
+        thread::scope_env(),
+        rt,
+        // What it calls requires these of `N`, which isn't read off its body.
+        |scope|
+            requires send { IsSend N.row }
+            requires sync { IsSync N.row }
+        {
+            let served = match start_all(scope, rt, broker, running, nodes, stop) {
+                Ok(()) => {
+                    // Where nobody can tell what goes wrong, the nodes serve all the same.
+                    let _ = scope.spawn(move || report(rt, broker, running, stop));
+                    watch(rt, running, addresses, listener)
                 }
-            });
-            if started.is_err() {
-                refused = Some(number);
-                break;
-            }
-        }
-        let served = match refused {
-            Some(node) => Err(Fault::NotStarted { node }),
-            None => {
-                // Where nobody can tell what goes wrong, the nodes serve all the same.
-                let _ = scope.spawn(move || report(rt, broker, running, stop));
-                watch(rt, running, addresses, listener)
-            }
-        };
-        stop.store(1, Ordering::SeqCst);
-        served
-    })
+                Err(fault) => Err(fault),
+            };
+            stop.store(1, Ordering::SeqCst);
+            served
+        },
+    )
 }
 
 // Says where the nodes listen, by way of a large buffer that is freed behind it: so glibc keeps what is freed later for what is
