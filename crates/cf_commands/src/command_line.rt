@@ -169,6 +169,14 @@ fn value_option<'a>(alloc: Global, name: &'a str, value: &'a str, help: &'a str)
         .help(help)
 }
 
+// An option of this name, which takes none.
+fn flag<'a>(alloc: Global, name: &'a str, help: &'a str) -> Arg<'a> {
+    Arg::new(alloc, name)
+        .long(name)
+        .help(help)
+        .action(ArgAction::SetTrue)
+}
+
 fn nodes_option<'a>(alloc: Global) -> Arg<'a> {
     value_option(alloc, "nodes", "N", "How many nodes there are, 1 to 8")
         .value_parser(value_parser!(u8).range(1..=8))
@@ -178,20 +186,6 @@ fn nodes_option<'a>(alloc: Global) -> Arg<'a> {
 fn namespaces_option<'a>(alloc: Global) -> Arg<'a> {
     let help = "The namespaces that are set up, as NAME=SIZE,SECONDS,FLAGS separated by `;`";
     value_option(alloc, "ns", "SPEC", help).default_value(DEFAULT_NAMESPACES)
-}
-
-fn explain_option<'a>(alloc: Global) -> Arg<'a> {
-    Arg::new(alloc, "explain")
-        .long("explain")
-        .help("Tells beside each event what it did, or why it changed nothing")
-        .action(ArgAction::SetTrue)
-}
-
-fn version_option<'a>(alloc: Global) -> Arg<'a> {
-    Arg::new(alloc, "version")
-        .long("version")
-        .help("Says which version this is")
-        .action(ArgAction::SetTrue)
 }
 
 fn tokens_option<'a>(alloc: Global) -> Arg<'a> {
@@ -226,12 +220,13 @@ fn link_option<'a>(alloc: Global) -> Arg<'a> {
 }
 
 fn simulate_command<'a>(alloc: Global) -> Result<Command<'a>, AllocError> {
+    let explain = "Tells beside each event what it did, or why it changed nothing";
     Command::new(alloc, "simulate")
         .about(SIMULATE)
         .after_help(SCHEDULE_NOTES)
         .arg(nodes_option(alloc))?
         .arg(namespaces_option(alloc))?
-        .arg(explain_option(alloc))
+        .arg(flag(alloc, "explain", explain))
 }
 
 fn speak_command<'a>(alloc: Global) -> Result<Command<'a>, AllocError> {
@@ -243,14 +238,8 @@ fn speak_command<'a>(alloc: Global) -> Result<Command<'a>, AllocError> {
         .arg(epochs_option(alloc))
 }
 
-fn quiet_option<'a>(alloc: Global) -> Arg<'a> {
-    Arg::new(alloc, "quiet")
-        .long("quiet")
-        .action(ArgAction::SetTrue)
-        .help("Says nothing on standard error of what goes wrong while it serves")
-}
-
 fn serve_command<'a>(alloc: Global) -> Result<Command<'a>, AllocError> {
+    let quiet = "Says nothing on standard error of what goes wrong while it serves";
     let mut command = Command::new(alloc, "serve")
         .about(SERVE)
         .after_help(SERVE_NOTES);
@@ -261,7 +250,7 @@ fn serve_command<'a>(alloc: Global) -> Result<Command<'a>, AllocError> {
         link_option(alloc),
         namespaces_option(alloc),
         tokens_option(alloc),
-        quiet_option(alloc),
+        flag(alloc, "quiet", quiet),
     ] {
         command = command.arg(option)?;
     }
@@ -283,7 +272,7 @@ fn program<'a>(alloc: Global) -> Result<Command<'a>, AllocError> {
     let program = Command::new(alloc, "cf_server")
         .about(ABOUT)
         .after_help(PROGRAM_NOTES)
-        .arg(version_option(alloc))?;
+        .arg(flag(alloc, "version", "Says which version this is"))?;
     let program = with_command(program, simulate_command(alloc))?;
     let program = with_command(program, speak_command(alloc))?;
     with_command(program, serve_command(alloc))
@@ -293,41 +282,36 @@ fn program<'a>(alloc: Global) -> Result<Command<'a>, AllocError> {
 /// the help that was asked for, or why the words can't be used.
 pub fn read_words<'a>(alloc: Global, words: &'a [String]) -> Result<Job<'a>, Error> {
     let matches = program(alloc)?.try_get_matches_from(words)?;
-    Ok(match matches.subcommand() {
-        Some(("serve", found)) => Job::Serve(serve_options(found)),
-        Some(("speak", found)) => Job::Speak(speak_options(found)),
-        Some((_, found)) => Job::Simulate(options_of(found)),
-        None if matches.get_flag("version") => Job::Version,
-        None => Job::Simulate(options_of(&matches)),
-    })
+    Ok(job_of(&matches))
 }
 
-// The options that were found, or else the defaults.
-fn options_of<'a>(found: &ArgMatches<'a>) -> Options<'a> {
-    Options {
-        nodes: found.get_one::<u8>("nodes").unwrap_or(1),
-        namespaces: found.get_str("ns").unwrap_or(DEFAULT_NAMESPACES),
-        explains: found.get_flag("explain"),
-    }
-}
-
-fn speak_options<'a>(found: &ArgMatches<'a>) -> SpeakOptions<'a> {
-    SpeakOptions {
-        namespaces: found.get_str("ns").unwrap_or(DEFAULT_NAMESPACES),
-        tokens: found.get_str("tokens").unwrap_or(""),
-        epochs: found.get_str("epochs").unwrap_or(DEFAULT_EPOCHS),
-    }
-}
-
-fn serve_options<'a>(found: &ArgMatches<'a>) -> ServeOptions<'a> {
-    ServeOptions {
-        boot: found.get_one::<u64>("boot").unwrap_or(1),
-        nodes: found.get_one::<u8>("nodes").unwrap_or(1),
-        port: found.get_one::<u16>("port").unwrap_or(0),
-        link: found.get_one::<u32>("link").unwrap_or(DEFAULT_LINK),
-        is_quiet: found.get_flag("quiet"),
-        namespaces: found.get_str("ns").unwrap_or(DEFAULT_NAMESPACES),
-        tokens: found.get_str("tokens").unwrap_or(""),
+// What was asked for, with the options that were found, or else the defaults.
+fn job_of<'a>(matches: &ArgMatches<'a>) -> Job<'a> {
+    let (command, found) = matches.subcommand().unwrap_or(("simulate", matches));
+    let namespaces = found.get_str("ns").unwrap_or(DEFAULT_NAMESPACES);
+    let tokens = found.get_str("tokens").unwrap_or("");
+    let nodes = found.get_one::<u8>("nodes").unwrap_or(1);
+    match command {
+        "serve" => Job::Serve(ServeOptions {
+            boot: found.get_one::<u64>("boot").unwrap_or(1),
+            nodes,
+            port: found.get_one::<u16>("port").unwrap_or(0),
+            link: found.get_one::<u32>("link").unwrap_or(DEFAULT_LINK),
+            is_quiet: found.get_flag("quiet"),
+            namespaces,
+            tokens,
+        }),
+        "speak" => Job::Speak(SpeakOptions {
+            namespaces,
+            tokens,
+            epochs: found.get_str("epochs").unwrap_or(DEFAULT_EPOCHS),
+        }),
+        _ if found.get_flag("version") => Job::Version,
+        _ => Job::Simulate(Options {
+            nodes,
+            namespaces,
+            explains: found.get_flag("explain"),
+        }),
     }
 }
 

@@ -63,13 +63,12 @@ impl Fault {
     {
         match self {
             Fault::Simulation { fault } => fault.status(),
+            Fault::NotUtf8 | Fault::Setting { .. } => 2,
             Fault::Memory => 3,
-            Fault::InputOutput => 4,
-            Fault::Listen { .. } => 4,
-            Fault::NotStarted { .. } => 4,
-            Fault::Ended { .. } => 4,
-            Fault::NotUtf8 => 2,
-            Fault::Setting { .. } => 2,
+            Fault::InputOutput
+            | Fault::Listen { .. }
+            | Fault::NotStarted { .. }
+            | Fault::Ended { .. } => 4,
         }
     }
 

@@ -41,16 +41,11 @@ fn speak_standard<R: Input + Print + AllocGlobal>(
 
 // The program's words. One that isn't UTF-8 is unusable.
 fn words<R: Env + AllocGlobal>(rt: &R) -> Result<Vec<String>, Fault> {
-    let given = match env::args(rt) {
-        Ok(given) => given,
-        Err(error) if error.kind() == io::ErrorKind::InvalidData => return Err(Fault::NotUtf8),
-        Err(error) => return Err(Fault::from(error)),
-    };
-    let mut words = Vec::new(rt.alloc());
-    for word in given {
-        words.push(word)?;
+    match env::args(rt) {
+        Ok(given) => Ok(given.collect(rt.alloc())?),
+        Err(error) if error.kind() == io::ErrorKind::InvalidData => Err(Fault::NotUtf8),
+        Err(error) => Err(Fault::from(error)),
     }
-    Ok(words)
 }
 
 fn program<R>(rt: &R) -> Result<ExitCode, Fault>
@@ -58,25 +53,15 @@ where
     R: Input + Print + Eprint + Env + AllocGlobal + Threads + Wait + Clock + Net + Sync,
 {
     let words = words(rt)?;
-    match command_line::read_words(rt.alloc(), words.as_slice()) {
-        Ok(Job::Simulate(options)) => {
-            simulate_standard(rt, options)?;
-            Ok(ExitCode::SUCCESS)
-        }
-        Ok(Job::Speak(options)) => {
-            speak_standard(rt, options)?;
-            Ok(ExitCode::SUCCESS)
-        }
-        Ok(Job::Serve(options)) => {
-            serve(rt, options)?;
-            Ok(ExitCode::SUCCESS)
-        }
-        Ok(Job::Version) => {
-            rt.println(VERSION)?;
-            Ok(ExitCode::SUCCESS)
-        }
-        Err(shown) => command_line::show(rt, &shown),
-    }
+    let done = match command_line::read_words(rt.alloc(), words.as_slice()) {
+        Ok(Job::Simulate(options)) => simulate_standard(rt, options),
+        Ok(Job::Speak(options)) => speak_standard(rt, options),
+        Ok(Job::Serve(options)) => serve(rt, options),
+        Ok(Job::Version) => rt.println(VERSION).map_err(Fault::from),
+        Err(shown) => return command_line::show(rt, &shown),
+    };
+    done?;
+    Ok(ExitCode::SUCCESS)
 }
 
 /// Does what the program's words ask for, over its standard input and output, and gives its exit status: 0 where that is done, else

@@ -156,6 +156,23 @@ impl Ear {
             Err(error) => Err(error),
         }
     }
+
+    // Has the lines of this reader heard up to its end, unless the loop of a node ends before.
+    fn hear_all<R: Read, L: Listener>(
+        &mut self,
+        reader: &mut R,
+        line: &mut Line,
+        running: &Running,
+        listener: &mut L,
+    ) -> Result<(), Fault> {
+        for _ in 0..MOST_TURNS {
+            running.goes_on()?;
+            if self.hears()? && reads_to_end(reader, line, listener)? {
+                return Ok(());
+            }
+        }
+        Err(Fault::InputOutput)
+    }
 }
 
 /// Waits until standard input ends. Its whole lines are heard, but for those that aren't UTF-8.
@@ -168,16 +185,9 @@ pub(crate) fn hear<R: Input + Net + AllocGlobal, L: Listener>(
     running: &Running,
     listener: &mut L,
 ) -> Result<(), Fault> {
-    let mut reader = rt.reader();
     let mut ear = Ear::open(rt)?;
     let mut line = Line::new(rt.alloc())?;
-    for _ in 0..MOST_TURNS {
-        running.goes_on()?;
-        if ear.hears()? && reads_to_end(&mut reader, &mut line, listener)? {
-            return Ok(());
-        }
-    }
-    Err(Fault::InputOutput)
+    ear.hear_all(&mut rt.reader(), &mut line, running, listener)
 }
 
 /// Reads on, and has the lines heard that end by that. Says whether the reader is at its end.

@@ -1,18 +1,19 @@
 //! The command `serve`: nodes that clients connect to.
 ghost use Rattle.std.specs.Prelude.{◌≡◌, ◌<◌, IfOk};
 ghost use Rattle.cf_broker.specs.Shards.{names};
+ghost use denote.Param.Send.{IsSend, IsSync};
 
 use crate::command_line::ServeOptions;
 use crate::fault::{Fault, Setting};
 use crate::report::report;
 use crate::running::{Running, hear, wait_for_workers};
-use crate::settings::{namespaces_of, tokens_of};
+use crate::settings::usable;
 use crate::sizes::{Listener, Sizes};
 use cf_broker::{Broker, Passes, Words};
 use cf_epochs::{Boot, BootEpochs};
 use cf_link::{Receiver, Sender, pair};
 use cf_node::{FaultCounts, Node, Setup};
-use cf_protocol::{Namespaces, Tokens};
+use cf_protocol::{Namespaces, Tokens, read_namespaces, read_tokens};
 use cf_shard::{Delivery, Naming};
 use mio::net::TcpListener;
 use std::alloc::{AllocError, Global};
@@ -21,7 +22,7 @@ use std::marker::Brand;
 use std::net::{Ipv4Addr, Net, SocketAddr};
 use std::sync::Wait;
 use std::sync::atomic::{AtomicU64, Ordering};
-use std::thread::Threads;
+use std::thread::{Scope, Threads};
 use std::time::Clock;
 use std::{io, thread};
 
@@ -55,8 +56,9 @@ where
     R: Input + Print + Eprint + AllocGlobal + Threads + Wait + Clock + Net + Sync,
 {
     let alloc = rt.alloc();
-    let namespaces = namespaces_of(alloc, options.namespaces)?;
-    let tokens = tokens_of(alloc, options.tokens)?;
+    let namespaces = read_namespaces(alloc, options.namespaces);
+    let namespaces = usable(Setting::Namespaces, namespaces)?;
+    let tokens = usable(Setting::Tokens, read_tokens(alloc, options.tokens))?;
     let boot = boot_of(options)?;
     serve_on::<Brand, R>(rt, options, boot, Words::new(alloc)?, &namespaces, &tokens)
 }
@@ -111,7 +113,12 @@ where
     let (broker, mut passes) = open_broker::<N>(alloc, boot, words, namespaces, senders)?;
     let broker = &*broker;
     let nodes = with_passes(alloc, broker, &mut passes, nodes)?;
-    let mut sizes = Sizes::new(rt, broker, passes, namespaces);
+    let mut sizes = Sizes {
+        rt,
+        broker,
+        passes,
+        namespaces,
+    };
     run_nodes(
         rt,
         broker,
@@ -168,24 +175,24 @@ fn add_node<'a, N: Naming, R: Net + AllocGlobal>(
     setup: Setup<'a, N>,
     opened: &mut Opened<'a, N>,
 ) -> Result<(), Fault> {
-    let (sender, receiver) = pair(rt.alloc(), room_of(options)?)?;
-    let (listener, address) = listen(rt, options, setup.node())?;
-    opened.senders.push(sender)?;
-    opened.addresses.push(address)?;
-    opened
-        .nodes
-        .push(open_node(rt, setup, receiver, listener)?)?;
-    Ok(())
+    let link = pair(rt.alloc(), room_of(options)?)?;
+    let listener = listen(rt, options, setup.node(), &mut opened.addresses)?;
+    opened.add(rt, setup, link, listener)
 }
 
-// A node at this listener.
-fn open_node<'a, N: Naming, R: Net + AllocGlobal>(
-    rt: &R,
-    setup: Setup<'a, N>,
-    receiver: Receiver<Delivery>,
-    listener: TcpListener,
-) -> Result<Node<'a, N>, Fault> {
-    Ok(Node::open(rt, setup, receiver, listener)?)
+impl<'a, N: Naming> Opened<'a, N> {
+    // Puts one more node behind the others, at this listener and behind this link.
+    fn add<R: Net + AllocGlobal>(
+        &mut self,
+        rt: &R,
+        setup: Setup<'a, N>,
+        (sender, receiver): (Sender<Delivery>, Receiver<Delivery>),
+        listener: TcpListener,
+    ) -> Result<(), Fault> {
+        self.senders.push(sender)?;
+        let node = Node::open(rt, setup, receiver, listener)?;
+        Ok(self.nodes.push(node)?)
+    }
 }
 
 // Each node with passes of its own.
@@ -209,12 +216,13 @@ fn with_passes<'a, N: Naming>(
     Ok(ready)
 }
 
-// Listens at the node's port. Also says where, since a port may be any that is free.
+// Listens at the node's port, and notes where, since a port may be any that is free.
 fn listen<R: Net>(
     rt: &R,
     options: ServeOptions<'_>,
     node: u8,
-) -> Result<(TcpListener, SocketAddr), Fault> {
+    addresses: &mut Vec<SocketAddr>,
+) -> Result<TcpListener, Fault> {
     let port = if options.port == 0 {
         0
     } else {
@@ -223,12 +231,60 @@ fn listen<R: Net>(
     let address = SocketAddr::from((Ipv4Addr::LOCALHOST, port));
     match TcpListener::bind(rt, address) {
         Ok(listener) => {
-            let address = listener.local_addr()?;
-            Ok((listener, address))
+            addresses.push(listener.local_addr()?)?;
+            Ok(listener)
         }
         Err(error) if error.kind() == ErrorKind::OutOfMemory => Err(Fault::Memory),
         Err(_) => Err(Fault::Listen { node, address }),
     }
+}
+
+// Starts a node in a thread of its own.
+fn start<'s, N, R, E>(
+    scope: &Scope<'s, E>,
+    rt: &'s R,
+    broker: &'s Broker<N, BootEpochs>,
+    running: &'s Running,
+    ready: Ready<'s, N>,
+    stop: &'s AtomicU64,
+) -> Result<(), Fault>
+where
+    N: Naming + Send + Sync,
+    R: AllocGlobal + Threads + Wait + Clock + Sync,
+{
+    let Ready {
+        number,
+        node,
+        passes,
+    } = ready;
+    let started = scope.spawn(move || {
+        if node.run(rt, broker, passes, running, stop).is_err() {
+            running.fail(number);
+        }
+    });
+    match started {
+        Ok(_) => Ok(()),
+        Err(_) => Err(Fault::NotStarted { node: number }),
+    }
+}
+
+// Starts each node in a thread of its own.
+fn start_all<'s, N, R, E>(
+    scope: &Scope<'s, E>,
+    rt: &'s R,
+    broker: &'s Broker<N, BootEpochs>,
+    running: &'s Running,
+    nodes: Vec<Ready<'s, N>>,
+    stop: &'s AtomicU64,
+) -> Result<(), Fault>
+where
+    N: Naming + Send + Sync,
+    R: AllocGlobal + Threads + Wait + Clock + Sync,
+{
+    for ready in nodes {
+        start(scope, rt, broker, running, ready, stop)?;
+    }
+    Ok(())
 }
 
 // Runs each node in a thread of its own until standard input, whose lines are heard, ends, or a node doesn't go on.
@@ -247,44 +303,34 @@ where
 {
     let stop = AtomicU64::new(0);
     let stop = &stop;
-    thread::scope(thread::scope_env(), rt, |scope| {
-        let mut refused = None;
-        for Ready {
-            number,
-            node,
-            passes,
-        } in nodes {
-            let started = scope.spawn(move || {
-                if node.run(rt, broker, passes, running, stop).is_err() {
-                    running.fail(number);
+    thread::scope(
+        thread::scope_env(),
+        rt,
+        // What it calls requires these of `N`, which isn't read off its body.
+        |scope|
+            requires send { IsSend N.row }
+            requires sync { IsSync N.row }
+        {
+            let served = match start_all(scope, rt, broker, running, nodes, stop) {
+                Ok(()) => {
+                    // Where nobody can tell what goes wrong, the nodes serve all the same.
+                    let _ = scope.spawn(move || report(rt, broker, running, stop));
+                    watch(rt, running, addresses, listener)
                 }
-            });
-            if started.is_err() {
-                refused = Some(number);
-                break;
-            }
-        }
-        let served = match refused {
-            Some(node) => Err(Fault::NotStarted { node }),
-            None => {
-                // Where nobody can tell what goes wrong, the nodes serve all the same.
-                let _ = scope.spawn(move || report(rt, broker, running, stop));
-                watch(rt, running, addresses, listener)
-            }
-        };
-        stop.store(1, Ordering::SeqCst);
-        served
-    })
+                Err(fault) => Err(fault),
+            };
+            stop.store(1, Ordering::SeqCst);
+            served
+        },
+    )
 }
 
 // Says where the nodes listen, by way of a large buffer that is freed behind it: so glibc keeps what is freed later for what is
 // asked for next, where it would else give it back to the system, and ask for it again, with each large publication.
 fn say_addresses<R: Print + AllocGlobal>(rt: &R, addresses: &[SocketAddr]) -> io::Result<()> {
-    let alloc = rt.alloc();
-    let mut writer = BufWriter::with_capacity(alloc, LARGE_BUFFER, io::writer(rt))?;
+    let mut writer = BufWriter::with_capacity(rt.alloc(), LARGE_BUFFER, io::writer(rt))?;
     for (node, address) in addresses.iter().enumerate() {
-        let line = format!(in alloc; "node {node} {address}\n")?;
-        writer.write_all(line.as_bytes())?;
+        writeln!(writer, "node {node} {address}")?;
     }
     writer.flush()
 }

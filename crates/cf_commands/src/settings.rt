@@ -2,18 +2,16 @@
 
 use crate::command_line::Options;
 use crate::fault::{Fault, Setting};
-use cf_protocol::{Namespaces, Tokens, read_namespaces, read_tokens};
+use cf_protocol::{ReadFault, read_namespaces};
 use cf_schedule::Config;
 use std::alloc::Global;
 
-/// The namespaces that a text sets up. A text of another form is an unusable setting.
-pub(crate) fn namespaces_of(alloc: Global, text: &str) -> Result<Namespaces, Fault> {
-    read_namespaces(alloc, text).map_err(|fault| Fault::of_text(Setting::Namespaces, fault))
-}
-
-/// The tokens that a text has. A text of another form is an unusable setting.
-pub(crate) fn tokens_of(alloc: Global, text: &str) -> Result<Tokens, Fault> {
-    read_tokens(alloc, text).map_err(|fault| Fault::of_text(Setting::Tokens, fault))
+/// What was read of a setting's text. A text of another form is an unusable setting.
+pub(crate) fn usable<T>(setting: Setting, read: Result<T, ReadFault>) -> Result<T, Fault> {
+    match read {
+        Ok(value) => Ok(value),
+        Err(fault) => Err(Fault::of_text(setting, fault)),
+    }
 }
 
 /// The settings that the options of `simulate` name. A text that sets up no namespaces, and a number of nodes other than 1 to 8, is
@@ -25,6 +23,9 @@ pub fn config_of(alloc: Global, options: Options<'_>) -> Result<Config, Fault> {
             setting: Setting::Nodes,
         });
     }
-    let namespaces = namespaces_of(alloc, options.namespaces)?;
-    Ok(Config { nodes, namespaces })
+    let namespaces = read_namespaces(alloc, options.namespaces);
+    Ok(Config {
+        nodes,
+        namespaces: usable(Setting::Namespaces, namespaces)?,
+    })
 }

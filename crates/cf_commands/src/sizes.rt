@@ -40,19 +40,15 @@ impl Line {
     /// These bytes have come. The lines that they end are heard, but for those that aren't UTF-8.
     pub fn add_all<L: Listener>(&mut self, bytes: &[u8], listener: &mut L) {
         for byte in bytes {
-            self.add(*byte, listener);
-        }
-    }
-
-    fn add<L: Listener>(&mut self, byte: u8, listener: &mut L) {
-        if byte == b'\n' {
-            if let Ok(line) = str::from_utf8(self.bytes.as_slice()) {
-                listener.hear_line(line);
+            if *byte == b'\n' {
+                if let Ok(line) = str::from_utf8(self.bytes.as_slice()) {
+                    listener.hear_line(line);
+                }
+                self.bytes.clear();
+            } else if self.bytes.len() < KEPT {
+                // There is room for it.
+                let _ = self.bytes.push(*byte);
             }
-            self.bytes.clear();
-        } else if self.bytes.len() < KEPT {
-            // There is room for it.
-            let _ = self.bytes.push(byte);
         }
     }
 }
@@ -60,30 +56,11 @@ impl Line {
 /// Sets the sizes of namespaces in the broker's shards, as lines say. All other lines are passed over.
 #[derive(Drop)]
 pub(crate) struct Sizes<'a, R, N: Naming, E: Epochs + Drop> {
-    rt: &'a R,
-    broker: &'a Broker<N, E>,
-    passes: Passes<N>,
-    namespaces: &'a Namespaces,
+    pub(crate) rt: &'a R,
+    pub(crate) broker: &'a Broker<N, E>,
+    pub(crate) passes: Passes<N>,
+    pub(crate) namespaces: &'a Namespaces,
     ghost named: { namespaces.now ≡ N.namespaces },
-}
-
-impl<'a, R, N: Naming, E: Epochs + Drop> Sizes<'a, R, N, E> {
-    /// By these passes of the broker's shards.
-    pub(crate) fn new(
-        rt: &'a R,
-        broker: &'a Broker<N, E>,
-        passes: Passes<N>,
-        namespaces: &'a Namespaces,
-    ) -> Sizes<'a, R, N, E>
-        requires { namespaces.now ≡ N.namespaces }
-    {
-        Sizes {
-            rt,
-            broker,
-            passes,
-            namespaces,
-        }
-    }
 }
 
 impl<'a, R, N, E> Listener for Sizes<'a, R, N, E>

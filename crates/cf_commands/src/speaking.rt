@@ -4,7 +4,8 @@ ghost use Rattle.cf_speak.specs.Conversation.{BreaksOff, Speaks};
 
 use crate::command_line::SpeakOptions;
 use crate::fault::{Fault, Setting};
-use crate::settings::{namespaces_of, tokens_of};
+use crate::settings::usable;
+use cf_protocol::{read_namespaces, read_tokens};
 use cf_speak::{GivenEpochs, Setup, SpeakFault, converse};
 use std::alloc::Global;
 use std::io::{BufRead, Write};
@@ -35,14 +36,13 @@ pub fn speak<R: BufRead, W: Write>(
 
 /// The settings that the options name. A text of another form is an unusable setting.
 pub fn setup_of(alloc: Global, options: SpeakOptions<'_>) -> Result<Setup, Fault> {
+    let namespaces = read_namespaces(alloc, options.namespaces);
+    let namespaces = usable(Setting::Namespaces, namespaces)?;
+    let tokens = usable(Setting::Tokens, read_tokens(alloc, options.tokens))?;
+    let epochs = usable(Setting::Epochs, GivenEpochs::read(alloc, options.epochs))?;
     Ok(Setup {
-        namespaces: namespaces_of(alloc, options.namespaces)?,
-        tokens: tokens_of(alloc, options.tokens)?,
-        epochs: epochs_of(alloc, options.epochs)?,
+        namespaces,
+        tokens,
+        epochs,
     })
-}
-
-// The epochs that a text gives.
-fn epochs_of(alloc: Global, text: &str) -> Result<GivenEpochs, Fault> {
-    GivenEpochs::read(alloc, text).map_err(|fault| Fault::of_text(Setting::Epochs, fault))
 }
