@@ -27,13 +27,25 @@ use std::sync::Wait;
 
 /// Sixteen shards of channels under their locks, and the links to the nodes. A channel's shard is locked first, and then, while
 /// it is held, one link after another.
-#[derive(Drop)]
 pub struct Broker<N: Naming, E: Epochs> {
     first: Quarter<N, E, 0, 1, 2, 3>,
     second: Quarter<N, E, 4, 5, 6, 7>,
     third: Quarter<N, E, 8, 9, 10, 11>,
     fourth: Quarter<N, E, 12, 13, 14, 15>,
     links: Vec<NodeLink>,
+}
+
+// By field, so that what owns a broker isn't proved to drop each part of its parts once more.
+impl<N: Naming, E: Epochs + Drop> Drop for Broker<N, E> {
+    fn drop(self) {
+        let Broker {
+            first: _,
+            second: _,
+            third: _,
+            fourth: _,
+            links: _,
+        } = self;
+    }
 }
 
 /// The answer of a call of the place of a shard's number. The sixteen places have sixteen types.

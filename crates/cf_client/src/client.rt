@@ -29,10 +29,19 @@ const CONNECT_ID: u32 = 1;
 
 /// A client of one node: what it knows of its channels, and the commands that aren't answered yet. It looks for no gap and no
 /// repeat in what it is sent.
-#[derive(Drop)]
 pub struct Client {
     known: Known,
     alloc: Global,
+}
+
+// By field, so that what owns a client isn't proved to drop each part of its parts once more.
+impl Drop for Client {
+    fn drop(self) {
+        let Client {
+            known: _,
+            alloc: _,
+        } = self;
+    }
 }
 
 impl Model for Client {

@@ -30,7 +30,6 @@ pub const MOST_SESSIONS: u32 = 16_384;
 pub const MOST_CHANNELS: usize = 128;
 
 /// The sessions of one node, by number, and which channels each follows.
-#[derive(Drop)]
 pub struct Hub {
     pub(crate) node: u8,
     pub(crate) boot: u64,
@@ -42,6 +41,23 @@ pub struct Hub {
     pub(crate) refused: u64,
     pub(crate) pending: Pending,
     pub(crate) alloc: Global,
+}
+
+// By field, so that what owns a hub isn't proved to drop each part of its parts once more.
+impl Drop for Hub {
+    fn drop(self) {
+        let Hub {
+            node: _,
+            boot: _,
+            used: _,
+            sessions: _,
+            free_from: _,
+            rows: _,
+            refused: _,
+            pending: _,
+            alloc: _,
+        } = self;
+    }
 }
 
 impl Model for Hub {

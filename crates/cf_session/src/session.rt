@@ -31,7 +31,6 @@ use std::mem;
 const LONGEST_TEXT: usize = 65_536;
 
 /// One session of a client: it reads the client's texts, and says what is to be done for them, one action after another.
-#[derive(Drop)]
 pub struct Session<'a> {
     namespaces: &'a Namespaces,
     tokens: &'a Tokens,
@@ -42,6 +41,22 @@ pub struct Session<'a> {
     /// How many requests for memory the last call had refused.
     refusals: u8,
     alloc: Global,
+}
+
+// By field, so that what owns a session isn't proved to drop each part of its parts once more.
+impl Drop for Session<'_> {
+    fn drop(self) {
+        let Session {
+            namespaces: _,
+            tokens: _,
+            client: _,
+            frame: _,
+            stage: _,
+            is_short: _,
+            refusals: _,
+            alloc: _,
+        } = self;
+    }
 }
 
 impl<'a> Session<'a> {

@@ -31,13 +31,24 @@ use std::marker::Model;
 /// The clauses of `publish`, `read` and `history` have the same names: what a call `makes` of the streams, its `answer` off them,
 /// what becomes of the `epochs`, its `refusals`, what a refused one leaves (`err`), its entries in a `log`, and its answer and its
 /// change in the endless `lists`.
-#[derive(Drop)]
 pub struct Streams {
     namespaces: Namespaces,
     map: BTreeMap<String, Stream>,
     // Before this moment, in seconds, a tick would do nothing.
     quiet_until: u64,
     alloc: Global,
+}
+
+// By field, so that what owns streams isn't proved to drop each part of its parts once more.
+impl Drop for Streams {
+    fn drop(self) {
+        let Streams {
+            namespaces: _,
+            map: _,
+            quiet_until: _,
+            alloc: _,
+        } = self;
+    }
 }
 
 impl Model for Streams {
