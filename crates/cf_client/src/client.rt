@@ -37,10 +37,7 @@ pub struct Client {
 // By field, so that what owns a client isn't proved to drop each part of its parts once more.
 impl Drop for Client {
     fn drop(self) {
-        let Client {
-            known: _,
-            alloc: _,
-        } = self;
+        let Client { known: _, alloc: _ } = self;
     }
 }
 

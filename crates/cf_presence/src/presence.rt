@@ -29,10 +29,7 @@ pub struct Presence {
 // By field, so that what owns a presence isn't proved to drop each part of its parts once more.
 impl Drop for Presence {
     fn drop(self) {
-        let Presence {
-            map: _,
-            alloc: _,
-        } = self;
+        let Presence { map: _, alloc: _ } = self;
     }
 }
 

@@ -1,9 +1,9 @@
-use Rattle.std.proofs.Common.{◌≡◌, ◌∙◌, Option, Some, None, refl, sym, ap, subst, true, option_map}
+use Rattle.std.proofs.Common.{◌≡◌, ◌∙◌, Option, Some, None, refl, sym, ap, true, option_map}
 use Rattle.std.specs.Option.{option_copied_mut}
 use Rattle.std.proofs.lemmas.Result.{on_ok_weaker, on_err_weaker}
 use Rattle.cf_hub.specs.Places.{session_in}
 use Rattle.cf_hub.specs.Rows.{sub_in}
-use Rattle.cf_hub.specs.Session.{Attached, attached_of, attached_shown, badge_of}
+use Rattle.cf_hub.specs.Session.{attached_of, attached_shown, badge_of}
 use Rattle.cf_hub.specs.Subscriptions.{progress_at, sub_of}
 use Rattle.cf_hub.specs.Wordings.{plain}
 use Rattle.cf_hub.specs.declared.session.Session.{Session}
