@@ -1,13 +1,6 @@
 //! Rows, each what is done and what comes of it: long texts, numbers, and what a value is shown as.
 use std::alloc::Global;
-use std::fmt::Display;
-
-/// Adds a piece with this number in the place of each `#`.
-fn push_numbered(alloc: Global, long: &mut String, number: u32, piece: &str) -> Option<()> {
-    let number = format!(in alloc; "{number}").ok()?;
-    let next = piece.replace(alloc, '#', number.as_str()).ok()?;
-    long.push_str(next.as_str()).ok()
-}
+use std::fmt::{Debug, Display};
 
 /// Adds a piece so many times, with a number from 1,000 on in the place of each `#`.
 fn push_pieces(alloc: Global, long: &mut String, count: usize, piece: &str) -> Option<()> {
@@ -15,8 +8,10 @@ fn push_pieces(alloc: Global, long: &mut String, count: usize, piece: &str) -> O
         let pieces = piece.repeat(alloc, count).ok()?;
         return long.push_str(pieces.as_str()).ok();
     }
-    for number in (1000..10_000).take(count) {
-        push_numbered(alloc, long, number, piece)?;
+    for number in (1000..10_000_u32).take(count) {
+        let number = number.to_string(alloc).ok()?;
+        let next = piece.replace(alloc, '#', number.as_str()).ok()?;
+        long.push_str(next.as_str()).ok()?;
     }
     Some(())
 }
@@ -37,10 +32,14 @@ pub(crate) fn in_full(alloc: Global, text: &str) -> Option<String> {
     Some(long)
 }
 
-/// The two texts of a row in full, before its arrow and behind it, which is empty where there is none.
-pub(crate) fn sides_of(alloc: Global, row: &str) -> Option<(String, String)> {
-    let (done, comes) = row.split_once(" => ").unwrap_or((row, ""));
-    Some((in_full(alloc, done)?, in_full(alloc, comes)?))
+/// What is done in a row, and behind its arrow what comes of it, which is empty where there is none.
+pub(crate) fn sides_of(row: &str) -> (&str, &str) {
+    row.split_once(" => ").unwrap_or((row, ""))
+}
+
+/// What is called in a row's first word, and what it is passed.
+pub(crate) fn call_of(done: &str) -> (&str, &str) {
+    done.split_once(' ').unwrap_or((done, ""))
 }
 
 /// The number that a word spells; 0 where it spells none.
@@ -53,5 +52,25 @@ pub(crate) fn is_shown<T: Display>(alloc: Global, value: &T, text: &str) -> bool
     match format!(in alloc; "{value}") {
         Ok(shown) => shown.as_str() == text,
         Err(_) => false,
+    }
+}
+
+/// Whether `Debug` has this text of a value.
+pub(crate) fn is_debug<T: Debug>(alloc: Global, value: &T, text: &str) -> bool {
+    match format!(in alloc; "{value:?}") {
+        Ok(shown) => shown.as_str() == text,
+        Err(_) => false,
+    }
+}
+
+/// Whether a call answered this text, or was refused in these words.
+pub(crate) fn is_answer<T: Display + Drop>(
+    alloc: Global,
+    answer: Result<String, T>,
+    wanted: &str,
+) -> bool {
+    match answer {
+        Ok(text) => text.as_str() == wanted,
+        Err(fault) => is_shown(alloc, &fault, wanted),
     }
 }

@@ -1,6 +1,6 @@
 //! Whole conversations of a client, by rows: behind the arrow of a call stands its text, and behind that of a text what the
 //! application gets from it, or why it is refused; nothing where there is no arrow.
-use crate::rows::{is_shown, sides_of};
+use crate::rows::{call_of, in_full, is_answer, number_of, sides_of};
 use cf_client::{AppEvent, Client, ClientFault};
 use cf_protocol::Position;
 use std::alloc::{AllocError, Global};
@@ -61,6 +61,17 @@ fn put(client: &mut Client, name: &str, passed: &str) -> Result<String, ClientFa
     }
 }
 
+/// Asks for so many channels, and lists each twice.
+fn crowd(alloc: Global, client: &mut Client, count: u32) -> Result<String, ClientFault> {
+    for number in 0..count {
+        let channel = format!(in alloc; "c{number}")?;
+        client.ask(channel.as_str())?;
+        client.list(channel.as_str(), -1)?;
+        client.list(channel.as_str(), -1)?;
+    }
+    Ok(String::new(alloc))
+}
+
 /// What comes of a call by its name, and what it is passed.
 fn answer(
     alloc: Global,
@@ -74,6 +85,7 @@ fn answer(
         "ask_from" => client.ask_from(passed),
         "leave" => client.leave(passed),
         "list" => client.list(passed, -1),
+        "crowd" => crowd(alloc, client, number_of(passed)),
         "on_text" => told(alloc, client, passed),
         "reconnect" => {
             client.reconnect();
@@ -84,23 +96,14 @@ fn answer(
 }
 
 /// Whether a call has this answer, or is refused in these words. A text alone is one that the client hears.
-fn answers(alloc: Global, client: &mut Client, call: &str, wanted: &str) -> bool {
+fn is_so(alloc: Global, client: &mut Client, row: &str) -> bool {
+    let (call, wanted) = sides_of(row);
     let (name, passed) = if call.starts_with('{') {
         ("on_text", call)
     } else {
-        call.split_once(' ').unwrap_or((call, ""))
+        call_of(call)
     };
-    match answer(alloc, client, name, passed) {
-        Ok(text) => text.as_str() == wanted,
-        Err(fault) => is_shown(alloc, &fault, wanted),
-    }
-}
-
-fn is_so(alloc: Global, client: &mut Client, row: &str) -> bool {
-    match sides_of(alloc, row) {
-        Some((call, wanted)) => answers(alloc, client, call.as_str(), wanted.as_str()),
-        None => false,
-    }
+    is_answer(alloc, answer(alloc, client, name, passed), wanted)
 }
 
 /// With a new client these rows are so, in their order.
@@ -177,44 +180,19 @@ ask_from news => {"id":2,"subscribe":{"channel":"news"}}
 
 connect *65000*1* => {"connect":{"token":"*65000*1*"},"id":1}
 ask *65000*1* => {"id":2,"subscribe":{"channel":"*65000*1*"}}
-put *65000*1* => {"id":3,"publish":{"channel":"news","data":*65000*1*}}"#;
+put *65000*1* => {"id":3,"publish":{"channel":"news","data":*65000*1*}}
+
+connect => {"connect":{},"id":1}
+crowd 100"#;
 
 /// The commands. A publish under id 3, and a history under id 4, an answer to an ask that is answered already, and a publication to
 /// a channel that is live no more. Every kind of reply and push. A client that goes on from its last position, leaves, passes over
 /// the answer, and asks again. A text that is none, which is that whether the client is connected or not. A reply of 300
-/// publications. Long texts.
+/// publications. Long texts. A hundred channels with two calls each.
 #[test]
 fn conversations(rt: HostRuntime) {
-    for rows in CONVERSATIONS.split("\n\n") {
+    let conversations = in_full(rt.alloc(), CONVERSATIONS).expect(&rt, "memory");
+    for rows in conversations.as_str().split("\n\n") {
         are_so(&rt, rt.alloc(), rows);
-    }
-}
-
-/// Whether a client asks for a channel of this number, and lists it.
-fn is_called(alloc: Global, client: &mut Client, number: u32) -> bool {
-    match format!(in alloc; "c{number}") {
-        Ok(channel) => {
-            let channel = channel.as_str();
-            answer(alloc, client, "ask", channel).is_ok()
-                && answer(alloc, client, "list", channel).is_ok()
-                && answer(alloc, client, "list", channel).is_ok()
-        }
-        Err(_) => false,
-    }
-}
-
-/// A hundred channels with two calls each.
-#[test]
-fn many_channels(rt: HostRuntime) {
-    let mut client = Client::new(rt.alloc());
-    assert!(rt;
-        is_so(
-            rt.alloc(),
-            &mut client,
-            r#"connect => {"connect":{},"id":1}"#
-        )
-    );
-    for number in 0..100 {
-        assert!(rt; is_called(rt.alloc(), &mut client, number), "{number}");
     }
 }

@@ -1,5 +1,5 @@
 //! Calls by their names: settings of a node, pushes from lent parts, data that nest too deep; and what is said of faults.
-use crate::rows::{is_shown, number_of, sides_of};
+use crate::rows::{call_of, in_full, is_answer, is_shown, number_of, sides_of};
 use cf_protocol::{
     Command, Data, Epoch, Outgoing, Pushed, ReadFault, Request, read_commands, read_namespaces,
     read_replies, read_tokens, write_publication, write_unsubscribe,
@@ -49,35 +49,21 @@ fn too_deep(alloc: Global, text: &str) -> Result<String, ReadFault> {
     Ok(format!(in alloc; "{is_so}")?)
 }
 
-fn unsubscribe(alloc: Global, code: &str, channel: &str) -> Result<String, ReadFault> {
-    Ok(write_unsubscribe(alloc, channel, number_of(code))?)
-}
-
 /// What a call of this name answers.
-fn answer(alloc: Global, name: &str, passed: &str) -> Result<String, ReadFault> {
-    let (first, second) = passed.split_once(' ').unwrap_or((passed, ""));
+fn answer(alloc: Global, call: &str) -> Result<String, ReadFault> {
+    let (name, passed) = call_of(call);
+    let (first, second) = call_of(passed);
     match name {
         "lent" => lent(alloc, passed),
         "too_deep" => too_deep(alloc, passed),
-        "unsubscribe" => unsubscribe(alloc, first, second),
+        "unsubscribe" => Ok(write_unsubscribe(alloc, second, number_of(first))?),
         _ => look_up(alloc, name, first, second),
     }
 }
 
-/// Whether a call answers this, or why it is refused.
-fn answers(alloc: Global, call: &str, wanted: &str) -> bool {
-    let (name, passed) = call.split_once(' ').unwrap_or((call, ""));
-    match answer(alloc, name, passed) {
-        Ok(found) => found.as_str() == wanted,
-        Err(fault) => is_shown(alloc, &fault, wanted),
-    }
-}
-
 fn is_so(alloc: Global, row: &str) -> bool {
-    match sides_of(alloc, row) {
-        Some((call, wanted)) => answers(alloc, call.as_str(), wanted.as_str()),
-        None => false,
-    }
+    let (call, wanted) = sides_of(row);
+    is_answer(alloc, answer(alloc, call), wanted)
 }
 
 const ROWS: &str =
@@ -123,7 +109,8 @@ too_deep {"id":1,"publish":{"channel":"a","data":*62*[**62*]*}} => true"#;
 
 #[test]
 fn calls(rt: HostRuntime) {
-    for row in ROWS.split('\n') {
+    let rows = in_full(rt.alloc(), ROWS).expect(&rt, "memory");
+    for row in rows.as_str().split('\n') {
         assert!(rt; is_so(rt.alloc(), row), "{row}");
     }
     assert!(rt; is_shown(rt.alloc(), &ReadFault::Memory, "out of memory"));
