@@ -1,6 +1,14 @@
 //! Rows, each what is done and what comes of it: long texts, numbers, and what a value is shown as.
 use std::alloc::Global;
 use std::fmt::{Debug, Display};
+use std::process::Abort;
+
+/// Adds a piece with this number in the place of each `#`.
+fn push_numbered(alloc: Global, long: &mut String, number: u32, piece: &str) -> Option<()> {
+    let number = format!(in alloc; "{number}").ok()?;
+    let next = piece.replace(alloc, '#', number.as_str()).ok()?;
+    long.push_str(next.as_str()).ok()
+}
 
 /// Adds a piece so many times, with a number from 1,000 on in the place of each `#`.
 fn push_pieces(alloc: Global, long: &mut String, count: usize, piece: &str) -> Option<()> {
@@ -8,10 +16,8 @@ fn push_pieces(alloc: Global, long: &mut String, count: usize, piece: &str) -> O
         let pieces = piece.repeat(alloc, count).ok()?;
         return long.push_str(pieces.as_str()).ok();
     }
-    for number in (1000..10_000_u32).take(count) {
-        let number = number.to_string(alloc).ok()?;
-        let next = piece.replace(alloc, '#', number.as_str()).ok()?;
-        long.push_str(next.as_str()).ok()?;
+    for number in (1000..10_000).take(count) {
+        push_numbered(alloc, long, number, piece)?;
     }
     Some(())
 }
@@ -30,6 +36,23 @@ pub(crate) fn in_full(alloc: Global, text: &str) -> Option<String> {
         turn = turn.wrapping_add(1) % 3;
     }
     Some(long)
+}
+
+/// Each row is so of this, in their order, of rows that are parted by a character. What they repeat is written out before.
+pub(crate) fn are_so<S, F: Fn(Global, &mut S, &str) -> bool>(
+    rt: &impl Abort,
+    alloc: Global,
+    of: &mut S,
+    rows: &str,
+    parted_by: char,
+    is_so: F,
+)
+    requires { F.IsAlwaysCallable is_so }
+{
+    let rows = in_full(alloc, rows).expect(rt, "memory");
+    for row in rows.as_str().split(parted_by) {
+        assert!(rt; is_so(alloc, of, row), "{row}");
+    }
 }
 
 /// What is done in a row, and behind its arrow what comes of it, which is empty where there is none.

@@ -1,6 +1,6 @@
 //! A hub's sessions, and what is said to their clients, as rows of steps and of what comes of them.
 use crate::publications::place;
-use crate::rows::{in_full, number_of, sides_of};
+use crate::rows::{are_so, call_of, number_of, sides_of};
 use cf_hub::Hub;
 use cf_protocol::{Epoch, Publication};
 use cf_queue::Out;
@@ -18,9 +18,9 @@ struct Step<'a> {
 }
 
 fn step_of(text: &str) -> Step<'_> {
-    let (word, rest) = text.split_once(' ').unwrap_or((text, ""));
-    let (number, rest) = rest.split_once(' ').unwrap_or((rest, ""));
-    let (name, size) = rest.split_once(' ').unwrap_or((rest, ""));
+    let (word, rest) = call_of(text);
+    let (number, rest) = call_of(rest);
+    let (name, size) = call_of(rest);
     Step {
         word,
         number: number_of(number),
@@ -137,7 +137,7 @@ fn outcomes(hub: &mut Hub, alloc: Global, steps: &str) -> Result<String, AllocEr
 }
 
 /// Whether what comes of the steps of a row stands behind its arrow.
-fn is_so(hub: &mut Hub, alloc: Global, row: &str) -> bool {
+fn is_so(alloc: Global, hub: &mut Hub, row: &str) -> bool {
     let (steps, wanted) = sides_of(row);
     match outcomes(hub, alloc, steps) {
         Ok(told) => told.as_str().strip_suffix("; ").unwrap_or("") == wanted,
@@ -151,12 +151,9 @@ fn empty_hub(alloc: Global) -> Result<Box<Hub>, AllocError> {
 }
 
 /// On an empty hub these rows are so, in their order.
-fn are_so(rt: &impl Abort, alloc: Global, rows: &str) {
-    let rows = in_full(alloc, rows).expect(rt, "memory");
+fn play(rt: &impl Abort, alloc: Global, rows: &str) {
     let mut hub = empty_hub(alloc).expect(rt, "memory");
-    for row in rows.as_str().split('\n') {
-        assert!(rt; is_so(&mut hub, alloc, row), "{row}");
-    }
+    are_so(rt, alloc, &mut *hub, rows, '\n', is_so);
 }
 
 /// Each refusal, the third where session 0 has begun with 128 channels.
@@ -226,7 +223,7 @@ deliver 1; turn; turn; turn; turn => Delivered { passed: 3, kept: 0, dropped: 0,
 #[test]
 fn steps(rt: HostRuntime) {
     for rows in [REFUSALS, PINGS, REPLY_FIRST, GAPS, TOO_SLOW, TURNS] {
-        are_so(&rt, rt.alloc(), rows);
+        play(&rt, rt.alloc(), rows);
     }
 }
 

@@ -3,7 +3,7 @@ ghost use Rattle.std.specs.Prelude.{◌≡◌, IfSome};
 ghost use Rattle.cf_session.specs.Shown.{answer_kind};
 
 use crate::publications::{place, publication};
-use crate::rows::{in_full, sides_of};
+use crate::rows::{are_so, sides_of};
 use cf_presence::Stats;
 use cf_protocol::{ErrorCode, Namespaces, Tokens, read_namespaces, read_tokens};
 use cf_session::{Action, Answer, Kind, Session};
@@ -94,16 +94,23 @@ fn words_of(alloc: Global, action: &Action) -> Result<String, AllocError> {
         Action::Attach { user } => return format!(in alloc; "attach {user}"),
         Action::Begin { id, .. } => return format!(in alloc; "begin {id}"),
         Action::Read {
-            since: Some(since), ..
+            since: Some(since),
+            ..
         } => return format!(in alloc; "read {} {}", since.epoch, since.offset),
         Action::Read { .. } => "read",
         Action::Finish { .. } => "finish",
         Action::Leave { .. } => "leave",
         Action::Publish {
-            key, body, info, ..
+            key,
+            body,
+            info,
+            ..
         } if key.is_empty() => return format!(in alloc; "publish {body} {}", info.client),
         Action::Publish {
-            key, body, info, ..
+            key,
+            body,
+            info,
+            ..
         } => return format!(in alloc; "publish {key}: {body} {}", info.client),
         Action::History { limit, .. } => return format!(in alloc; "history {limit}"),
         Action::Presence { .. } => "presence",
@@ -172,9 +179,7 @@ fn talks(rt: &impl Abort, alloc: Global, part: &str, parted_by: char) {
     let (_, tokens) = title.split_once(": ").unwrap_or((title, ""));
     let (namespaces, tokens) = tables(alloc, tokens).expect(rt, "tables");
     let mut session = Session::new(alloc, &namespaces, &tokens);
-    for row in rows.split(parted_by) {
-        assert!(rt; is_so(alloc, &mut session, row), "{row}");
-    }
+    are_so(rt, alloc, &mut session, rows, parted_by, is_so);
 }
 
 /// Each part is played by a session of its own, whose tokens stand behind the colon of its title.
@@ -270,7 +275,8 @@ a token that is known: t9=ann
 {"id":1,"connect":{"token":"t9"}} => attach ann / {"connect":{"client":"0-1-1","ping":25,"pong":true,"version":"1.0.0"},"id":1}"#;
 
 /// The same of a text that has line feeds.
-const FRAME: &str = r#"several commands of usual clients in a frame, separated by line feeds, with members that are passed over:
+const FRAME: &str =
+    r#"several commands of usual clients in a frame, separated by line feeds, with members that are passed over:
 {"id":1,"connect":{"name":"js","version":"5","data":{}}}
 {"id":2,"subscribe":{"channel":""}}
 {"id":3,"subscribe":{"channel":"full"}}
@@ -281,8 +287,7 @@ const FRAME: &str = r#"several commands of usual clients in a frame, separated b
 
 #[test]
 fn talk(rt: HostRuntime) {
-    let texts = in_full(rt.alloc(), TALKS).expect(&rt, "memory");
-    for part in texts.as_str().split("\n\n") {
+    for part in TALKS.split("\n\n") {
         talks(&rt, rt.alloc(), part, '\n');
     }
     talks(&rt, rt.alloc(), FRAME, '|');

@@ -2,7 +2,7 @@
 ghost use Rattle.std.specs.Prelude.{not};
 
 use super::stream::Pieces;
-use crate::rows::{call_of, is_debug, number_of, sides_of};
+use crate::rows::{are_so, call_of, is_debug, number_of, sides_of};
 use cf_hub::Hub;
 use cf_queue::Out;
 use cf_wire::{Desk, Gather, TurnEnd, Wire, WireFault};
@@ -366,7 +366,7 @@ fn is_met(gather: &mut Gather<Pieces>, word: &str, text: &str) -> bool {
 }
 
 /// Whether a row is so of a stream that gathers.
-fn is_gathered(gather: &mut Gather<Pieces>, row: &str) -> bool {
+fn is_gathered(_alloc: Global, gather: &mut Gather<Pieces>, row: &str) -> bool {
     let (word, rest) = call_of(row);
     match word {
         "waits" => !gather.is_drained(),
@@ -407,7 +407,5 @@ out fghijk";
 fn gathers_to_its_limit(rt: HostRuntime) {
     let alloc = rt.alloc();
     let mut gather = Gather::new(alloc, Pieces::new(alloc, Vec::new(alloc), 3), 4);
-    for row in GATHERED.split('\n') {
-        assert!(rt; is_gathered(&mut gather, row), "{row}");
-    }
+    are_so(&rt, alloc, &mut gather, GATHERED, '\n', is_gathered);
 }

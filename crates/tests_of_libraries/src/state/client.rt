@@ -1,6 +1,6 @@
 //! Whole conversations of a client, by rows: behind the arrow of a call stands its text, and behind that of a text what the
 //! application gets from it, or why it is refused; nothing where there is no arrow.
-use crate::rows::{call_of, in_full, is_answer, number_of, sides_of};
+use crate::rows::{are_so, call_of, is_answer, number_of, sides_of};
 use cf_client::{AppEvent, Client, ClientFault};
 use cf_protocol::Position;
 use std::alloc::{AllocError, Global};
@@ -42,11 +42,10 @@ fn short_line_of(alloc: Global, event: &AppEvent) -> Result<String, AllocError> 
     }
 }
 
-/// What the application gets from a text: the events' lines, each ended by a semicolon.
-fn told(alloc: Global, client: &mut Client, text: &str) -> Result<String, ClientFault> {
-    let events = client.on_text(text)?;
+/// What the application gets: the events' lines, each ended by a semicolon.
+fn told(alloc: Global, events: &[AppEvent]) -> Result<String, ClientFault> {
     let mut lines = String::new(alloc);
-    for event in &events {
+    for event in events {
         lines.push_str(line_of(alloc, event)?.as_str())?;
         lines.push_str(";")?;
     }
@@ -86,7 +85,7 @@ fn answer(
         "leave" => client.leave(passed),
         "list" => client.list(passed, -1),
         "crowd" => crowd(alloc, client, number_of(passed)),
-        "on_text" => told(alloc, client, passed),
+        "on_text" => told(alloc, client.on_text(passed)?.as_slice()),
         "reconnect" => {
             client.reconnect();
             Ok(String::new(alloc))
@@ -107,11 +106,9 @@ fn is_so(alloc: Global, client: &mut Client, row: &str) -> bool {
 }
 
 /// With a new client these rows are so, in their order.
-fn are_so(rt: &impl Abort, alloc: Global, rows: &str) {
+fn converse(rt: &impl Abort, alloc: Global, rows: &str) {
     let mut client = Client::new(alloc);
-    for row in rows.split('\n') {
-        assert!(rt; is_so(alloc, &mut client, row), "{row}");
-    }
+    are_so(rt, alloc, &mut client, rows, '\n', is_so);
 }
 
 /// Conversations, with an empty line behind each.
@@ -191,8 +188,7 @@ crowd 100"#;
 /// publications. Long texts. A hundred channels with two calls each.
 #[test]
 fn conversations(rt: HostRuntime) {
-    let conversations = in_full(rt.alloc(), CONVERSATIONS).expect(&rt, "memory");
-    for rows in conversations.as_str().split("\n\n") {
-        are_so(&rt, rt.alloc(), rows);
+    for rows in CONVERSATIONS.split("\n\n") {
+        converse(&rt, rt.alloc(), rows);
     }
 }

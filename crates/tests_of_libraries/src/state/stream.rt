@@ -1,6 +1,6 @@
 //! One stream, by rows: behind the arrow of a call stands the number that it answers, or a word where it answers none.
 use crate::publications::ann;
-use crate::rows::{call_of, number_of, sides_of};
+use crate::rows::{are_so, call_of, number_of, sides_of};
 use cf_protocol::{Epoch, Position};
 use cf_stream::{LARGEST_SIZE, LAST_OFFSET, Published, Stream};
 use std::alloc::Global;
@@ -58,6 +58,11 @@ fn recover(stream: &mut Stream, offset: u64) -> Option<u64> {
     }
 }
 
+/// How many publications are listed.
+fn list(stream: &mut Stream, limit: i32) -> Option<u64> {
+    Some(stream.history(None, limit, 0).ok()?.publications.len() as u64)
+}
+
 /// Leaves a stream so many publications, or room for so many. Answers how many it holds then.
 fn shrink(stream: &mut Stream, name: &str, count: usize) -> Option<u64> {
     match name {
@@ -76,27 +81,25 @@ fn call(alloc: Global, stream: &mut Stream, name: &str, passed: &str) -> Option<
         "repeat" => offset_of(publish(alloc, stream, passed), true),
         "known" => Some(stream.repeat_of(passed)?.offset),
         "recover" => recover(stream, u64::from(number)),
-        "list" => {
-            let limit = passed.parse::<i32>().ok()?;
-            Some(stream.history(None, limit, 0).ok()?.publications.len() as u64)
-        }
+        "list" => list(stream, passed.parse::<i32>().unwrap_or(0)),
         _ => shrink(stream, name, number as usize),
     }
 }
 
+fn is_so(alloc: Global, stream: &mut Stream, row: &str) -> bool {
+    let (done, answer) = sides_of(row);
+    let (name, passed) = call_of(done);
+    call(alloc, stream, name, passed) == answer.parse::<u64>().ok()
+}
+
 /// With a new stream the rows of a part are so, in their order. Its size, and how many offsets it has given, stand in the part's
 /// first line.
-fn are_so(rt: &impl Abort, alloc: Global, part: &str) {
+fn play(rt: &impl Abort, alloc: Global, part: &str) {
     let (title, rows) = part.split_once('\n').unwrap_or((part, ""));
     let (size, top) = call_of(title);
-    let (size, top) = (number_of(size), top.parse::<u64>().unwrap_or(0));
-    let mut stream = started(alloc, size as usize, top).expect(rt, "a stream");
-    for row in rows.split('\n') {
-        let (done, answer) = sides_of(row);
-        let (name, passed) = call_of(done);
-        let came = call(alloc, &mut stream, name, passed);
-        assert!(rt; came == answer.parse::<u64>().ok(), "{row}");
-    }
+    let top = top.parse::<u64>().unwrap_or(0);
+    let mut stream = started(alloc, number_of(size) as usize, top).expect(rt, "a stream");
+    are_so(rt, alloc, &mut *stream, rows, '\n', is_so);
 }
 
 /// A stream of a thousand. The last offset: a repeat is answered there too, and after a trim to nothing. A stream of three, which knows
@@ -147,6 +150,6 @@ recover 9997 => lost";
 #[test]
 fn limits(rt: HostRuntime) {
     for part in PARTS.split("\n\n") {
-        are_so(&rt, rt.alloc(), part);
+        play(&rt, rt.alloc(), part);
     }
 }

@@ -4,7 +4,9 @@ mod commands;
 mod replies;
 
 use crate::rows::{in_full, is_answer};
-use cf_protocol::{ReadFault, read_commands, read_replies, write_command, write_reply};
+use cf_protocol::{
+    Command, Outgoing, ReadFault, read_commands, read_replies, write_command, write_reply,
+};
 use std::alloc::Global;
 use std::process::Abort;
 
@@ -22,24 +24,30 @@ enum Fate {
     Refused,
 }
 
-/// The commands of a frame, written again one behind another.
-fn commands_again(alloc: Global, text: &str) -> Result<String, ReadFault> {
-    let commands = read_commands(alloc, text)?;
+/// Commands, written one behind another.
+fn commands_again(alloc: Global, commands: &[Command]) -> Result<String, ReadFault> {
     let mut again = String::new(alloc);
-    for command in &commands {
+    for command in commands {
         again.push_str(write_command(alloc, command)?.as_str())?;
     }
     Ok(again)
 }
 
-/// The replies of a frame, written again one behind another.
-fn replies_again(alloc: Global, text: &str) -> Result<String, ReadFault> {
-    let replies = read_replies(alloc, text)?;
+/// Replies and pushes, written one behind another.
+fn replies_again(alloc: Global, replies: &[Outgoing]) -> Result<String, ReadFault> {
     let mut again = String::new(alloc);
-    for reply in &replies {
+    for reply in replies {
         again.push_str(write_reply(alloc, reply)?.as_str())?;
     }
     Ok(again)
+}
+
+/// A frame's text, read and written again.
+fn again(alloc: Global, sender: Sender, text: &str) -> Result<String, ReadFault> {
+    match sender {
+        Sender::Client => commands_again(alloc, read_commands(alloc, text)?.as_slice()),
+        Sender::Server => replies_again(alloc, read_replies(alloc, text)?.as_slice()),
+    }
 }
 
 /// Whether a row's frame is written again as the text behind its arrow, or as itself where it has none; or is unreadable. A remark is
@@ -52,10 +60,7 @@ fn is_so(alloc: Global, sender: Sender, fate: Fate, row: &str) -> bool {
         Fate::Kept => row.split_once(" => ").unwrap_or((row, row)),
         Fate::Refused => (row, "unreadable"),
     };
-    match sender {
-        Sender::Client => is_answer(alloc, commands_again(alloc, text), wanted),
-        Sender::Server => is_answer(alloc, replies_again(alloc, text), wanted),
-    }
+    is_answer(alloc, again(alloc, sender, text), wanted)
 }
 
 fn are_so(

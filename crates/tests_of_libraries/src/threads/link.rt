@@ -1,6 +1,7 @@
 use crate::rows::{number_of, sides_of};
 use cf_link::{Receiver, Sender, pair, settle};
 use std::alloc::Global;
+use std::process::Abort;
 use std::sync::Wait;
 use std::thread;
 use std::thread::Threads;
@@ -78,27 +79,24 @@ fn send_later<R: Wait + Clock>(rt: &R, sender: &mut Sender<u32>) -> bool {
 }
 
 /// Whether a receiver is woken at once by what another thread sends after a fiftieth of a second.
-fn is_quick<R: Threads + Wait + Clock + Copy + Send + 'static>(
+fn is_quick<R: Threads + Wait + Clock + Abort + Copy + Send + 'static>(
     rt: R,
     alloc: Global,
-) -> Option<bool> {
-    let start = Instant::now(&rt).ok()?;
-    let (mut sender, mut receiver) = pair(alloc, 1).ok()?;
-    let child = thread::spawn(&rt, move || send_later(&rt, &mut sender)).ok()?;
-    let item = wait_for(&rt, &mut receiver);
+) -> bool {
+    let start = Instant::now(&rt).expect(&rt, "a clock");
+    let (mut sender, mut receiver) = pair(alloc, 1).expect(&rt, "memory");
+    let child = thread::spawn(&rt, move || send_later(&rt, &mut sender)).expect(&rt, "a thread");
+    let is_heard = wait_for(&rt, &mut receiver) == Some(7);
     let is_sent = child.join(&rt);
-    let waited = start.elapsed(&rt).ok()?;
-    Some(is_sent && item == Some(7) && waited < Duration::from_millis(250))
+    let waited = start.elapsed(&rt).expect(&rt, "a clock");
+    is_sent && is_heard && waited < Duration::from_millis(250)
 }
 
 /// A send wakes a receiver that sleeps, and not the end of its sleep: of three times one is quick on any machine.
 #[test]
 fn woken_by_a_send(rt: HostRuntime) {
     let alloc = rt.alloc();
-    let is_quick = is_quick(rt, alloc) == Some(true)
-        || is_quick(rt, alloc) == Some(true)
-        || is_quick(rt, alloc) == Some(true);
-    assert!(rt; is_quick);
+    assert!(rt; is_quick(rt, alloc) || is_quick(rt, alloc) || is_quick(rt, alloc));
 }
 
 /// What a receiver was told to have been sent it gets, and what is left at the end was sent and not received.
@@ -117,7 +115,9 @@ fn told_and_left(rt: HostRuntime) {
 #[test]
 fn between_two_threads(rt: HostRuntime) {
     let (mut sender, mut receiver) = pair(rt.alloc(), 1).expect(&rt, "memory");
-    let child = thread::spawn(&rt, move || send_all(&rt, &mut sender, 1000)).expect(&rt, "a thread");
+    let child = thread::spawn(&rt, move || send_all(&rt, &mut sender, 1000)).expect(
+        &rt, "a thread",
+    );
     for number in 0..1000 {
         assert!(rt; wait_for(&rt, &mut receiver) == Some(number));
     }

@@ -5,13 +5,12 @@ ghost use Rattle.cf_json.specs.Grammar.{Tree};
 ghost use Rattle.cf_json.specs.Spans.{IsAt};
 ghost use Rattle.cf_json.specs.Kinds.{kind_of};
 
-use crate::rows::{call_of, in_full, is_answer, is_shown, sides_of};
+use crate::rows::{are_so, call_of, is_answer, is_shown, sides_of};
 use cf_json::{
     Fault, Kind, Span, compact, items, kind, members, quote, read_text, scan, split_frame,
 };
 use std::alloc::Global;
 use std::fmt::Debug;
-use std::process::Abort;
 
 /// The span of a text's one value, where that is of the kind.
 fn span_of(text: &str, wanted: Kind) -> Option<Span>
@@ -90,17 +89,10 @@ fn answer(alloc: Global, name: &str, text: &str) -> Result<String, Fault> {
     }
 }
 
-fn is_so(alloc: Global, row: &str) -> bool {
+fn is_so(alloc: Global, _: &mut (), row: &str) -> bool {
     let (call, wanted) = sides_of(row);
     let (name, text) = call_of(call);
     is_answer(alloc, answer(alloc, name, text), wanted)
-}
-
-fn are_so(rt: &impl Abort, alloc: Global, rows: &str, parted_by: char) {
-    let rows = in_full(alloc, rows).expect(rt, "memory");
-    for row in rows.as_str().split(parted_by) {
-        assert!(rt; is_so(alloc, row), "{row}");
-    }
 }
 
 const ROWS: &str =
@@ -152,8 +144,8 @@ compact [*16000*" ",*12] => [*16000*" ",*12]"#;
 
 #[test]
 fn vectors(rt: HostRuntime) {
-    are_so(&rt, rt.alloc(), ROWS, '\n');
-    are_so(&rt, rt.alloc(), SPACED_ROWS, '|');
-    are_so(&rt, rt.alloc(), LONG_ROWS, '\n');
     assert!(rt; is_shown(rt.alloc(), &Fault::Memory, "out of memory"));
+    are_so(&rt, rt.alloc(), &mut (), ROWS, '\n', is_so);
+    are_so(&rt, rt.alloc(), &mut (), SPACED_ROWS, '|', is_so);
+    are_so(&rt, rt.alloc(), &mut (), LONG_ROWS, '\n', is_so);
 }

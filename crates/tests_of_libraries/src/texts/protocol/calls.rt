@@ -1,19 +1,23 @@
 //! Calls by their names: settings of a node, pushes from lent parts, data that nest too deep; and what is said of faults.
-use crate::rows::{call_of, in_full, is_answer, is_shown, number_of, sides_of};
+use crate::rows::{are_so, call_of, is_answer, is_shown, number_of, sides_of};
 use cf_protocol::{
     Command, Data, Epoch, Outgoing, Pushed, ReadFault, Request, read_commands, read_namespaces,
     read_replies, read_tokens, write_publication, write_unsubscribe,
 };
 use std::alloc::Global;
+use std::fmt::Debug;
+
+fn shown<T: Debug>(alloc: Global, value: &T) -> Result<String, ReadFault> {
+    Ok(format!(in alloc; "{value:?}")?)
+}
 
 /// The user of a token, or the settings of a channel, by a text that sets up tokens or namespaces.
 fn look_up(alloc: Global, name: &str, wanted: &str, text: &str) -> Result<String, ReadFault> {
     if name == "user" {
-        let tokens = read_tokens(alloc, text)?;
-        return Ok(format!(in alloc; "{:?}", tokens.user(wanted))?);
+        return shown(alloc, &read_tokens(alloc, text)?.user(wanted));
     }
     let namespaces = read_namespaces(alloc, text)?.copied()?;
-    Ok(format!(in alloc; "{:?}", namespaces.find(wanted))?)
+    shown(alloc, &namespaces.find(wanted))
 }
 
 /// The push of a text's one publication, written from parts that are lent.
@@ -44,9 +48,7 @@ fn is_too_deep(command: Option<&Command>) -> bool {
 
 /// Whether the data of a text's first command nest too deep.
 fn too_deep(alloc: Global, text: &str) -> Result<String, ReadFault> {
-    let commands = read_commands(alloc, text)?;
-    let is_so = is_too_deep(commands.first());
-    Ok(format!(in alloc; "{is_so}")?)
+    shown(alloc, &is_too_deep(read_commands(alloc, text)?.first()))
 }
 
 /// What a call of this name answers.
@@ -61,7 +63,7 @@ fn answer(alloc: Global, call: &str) -> Result<String, ReadFault> {
     }
 }
 
-fn is_so(alloc: Global, row: &str) -> bool {
+fn is_so(alloc: Global, _: &mut (), row: &str) -> bool {
     let (call, wanted) = sides_of(row);
     is_answer(alloc, answer(alloc, call), wanted)
 }
@@ -109,10 +111,7 @@ too_deep {"id":1,"publish":{"channel":"a","data":*62*[**62*]*}} => true"#;
 
 #[test]
 fn calls(rt: HostRuntime) {
-    let rows = in_full(rt.alloc(), ROWS).expect(&rt, "memory");
-    for row in rows.as_str().split('\n') {
-        assert!(rt; is_so(rt.alloc(), row), "{row}");
-    }
     assert!(rt; is_shown(rt.alloc(), &ReadFault::Memory, "out of memory"));
     assert!(rt; is_shown(rt.alloc(), &Epoch::from_text("aZ9"), "aZ9"));
+    are_so(&rt, rt.alloc(), &mut (), ROWS, '\n', is_so);
 }
