@@ -10,7 +10,7 @@ mod stage;
 
 use cf_broker::Words;
 use cf_protocol::read_namespaces;
-use stage::{epochs, play};
+use stage::{part_of, play};
 use std::marker::Brand;
 use std::sync::atomic::AtomicU64;
 
@@ -160,7 +160,7 @@ fn parts_are_so(rt: HostRuntime) {
     let (first, second) = (AtomicU64::new(0), AtomicU64::new(0));
     for rows in PARTS.split("\n\n") {
         let words = Words::new(rt.alloc()).expect(&rt, "memory");
-        let epochs = epochs(rows, &first, &second);
-        play::<Brand, HostRuntime>(&rt, words, &namespaces, epochs, rows);
+        let part = part_of(rows, &first, &second);
+        play::<Brand, HostRuntime>(&rt, words, &namespaces, part);
     }
 }

@@ -93,10 +93,13 @@ fn look<N: Naming, R: Wait>(
             Ok(_) => word(stage.alloc, "not recovered"),
             Err(_) => None,
         },
-        "position" => match broker.position(rt, pass, channel) {
-            (Some(position), mark) => two_numbers(stage.alloc, position.offset, mark),
-            (None, _) => word(stage.alloc, "none"),
-        },
+        "position" => {
+            let (at, mark) = broker.position(rt, pass, channel);
+            match at {
+                Some(position) => two_numbers(stage.alloc, position.offset, mark),
+                None => word(stage.alloc, "none"),
+            }
+        }
         _ => {
             let (since, limit) = match name {
                 "after" => (since, -1),

@@ -47,24 +47,27 @@ impl<'d> Epochs for Draws<'d> {
     }
 }
 
-/// The epochs of all shards. In the rows of `two_shards` those of shard 2 and those of the others wait for one another, by these flags.
-pub(super) fn epochs<'d>(
-    rows: &str,
-    first: &'d AtomicU64,
-    second: &'d AtomicU64,
-) -> [Draws<'d>; 16] {
-    if !rows.starts_with("# two_shards") {
-        return [Draws::Alone; 16];
+/// Rows, and the epochs of the shards of the broker on which they are played.
+#[derive(Drop)]
+pub(super) struct Part<'a> {
+    epochs: [Draws<'a>; 16],
+    rows: &'a str,
+}
+
+/// These rows. In those of `two_shards` the epochs of shard 2 and those of the others wait for one another, by these flags.
+pub(super) fn part_of<'a>(rows: &'a str, first: &'a AtomicU64, second: &'a AtomicU64) -> Part<'a> {
+    let mut epochs = [Draws::Alone; 16];
+    if rows.starts_with("# two_shards") {
+        epochs = [Draws::Meeting {
+            mine: first,
+            other: second,
+        }; 16];
+        epochs[2] = Draws::Meeting {
+            mine: second,
+            other: first,
+        };
     }
-    let mut epochs = [Draws::Meeting {
-        mine: first,
-        other: second,
-    }; 16];
-    epochs[2] = Draws::Meeting {
-        mine: second,
-        other: first,
-    };
-    epochs
+    Part { epochs, rows }
 }
 
 /// What is called.
@@ -254,13 +257,13 @@ pub(super) fn play<N: Naming + Send + Sync, R: Threads + Wait + Abort + AllocGlo
     rt: &R,
     words: Words,
     namespaces: &Namespaces,
-    epochs: [Draws<'_>; 16],
-    rows: &str,
+    part: Part<'_>,
 )
     requires words { words ≡ names N.words 16 }
     requires namespaces { namespaces.now ≡ N.namespaces }
 {
     let alloc = rt.alloc();
+    let Part { epochs, rows } = part;
     let Links { senders, receivers } = both_links(alloc).expect(rt, "memory");
     let opened = opened::<N>(alloc, words, namespaces, epochs, senders);
     let (broker, mut passes) = opened.expect(rt, "memory");
