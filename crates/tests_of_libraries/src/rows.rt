@@ -1,6 +1,7 @@
 //! Rows, each what is done and what comes of it: long texts, numbers, and what a value is shown as.
 use std::alloc::Global;
-use std::fmt::Display;
+use std::fmt::{Debug, Display};
+use std::process::Abort;
 
 /// Adds a piece with this number in the place of each `#`.
 fn push_numbered(alloc: Global, long: &mut String, number: u32, piece: &str) -> Option<()> {
@@ -37,10 +38,31 @@ pub(crate) fn in_full(alloc: Global, text: &str) -> Option<String> {
     Some(long)
 }
 
-/// The two texts of a row in full, before its arrow and behind it, which is empty where there is none.
-pub(crate) fn sides_of(alloc: Global, row: &str) -> Option<(String, String)> {
-    let (done, comes) = row.split_once(" => ").unwrap_or((row, ""));
-    Some((in_full(alloc, done)?, in_full(alloc, comes)?))
+/// Each row is so of this, in their order, of rows that are parted by a character. What they repeat is written out before.
+pub(crate) fn are_so<S, F: Fn(Global, &mut S, &str) -> bool>(
+    rt: &impl Abort,
+    alloc: Global,
+    of: &mut S,
+    rows: &str,
+    parted_by: char,
+    is_so: F,
+)
+    requires { F.IsAlwaysCallable is_so }
+{
+    let rows = in_full(alloc, rows).expect(rt, "memory");
+    for row in rows.as_str().split(parted_by) {
+        assert!(rt; is_so(alloc, of, row), "{row}");
+    }
+}
+
+/// What is done in a row, and behind its arrow what comes of it, which is empty where there is none.
+pub(crate) fn sides_of(row: &str) -> (&str, &str) {
+    row.split_once(" => ").unwrap_or((row, ""))
+}
+
+/// What is called in a row's first word, and what it is passed.
+pub(crate) fn call_of(done: &str) -> (&str, &str) {
+    done.split_once(' ').unwrap_or((done, ""))
 }
 
 /// The number that a word spells; 0 where it spells none.
@@ -53,5 +75,25 @@ pub(crate) fn is_shown<T: Display>(alloc: Global, value: &T, text: &str) -> bool
     match format!(in alloc; "{value}") {
         Ok(shown) => shown.as_str() == text,
         Err(_) => false,
+    }
+}
+
+/// Whether `Debug` has this text of a value.
+pub(crate) fn is_debug<T: Debug>(alloc: Global, value: &T, text: &str) -> bool {
+    match format!(in alloc; "{value:?}") {
+        Ok(shown) => shown.as_str() == text,
+        Err(_) => false,
+    }
+}
+
+/// Whether a call answered this text, or was refused in these words.
+pub(crate) fn is_answer<T: Display + Drop>(
+    alloc: Global,
+    answer: Result<String, T>,
+    wanted: &str,
+) -> bool {
+    match answer {
+        Ok(text) => text.as_str() == wanted,
+        Err(fault) => is_shown(alloc, &fault, wanted),
     }
 }

@@ -1,8 +1,8 @@
 //! What a client is answered whose first request is no handshake, or one of another form.
 use super::stream::Pieces;
-use crate::rows::{in_full, is_shown};
+use crate::rows::{call_of, in_full, is_shown};
 use cf_wire::{Wire, WireFault};
-use std::alloc::{AllocError, Global};
+use std::alloc::Global;
 
 const OPENED: &str =
     "HTTP/1.1 101 Switching Protocols\r\nUpgrade: websocket\r\nConnection: Upgrade\r\nSec-WebSocket-Accept: s3pPLMBiTxaQ9kYGzzhZRbK+xOo=\r\n\r\n";
@@ -73,15 +73,6 @@ fn line_of(line: &str) -> &str {
     }
 }
 
-fn head_of(alloc: Global, lines: &str) -> Result<String, AllocError> {
-    let mut head = String::new(alloc);
-    for line in lines.split(';') {
-        head.push_str(line_of(line))?;
-        head.push_str("\r\n")?;
-    }
-    Ok(head)
-}
-
 /// The fault by which there is no wire, or nothing where there is one.
 fn fault_of(word: &str) -> &'static str {
     match word {
@@ -103,18 +94,13 @@ fn answer_of(word: &str) -> &'static str {
     }
 }
 
-/// Whether this and nothing else was written.
-fn says(stream: &Pieces, answer: &str) -> bool {
-    stream.output.as_slice() == answer.as_bytes()
-}
-
 /// Whether a stream is answered so.
 fn is_answered(stream: Pieces, alloc: Global, fault: &str, answer: &str) -> bool {
     match Wire::accept(alloc, stream) {
-        Ok(wire) => fault.is_empty() && says(wire.stream(), answer),
+        Ok(wire) => fault.is_empty() && wire.stream().output.as_slice() == answer.as_bytes(),
         Err(refused) => {
             refused.answered == !answer.is_empty()
-                && says(&refused.stream, answer)
+                && refused.stream.output.as_slice() == answer.as_bytes()
                 && is_shown(alloc, &refused.fault, fault)
         }
     }
@@ -123,33 +109,21 @@ fn is_answered(stream: Pieces, alloc: Global, fault: &str, answer: &str) -> bool
 /// A stream of these lines, by pieces of so many bytes.
 fn stream_over(alloc: Global, lines: &str, piece: usize) -> Option<Pieces> {
     let lines = in_full(alloc, lines)?;
-    let head = head_of(alloc, lines.as_str()).ok()?;
-    Some(Pieces::new(alloc, head.as_bytes().to_vec(alloc).ok()?, piece))
+    let mut head = Vec::new(alloc);
+    for line in lines.as_str().split(';') {
+        head.extend_from_slice(line_of(line).as_bytes()).ok()?;
+        head.extend_from_slice(b"\r\n").ok()?;
+    }
+    Some(Pieces::new(alloc, head, piece))
 }
 
 /// Whether a row is as it says, by pieces of so many bytes.
 fn is_so(alloc: Global, row: &str, piece: usize) -> bool {
-    let (word, lines) = row.split_once(' ').unwrap_or((row, ""));
+    let (word, lines) = call_of(row);
     match stream_over(alloc, lines, piece) {
         Some(stream) => is_answered(stream, alloc, fault_of(word), answer_of(word)),
         None => false,
     }
-}
-
-/// Each head is answered as its row says, byte by byte, by pieces of seven bytes, and whole.
-#[test]
-fn answered_heads(rt: HostRuntime) {
-    for row in ROWS.lines() {
-        for piece in [1usize, 7, 4096] {
-            assert!(rt; is_so(rt.alloc(), row, piece), "{row} by {piece}");
-        }
-    }
-}
-
-/// The one fault that comes by no head.
-#[test]
-fn out_of_memory_in_words(rt: HostRuntime) {
-    assert!(rt; is_shown(rt.alloc(), &WireFault::Memory, "out of memory"));
 }
 
 /// Whether a refusal whose call of this number fails is one all the same, and says that its answer isn't whole.
@@ -161,6 +135,16 @@ fn is_refused_unheard(alloc: Global, call: usize) -> bool {
     match Wire::accept(alloc, stream) {
         Ok(_) => false,
         Err(refused) => refused.fault == WireFault::Handshake && !refused.answered,
+    }
+}
+
+/// Each head is answered as its row says, byte by byte, by pieces of seven bytes, and whole.
+#[test]
+fn answered_heads(rt: HostRuntime) {
+    let alloc = rt.alloc();
+    for row in ROWS.lines() {
+        let is_so = is_so(alloc, row, 1) && is_so(alloc, row, 7) && is_so(alloc, row, 4096);
+        assert!(rt; is_so, "{row}");
     }
 }
 

@@ -1,7 +1,7 @@
 //! A hub's sessions, and what is said to their clients, as rows of steps and of what comes of them.
 use crate::publications::place;
-use crate::rows::{is_shown, number_of};
-use cf_hub::{Hub, HubRefusal};
+use crate::rows::{are_so, call_of, number_of, sides_of};
+use cf_hub::Hub;
 use cf_protocol::{Epoch, Publication};
 use cf_queue::Out;
 use cf_stream::Recovery;
@@ -18,9 +18,9 @@ struct Step<'a> {
 }
 
 fn step_of(text: &str) -> Step<'_> {
-    let (word, rest) = text.split_once(' ').unwrap_or((text, ""));
-    let (number, rest) = rest.split_once(' ').unwrap_or((rest, ""));
-    let (name, size) = rest.split_once(' ').unwrap_or((rest, ""));
+    let (word, rest) = call_of(text);
+    let (number, rest) = call_of(rest);
+    let (name, size) = call_of(rest);
     Step {
         word,
         number: number_of(number),
@@ -36,20 +36,6 @@ fn nothing_read(alloc: Global) -> Recovery {
         recovered: false,
         publications: Vec::new(alloc),
     }
-}
-
-fn publication(alloc: Global, offset: u32) -> Result<Publication, AllocError> {
-    Ok(Publication {
-        offset: u64::from(offset),
-        body: String::from_str(alloc, "1")?,
-        info: None,
-    })
-}
-
-fn delivered(hub: &mut Hub, alloc: Global, offset: u32) -> Result<String, AllocError> {
-    let publication = publication(alloc, offset)?;
-    let came = hub.deliver("news", &Epoch::from_text("aaaa"), &publication);
-    format!(in alloc; "{came:?}")
 }
 
 /// The short name of a text for a client.
@@ -78,20 +64,6 @@ fn taken(hub: &mut Hub, alloc: Global, session: u32) -> Result<String, AllocErro
     }
 }
 
-fn attached(hub: &mut Hub, alloc: Global) -> Result<String, AllocError> {
-    match hub.attach(String::from_str(alloc, "ann")?, 0) {
-        Ok(session) => format!(in alloc; "{session}"),
-        Err(refusal) => refusal.to_string(alloc),
-    }
-}
-
-fn begun(hub: &mut Hub, alloc: Global, step: Step<'_>) -> Result<String, AllocError> {
-    match hub.begin(step.number, step.name, 2, None) {
-        Ok(()) => String::from_str(alloc, "begun"),
-        Err(refusal) => refusal.to_string(alloc),
-    }
-}
-
 /// Whether a step that is answered by yes or no, or by nothing, is answered by no.
 fn is_denied(hub: &mut Hub, alloc: Global, step: Step<'_>) -> bool {
     match step.word {
@@ -115,81 +87,61 @@ fn is_denied(hub: &mut Hub, alloc: Global, step: Step<'_>) -> bool {
     }
 }
 
-fn said(hub: &mut Hub, alloc: Global, step: Step<'_>) -> Result<String, AllocError> {
-    let text = step.name.repeat(alloc, step.size as usize)?;
-    format!(in alloc; "{:?}", hub.say(step.number, text))
-}
-
-fn checked(hub: &mut Hub, alloc: Global, step: Step<'_>) -> Result<String, AllocError> {
-    let top = Some(place(u64::from(step.size)));
-    format!(in alloc; "{:?}", hub.check(step.number, step.name, top))
-}
-
-/// What comes of a step that is answered by a word or a number.
-fn shown(hub: &mut Hub, alloc: Global, step: Step<'_>) -> Result<String, AllocError> {
-    match step.word {
-        "say" => said(hub, alloc, step),
-        "check" => checked(hub, alloc, step),
-        "detach" => format!(in alloc; "{}", hub.detach(step.number)),
-        "turn" => format!(in alloc; "{:?}", hub.next_with_output()),
-        _ => String::from_str(alloc, yes_or_no(!is_denied(hub, alloc, step))),
-    }
-}
-
-fn yes_or_no(is_so: bool) -> &'static str {
-    if is_so { "yes" } else { "no" }
-}
-
 /// What comes of a step.
 fn outcome(hub: &mut Hub, alloc: Global, step: Step<'_>) -> Result<String, AllocError> {
     match step.word {
-        "attach" => attached(hub, alloc),
-        "begin" => begun(hub, alloc, step),
-        "deliver" => delivered(hub, alloc, step.number),
+        "attach" => match hub.attach(String::from_str(alloc, "ann")?, 0) {
+            Ok(session) => format!(in alloc; "{session}"),
+            Err(refusal) => refusal.to_string(alloc),
+        },
+        "begin" => match hub.begin(step.number, step.name, 2, None) {
+            Ok(()) => String::from_str(alloc, "begun"),
+            Err(refusal) => refusal.to_string(alloc),
+        },
+        "deliver" => {
+            let publication = Publication {
+                offset: u64::from(step.number),
+                body: String::from_str(alloc, "1")?,
+                info: None,
+            };
+            let came = hub.deliver("news", &Epoch::from_text("aaaa"), &publication);
+            format!(in alloc; "{came:?}")
+        }
+        "say" => {
+            let text = step.name.repeat(alloc, step.size as usize)?;
+            format!(in alloc; "{:?}", hub.say(step.number, text))
+        }
+        "check" => {
+            let top = Some(place(u64::from(step.size)));
+            format!(in alloc; "{:?}", hub.check(step.number, step.name, top))
+        }
         "take" => taken(hub, alloc, step.number),
-        _ => shown(hub, alloc, step),
+        "detach" => format!(in alloc; "{}", hub.detach(step.number)),
+        "turn" => format!(in alloc; "{:?}", hub.next_with_output()),
+        _ if is_denied(hub, alloc, step) => String::from_str(alloc, "no"),
+        _ => String::from_str(alloc, "yes"),
     }
 }
 
-/// Adds what comes of a step, ended by `; `, with `short` where it is the first that memory is refused to.
-fn add_outcome(
-    told: &mut String,
-    hub: &mut Hub,
-    alloc: Global,
-    text: &str,
-) -> Result<(), AllocError> {
-    let was_short = hub.short();
-    let came = outcome(hub, alloc, step_of(text))?;
-    told.push_str(came.as_str())?;
-    told.push_str(if hub.short() && !was_short {
-        " short; "
-    } else {
-        "; "
-    })
-}
-
-/// What comes of steps that are separated by `; `, each ended by it too.
+/// What comes of steps that are separated by `; `, each ended by it too, with `short` where it is the first that memory is refused
+/// to.
 fn outcomes(hub: &mut Hub, alloc: Global, steps: &str) -> Result<String, AllocError> {
     let mut told = String::new(alloc);
     for text in steps.split("; ") {
-        add_outcome(&mut told, hub, alloc, text)?;
+        let was_short = hub.short();
+        told.push_str(outcome(hub, alloc, step_of(text))?.as_str())?;
+        let is_first = hub.short() && !was_short;
+        told.push_str(if is_first { " short; " } else { "; " })?;
     }
     Ok(told)
 }
 
 /// Whether what comes of the steps of a row stands behind its arrow.
-fn is_so(hub: &mut Hub, alloc: Global, row: &str) -> bool {
-    let (steps, wanted) = row.split_once(" => ").unwrap_or((row, ""));
+fn is_so(alloc: Global, hub: &mut Hub, row: &str) -> bool {
+    let (steps, wanted) = sides_of(row);
     match outcomes(hub, alloc, steps) {
         Ok(told) => told.as_str().strip_suffix("; ").unwrap_or("") == wanted,
         Err(_) => false,
-    }
-}
-
-/// On this hub these rows are so, in their order.
-fn go_on(rt: &impl Abort, hub: &mut Hub, alloc: Global, rows: &str) {
-    for row in rows.split('\n') {
-        assert!(rt; is_so(hub, alloc, row), "{row}");
     }
 }
 
@@ -199,47 +151,22 @@ fn empty_hub(alloc: Global) -> Result<Box<Hub>, AllocError> {
 }
 
 /// On an empty hub these rows are so, in their order.
-fn are_so(rt: &impl Abort, alloc: Global, rows: &str) {
+fn play(rt: &impl Abort, alloc: Global, rows: &str) {
     let mut hub = empty_hub(alloc).expect(rt, "memory");
-    go_on(rt, &mut hub, alloc, rows);
+    are_so(rt, alloc, &mut *hub, rows, '\n', is_so);
 }
 
-const NOTHING_THERE: &str = "\
+/// Each refusal, the third where session 0 has begun with 128 channels.
+const REFUSALS: &str = "\
 begin 0 news => there is no such session
 attach => 0
-read 0 news; finish 0 news; leave 0 news => no; no; no";
-
-const ALL_TAKEN: &str = "\
+read 0 news; finish 0 news; leave 0 news => no; no; no
+*127*begin 0 c#; *begin 0 c5 => *127*begun; *begun
 begin 0 c5 => the session follows the channel already
 begin 0 news => the node or the session has as many as it may have
-leave 0 c7; begin 0 news => yes; begun
+leave 0 c1007; begin 0 news => yes; begun
 close 0; begin 0 chat => yes; there is no such session
 take 0 => 3001 closed";
-
-/// Whether session 0 begins with 128 channels.
-fn begins_with_128(hub: &mut Hub, alloc: Global) -> bool {
-    for number in 0..128_u32 {
-        match format!(in alloc; "begin 0 c{number} => begun") {
-            Ok(row) if is_so(hub, alloc, row.as_str()) => {}
-            _ => return false,
-        }
-    }
-    true
-}
-
-#[test]
-fn refusals(rt: HostRuntime) {
-    let mut hub = empty_hub(rt.alloc()).expect(&rt, "memory");
-    go_on(&rt, &mut hub, rt.alloc(), NOTHING_THERE);
-    assert!(rt; begins_with_128(&mut hub, rt.alloc()));
-    go_on(&rt, &mut hub, rt.alloc(), ALL_TAKEN);
-}
-
-/// The one refusal that comes by no step.
-#[test]
-fn out_of_memory_in_words(rt: HostRuntime) {
-    assert!(rt; is_shown(rt.alloc(), &HubRefusal::Memory, "out of memory"));
-}
 
 /// Session 0 answers its ping, and session 1 doesn't.
 const PINGS: &str = "\
@@ -249,11 +176,6 @@ tick 25; take 0; take 1 => yes; ping; ping
 pong 0; tick 32; take 0; take 1 => yes; yes; nothing; nothing
 tick 33; take 0; take 1 => yes; nothing; 3012 closed
 tick 50; take 0; take 1 => yes; ping; nothing closed";
-
-#[test]
-fn pings(rt: HostRuntime) {
-    are_so(&rt, rt.alloc(), PINGS);
-}
 
 /// In whatever order a publication, the read and the finish come, also where the publication comes twice.
 const REPLY_FIRST: &str = "\
@@ -270,11 +192,6 @@ attach; begin 0 news; read 0 news; finish 0 news => 0; begun; yes; yes
 deliver 1; deliver 1 => Delivered { passed: 1, kept: 0, dropped: 0, ended: 0, closed: 0 }; Delivered { passed: 0, kept: 0, dropped: 1, ended: 0, closed: 0 }
 on 0 news; take 0; take 0; take 0; detach 0 => yes; reply; push; nothing; 1";
 
-#[test]
-fn reply_before_push(rt: HostRuntime) {
-    are_so(&rt, rt.alloc(), REPLY_FIRST);
-}
-
 /// A check that finds a subscription behind twice ends it, and so does a delivery that comes behind a gap.
 const GAPS: &str = "\
 attach; begin 0 news; read 0 news; finish 0 news; take 0 => 0; begun; yes; yes; reply
@@ -284,11 +201,6 @@ check 1 news 1; check 1 news 0; check 1 news 1; check 1 news 1; take 1 => Behind
 deliver 2; take 0 => Delivered { passed: 0, kept: 0, dropped: 0, ended: 1, closed: 0 }; end
 deliver 3 => Delivered { passed: 0, kept: 0, dropped: 0, ended: 0, closed: 0 }";
 
-#[test]
-fn gap_and_check(rt: HostRuntime) {
-    are_so(&rt, rt.alloc(), GAPS);
-}
-
 /// As much waits for session 0 as may.
 const TOO_SLOW: &str = "\
 attach; begin 0 news; read 0 news; finish 0 news; take 0 => 0; begun; yes; yes; reply
@@ -296,11 +208,6 @@ attach; begin 1 news; read 1 news; finish 1 news; take 1 => 1; begun; yes; yes; 
 say 0 x 1048576; deliver 1 => Kept; Delivered { passed: 1, kept: 0, dropped: 0, ended: 0, closed: 1 }
 say 0 x 1; take 0; take 0 => Closed; text closed; 3008 closed
 take 1; say 9 x 1 => push; Gone";
-
-#[test]
-fn slow_consumer(rt: HostRuntime) {
-    are_so(&rt, rt.alloc(), TOO_SLOW);
-}
 
 /// A number is given again, and each session that a delivery met gets its turn, in order of their subscribing.
 const TURNS: &str = "\
@@ -312,9 +219,12 @@ attach; begin 1 news; read 1 news; finish 1 news; take 1 => 1; begun; yes; yes; 
 turn => None
 deliver 1; turn; turn; turn; turn => Delivered { passed: 3, kept: 0, dropped: 0, ended: 0, closed: 0 }; Some(0); Some(2); Some(1); None";
 
+/// Each by a hub of its own.
 #[test]
-fn numbers_and_output(rt: HostRuntime) {
-    are_so(&rt, rt.alloc(), TURNS);
+fn steps(rt: HostRuntime) {
+    for rows in [REFUSALS, PINGS, REPLY_FIRST, GAPS, TOO_SLOW, TURNS] {
+        play(&rt, rt.alloc(), rows);
+    }
 }
 
 /// After the first steps, with memory for each, one of these comes of the others.

@@ -1,4 +1,4 @@
-//! Whole conversations of one client.
+//! A conversation of one client, and what of it is flushed.
 use cf_protocol::{read_namespaces, read_tokens};
 use cf_speak::{GivenEpochs, Setup, converse};
 use std::alloc::Global;
@@ -17,19 +17,6 @@ fn setup(alloc: Global) -> Option<Setup> {
     }
 }
 
-/// Whether a conversation goes to its end and writes this.
-fn is_spoken(alloc: Global, lines: &str, wanted: &str) -> bool {
-    is_flushed(alloc, lines, usize::MAX, (true, wanted))
-}
-
-/// Whether a conversation goes to its end where so many flushes succeed, or doesn't, and this is what was flushed.
-fn is_flushed(alloc: Global, lines: &str, flushes: usize, (whole, wanted): (bool, &str)) -> bool {
-    match spoken(alloc, lines, flushes) {
-        Some((is_whole, flushed)) => is_whole == whole && flushed.as_slice() == wanted.as_bytes(),
-        None => false,
-    }
-}
-
 const LINES: &str = r#"{"id":1,"connect":{}}
 {"id":2,"subscribe":{"channel":"news"}}
 {"id":3,"publish":{"channel":"news","data":{ "t" : 1.50 }}}
@@ -44,82 +31,18 @@ const ANSWERS: &str =
 {"id":4,"presence":{"presence":{"0-1-1":{"client":"0-1-1"}}}}
 "#;
 
-/// A client connects, subscribes, publishes and gets what it published.
-#[test]
-fn conversation(rt: HostRuntime) {
-    assert!(rt; is_spoken(rt.alloc(), LINES, ANSWERS));
-}
-
-const REPEATED: &str = r#"{"id":1,"connect":{}}
-{"id":2,"publish":{"channel":"news","data":1,"key":"k"}}
-{"id":3,"publish":{"channel":"news","data":2,"key":"k"}}
-{"id":4,"history":{"channel":"news","limit":-1}}
-"#;
-
-const HELD_ONCE: &str =
-    r#"{"connect":{"client":"0-1-1","ping":25,"pong":true,"version":"1.0.0"},"id":1}
-{"id":2,"publish":{}}
-{"id":3,"publish":{}}
-{"history":{"epoch":"aaaa","offset":1,"publications":[{"data":1,"info":{"client":"0-1-1"},"offset":1}]},"id":4}
-"#;
-
-const SUBSCRIBED: &str = r#"{"id":1,"connect":{}}
-{"id":2,"subscribe":{"channel":"news"}}
-{"id":3,"publish":{"channel":"news","data":1,"key":"k"}}{"id":4,"publish":{"channel":"news","data":2,"key":"k"}}
-{"id":5,"publish":{"channel":"news","data":3,"key":null}}
-{"id":6,"publish":{"channel":"news","data":4,"key":"k"}}
-"#;
-
-const PUSHED_ONCE: &str =
-    r#"{"connect":{"client":"0-1-1","ping":25,"pong":true,"version":"1.0.0"},"id":1}
-{"id":2,"subscribe":{"epoch":"aaaa","positioned":true,"recoverable":true}}
-{"id":3,"publish":{}}
-{"push":{"channel":"news","pub":{"data":1,"info":{"client":"0-1-1"},"offset":1}}}
-{"id":4,"publish":{}}
-{"id":5,"publish":{}}
-{"push":{"channel":"news","pub":{"data":3,"info":{"client":"0-1-1"},"offset":2}}}
-{"id":6,"publish":{}}
-"#;
-
-/// A publish whose key comes again is answered, and nothing is added or delivered.
-#[test]
-fn repeated(rt: HostRuntime) {
-    assert!(rt; is_spoken(rt.alloc(), REPEATED, HELD_ONCE));
-    assert!(rt; is_spoken(rt.alloc(), SUBSCRIBED, PUSHED_ONCE));
-}
-
-const REFUSED: &str = r#"{"id":1,"connect":{"token":"t8"}}
-{"id":1,"connect":{}}
-"#;
-
-const EMPTY_LINE: &str = r#"{"id":1,"connect":{"token":"t9"}}
-
-{"id":2,"ping":{}}"#;
-
-const CLOSED: &str =
-    r#"{"connect":{"client":"0-1-1","ping":25,"pong":true,"version":"1.0.0"},"id":1}
-close 3501 bad request
-"#;
-
-/// A session that is closed hears nothing more.
-#[test]
-fn closed(rt: HostRuntime) {
-    assert!(rt; is_spoken(rt.alloc(), REFUSED, "close 3500 invalid token\n"));
-    assert!(rt; is_spoken(rt.alloc(), EMPTY_LINE, CLOSED));
-}
-
-/// A writer behind a buffer: what was written counts only once it is flushed, and as many flushes
-/// succeed as are left.
+/// A writer behind a buffer: what was written counts only once it is flushed, and as many flushes succeed as are left.
 #[derive(Drop)]
 struct Buffered {
-    waiting: Vec<u8>,
-    flushed: Vec<u8>,
+    output: Vec<u8>,
+    /// How many bytes of the output were flushed.
+    flushed: usize,
     left: usize,
 }
 
 impl Write for Buffered {
     fn write(&mut self, buf: &[u8]) -> io::Result<usize> {
-        self.waiting.extend_from_slice(buf)?;
+        self.output.extend_from_slice(buf)?;
         Ok(buf.len())
     }
 
@@ -128,29 +51,29 @@ impl Write for Buffered {
             return Err(io::Error::from(ErrorKind::BrokenPipe));
         }
         self.left = self.left.saturating_sub(1);
-        self.flushed.extend_from_slice(self.waiting.as_slice())?;
-        self.waiting.clear();
+        self.flushed = self.output.len();
         Ok(())
     }
 }
 
-/// Whether a conversation goes to its end where so many flushes succeed, and what was flushed then.
-fn spoken(alloc: Global, lines: &str, flushes: usize) -> Option<(bool, Vec<u8>)> {
-    let mut reader = lines.as_bytes();
+/// Whether the lines go to their end where so many flushes succeed, or don't, and this is what was flushed.
+fn is_flushed(alloc: Global, flushes: usize, is_whole: bool, wanted: &str) -> Option<bool> {
+    let setup = setup(alloc)?;
+    let mut reader = LINES.as_bytes();
     let mut writer = Buffered {
-        waiting: Vec::new(alloc),
-        flushed: Vec::new(alloc),
+        output: Vec::new(alloc),
+        flushed: 0,
         left: flushes,
     };
-    let is_whole = converse(alloc, &mut reader, &mut writer, setup(alloc)?).is_ok();
-    Some((is_whole, writer.flushed))
+    let ended = converse(alloc, &mut reader, &mut writer, setup).is_ok();
+    let flushed = writer.output.get(..writer.flushed);
+    Some(ended == is_whole && flushed == Some(wanted.as_bytes()))
 }
 
-/// Each of the four lines is flushed by itself before the next is read, and where the last flush
-/// fails so does the conversation.
+/// Each of the four lines is flushed by itself before the next is read, and where the last flush fails so does the conversation.
 #[test]
 fn flushed(rt: HostRuntime) {
     let (three, _) = ANSWERS.split_once("{\"id\":4").unwrap_or(("", ""));
-    assert!(rt; is_flushed(rt.alloc(), LINES, 4, (true, ANSWERS)));
-    assert!(rt; is_flushed(rt.alloc(), LINES, 3, (false, three)));
+    assert!(rt; is_flushed(rt.alloc(), 4, true, ANSWERS) == Some(true));
+    assert!(rt; is_flushed(rt.alloc(), 3, false, three) == Some(true));
 }

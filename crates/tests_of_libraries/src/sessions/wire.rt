@@ -2,7 +2,7 @@
 ghost use Rattle.std.specs.Prelude.{not};
 
 use super::stream::Pieces;
-use crate::rows::number_of;
+use crate::rows::{are_so, call_of, is_debug, number_of, sides_of};
 use cf_hub::Hub;
 use cf_queue::Out;
 use cf_wire::{Desk, Gather, TurnEnd, Wire, WireFault};
@@ -78,27 +78,6 @@ fn bytes_of(alloc: Global, words: &str) -> Option<Vec<u8>> {
     bytes.repeat(alloc, number_of(count) as usize).ok()
 }
 
-/// Whether a turn ends so, with so many bytes of text heard by then.
-fn is_turn(wire: &mut Wire<Pieces>, desk: &mut Echo, wanted: &str) -> bool {
-    let end = wire.turn(desk);
-    match format!(in desk.alloc; "=> {end:?} {}", desk.heard) {
-        Ok(came) => came.as_str() == wanted,
-        Err(_) => false,
-    }
-}
-
-/// Whether a text of so many bytes is met so by the hub.
-fn is_said(desk: &mut Echo, row: &str) -> bool {
-    let (bytes, wanted) = row.split_once(" => ").unwrap_or((row, ""));
-    let Ok(text) = "x".repeat(desk.alloc, number_of(bytes) as usize) else {
-        return false;
-    };
-    match format!(in desk.alloc; "{:?}", desk.hub.say(0, text)) {
-        Ok(came) => came.as_str() == wanted,
-        Err(_) => false,
-    }
-}
-
 /// Whether these bytes came, or were written.
 fn is_moved(stream: &mut Pieces, alloc: Global, word: &str, bytes: &str) -> bool {
     match bytes_of(alloc, bytes) {
@@ -108,13 +87,25 @@ fn is_moved(stream: &mut Pieces, alloc: Global, word: &str, bytes: &str) -> bool
     }
 }
 
-/// Whether a row is so.
+/// Whether a text of so many bytes is met so by the hub.
+fn is_said(desk: &mut Echo, bytes: u32, wanted: &str) -> bool {
+    match "x".repeat(desk.alloc, bytes as usize) {
+        Ok(text) => is_debug(desk.alloc, &desk.hub.say(0, text), wanted),
+        Err(_) => false,
+    }
+}
+
+/// Whether a row is so. Behind the arrow of a turn stands how it ends, and how many bytes of text were heard by then.
 fn is_so(wire: &mut Wire<Pieces>, desk: &mut Echo, row: &str) -> bool {
-    let (word, rest) = row.split_once(' ').unwrap_or((row, ""));
+    let (done, wanted) = sides_of(row);
+    let (word, rest) = call_of(done);
     match word {
-        "turn" => is_turn(wire, desk, rest),
+        "turn" => {
+            let (end, heard) = call_of(wanted);
+            is_debug(desk.alloc, &wire.turn(desk), end) && desk.heard == number_of(heard) as usize
+        }
         "in" | "out" => is_moved(wire.stream_mut(), desk.alloc, word, rest),
-        "say" => is_said(desk, rest),
+        "say" => is_said(desk, number_of(rest), wanted),
         "unread" => wire.stream().unread() == number_of(rest) as usize,
         "unflushed" => wire.is_unflushed(),
         "blocked" => {
@@ -229,12 +220,6 @@ a second byte alone: 1 01 81 00 00 00 00 'a 80 81 00 00 00 00 a9
 turn => StreamFault 0
 turn => StreamFault 0";
 
-/// Frames are met in the same way by whatever pieces they come.
-#[test]
-fn frames(rt: HostRuntime) {
-    all_play(&rt, rt.alloc(), FRAMES, &[1, 2, 7, 8, 4096]);
-}
-
 /// While a message waits for the stream nothing is read, and nothing while the desk isn't ready. A turn hears 64 texts at most.
 const WAITING: &str = "\
 a stream that takes nothing for a while: 3 81 81 00 00 00 00 'a
@@ -257,11 +242,6 @@ one text more than a turn hears: 65 81 81 00 00 00 00 'a
 turn => More 64
 turn => Idle 65
 out 65 81 01 'a";
-
-#[test]
-fn waiting(rt: HostRuntime) {
-    all_play(&rt, rt.alloc(), WAITING, &[1, 1000]);
-}
 
 /// A text of up to 131,072 bytes is heard, and one byte more closes. A turn reads nothing more once 65,536 bytes were heard. A client
 /// that takes nothing is closed once 1,048,576 bytes wait for it.
@@ -332,8 +312,11 @@ out 1 81 7f 00 00 00 00 00 09 27 c0
 out 600000 'x
 out 1 88 06 0b c0 'slow";
 
+/// Frames are met in the same way by whatever pieces they come.
 #[test]
-fn long_texts(rt: HostRuntime) {
+fn scripts(rt: HostRuntime) {
+    all_play(&rt, rt.alloc(), FRAMES, &[1, 2, 7, 8, 4096]);
+    all_play(&rt, rt.alloc(), WAITING, &[1, 1000]);
     all_play(&rt, rt.alloc(), LONG_TEXTS, &[4096]);
 }
 
@@ -374,46 +357,29 @@ fn each_call_fails(rt: HostRuntime) {
     }
 }
 
-/// Whether a write is taken whole.
-fn is_taken(gather: &mut Gather<Pieces>, text: &str) -> bool {
+/// Whether a write is taken whole, or would block.
+fn is_met(gather: &mut Gather<Pieces>, word: &str, text: &str) -> bool {
     match gather.write(text.as_bytes()) {
-        Ok(count) => count == text.len(),
-        Err(_) => false,
-    }
-}
-
-/// Whether a write would block.
-fn would_block(gather: &mut Gather<Pieces>, text: &str) -> bool {
-    match gather.write(text.as_bytes()) {
-        Ok(_) => false,
-        Err(error) => error.kind() == ErrorKind::WouldBlock,
-    }
-}
-
-/// Whether what a stream that gathers is told to do goes so.
-fn is_carried_out(gather: &mut Gather<Pieces>, word: &str, text: &str) -> bool {
-    match word {
-        "takes" => is_taken(gather, text),
-        "refuses" => would_block(gather, text),
-        "flushes" => gather.flush().is_ok(),
-        "drains" => gather.drain().is_ok(),
-        _ => false,
+        Ok(count) => word == "takes" && count == text.len(),
+        Err(error) => word == "refuses" && error.kind() == ErrorKind::WouldBlock,
     }
 }
 
 /// Whether a row is so of a stream that gathers.
-fn is_gathered(gather: &mut Gather<Pieces>, row: &str) -> bool {
-    let (word, rest) = row.split_once(' ').unwrap_or((row, ""));
+fn is_gathered(_alloc: Global, gather: &mut Gather<Pieces>, row: &str) -> bool {
+    let (word, rest) = call_of(row);
     match word {
         "waits" => !gather.is_drained(),
         "empty" => gather.is_drained(),
+        "flushes" => gather.flush().is_ok(),
+        "drains" => gather.drain().is_ok(),
         "calls" => gather.stream().calls == number_of(rest) as usize,
         "out" => gather.stream_mut().has_written(rest.as_bytes()),
         "blocked" => {
             gather.stream_mut().blocked = rest == "yes";
             true
         }
-        _ => is_carried_out(gather, word, rest),
+        _ => is_met(gather, word, rest),
     }
 }
 
@@ -437,16 +403,9 @@ empty
 calls 5
 out fghijk";
 
-/// Of a stream that gathers these rows are so, in their order.
-fn gathers_so(rt: &impl Abort, gather: &mut Gather<Pieces>, rows: &str) {
-    for row in rows.split('\n') {
-        assert!(rt; is_gathered(gather, row), "{row}");
-    }
-}
-
 #[test]
 fn gathers_to_its_limit(rt: HostRuntime) {
     let alloc = rt.alloc();
     let mut gather = Gather::new(alloc, Pieces::new(alloc, Vec::new(alloc), 3), 4);
-    gathers_so(&rt, &mut gather, GATHERED);
+    are_so(&rt, alloc, &mut gather, GATHERED, '\n', is_gathered);
 }

@@ -1,6 +1,6 @@
 //! Whole conversations of a client, by rows: behind the arrow of a call stands its text, and behind that of a text what the
 //! application gets from it, or why it is refused; nothing where there is no arrow.
-use crate::rows::{is_shown, sides_of};
+use crate::rows::{are_so, call_of, is_answer, number_of, sides_of};
 use cf_client::{AppEvent, Client, ClientFault};
 use cf_protocol::Position;
 use std::alloc::{AllocError, Global};
@@ -42,11 +42,10 @@ fn short_line_of(alloc: Global, event: &AppEvent) -> Result<String, AllocError> 
     }
 }
 
-/// What the application gets from a text: the events' lines, each ended by a semicolon.
-fn told(alloc: Global, client: &mut Client, text: &str) -> Result<String, ClientFault> {
-    let events = client.on_text(text)?;
+/// What the application gets: the events' lines, each ended by a semicolon.
+fn told(alloc: Global, events: &[AppEvent]) -> Result<String, ClientFault> {
     let mut lines = String::new(alloc);
-    for event in &events {
+    for event in events {
         lines.push_str(line_of(alloc, event)?.as_str())?;
         lines.push_str(";")?;
     }
@@ -59,6 +58,17 @@ fn put(client: &mut Client, name: &str, passed: &str) -> Result<String, ClientFa
         ("put_key", Some((key, data))) => client.put_key("news", key, data),
         _ => client.put("news", passed),
     }
+}
+
+/// Asks for so many channels, and lists each twice.
+fn crowd(alloc: Global, client: &mut Client, count: u32) -> Result<String, ClientFault> {
+    for number in 0..count {
+        let channel = format!(in alloc; "c{number}")?;
+        client.ask(channel.as_str())?;
+        client.list(channel.as_str(), -1)?;
+        client.list(channel.as_str(), -1)?;
+    }
+    Ok(String::new(alloc))
 }
 
 /// What comes of a call by its name, and what it is passed.
@@ -74,7 +84,8 @@ fn answer(
         "ask_from" => client.ask_from(passed),
         "leave" => client.leave(passed),
         "list" => client.list(passed, -1),
-        "on_text" => told(alloc, client, passed),
+        "crowd" => crowd(alloc, client, number_of(passed)),
+        "on_text" => told(alloc, client.on_text(passed)?.as_slice()),
         "reconnect" => {
             client.reconnect();
             Ok(String::new(alloc))
@@ -84,31 +95,20 @@ fn answer(
 }
 
 /// Whether a call has this answer, or is refused in these words. A text alone is one that the client hears.
-fn answers(alloc: Global, client: &mut Client, call: &str, wanted: &str) -> bool {
+fn is_so(alloc: Global, client: &mut Client, row: &str) -> bool {
+    let (call, wanted) = sides_of(row);
     let (name, passed) = if call.starts_with('{') {
         ("on_text", call)
     } else {
-        call.split_once(' ').unwrap_or((call, ""))
+        call_of(call)
     };
-    match answer(alloc, client, name, passed) {
-        Ok(text) => text.as_str() == wanted,
-        Err(fault) => is_shown(alloc, &fault, wanted),
-    }
-}
-
-fn is_so(alloc: Global, client: &mut Client, row: &str) -> bool {
-    match sides_of(alloc, row) {
-        Some((call, wanted)) => answers(alloc, client, call.as_str(), wanted.as_str()),
-        None => false,
-    }
+    is_answer(alloc, answer(alloc, client, name, passed), wanted)
 }
 
 /// With a new client these rows are so, in their order.
-fn are_so(rt: &impl Abort, alloc: Global, rows: &str) {
+fn converse(rt: &impl Abort, alloc: Global, rows: &str) {
     let mut client = Client::new(alloc);
-    for row in rows.split('\n') {
-        assert!(rt; is_so(alloc, &mut client, row), "{row}");
-    }
+    are_so(rt, alloc, &mut client, rows, '\n', is_so);
 }
 
 /// Conversations, with an empty line behind each.
@@ -177,44 +177,18 @@ ask_from news => {"id":2,"subscribe":{"channel":"news"}}
 
 connect *65000*1* => {"connect":{"token":"*65000*1*"},"id":1}
 ask *65000*1* => {"id":2,"subscribe":{"channel":"*65000*1*"}}
-put *65000*1* => {"id":3,"publish":{"channel":"news","data":*65000*1*}}"#;
+put *65000*1* => {"id":3,"publish":{"channel":"news","data":*65000*1*}}
+
+connect => {"connect":{},"id":1}
+crowd 100"#;
 
 /// The commands. A publish under id 3, and a history under id 4, an answer to an ask that is answered already, and a publication to
 /// a channel that is live no more. Every kind of reply and push. A client that goes on from its last position, leaves, passes over
 /// the answer, and asks again. A text that is none, which is that whether the client is connected or not. A reply of 300
-/// publications. Long texts.
+/// publications. Long texts. A hundred channels with two calls each.
 #[test]
 fn conversations(rt: HostRuntime) {
     for rows in CONVERSATIONS.split("\n\n") {
-        are_so(&rt, rt.alloc(), rows);
-    }
-}
-
-/// Whether a client asks for a channel of this number, and lists it.
-fn is_called(alloc: Global, client: &mut Client, number: u32) -> bool {
-    match format!(in alloc; "c{number}") {
-        Ok(channel) => {
-            let channel = channel.as_str();
-            answer(alloc, client, "ask", channel).is_ok()
-                && answer(alloc, client, "list", channel).is_ok()
-                && answer(alloc, client, "list", channel).is_ok()
-        }
-        Err(_) => false,
-    }
-}
-
-/// A hundred channels with two calls each.
-#[test]
-fn many_channels(rt: HostRuntime) {
-    let mut client = Client::new(rt.alloc());
-    assert!(rt;
-        is_so(
-            rt.alloc(),
-            &mut client,
-            r#"connect => {"connect":{},"id":1}"#
-        )
-    );
-    for number in 0..100 {
-        assert!(rt; is_called(rt.alloc(), &mut client, number), "{number}");
+        converse(&rt, rt.alloc(), rows);
     }
 }

@@ -10,22 +10,16 @@ fn is_taken(queue: &mut OutQueue, text: &str) -> bool {
     }
 }
 
-/// A text of so many bytes.
-fn text_of(alloc: Global, length: usize) -> Option<ByteStr> {
-    ByteStr::from_string("x".repeat(alloc, length).ok()?).ok()
-}
-
-/// Whether a queue takes a share of a text that fills it, gives it, and takes the text itself.
-fn takes_and_gives(alloc: Global, text: ByteStr) -> bool {
-    let mut queue = OutQueue::new(alloc, text.len());
-    queue.push_shared(&text).is_ok()
-        && is_taken(&mut queue, text.as_str())
-        && queue.push(text).is_ok()
+/// Whether a queue takes a share of a text of so many bytes, which fills it, gives it, and takes the text itself.
+fn takes_and_gives(alloc: Global, length: usize) -> Option<bool> {
+    let text = ByteStr::from_string("x".repeat(alloc, length).ok()?).ok()?;
+    let mut queue = OutQueue::new(alloc, length);
+    let is_given = queue.push_shared(&text).is_ok() && is_taken(&mut queue, text.as_str());
+    Some(is_given && queue.push(text).is_ok())
 }
 
 /// A text of as many bytes as may wait for a client.
 #[test]
 fn whole_limit(rt: HostRuntime) {
-    let text = text_of(rt.alloc(), 1_048_576).expect(&rt, "memory");
-    assert!(rt; takes_and_gives(rt.alloc(), text));
+    assert!(rt; takes_and_gives(rt.alloc(), 1_048_576) == Some(true));
 }

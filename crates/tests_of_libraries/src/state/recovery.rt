@@ -3,19 +3,14 @@ use crate::publications::{place, publication};
 use cf_recovery::Waiting;
 use std::alloc::Global;
 
-fn keep(alloc: Global, waiting: &mut Waiting, offset: u64) -> Option<()> {
-    let publication = publication(alloc, offset, "1")?;
-    waiting.keep(&place(0).epoch, &publication);
-    Some(())
-}
-
 /// The offsets from 1 up to this one, which come in a shuffled order.
 fn kept(alloc: Global, last: u32) -> Option<Waiting> {
     let mut waiting = Waiting::new(alloc);
     let mut offset = 0_u64;
     for _ in 0..last {
         offset = offset.wrapping_add(619) % u64::from(last);
-        keep(alloc, &mut waiting, offset.wrapping_add(1))?;
+        let publication = publication(alloc, offset.wrapping_add(1), "1")?;
+        waiting.keep(&place(0).epoch, &publication);
     }
     Some(waiting)
 }

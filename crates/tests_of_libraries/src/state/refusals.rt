@@ -1,10 +1,12 @@
 //! What a refusal says.
 use crate::rows::is_shown;
 use cf_client::ClientFault;
+use cf_hub::HubRefusal;
 use cf_presence::PresenceRefusal;
 use cf_queue::QueueRefusal;
 use cf_stream::StreamRefusal;
 use cf_subs::SubRefusal;
+use cf_wire::WireFault;
 use std::alloc::Global;
 use std::fmt::Display;
 use std::process::Abort;
@@ -58,4 +60,6 @@ fn refusals_in_words(rt: HostRuntime) {
         rt.alloc(),
         &[(PresenceRefusal::Memory, "out of memory")],
     );
+    say(&rt, rt.alloc(), &[(HubRefusal::Memory, "out of memory")]);
+    say(&rt, rt.alloc(), &[(WireFault::Memory, "out of memory")]);
 }

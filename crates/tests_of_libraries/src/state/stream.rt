@@ -1,6 +1,6 @@
 //! One stream, by rows: behind the arrow of a call stands the number that it answers, or a word where it answers none.
 use crate::publications::ann;
-use crate::rows::number_of;
+use crate::rows::{are_so, call_of, number_of, sides_of};
 use cf_protocol::{Epoch, Position};
 use cf_stream::{LARGEST_SIZE, LAST_OFFSET, Published, Stream};
 use std::alloc::Global;
@@ -24,18 +24,13 @@ fn publish(alloc: Global, stream: &mut Stream, key: &str) -> Option<Published> {
     stream.publish(body, key, info, 0).ok()
 }
 
-/// So many publications without a key. Answers the last one's offset.
-fn publish_all(alloc: Global, stream: &mut Stream, count: u64) -> Option<u64> {
-    for _ in 0..count {
-        publish(alloc, stream, "")?;
-    }
-    Some(stream.position().offset)
-}
-
-/// So many publications, the first under `k1`, the second under `k2`. Answers the last one's offset.
-fn publish_keys(alloc: Global, stream: &mut Stream, count: u64) -> Option<u64> {
-    for before in 0..count {
-        let key = format!(in alloc; "k{}", before + 1).ok()?;
+/// So many publications without a key, or the first under `k1`, the second under `k2`. Answers the last one's offset.
+fn publish_all(alloc: Global, stream: &mut Stream, name: &str, count: u32) -> Option<u64> {
+    for number in 0..count {
+        let key = match name {
+            "keys" => format!(in alloc; "k{}", number.saturating_add(1)).ok()?,
+            _ => String::new(alloc),
+        };
         publish(alloc, stream, key.as_str())?;
     }
     Some(stream.position().offset)
@@ -64,8 +59,7 @@ fn recover(stream: &mut Stream, offset: u64) -> Option<u64> {
 }
 
 /// How many publications are listed.
-fn list(stream: &mut Stream, limit: &str) -> Option<u64> {
-    let limit = limit.parse::<i32>().ok()?;
+fn list(stream: &mut Stream, limit: i32) -> Option<u64> {
     Some(stream.history(None, limit, 0).ok()?.publications.len() as u64)
 }
 
@@ -82,32 +76,36 @@ fn shrink(stream: &mut Stream, name: &str, count: usize) -> Option<u64> {
 fn call(alloc: Global, stream: &mut Stream, name: &str, passed: &str) -> Option<u64> {
     let number = number_of(passed);
     match name {
-        "publish" => publish_all(alloc, stream, u64::from(number)),
-        "keys" => publish_keys(alloc, stream, u64::from(number)),
+        "publish" | "keys" => publish_all(alloc, stream, name, number),
         "new" => offset_of(publish(alloc, stream, passed), false),
         "repeat" => offset_of(publish(alloc, stream, passed), true),
         "known" => Some(stream.repeat_of(passed)?.offset),
         "recover" => recover(stream, u64::from(number)),
-        "list" => list(stream, passed),
+        "list" => list(stream, passed.parse::<i32>().unwrap_or(0)),
         _ => shrink(stream, name, number as usize),
     }
 }
 
 fn is_so(alloc: Global, stream: &mut Stream, row: &str) -> bool {
-    let (done, answer) = row.split_once(" => ").unwrap_or((row, ""));
-    let (name, passed) = done.split_once(' ').unwrap_or((done, ""));
+    let (done, answer) = sides_of(row);
+    let (name, passed) = call_of(done);
     call(alloc, stream, name, passed) == answer.parse::<u64>().ok()
 }
 
-/// With a new stream these rows are so, in their order.
-fn are_so(rt: &impl Abort, alloc: Global, (size, top): (usize, u64), rows: &str) {
-    let mut stream = started(alloc, size, top).expect(rt, "a stream");
-    for row in rows.split('\n') {
-        assert!(rt; is_so(alloc, &mut *stream, row), "{row}");
-    }
+/// With a new stream the rows of a part are so, in their order. Its size, and how many offsets it has given, stand in the part's
+/// first line.
+fn play(rt: &impl Abort, alloc: Global, part: &str) {
+    let (title, rows) = part.split_once('\n').unwrap_or((part, ""));
+    let (size, top) = call_of(title);
+    let top = top.parse::<u64>().unwrap_or(0);
+    let mut stream = started(alloc, number_of(size) as usize, top).expect(rt, "a stream");
+    are_so(rt, alloc, &mut *stream, rows, '\n', is_so);
 }
 
-const THOUSAND: &str = "publish 1000 => 1000
+/// A stream of a thousand. The last offset: a repeat is answered there too, and after a trim to nothing. A stream of three, which knows
+/// the last hundred keys. A stream of 10,000 publications, which keeps two where it is made smaller, also once it is larger again.
+const PARTS: &str = "1000 0
+publish 1000 => 1000
 recover 1000 => 0
 recover 999 => 1
 recover 701 => 299
@@ -119,28 +117,18 @@ list -1 => 300
 list 0 => 0
 list 1 => 1
 list 300 => 300
-list 2147483647 => 300";
+list 2147483647 => 300
 
-#[test]
-fn recovery_limit(rt: HostRuntime) {
-    are_so(&rt, rt.alloc(), (1000, 0), THOUSAND);
-}
-
-/// A repeat is answered at the last offset too, and after a trim to nothing.
-const LAST: &str = "new k1 => 9007199254740991
+1000 9007199254740990
+new k1 => 9007199254740991
 publish 1 => refused
 repeat k1 => 9007199254740991
 new k2 => refused
 trim 0 => 0
-repeat k1 => 9007199254740991";
+repeat k1 => 9007199254740991
 
-#[test]
-fn last_offset(rt: HostRuntime) {
-    are_so(&rt, rt.alloc(), (1000, LAST_OFFSET - 1), LAST);
-}
-
-/// A stream of three knows the last hundred keys.
-const KEYS: &str = "keys 100 => 100
+3 0
+keys 100 => 100
 repeat k1 => 1
 new k101 => 101
 new k1 => 102
@@ -148,15 +136,10 @@ new k2 => 103
 repeat k4 => 4
 known k4 => 4
 known k3 => none
-trim 3 => 3";
+trim 3 => 3
 
-#[test]
-fn keys_are_remembered(rt: HostRuntime) {
-    are_so(&rt, rt.alloc(), (3, 0), KEYS);
-}
-
-/// A stream of 10,000 publications keeps two where it is made smaller, also once it is larger again.
-const GREAT: &str = "publish 10000 => 10000
+10000 0
+publish 10000 => 10000
 recover 9700 => 300
 recover 9699 => lost
 list -1 => 300
@@ -165,6 +148,8 @@ resize 5 => 2
 recover 9997 => lost";
 
 #[test]
-fn great_stream(rt: HostRuntime) {
-    are_so(&rt, rt.alloc(), (10_000, 0), GREAT);
+fn limits(rt: HostRuntime) {
+    for part in PARTS.split("\n\n") {
+        play(&rt, rt.alloc(), part);
+    }
 }

@@ -35,41 +35,38 @@ fn publish(alloc: Global, streams: &mut Streams, channel: &str) -> Option<u64> {
     Some(answer.ok()?.position.offset)
 }
 
-/// How many publications of a channel are recovered from offset 700 on.
-fn read(streams: &mut Streams, channel: &str) -> Option<usize> {
+/// How many publications of a channel are recovered from offset 700 on, or listed.
+fn count(streams: &mut Streams, name: &str, channel: &str) -> Option<usize> {
     if !streams.is_set_up(channel) {
         return None;
     }
-    let answer = streams.read(&mut Same, channel, Some(place(700)), 0);
-    Some(answer.ok()?.publications.len())
-}
-
-/// How many publications of a channel are listed.
-fn list(streams: &mut Streams, channel: &str) -> Option<usize> {
-    if !streams.is_set_up(channel) {
-        return None;
+    if name == "read" {
+        let answer = streams.read(&mut Same, channel, Some(place(700)), 0);
+        return Some(answer.ok()?.publications.len());
     }
     let answer = streams.history(&mut Same, channel, None, -1, 0);
     Some(answer.ok()?.publications.len())
 }
 
-/// Whether a channel takes a thousand empty bodies, and gives the last 300 and the first.
+/// Whether a channel opens by a history, another by a read, and this one by a publish; and whether it takes a thousand empty bodies, and
+/// gives the last 300 and the first.
 fn takes_and_gives(alloc: Global, streams: &mut Streams, channel: &str) -> bool {
+    if count(streams, "list", "a") != Some(0) || count(streams, "read", "b") != Some(0) {
+        return false;
+    }
     for offset in 1..1001 {
         if publish(alloc, streams, channel) != Some(offset) {
             return false;
         }
     }
-    read(streams, channel) == Some(300) && list(streams, channel) == Some(300)
+    count(streams, "read", channel) == Some(300) && count(streams, "list", channel) == Some(300)
 }
 
-/// Whether a channel opens by a history, another by a read, and a third, with so long a name, by a publish.
+/// The same of a name that is so long.
 fn take_long_name(alloc: Global, length: usize) -> Option<bool> {
-    let mut streams = opened(alloc)?;
-    let streams = &mut *streams;
-    let are_empty = list(streams, "a") == Some(0) && read(streams, "b") == Some(0);
     let name = "x".repeat(alloc, length).ok()?;
-    Some(are_empty && takes_and_gives(alloc, streams, name.as_str()))
+    let mut streams = opened(alloc)?;
+    Some(takes_and_gives(alloc, &mut *streams, name.as_str()))
 }
 
 #[test]

@@ -1,5 +1,5 @@
 //! Which session follows which channel.
-use crate::rows::number_of;
+use crate::rows::{are_so, call_of, number_of, sides_of};
 use cf_subs::{MOST_ROWS, SubRefusal, SubTable};
 use std::alloc::Global;
 
@@ -34,10 +34,10 @@ fn call(table: &mut SubTable, name: &str, channel: u32, session: u32) -> usize {
 }
 
 /// Behind the arrow of a channel stand its sessions, and behind that of a call what it answers.
-fn is_so(table: &mut SubTable, row: &str) -> bool {
-    let (done, wanted) = row.split_once(" => ").unwrap_or((row, ""));
-    let (name, passed) = done.split_once(' ').unwrap_or((done, ""));
-    let (channel, session) = passed.split_once(' ').unwrap_or((passed, ""));
+fn is_so(_alloc: Global, table: &mut SubTable, row: &str) -> bool {
+    let (done, wanted) = sides_of(row);
+    let (name, passed) = call_of(done);
+    let (channel, session) = call_of(passed);
     let channel = number_of(channel);
     if name == "walk" {
         return walks(table, channel, wanted);
@@ -63,21 +63,17 @@ channels 0 10 => 0
 add 4294967295 4294967295 => 1
 walk 4294967295 => 4294967295";
 
-/// A value that may go to another thread.
-fn sent<T: Send>(value: T) -> T {
-    value
-}
-
 #[test]
 fn rows_in_order_of_adding(rt: HostRuntime) {
-    let mut table = sent(SubTable::new(rt.alloc()));
-    for row in ROWS.split('\n') {
-        assert!(rt; is_so(&mut table, row), "{row}");
-    }
+    let mut table = SubTable::new(rt.alloc());
+    are_so(&rt, rt.alloc(), &mut table, ROWS, '\n', is_so);
 }
 
-/// A table of as many rows as it may have, 64 a session.
-fn full(alloc: Global) -> Option<SubTable> {
+/// A table of as many rows as it may have, 64 a session. It may go to another thread.
+fn full(alloc: Global) -> Option<SubTable>
+where
+    SubTable: Send,
+{
     let mut table = SubTable::new(alloc);
     for number in 0..65_536 {
         put(&mut table, number % 1000, number / 64).ok()?;
@@ -85,24 +81,23 @@ fn full(alloc: Global) -> Option<SubTable> {
     Some(table)
 }
 
-/// Whether a full table takes a row more only where one went.
+/// Whether a full table takes a row more only where one went. It is as before then.
 fn is_limited(table: &mut SubTable) -> bool {
     table.len() == MOST_ROWS
         && put(table, 7, 5000) == Err(SubRefusal::Full)
         && table.remove(5, 0)
         && put(table, 7, 5000) == Ok(())
         && put(table, 8, 5000) == Err(SubRefusal::Full)
-}
-
-#[test]
-fn row_65537_is_refused(rt: HostRuntime) {
-    let mut table = full(rt.alloc()).expect(&rt, "memory");
-    assert!(rt; is_limited(&mut table));
+        && table.remove(7, 5000)
+        && put(table, 5, 0) == Ok(())
 }
 
 /// Whether each row of a full table goes, where the next one is so many further.
 fn all_go(alloc: Global, step: u32) -> Option<bool> {
     let mut table = full(alloc)?;
+    if !is_limited(&mut table) {
+        return Some(false);
+    }
     for turn in 0..65_536 {
         let number = step.wrapping_mul(turn) % 65_536;
         if !table.remove(number % 1000, number / 64) {
@@ -112,8 +107,9 @@ fn all_go(alloc: Global, step: u32) -> Option<bool> {
     Some(table.len() == 0)
 }
 
+/// A full table refuses row 65,537, and its rows go in three orders.
 #[test]
-fn rows_go_in_three_orders(rt: HostRuntime) {
+fn full_tables(rt: HostRuntime) {
     for step in [1, 65_535, 40_503] {
         assert!(rt; all_go(rt.alloc(), step) == Some(true), "{step}");
     }

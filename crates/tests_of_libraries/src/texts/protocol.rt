@@ -3,8 +3,10 @@ mod calls;
 mod commands;
 mod replies;
 
-use crate::rows::in_full;
-use cf_protocol::{ReadFault, read_commands, read_replies, write_command, write_reply};
+use crate::rows::{in_full, is_answer};
+use cf_protocol::{
+    Command, Outgoing, ReadFault, read_commands, read_replies, write_command, write_reply,
+};
 use std::alloc::Global;
 use std::process::Abort;
 
@@ -22,67 +24,43 @@ enum Fate {
     Refused,
 }
 
-/// The commands of a frame, written again one behind another.
-fn commands_again(alloc: Global, text: &str) -> Result<String, ReadFault> {
-    let commands = read_commands(alloc, text)?;
+/// Commands, written one behind another.
+fn commands_again(alloc: Global, commands: &[Command]) -> Result<String, ReadFault> {
     let mut again = String::new(alloc);
-    for command in &commands {
+    for command in commands {
         again.push_str(write_command(alloc, command)?.as_str())?;
     }
     Ok(again)
 }
 
-/// The replies of a frame, written again one behind another.
-fn replies_again(alloc: Global, text: &str) -> Result<String, ReadFault> {
-    let replies = read_replies(alloc, text)?;
+/// Replies and pushes, written one behind another.
+fn replies_again(alloc: Global, replies: &[Outgoing]) -> Result<String, ReadFault> {
     let mut again = String::new(alloc);
-    for reply in &replies {
+    for reply in replies {
         again.push_str(write_reply(alloc, reply)?.as_str())?;
     }
     Ok(again)
 }
 
+/// A frame's text, read and written again.
 fn again(alloc: Global, sender: Sender, text: &str) -> Result<String, ReadFault> {
     match sender {
-        Sender::Client => commands_again(alloc, text),
-        Sender::Server => replies_again(alloc, text),
+        Sender::Client => commands_again(alloc, read_commands(alloc, text)?.as_slice()),
+        Sender::Server => replies_again(alloc, read_replies(alloc, text)?.as_slice()),
     }
 }
 
-/// Whether a frame is written again as this text.
-fn is_written(alloc: Global, sender: Sender, text: &str, wanted: &str) -> bool {
-    match again(alloc, sender, text) {
-        Ok(again) => again.as_str() == wanted,
-        Err(_) => false,
-    }
-}
-
-/// Whether a row's frame is written again as the text behind its arrow, or as itself where it has none. A remark is so.
-fn is_kept(alloc: Global, sender: Sender, row: &str) -> bool {
+/// Whether a row's frame is written again as the text behind its arrow, or as itself where it has none; or is unreadable. A remark is
+/// so.
+fn is_so(alloc: Global, sender: Sender, fate: Fate, row: &str) -> bool {
     if row.starts_with("//") {
         return true;
     }
-    let (text, wanted) = row.split_once(" => ").unwrap_or((row, row));
-    match (in_full(alloc, text), in_full(alloc, wanted)) {
-        (Some(text), Some(wanted)) => is_written(alloc, sender, text.as_str(), wanted.as_str()),
-        _ => false,
-    }
-}
-
-/// Whether a row's frame is unreadable, as a remark is.
-fn is_refused(alloc: Global, sender: Sender, row: &str) -> bool {
-    match again(alloc, sender, row) {
-        Ok(_) => false,
-        Err(fault) => fault == ReadFault::Bad,
-    }
-}
-
-/// Whether that becomes of a row's frame.
-fn is_so(alloc: Global, sender: Sender, fate: Fate, row: &str) -> bool {
-    match fate {
-        Fate::Kept => is_kept(alloc, sender, row),
-        Fate::Refused => is_refused(alloc, sender, row),
-    }
+    let (text, wanted) = match fate {
+        Fate::Kept => row.split_once(" => ").unwrap_or((row, row)),
+        Fate::Refused => (row, "unreadable"),
+    };
+    is_answer(alloc, again(alloc, sender, text), wanted)
 }
 
 fn are_so(
@@ -92,7 +70,8 @@ fn are_so(
     rows: &str,
     parted_by: char,
 ) {
-    for row in rows.split(parted_by) {
+    let rows = in_full(alloc, rows).expect(rt, "memory");
+    for row in rows.as_str().split(parted_by) {
         assert!(rt; is_so(alloc, sender, fate, row), "{row}");
     }
 }

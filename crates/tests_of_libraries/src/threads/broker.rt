@@ -9,8 +9,10 @@ mod calls;
 mod stage;
 
 use cf_broker::Words;
-use stage::{Flags, namespaces, play};
+use cf_protocol::read_namespaces;
+use stage::{part_of, play};
 use std::marker::Brand;
+use std::sync::atomic::AtomicU64;
 
 /// Each part is played on a broker of its own: first those on one thread, then those on two.
 const PARTS: &str =
@@ -154,10 +156,11 @@ both publish news 1 => aaaa 1 | publish b 1 => aaaa 1"#;
 /// that is set while another thread publishes, and two shards at once.
 #[test]
 fn parts_are_so(rt: HostRuntime) {
-    let namespaces = namespaces(rt.alloc()).expect(&rt, "namespaces");
-    let flags = Flags::new();
+    let namespaces = read_namespaces(rt.alloc(), "=100,100,phs").expect(&rt, "namespaces");
+    let (first, second) = (AtomicU64::new(0), AtomicU64::new(0));
     for rows in PARTS.split("\n\n") {
         let words = Words::new(rt.alloc()).expect(&rt, "memory");
-        play::<Brand, HostRuntime>(&rt, words, &namespaces, flags.part(rows));
+        let part = part_of(rows, &first, &second);
+        play::<Brand, HostRuntime>(&rt, words, &namespaces, part);
     }
 }

@@ -229,14 +229,6 @@ null^l
 const NO_SPACED_VALUES: &str =
     "| |\t\r\n|\u{feff}1|\u{b}1|\u{c}1|\u{a0}1|1\u{c}|[1\u{c}]|\"\u{0}\"|\"\u{1f}\"|\"\n\"|\"\t\"|// c\n1| ^|\t\n ^x| tru^x|\"a^\nb\"";
 
-#[test]
-fn values(rt: HostRuntime) {
-    are_so(&rt, rt.alloc(), Kind::Value, VALUES, '\n');
-    are_so(&rt, rt.alloc(), Kind::Value, SPACED_VALUES, '|');
-    are_so(&rt, rt.alloc(), Kind::NoValue, NO_VALUES, '\n');
-    are_so(&rt, rt.alloc(), Kind::NoValue, NO_SPACED_VALUES, '|');
-}
-
 const FRAMES: &str =
     "1|{}|{}^{}|{}^ {}|1^true|true^false|\"a\"^\"b\"|1^ 2|[]^1|1^[]|null^1|\"a\"^1|1^\"a\"|1^{}^2|null^null|{}^\n{}\n| {}^{} |1^\n-2|0^ 1.5e2^\r-3^\ttrue";
 
@@ -244,7 +236,11 @@ const NO_FRAMES: &str =
     "1-2|01|-0-1|1.5.2|00|1e5-1|{},{}|{}]|{}x|1 01|[1][2|true1-|| |\n|{}\u{c}{}|\u{feff}{}|{}^x|1^-2|1 0^1|1nul^|{}^,{}";
 
 #[test]
-fn frames(rt: HostRuntime) {
+fn values_and_frames(rt: HostRuntime) {
+    are_so(&rt, rt.alloc(), Kind::Value, VALUES, '\n');
+    are_so(&rt, rt.alloc(), Kind::Value, SPACED_VALUES, '|');
+    are_so(&rt, rt.alloc(), Kind::NoValue, NO_VALUES, '\n');
+    are_so(&rt, rt.alloc(), Kind::NoValue, NO_SPACED_VALUES, '|');
     are_so(&rt, rt.alloc(), Kind::Frame, FRAMES, '|');
     are_so(&rt, rt.alloc(), Kind::NoFrame, NO_FRAMES, '|');
 }

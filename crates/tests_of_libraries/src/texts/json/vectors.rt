@@ -5,13 +5,12 @@ ghost use Rattle.cf_json.specs.Grammar.{Tree};
 ghost use Rattle.cf_json.specs.Spans.{IsAt};
 ghost use Rattle.cf_json.specs.Kinds.{kind_of};
 
-use crate::rows::{is_shown, sides_of};
+use crate::rows::{are_so, call_of, is_answer, is_shown, sides_of};
 use cf_json::{
     Fault, Kind, Span, compact, items, kind, members, quote, read_text, scan, split_frame,
 };
 use std::alloc::Global;
 use std::fmt::Debug;
-use std::process::Abort;
 
 /// The span of a text's one value, where that is of the kind.
 fn span_of(text: &str, wanted: Kind) -> Option<Span>
@@ -64,23 +63,25 @@ fn keys(alloc: Global, text: &str) -> Result<String, Fault> {
 
 /// How many values a frame has, or items an array.
 fn count(alloc: Global, name: &str, text: &str) -> Result<usize, Fault> {
-    if name == "values" {
-        return Ok(split_frame(alloc, text)?.len());
-    }
-    Ok(items_of(alloc, text)?.len())
+    let found = match name {
+        "values" => split_frame(alloc, text),
+        _ => items_of(alloc, text),
+    };
+    Ok(found?.len())
 }
 
-fn shown<T: Debug>(alloc: Global, value: &T) -> Result<String, Fault> {
-    Ok(format!(in alloc; "{value:?}")?)
+/// What was found, as `Debug` has it.
+fn shown<T: Debug + Drop>(alloc: Global, found: Result<T, Fault>) -> Result<String, Fault> {
+    Ok(format!(in alloc; "{:?}", found?)?)
 }
 
 /// What a call of this name answers of a text.
 fn answer(alloc: Global, name: &str, text: &str) -> Result<String, Fault> {
     match name {
-        "scan" => shown(alloc, &scan(text)?),
-        "members" => shown(alloc, &members_of(alloc, text)?),
-        "values" | "length" => shown(alloc, &count(alloc, name, text)?),
-        "items" => shown(alloc, &items_of(alloc, text)?),
+        "scan" => shown(alloc, scan(text)),
+        "members" => shown(alloc, members_of(alloc, text)),
+        "values" | "length" => shown(alloc, count(alloc, name, text)),
+        "items" => shown(alloc, items_of(alloc, text)),
         "keys" => keys(alloc, text),
         "read" => text_of(alloc, text),
         "compact" => compacted(alloc, text),
@@ -88,28 +89,10 @@ fn answer(alloc: Global, name: &str, text: &str) -> Result<String, Fault> {
     }
 }
 
-/// Whether a call answers this, or why it is refused.
-fn answers(alloc: Global, call: &str, wanted: &str) -> bool {
-    let Some((name, text)) = call.split_once(' ') else {
-        return false;
-    };
-    match answer(alloc, name, text) {
-        Ok(found) => found.as_str() == wanted,
-        Err(fault) => is_shown(alloc, &fault, wanted),
-    }
-}
-
-fn is_so(alloc: Global, row: &str) -> bool {
-    match sides_of(alloc, row) {
-        Some((call, wanted)) => answers(alloc, call.as_str(), wanted.as_str()),
-        None => false,
-    }
-}
-
-fn are_so(rt: &impl Abort, alloc: Global, rows: &str, parted_by: char) {
-    for row in rows.split(parted_by) {
-        assert!(rt; is_so(alloc, row), "{row}");
-    }
+fn is_so(alloc: Global, _: &mut (), row: &str) -> bool {
+    let (call, wanted) = sides_of(row);
+    let (name, text) = call_of(call);
+    is_answer(alloc, answer(alloc, name, text), wanted)
 }
 
 const ROWS: &str =
@@ -147,13 +130,6 @@ values {}*65*[*} => nested too deep at byte 66"#;
 const SPACED_ROWS: &str =
     "items [\n] => []|compact { \"a\\u0020\" :\t{ } } => {\"a\\u0020\":{}}|compact \n1E+05\r => 1E+05|read \"\\b\\f\\n\\r\\t\" => \u{8}\u{c}\n\r\t|quote \u{8}\u{c}\n\r\t => \"\\b\\f\\n\\r\\t\"|quote \0\u{b}\u{1f}  => \"\\u0000\\u000b\\u001f \"|quote \u{7f}é\u{2028}\u{1d11e} => \"\u{7f}é\u{2028}\u{1d11e}\"|read \"*5416*\\u0009\\n\\\"\\/*\" => *5416*\t\n\"/*|quote *5416*\t\n\"/* => \"*5416*\\t\\n\\\"/*\"";
 
-#[test]
-fn vectors(rt: HostRuntime) {
-    are_so(&rt, rt.alloc(), ROWS, '\n');
-    are_so(&rt, rt.alloc(), SPACED_ROWS, '|');
-    assert!(rt; is_shown(rt.alloc(), &Fault::Memory, "out of memory"));
-}
-
 /// Texts of up to 65,536 bytes. Of those that are made compact the first becomes shorter; the others are compact already, without a
 /// space and with one in a string.
 const LONG_ROWS: &str = r#"keys {*5999*"k#":1,*"end":1} => 6000 to end
@@ -167,6 +143,9 @@ compact [*16000*1,*12] => [*16000*1,*12]
 compact [*16000*" ",*12] => [*16000*" ",*12]"#;
 
 #[test]
-fn long_texts(rt: HostRuntime) {
-    are_so(&rt, rt.alloc(), LONG_ROWS, '\n');
+fn vectors(rt: HostRuntime) {
+    assert!(rt; is_shown(rt.alloc(), &Fault::Memory, "out of memory"));
+    are_so(&rt, rt.alloc(), &mut (), ROWS, '\n', is_so);
+    are_so(&rt, rt.alloc(), &mut (), SPACED_ROWS, '|', is_so);
+    are_so(&rt, rt.alloc(), &mut (), LONG_ROWS, '\n', is_so);
 }

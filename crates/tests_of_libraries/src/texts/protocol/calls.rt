@@ -1,19 +1,23 @@
 //! Calls by their names: settings of a node, pushes from lent parts, data that nest too deep; and what is said of faults.
-use crate::rows::{is_shown, number_of, sides_of};
+use crate::rows::{are_so, call_of, is_answer, is_shown, number_of, sides_of};
 use cf_protocol::{
     Command, Data, Epoch, Outgoing, Pushed, ReadFault, Request, read_commands, read_namespaces,
     read_replies, read_tokens, write_publication, write_unsubscribe,
 };
 use std::alloc::Global;
+use std::fmt::Debug;
+
+fn shown<T: Debug>(alloc: Global, value: &T) -> Result<String, ReadFault> {
+    Ok(format!(in alloc; "{value:?}")?)
+}
 
 /// The user of a token, or the settings of a channel, by a text that sets up tokens or namespaces.
 fn look_up(alloc: Global, name: &str, wanted: &str, text: &str) -> Result<String, ReadFault> {
     if name == "user" {
-        let tokens = read_tokens(alloc, text)?;
-        return Ok(format!(in alloc; "{:?}", tokens.user(wanted))?);
+        return shown(alloc, &read_tokens(alloc, text)?.user(wanted));
     }
     let namespaces = read_namespaces(alloc, text)?.copied()?;
-    Ok(format!(in alloc; "{:?}", namespaces.find(wanted))?)
+    shown(alloc, &namespaces.find(wanted))
 }
 
 /// The push of a text's one publication, written from parts that are lent.
@@ -44,40 +48,24 @@ fn is_too_deep(command: Option<&Command>) -> bool {
 
 /// Whether the data of a text's first command nest too deep.
 fn too_deep(alloc: Global, text: &str) -> Result<String, ReadFault> {
-    let commands = read_commands(alloc, text)?;
-    let is_so = is_too_deep(commands.first());
-    Ok(format!(in alloc; "{is_so}")?)
-}
-
-fn unsubscribe(alloc: Global, code: &str, channel: &str) -> Result<String, ReadFault> {
-    Ok(write_unsubscribe(alloc, channel, number_of(code))?)
+    shown(alloc, &is_too_deep(read_commands(alloc, text)?.first()))
 }
 
 /// What a call of this name answers.
-fn answer(alloc: Global, name: &str, passed: &str) -> Result<String, ReadFault> {
-    let (first, second) = passed.split_once(' ').unwrap_or((passed, ""));
+fn answer(alloc: Global, call: &str) -> Result<String, ReadFault> {
+    let (name, passed) = call_of(call);
+    let (first, second) = call_of(passed);
     match name {
         "lent" => lent(alloc, passed),
         "too_deep" => too_deep(alloc, passed),
-        "unsubscribe" => unsubscribe(alloc, first, second),
+        "unsubscribe" => Ok(write_unsubscribe(alloc, second, number_of(first))?),
         _ => look_up(alloc, name, first, second),
     }
 }
 
-/// Whether a call answers this, or why it is refused.
-fn answers(alloc: Global, call: &str, wanted: &str) -> bool {
-    let (name, passed) = call.split_once(' ').unwrap_or((call, ""));
-    match answer(alloc, name, passed) {
-        Ok(found) => found.as_str() == wanted,
-        Err(fault) => is_shown(alloc, &fault, wanted),
-    }
-}
-
-fn is_so(alloc: Global, row: &str) -> bool {
-    match sides_of(alloc, row) {
-        Some((call, wanted)) => answers(alloc, call.as_str(), wanted.as_str()),
-        None => false,
-    }
+fn is_so(alloc: Global, _: &mut (), row: &str) -> bool {
+    let (call, wanted) = sides_of(row);
+    is_answer(alloc, answer(alloc, call), wanted)
 }
 
 const ROWS: &str =
@@ -123,9 +111,7 @@ too_deep {"id":1,"publish":{"channel":"a","data":*62*[**62*]*}} => true"#;
 
 #[test]
 fn calls(rt: HostRuntime) {
-    for row in ROWS.split('\n') {
-        assert!(rt; is_so(rt.alloc(), row), "{row}");
-    }
     assert!(rt; is_shown(rt.alloc(), &ReadFault::Memory, "out of memory"));
     assert!(rt; is_shown(rt.alloc(), &Epoch::from_text("aZ9"), "aZ9"));
+    are_so(&rt, rt.alloc(), &mut (), ROWS, '\n', is_so);
 }

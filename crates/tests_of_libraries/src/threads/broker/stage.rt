@@ -2,10 +2,11 @@
 ghost use Rattle.std.specs.Prelude.{◌≡◌, ◌<◌};
 ghost use Rattle.cf_broker.specs.Shards.{names};
 
-use super::calls::{call, next_over};
+use super::calls::{brought, call};
+use crate::rows::{call_of, number_of, sides_of};
 use cf_broker::{Broker, Passes, Words, shard_of};
 use cf_link::{Receiver, Sender, pair};
-use cf_protocol::{Epoch, Namespaces, read_namespaces};
+use cf_protocol::{Epoch, Namespaces};
 use cf_shard::{Delivery, Naming};
 use cf_stream::Epochs;
 use std::alloc::Global;
@@ -14,45 +15,6 @@ use std::sync::Wait;
 use std::sync::atomic::{AtomicU64, Ordering};
 use std::thread;
 use std::thread::Threads;
-
-/// A flag for each of two threads.
-#[derive(Drop)]
-pub(super) struct Flags {
-    first: AtomicU64,
-    second: AtomicU64,
-}
-
-impl Flags {
-    pub(super) fn new() -> Flags {
-        Flags {
-            first: AtomicU64::new(0),
-            second: AtomicU64::new(0),
-        }
-    }
-
-    /// These rows. In those of `two_shards` the epochs of shard 2 and those of the others wait for one another.
-    pub(super) fn part<'a>(&'a self, rows: &'a str) -> Part<'a> {
-        let mut epochs = [Draws::Alone; 16];
-        if rows.starts_with("# two_shards") {
-            epochs = [Draws::Meeting {
-                mine: &self.first,
-                other: &self.second,
-            }; 16];
-            epochs[2] = Draws::Meeting {
-                mine: &self.second,
-                other: &self.first,
-            };
-        }
-        Part { epochs, rows }
-    }
-}
-
-/// Rows, and the epochs of the shards of the broker on which they are played.
-#[derive(Drop)]
-pub(super) struct Part<'a> {
-    epochs: [Draws<'a>; 16],
-    rows: &'a str,
-}
 
 /// The epoch `aaaa`, again and again.
 #[derive(Clone, Copy)]
@@ -83,6 +45,29 @@ impl<'d> Epochs for Draws<'d> {
         }
         None
     }
+}
+
+/// Rows, and the epochs of the shards of the broker on which they are played.
+#[derive(Drop)]
+pub(super) struct Part<'a> {
+    epochs: [Draws<'a>; 16],
+    rows: &'a str,
+}
+
+/// These rows. In those of `two_shards` the epochs of shard 2 and those of the others wait for one another, by these flags.
+pub(super) fn part_of<'a>(rows: &'a str, first: &'a AtomicU64, second: &'a AtomicU64) -> Part<'a> {
+    let mut epochs = [Draws::Alone; 16];
+    if rows.starts_with("# two_shards") {
+        epochs = [Draws::Meeting {
+            mine: first,
+            other: second,
+        }; 16];
+        epochs[2] = Draws::Meeting {
+            mine: second,
+            other: first,
+        };
+    }
+    Part { epochs, rows }
 }
 
 /// What is called.
@@ -140,32 +125,24 @@ fn are_both<N: Naming + Send + Sync, R: Threads + Wait + Sync>(
     our && their
 }
 
-/// Both passes of a channel's shard have seen what either has.
-fn meet<N: Naming>(
+/// Both passes of a channel's shard have seen what either has; or ours takes theirs in.
+fn bring_together<N: Naming>(
     stage: &Stage<'_, '_, N>,
     ours: &mut Passes<N>,
     theirs: &mut Passes<N>,
+    name: &str,
     channel: &str,
 ) {
     let shard = shard_of(channel);
+    let word = stage.broker.word(shard);
     let mut our = ours.take(stage.broker, shard);
     let mut their = theirs.take(stage.broker, shard);
-    stage.broker.word(shard).meet(&mut our, &mut their);
-    ours.put(shard, our);
-    theirs.put(shard, their);
-}
-
-/// Our pass of a channel's shard takes theirs in.
-fn join<N: Naming>(
-    stage: &Stage<'_, '_, N>,
-    ours: &mut Passes<N>,
-    theirs: &mut Passes<N>,
-    channel: &str,
-) {
-    let shard = shard_of(channel);
-    let mut our = ours.take(stage.broker, shard);
-    let their = theirs.take(stage.broker, shard);
-    stage.broker.word(shard).join(&mut our, their);
+    if name == "meet" {
+        word.meet(&mut our, &mut their);
+        theirs.put(shard, their);
+    } else {
+        word.join(&mut our, their);
+    }
     ours.put(shard, our);
 }
 
@@ -176,26 +153,15 @@ fn offered<N: Naming, R: Wait>(
     links: &mut [Receiver<Delivery>],
     asked: &str,
 ) -> Option<String> {
-    let (name, node) = asked.split_once(' ')?;
-    let node = node.parse::<usize>().unwrap_or(0);
+    let (name, node) = call_of(asked);
+    let node = number_of(node) as usize;
     match name {
         "lost" => stage.broker.lost(node).to_string(stage.alloc).ok(),
         "crowded" => stage.broker.is_crowded(rt).to_string(stage.alloc).ok(),
-        _ => next_over(rt, stage.alloc, links.get_mut(node)?),
-    }
-}
-
-/// Whether that is as the row says.
-fn is_offered<N: Naming, R: Wait>(
-    rt: &R,
-    stage: &Stage<'_, '_, N>,
-    links: &mut [Receiver<Delivery>],
-    row: &str,
-) -> bool {
-    let (asked, wanted) = row.split_once(" => ").unwrap_or((row, ""));
-    match offered(rt, stage, links, asked) {
-        Some(came) => came.as_str() == wanted,
-        None => false,
+        _ => match links.get_mut(node)?.receive(rt) {
+            Some(delivery) => brought(stage.alloc, &delivery),
+            None => String::from_str(stage.alloc, "nothing").ok(),
+        },
     }
 }
 
@@ -206,15 +172,21 @@ fn is_row<N: Naming + Send + Sync, R: Threads + Wait + Sync>(
     cast: &mut Cast<N>,
     row: &str,
 ) -> bool {
-    let (word, rest) = row.split_once(' ').unwrap_or((row, ""));
+    let (word, rest) = call_of(row);
     match word {
         "#" => {}
         "both" => return are_both(rt, stage, &mut cast.ours, &mut cast.theirs, rest),
         "they" => return is_so(rt, stage, &mut cast.theirs, rest),
-        "meet" => meet(stage, &mut cast.ours.passes, &mut cast.theirs.passes, rest),
-        "join" => join(stage, &mut cast.ours.passes, &mut cast.theirs.passes, rest),
+        "meet" | "join" => {
+            let (ours, theirs) = (&mut cast.ours.passes, &mut cast.theirs.passes);
+            bring_together(stage, ours, theirs, word, rest);
+        }
         "receive" | "lost" | "crowded" => {
-            return is_offered(rt, stage, cast.links.as_mut_slice(), row);
+            let (asked, wanted) = sides_of(row);
+            return match offered(rt, stage, cast.links.as_mut_slice(), asked) {
+                Some(came) => came.as_str() == wanted,
+                None => false,
+            };
         }
         _ => return is_so(rt, stage, &mut cast.ours, row),
     }
@@ -294,34 +266,20 @@ pub(super) fn play<N: Naming + Send + Sync, R: Threads + Wait + Abort + AllocGlo
     let Part { epochs, rows } = part;
     let Links { senders, receivers } = both_links(alloc).expect(rt, "memory");
     let opened = opened::<N>(alloc, words, namespaces, epochs, senders);
-    let (broker, passes) = opened.expect(rt, "memory");
+    let (broker, mut passes) = opened.expect(rt, "memory");
     let stage = Stage {
         alloc,
         broker: &*broker,
         namespaces,
     };
-    let cast = cast_of(&stage, passes, receivers).expect(rt, "memory");
-    are_rows(rt, &stage, cast, rows);
-}
-
-/// Ours with these passes, and theirs with some that are lent to them.
-fn cast_of<N: Naming>(
-    stage: &Stage<'_, '_, N>,
-    mut passes: Passes<N>,
-    links: Vec<Receiver<Delivery>>,
-) -> Option<Cast<N>> {
-    let lent = passes.lend(stage.alloc, stage.broker).ok()?;
-    Some(Cast {
+    let lent = passes.lend(alloc, stage.broker).expect(rt, "memory");
+    let cast = Cast {
         ours: Caller { passes, now: 0 },
         theirs: Caller {
             passes: lent,
             now: 0,
         },
-        links,
-    })
-}
-
-/// The namespace of all channels without a prefix.
-pub(super) fn namespaces(alloc: Global) -> Option<Namespaces> {
-    read_namespaces(alloc, "=100,100,phs").ok()
+        links: receivers,
+    };
+    are_rows(rt, &stage, cast, rows);
 }
