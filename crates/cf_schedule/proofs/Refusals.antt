@@ -1,12 +1,17 @@
 -- What is refused as unreadable.
-use Rattle.std.proofs.Common.{◌≡◌, ℕ, List, ◌∷◌, ◌++◌, Result, Err, refl, sym, ap, subst, ◌∙◌}
-use Rattle.std.specs.Prelude.{◌↔◌, IsErrOf}
+use Rattle.std.proofs.Common.{◌≡◌, ◌≢◌, inl, inr, ℕ, List, [], ◌∷◌, ◌++◌, Result, Err, refl, sym, ap, subst, ◌∙◌}
+use Rattle.std.proofs.Common.{◌<◌, MatchOption, Bor}
+use Rattle.std.specs.Prelude.{◌↔◌, IsErrOf, Option, Some, None}
+use Rattle.std.proofs.lemmas.Str.Pattern.{split_parts, IsSplitOnceResult}
+use Rattle.cf_machine.specs.TraceLine.{spaced}
 use Rattle.cf_schedule.specs.ScheduleLine.{Says}
-use Rattle.cf_schedule.specs.LineRead.{IsUnspaced, Lacks, CutsAt, CutsAtSpace, Refused, IsNone, Answers}
+use Rattle.cf_schedule.specs.LineRead.{IsInChannel, IsUnspaced, Lacks, CutsAt, CutsAtSpace, Refused, IsNone, Answers}
 use Rattle.cf_schedule.specs.declared.event.Event as declared
 use Rattle.cf_schedule.specs.declared.event.EventFault.{EventFault}
 use Rattle.cf_schedule.specs.declared.event.EventFault.TheVariants.{Unreadable, Memory}
-use Rattle.cf_schedule.proofs.Spacing.{cut_once}
+use Rattle.cf_schedule.specs.Word.{IsClientName, IsChannelName}
+use Rattle.cf_schedule.proofs.Lines.{no_ask, no_askfrom, no_check, no_finish, no_leave, no_read}
+use Rattle.cf_schedule.proofs.Spacing.{cut_once, lacks_at}
 
 pub refused_so : (e : EventFault) (P Q : Type 0) → (P → Q) → Refused e P → Refused e Q
 refused_so Unreadable P Q f h = f h
@@ -30,3 +35,19 @@ answers_at nodes line word w rest r cut is h = subst (λ (l : List ℕ). Answers
 
 pub none_at : (nodes : ℕ) (line word rest : List ℕ) → CutsAtSpace line word rest → IsNone (Says nodes (word ++ 32 ∷ rest)) → IsNone (Says nodes line)
 none_at nodes line word rest cut h = subst (λ (l : List ℕ). IsNone (Says nodes l)) (sym cut.whole) h
+
+-- what is no client and channel is no event of one
+pub none_in_channel : (nodes : ℕ) (w r : List ℕ) → IsInChannel w → ((x c : List ℕ) → IsClientName x → IsChannelName c → r ≢ spaced (x ∷ c ∷ [])) → IsNone (Says nodes (w ++ 32 ∷ r))
+none_in_channel nodes w r (inl e) none = subst (λ (v : List ℕ). IsNone (Says nodes (v ++ 32 ∷ r))) (sym e) (no_ask nodes r (λ x c h. none x c h.0 h.1 h.2))
+none_in_channel nodes w r (inr (inl e)) none = subst (λ (v : List ℕ). IsNone (Says nodes (v ++ 32 ∷ r))) (sym e) (no_askfrom nodes r (λ x c h. none x c h.0 h.1 h.2))
+none_in_channel nodes w r (inr (inr (inl e))) none = subst (λ (v : List ℕ). IsNone (Says nodes (v ++ 32 ∷ r))) (sym e) (no_read nodes r (λ x c h. none x c h.0 h.1 h.2))
+none_in_channel nodes w r (inr (inr (inr (inl e)))) none = subst (λ (v : List ℕ). IsNone (Says nodes (v ++ 32 ∷ r))) (sym e) (no_finish nodes r (λ x c h. none x c h.0 h.1 h.2))
+none_in_channel nodes w r (inr (inr (inr (inr (inl e))))) none = subst (λ (v : List ℕ). IsNone (Says nodes (v ++ 32 ∷ r))) (sym e) (no_leave nodes r (λ x c h. none x c h.0 h.1 h.2))
+none_in_channel nodes w r (inr (inr (inr (inr (inr e))))) none = subst (λ (v : List ℕ). IsNone (Says nodes (v ++ 32 ∷ r))) (sym e) (no_check nodes r (λ x c h. none x c h.0 h.1 h.2))
+
+-- what split_once answers
+pub cut_by : (d : ℕ) (s : List ℕ) → d < 128 → (r : Option (Bor (List ℕ) × Bor (List ℕ))) → IsSplitOnceResult d s r → MatchOption r (Lacks d s) (λ p. CutsAt d s p.0.now p.1.now)
+cut_by d s low None h = lacks_at d s (split_parts d s None h low)
+cut_by d s low (Some p) h =
+    let parts = split_parts d s (Some p) h low in
+    record { whole = parts.0; word = lacks_at d p.0.now parts.1 }

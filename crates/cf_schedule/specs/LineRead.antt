@@ -1,5 +1,5 @@
 -- What the readers of a line's parts answer. (This project's own format.)
-use Rattle.std.specs.Prelude.{◌≡◌, ◌≢◌, ℕ, ◌≤◌, List, [], ◌∷◌, ◌++◌, Result, Ok, Err, Option, Some, None}
+use Rattle.std.specs.Prelude.{◌≡◌, ◌≢◌, ◌⊎◌, codes, ℕ, ◌≤◌, List, [], ◌∷◌, ◌++◌, Result, Ok, Err, Option, Some, None}
 use Rattle.std.specs.Fmt.{decimal}
 use Rattle.cf_machine.specs.Event.{Event}
 use Rattle.cf_machine.specs.TraceLine.{spaced}
@@ -34,6 +34,12 @@ IsNoNumber s = (n : ℕ) → n ≤ last_number → s ≢ decimal n
 -- r is the word c and, behind a space, a last word as P says
 abbrev pub IsLastWord : (List ℕ → Type 0) → List ℕ → List ℕ → Type 0
 IsLastWord P c r = (s : List ℕ) × P s × (r ≡ spaced (c ∷ s ∷ []))
+
+-- what stands behind this word is a client and a channel
+abbrev pub IsInChannel : List ℕ → Type 0
+IsInChannel w =
+    (w ≡ codes "ask") ⊎ ((w ≡ codes "askfrom") ⊎ ((w ≡ codes "read") ⊎ ((w ≡ codes "finish")
+    ⊎ ((w ≡ codes "leave") ⊎ (w ≡ codes "check")))))
 
 -- ---- what is refused
 

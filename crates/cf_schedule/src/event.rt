@@ -4,10 +4,10 @@ ghost use Rattle.std.specs.Prelude.{◌≡◌, ◌≢◌, ℕ, ℤ, pos, neg_ℤ
 ghost use Rattle.std.specs.Fmt.{decimal};
 ghost use Rattle.cf_schedule.specs.Word.{IsClientName, IsChannelName, IsKey};
 ghost use Rattle.cf_machine.specs.TraceLine.{spaced};
-ghost use Rattle.cf_schedule.specs.ScheduleLine.{Says, IsPassedOver, IsLimit, IsData, last_number, most_left};
+ghost use Rattle.cf_schedule.specs.ScheduleLine.{Says, IsPassedOver, IsLimit, IsData, last_number};
 ghost use Rattle.cf_machine.specs.Event.{Event as SaidEvent};
 ghost use Rattle.cf_schedule.specs.Seen.{seen};
-ghost use Rattle.cf_schedule.specs.LineRead.{IsUnspaced, Lacks, CutsAt, CutsAtSpace, IsLastWord, Refused, IsNone, Answers, ReadAs};
+ghost use Rattle.cf_schedule.specs.LineRead.{IsUnspaced, CutsAtSpace, IsInChannel, IsLastWord, Refused, IsNone, Answers, ReadAs};
 
 use crate::body::Body;
 use crate::name::{ChannelName, ClientName, Key, NamespaceName};
@@ -181,28 +181,32 @@ fn event_of(alloc: Global, line: &str, nodes: u8) -> Result<Event, EventFault>
     ensures { Answers (Says nodes line.now) result }
 {
     let Some((word, rest)) = cut(line) else {
-        return one_word(line);
+        return match line {
+            "brokerrestart" => Ok(Event::BrokerRestart),
+            _ => Err(EventFault::Unreadable),
+        };
     };
     match word {
         "epoch" => epoch(rest),
         "connect" => connect(alloc, rest, nodes),
-        "ask" => ask(alloc, rest),
-        "askfrom" => ask_from(alloc, rest),
-        "read" => read(alloc, rest),
-        "finish" => finish(alloc, rest),
+        "ask" | "askfrom" | "read" | "finish" | "leave" | "check" => in_channel(alloc, word, rest),
         "publish" => publish(alloc, rest),
         "publishkey" => publish_key(alloc, rest),
         "put" => put(alloc, rest),
         "putkey" => put_key(alloc, rest),
         "deliver" => deliver(rest, nodes),
-        "take" => take(alloc, rest),
-        "break" => break_off(alloc, rest),
-        "leave" => leave(alloc, rest),
+        "take" => Ok(Event::Take {
+            client: ClientName::read(alloc, rest)?,
+        }),
+        "break" => Ok(Event::Break {
+            client: ClientName::read(alloc, rest)?,
+        }),
         "trim" => trim(alloc, rest),
-        "forget" => forget(alloc, rest),
+        "forget" => Ok(Event::Forget {
+            channel: ChannelName::read(alloc, rest)?,
+        }),
         "size" => size(alloc, rest),
         "restart" => restart(rest, nodes),
-        "check" => check(alloc, rest),
         "list" => list(alloc, rest),
         _ => Err(EventFault::Unreadable),
     }
@@ -215,13 +219,6 @@ fn cut(text: &str) -> Option<(&str, &str)>
     text.split_once(' ')
 }
 
-// What stands before the first `=`, and behind it.
-fn cut_name(text: &str) -> Option<(&str, &str)>
-    ensures { MatchOption result (Lacks 61 text.now) (λ p. CutsAt 61 text.now p.0.now p.1.now) }
-{
-    text.split_once('=')
-}
-
 // A node's number, below the number of nodes.
 fn node(text: &str, nodes: u8) -> Option<u8>
     ensures { MatchOption result ((n : ℕ) → n < nodes → text.now ≢ decimal n)
@@ -230,19 +227,6 @@ fn node(text: &str, nodes: u8) -> Option<u8>
     let number = whole_number(text)?;
     if number < u64::from(nodes) {
         Some(number as u8)
-    } else {
-        None
-    }
-}
-
-// How many publications a trim may leave.
-fn count_left(text: &str) -> Option<usize>
-    ensures { MatchOption result ((k : ℕ) → k ≤ most_left → text.now ≢ decimal k)
-        (λ k. (k ≤ most_left) × (text.now ≡ decimal k)) }
-{
-    let number = whole_number(text)?;
-    if number <= MOST_LEFT {
-        Some(number as usize)
     } else {
         None
     }
@@ -284,16 +268,6 @@ fn least_of(digits: &str) -> Option<i32>
     }
 }
 
-// The event of a line without a space.
-fn one_word(line: &str) -> Result<Event, EventFault>
-    ensures { (nodes : ℕ) → IsUnspaced line.now → Answers (Says nodes line.now) result }
-{
-    match line {
-        "brokerrestart" => Ok(Event::BrokerRestart),
-        _ => Err(EventFault::Unreadable),
-    }
-}
-
 fn client_and_channel(alloc: Global, text: &str) -> Result<(ClientName, ChannelName), EventFault>
     ensures ok { IfOk result
         (λ p. IsClientName p.0 × IsChannelName p.1 × (text.now ≡ spaced (p.0 ∷ p.1 ∷ []))) }
@@ -331,33 +305,21 @@ fn connect(alloc: Global, text: &str, nodes: u8) -> Result<Event, EventFault>
     let client = ClientName::read(alloc, client)?;
     Ok(Event::Connect { client, node })
 }
-
-fn ask(alloc: Global, text: &str) -> Result<Event, EventFault>
-    ensures { (nodes : ℕ) → Answers (Says nodes (codes "ask" ++ 32 ∷ text.now)) result }
+// The event of a line that has a client and a channel behind its word.
+fn in_channel(alloc: Global, word: &str, text: &str) -> Result<Event, EventFault>
+    ensures { (nodes : ℕ) → IsInChannel word.now
+        → Answers (Says nodes (word.now ++ 32 ∷ text.now)) result }
 {
     let (client, channel) = client_and_channel(alloc, text)?;
-    Ok(Event::Ask { client, channel })
-}
-
-fn ask_from(alloc: Global, text: &str) -> Result<Event, EventFault>
-    ensures { (nodes : ℕ) → Answers (Says nodes (codes "askfrom" ++ 32 ∷ text.now)) result }
-{
-    let (client, channel) = client_and_channel(alloc, text)?;
-    Ok(Event::AskFrom { client, channel })
-}
-
-fn read(alloc: Global, text: &str) -> Result<Event, EventFault>
-    ensures { (nodes : ℕ) → Answers (Says nodes (codes "read" ++ 32 ∷ text.now)) result }
-{
-    let (client, channel) = client_and_channel(alloc, text)?;
-    Ok(Event::Read { client, channel })
-}
-
-fn finish(alloc: Global, text: &str) -> Result<Event, EventFault>
-    ensures { (nodes : ℕ) → Answers (Says nodes (codes "finish" ++ 32 ∷ text.now)) result }
-{
-    let (client, channel) = client_and_channel(alloc, text)?;
-    Ok(Event::Finish { client, channel })
+    match word {
+        "ask" => Ok(Event::Ask { client, channel }),
+        "askfrom" => Ok(Event::AskFrom { client, channel }),
+        "read" => Ok(Event::Read { client, channel }),
+        "finish" => Ok(Event::Finish { client, channel }),
+        "leave" => Ok(Event::Leave { client, channel }),
+        "check" => Ok(Event::Check { client, channel }),
+        _ => Err(EventFault::Unreadable),
+    }
 }
 
 fn channel_and_data(alloc: Global, text: &str) -> Result<(ChannelName, Body), EventFault>
@@ -387,20 +349,6 @@ fn publish(alloc: Global, text: &str) -> Result<Event, EventFault>
     })
 }
 
-fn key_and_data(alloc: Global, text: &str) -> Result<(Key, Body), EventFault>
-    ensures ok { IfOk result (λ p. IsKey p.0 × IsLastWord (λ s. IsData s p.1) p.0 text.now) }
-    ensures err { IfErr result
-        (λ e. Refused e
-        ((k s body : List ℕ) → IsKey k → IsData s body → text.now ≢ spaced (k ∷ s ∷ []))) }
-{
-    let Some((key, data)) = cut(text) else {
-        return Err(EventFault::Unreadable);
-    };
-    let key = Key::read(alloc, key)?;
-    let body = Body::read(alloc, data)?;
-    Ok((key, body))
-}
-
 fn channel_key_and_data(alloc: Global, text: &str) -> Result<(ChannelName, Key, Body), EventFault>
     ensures ok { IfOk result
         (λ p. IsChannelName p.0 × IsKey p.1 × (s : List ℕ) × IsData s p.2
@@ -413,8 +361,12 @@ fn channel_key_and_data(alloc: Global, text: &str) -> Result<(ChannelName, Key, 
     let Some((channel, rest)) = cut(text) else {
         return Err(EventFault::Unreadable);
     };
+    let Some((key, data)) = cut(rest) else {
+        return Err(EventFault::Unreadable);
+    };
     let channel = ChannelName::read(alloc, channel)?;
-    let (key, body) = key_and_data(alloc, rest)?;
+    let key = Key::read(alloc, key)?;
+    let body = Body::read(alloc, data)?;
     Ok((channel, key, body))
 }
 
@@ -476,51 +428,27 @@ fn deliver(text: &str, nodes: u8) -> Result<Event, EventFault>
     Ok(Event::Deliver { node, publication })
 }
 
-fn take(alloc: Global, text: &str) -> Result<Event, EventFault>
-    ensures { (nodes : ℕ) → Answers (Says nodes (codes "take" ++ 32 ∷ text.now)) result }
-{
-    let client = ClientName::read(alloc, text)?;
-    Ok(Event::Take { client })
-}
-
-fn break_off(alloc: Global, text: &str) -> Result<Event, EventFault>
-    ensures { (nodes : ℕ) → Answers (Says nodes (codes "break" ++ 32 ∷ text.now)) result }
-{
-    let client = ClientName::read(alloc, text)?;
-    Ok(Event::Break { client })
-}
-
-fn leave(alloc: Global, text: &str) -> Result<Event, EventFault>
-    ensures { (nodes : ℕ) → Answers (Says nodes (codes "leave" ++ 32 ∷ text.now)) result }
-{
-    let (client, channel) = client_and_channel(alloc, text)?;
-    Ok(Event::Leave { client, channel })
-}
-
 fn trim(alloc: Global, text: &str) -> Result<Event, EventFault>
     ensures { (nodes : ℕ) → Answers (Says nodes (codes "trim" ++ 32 ∷ text.now)) result }
 {
     let Some((channel, number)) = cut(text) else {
         return Err(EventFault::Unreadable);
     };
-    let Some(count) = count_left(number) else {
+    let Some(count) = whole_number(number) else {
         return Err(EventFault::Unreadable);
     };
+    if count > MOST_LEFT {
+        return Err(EventFault::Unreadable);
+    }
     let channel = ChannelName::read(alloc, channel)?;
+    let count = count as usize;
     Ok(Event::Trim { channel, count })
-}
-
-fn forget(alloc: Global, text: &str) -> Result<Event, EventFault>
-    ensures { (nodes : ℕ) → Answers (Says nodes (codes "forget" ++ 32 ∷ text.now)) result }
-{
-    let channel = ChannelName::read(alloc, text)?;
-    Ok(Event::Forget { channel })
 }
 
 fn size(alloc: Global, text: &str) -> Result<Event, EventFault>
     ensures { (nodes : ℕ) → Answers (Says nodes (codes "size" ++ 32 ∷ text.now)) result }
 {
-    let Some((name, number)) = cut_name(text) else {
+    let Some((name, number)) = text.split_once('=') else {
         return Err(EventFault::Unreadable);
     };
     let Some(size) = HistorySize::read(number) else {
@@ -539,39 +467,20 @@ fn restart(text: &str, nodes: u8) -> Result<Event, EventFault>
     Ok(Event::Restart { node })
 }
 
-fn check(alloc: Global, text: &str) -> Result<Event, EventFault>
-    ensures { (nodes : ℕ) → Answers (Says nodes (codes "check" ++ 32 ∷ text.now)) result }
-{
-    let (client, channel) = client_and_channel(alloc, text)?;
-    Ok(Event::Check { client, channel })
-}
-
-fn channel_and_limit(alloc: Global, text: &str) -> Result<(ChannelName, i32), EventFault>
-    ensures ok { IfOk result
-        (λ p. IsChannelName p.0 × IsLastWord (λ s. IsLimit s p.1) p.0 text.now) }
-    ensures err { IfErr result
-        (λ e. Refused e
-        ((c s : List ℕ) (limit : ℤ) → IsChannelName c → IsLimit s limit
-        → text.now ≢ spaced (c ∷ s ∷ []))) }
-{
-    let Some((channel, limit)) = cut(text) else {
-        return Err(EventFault::Unreadable);
-    };
-    let Some(limit) = limit_of(limit) else {
-        return Err(EventFault::Unreadable);
-    };
-    let channel = ChannelName::read(alloc, channel)?;
-    Ok((channel, limit))
-}
-
 fn list(alloc: Global, text: &str) -> Result<Event, EventFault>
     ensures { (nodes : ℕ) → Answers (Says nodes (codes "list" ++ 32 ∷ text.now)) result }
 {
     let Some((client, rest)) = cut(text) else {
         return Err(EventFault::Unreadable);
     };
+    let Some((channel, limit)) = cut(rest) else {
+        return Err(EventFault::Unreadable);
+    };
+    let Some(limit) = limit_of(limit) else {
+        return Err(EventFault::Unreadable);
+    };
     let client = ClientName::read(alloc, client)?;
-    let (channel, limit) = channel_and_limit(alloc, rest)?;
+    let channel = ChannelName::read(alloc, channel)?;
     Ok(Event::ListHistory {
         client,
         channel,

@@ -1,4 +1,5 @@
-use Rattle.std.proofs.Common.{sym, subst}
+use Rattle.std.proofs.Common.{arith, sym, subst, ◌∙◌}
+use Rattle.std.proofs.lemmas.Fmt.{decimal_injective}
 use Rattle.std.specs.Fmt.{decimal}
 use Rattle.std.proofs.lemmas.Result.{err_from_is_err_and}
 use Rattle.cf_schedule.specs.Word.{IsChannelName}
@@ -10,10 +11,17 @@ use Rattle.cf_schedule.proofs.event.trim.Goals as goal
 pub returns-in_default : goal.returns-in_default
 returns-in_default c = λ nodes. no_trim nodes c.args.text.now (λ d k h. never_cut c.args.text.now d (decimal k) c.in_default.ensures h.2)
 
-pub returns-in_default-count_left : goal.returns-in_default-count_left
-returns-in_default-count_left c = λ nodes. no_trim nodes c.args.text.now (λ d k h.
+pub returns-in_default-whole_number : goal.returns-in_default-whole_number
+returns-in_default-whole_number c = λ nodes. no_trim nodes c.args.text.now (λ d k h.
     let cut = same_cut c.args.text.now c.in-Some.channel.now c.in-Some.number.now d (decimal k) c.in-Some.ensures (unspaced_channel d h.0) h.2 in
-    c.in_default-count_left.ensures k h.1 (sym cut.1))
+    c.in_default-whole_number.ensures k (let few = h.1 in omega (arith, few)) (sym cut.1))
+
+pub returns-then-count-gt-MOST_LEFT : goal.returns-then-count-gt-MOST_LEFT
+returns-then-count-gt-MOST_LEFT c = λ nodes. no_trim nodes c.args.text.now (λ d k h.
+    let cut = same_cut c.args.text.now c.in-Some.channel.now c.in-Some.number.now d (decimal k) c.in-Some.ensures (unspaced_channel d h.0) h.2 in
+    let few = h.1 in
+    let same = decimal_injective k c.in-Some-whole_number.count (omega (arith, few)) (omega arith) (cut.1 ∙ c.in-Some-whole_number.ensures) in
+    omega (arith, few))
 
 pub returns-in_err-channel : goal.returns-in_err-channel
 returns-in_err-channel c = λ nodes.
