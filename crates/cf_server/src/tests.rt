@@ -6,7 +6,6 @@ mod losses;
 mod nodes;
 mod peer;
 mod runs;
-mod schedules;
 mod script;
 mod simulation;
 mod together;

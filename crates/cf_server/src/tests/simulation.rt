@@ -26,7 +26,7 @@ fn is_told(alloc: Global, fault: &SimulateFault, words: &str) -> bool {
 
 /// Whether a schedule runs to its end and writes these lines; or, where there are words, it can't be used, writes no more than these
 /// lines, and the words are said.
-pub(super) fn is_so(
+fn is_so(
     alloc: Global,
     options: Options<'_>,
     bytes: &[u8],
