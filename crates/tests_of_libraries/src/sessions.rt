@@ -1,7 +1,6 @@
-//! A client's session: its hub, its commands, its conversations and its wire.
+//! A client's session: its hub, its commands and its wire.
 mod handshake;
 mod hub;
 mod session;
-mod speak;
 mod stream;
 mod wire;
