@@ -27,10 +27,9 @@ impl Opening {
     pub fn answer(&self, alloc: Global) -> Result<Vec<u8>, AllocError>
         ensures { IfOk result (λ text. text.items ≡ opening_text self.now) }
     {
-        let mut text = Vec::new(alloc);
-        text.extend_from_slice(
-            b"HTTP/1.1 101 Switching Protocols\r\nUpgrade: websocket\r\nConnection: Upgrade\r\nSec-WebSocket-Accept: ",
-        )?;
+        let lines =
+            b"HTTP/1.1 101 Switching Protocols\r\nUpgrade: websocket\r\nConnection: Upgrade\r\nSec-WebSocket-Accept: ";
+        let mut text = lines.to_vec(alloc)?;
         text.extend_from_slice(&self.accept)?;
         text.extend_from_slice(self.end())?;
         Ok(text)

@@ -97,10 +97,7 @@ fn has_version(head: &[u8], lines: &[HeaderSpan]) -> bool
     requires { All (IsHeaderWithin (length head.now)) lines.now }
     ensures { result ≡ has_version (fields_of head.now lines.now) }
 {
-    match only_value(head, lines, b"Sec-WebSocket-Version") {
-        Some(version) => version == b"13".as_slice(),
-        None => false,
-    }
+    only_value(head, lines, b"Sec-WebSocket-Version") == Some(b"13".as_slice())
 }
 
 // What is asked for by the key, where all else is as it is to be.

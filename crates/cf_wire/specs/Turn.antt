@@ -278,18 +278,7 @@ abbrev pub mark_emptied : {A : Type 0} → Result A TurnEnd → Mark
 mark_emptied (Ok x) = emptied
 mark_emptied (Err end) = over end
 
--- the same where Ok says whether the desk had something
-abbrev pub mark_given : Result Bool TurnEnd → Mark
-mark_given (Ok true) = going
-mark_given (Ok false) = emptied
-mark_given (Err end) = over end
-
--- 1 where something was taken, or read
-abbrev pub taken_in : Result Bool TurnEnd → ℕ
-taken_in (Ok true) = 1
-taken_in (Ok false) = 0
-taken_in (Err end) = 0
-
+-- 1 where a message was read
 abbrev pub read_in : {A : Type 0} → Result A TurnEnd → ℕ
 read_in (Ok x) = 1
 read_in (Err end) = 0

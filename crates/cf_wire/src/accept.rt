@@ -173,7 +173,7 @@ impl<S: Read + Write + Drop> Wire<S> {
     }
 
     /// Answers a head, behind which this was read.
-    fn answer(alloc: Global, stream: S, head: &[u8], rest: &[u8]) -> Result<Wire<S>, Refused<S>>
+    fn answer(alloc: Global, mut stream: S, head: &[u8], rest: &[u8]) -> Result<Wire<S>, Refused<S>>
         ensures open { IfOk result (λ wire. wire.stage ≡ stage.Open) }
         ensures fresh { IfOk result (λ wire.
             IsFresh (record wire.socket { input = [] }) wire.socket.stream Role.Server) }
@@ -183,42 +183,22 @@ impl<S: Read + Write + Drop> Wire<S> {
         ensures refuses { IfErr result (RefusesBy S.contents stream head.now) }
     {
         match asked_of(head) {
-            Asked::Socket(opening) => Wire::open(alloc, stream, &opening, rest),
+            Asked::Socket(opening) => match tell_opening(alloc, &mut stream, &opening, rest) {
+                Ok(input) => Ok(Wire {
+                    socket: WebSocket::from_partially_read(
+                        alloc,
+                        stream,
+                        NoMask,
+                        input,
+                        Role::Server,
+                        Some(config()),
+                    ),
+                    stage: Stage::Open,
+                }),
+                Err(fault) => Err(Refused::silently(fault, stream)),
+            },
             Asked::Health => Err(Refused::silently(WireFault::Health, stream)),
             Asked::Refused(refusal) => Err(refuse(stream, refusal)),
-        }
-    }
-
-    /// Opens the WebSocket of a client, behind whose head this was read.
-    fn open(
-        alloc: Global,
-        mut stream: S,
-        opening: &Opening,
-        rest: &[u8],
-    ) -> Result<Wire<S>, Refused<S>>
-        ensures open { IfOk result (λ wire. wire.stage ≡ stage.Open) }
-        ensures fresh { IfOk result (λ wire.
-            IsFresh (record wire.socket { input = [] }) wire.socket.stream Role.Server) }
-        ensures limit { IfOk result (λ wire.
-            wire.socket.conn.config.max_message_size ≡ Some LONGEST_MESSAGE) }
-        ensures told { IfOk result (λ wire. Appends (S.contents stream)
-            (S.contents wire.socket.stream) (opening_text opening.now)) }
-        ensures input { IfOk result (λ wire. wire.socket.input ≡ rest.now) }
-        ensures outside { IfErr result (λ refused. IsOutside refused.fault) }
-    {
-        match tell_opening(alloc, &mut stream, opening, rest) {
-            Ok(input) => Ok(Wire {
-                socket: WebSocket::from_partially_read(
-                    alloc,
-                    stream,
-                    NoMask,
-                    input,
-                    Role::Server,
-                    Some(config()),
-                ),
-                stage: Stage::Open,
-            }),
-            Err(fault) => Err(Refused::silently(fault, stream)),
         }
     }
 }

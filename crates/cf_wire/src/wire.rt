@@ -4,7 +4,7 @@ ghost use Rattle.tungstenite.specs.Content.{close};
 ghost use Rattle.tungstenite.specs.Socket.{Flushed, Reads, Socket, close_of};
 ghost use Rattle.cf_queue.specs.declared.queue.Out.TheVariants as out;
 ghost use Rattle.cf_wire.specs.Stages.{is_unflushed, is_over, waits_by, end_by, after, settled, told, Agrees, Halts, Stops};
-ghost use Rattle.cf_wire.specs.Turn.{Part, Turns, Settles, FlushLeaves, place, taken_in, read_in, mark_of, mark_emptied, mark_given, code_in};
+ghost use Rattle.cf_wire.specs.Turn.{Part, Turns, Settles, FlushLeaves, place, read_in, mark_of, mark_emptied, code_in};
 
 use crate::desk::Desk;
 use crate::end::{Stage, TurnEnd, WireEnd};
@@ -27,10 +27,19 @@ const NO_CODE: u16 = 1_005;
 
 /// The WebSocket of one client, on any stream. At most one message waits for the stream, and then nothing is read and nothing
 /// taken from the desk.
-#[derive(Drop)]
 pub struct Wire<S> {
     pub(crate) socket: WebSocket<S, NoMask>,
     pub(crate) stage: Stage,
+}
+
+// By field, so that what owns a wire isn't proved to drop each part of its parts once more.
+impl<S: Drop> Drop for Wire<S> {
+    fn drop(self) {
+        let Wire {
+            socket: _,
+            stage: _,
+        } = self;
+    }
 }
 
 impl<S> Model for Wire<S> {
@@ -126,7 +135,7 @@ impl<S: Read + Write + Drop> Wire<S> {
     pub fn into_stream(self) -> S
         ensures { result ≡ self.socket.stream }
     {
-        let Wire { socket, .. } = self;
+        let Wire { socket, stage: _ } = self;
         socket.into_inner()
     }
 
@@ -166,30 +175,14 @@ impl<S: Read + Write + Drop> Wire<S> {
         ensures ends { IfErr result (λ end. Agrees end self.new.stage) }
     {
         for index in 0..MOST_SENDS {
-            match self.give(desk) {
-                Ok(true) => {}
-                Ok(false) => return Ok(()),
-                Err(end) => return Err(end),
+            let Some(out) = desk.next() else {
+                return Ok(());
+            };
+            if let Err(end) = self.put(out) {
+                return Err(end);
             }
         }
         Err(TurnEnd::More)
-    }
-
-    /// Takes what goes out next, and sends it. Ok says whether there was something.
-    fn give<D: Desk>(&mut self, desk: &mut D) -> Result<bool, TurnEnd>
-        requires { self.old.stage ≡ Stage.Open }
-        ensures turns { Part D.hears D.gives D.ready S.remaining S.contents (taken_in result) 0
-            0 0 (mark_given result) (place desk.old self.old) (place desk.new self.new) }
-        ensures open { OnOk result (self.new.stage ≡ Stage.Open) }
-        ensures ends { IfErr result (λ end. Halts end self.new.stage) }
-    {
-        match desk.next() {
-            None => Ok(false),
-            Some(out) => match self.put(out) {
-                Ok(()) => Ok(true),
-                Err(end) => Err(end),
-            },
-        }
     }
 
     /// Reads a message, and does what it asks for. The bytes of a text come off those that are left.
@@ -308,24 +301,14 @@ impl<S: Read + Write + Drop> Wire<S> {
         ensures ends { IfErr result (λ end. Stops end self.new.stage) }
     {
         match answer {
-            Ok(()) => self.reopen(close),
             Err(error) => Err(self.pause(error, Stage::Unflushed(close))),
-        }
-    }
-
-    /// All that waited is on the stream.
-    fn reopen(&mut self, close: Option<u16>) -> Result<(), TurnEnd>
-        ensures same { self.new.socket ≡ self.old.socket }
-        ensures stage { self.new.stage ≡ settled close }
-        ensures open { OnOk result (self.new.stage ≡ Stage.Open) }
-        ensures ends { IfErr result (λ end. Stops end self.new.stage) }
-    {
-        match close {
-            Some(code) => Err(self.stop(WireEnd::Closed(code))),
-            None => {
-                self.stage = Stage::Open;
-                Ok(())
-            }
+            Ok(()) => match close {
+                Some(code) => Err(self.stop(WireEnd::Closed(code))),
+                None => {
+                    self.stage = Stage::Open;
+                    Ok(())
+                }
+            },
         }
     }
 

@@ -1,15 +1,18 @@
-use Rattle.std.proofs.Common.{arith, refl, ap, Ok, Bool}
-use Rattle.cf_wire.specs.Turn.{taken_in, mark_given}
-use Rattle.cf_wire.proofs.Turns.{turns_then, turns_as, turns_sent_much}
+use Rattle.std.proofs.Common.{arith, refl, inl}
+use Rattle.cf_wire.specs.Turn.{none, emptied}
+use Rattle.cf_wire.proofs.Turns.{out_open, out_stopped, turns_one, turns_then, turns_sent_much}
 use Rattle.cf_wire.proofs.wire.Wire.give_all.Goals as goal
 
-pub returns-in-Ok-false-clause-turns : goal.returns-in-Ok-false-clause-turns
-returns-in-Ok-false-clause-turns g c =
+pub returns-in_default-clause-turns : goal.returns-in_default-clause-turns
+returns-in_default-clause-turns g c =
     turns_then _ _ _ _ _ _ _ _ _ _ _ _ _ _ _ _ _ _ _ c.loop-index.invariant.turns
-    (turns_as _ _ _ _ _ _ _ _ _ _ _ _ _ c.in-Ok-false.ensures.turns (ap (λ (b : Bool). mark_given (Ok b)) c.in-Ok-false.field-0-test)) (omega arith) (omega arith)
+    (turns_one _ _ _ _ _ none 0 0 0 0 emptied _ _ c.in_default.ensures (c.loop-index.invariant.opened, refl) (omega arith) (omega arith) (omega arith) (inl (omega arith)) tt)
+    (omega arith) (omega arith)
 
 pub returns-in-Err-clause-turns : goal.returns-in-Err-clause-turns
-returns-in-Err-clause-turns g c = turns_then _ _ _ _ _ _ _ _ _ _ _ _ _ _ _ _ _ _ _ c.loop-index.invariant.turns c.in-Err.ensures.turns (omega arith) (omega arith)
+returns-in-Err-clause-turns g c =
+    turns_then _ _ _ _ _ _ _ _ _ _ _ _ _ _ _ _ _ _ _ c.loop-index.invariant.turns
+    (out_stopped _ _ _ _ _ _ _ _ _ c.in-Some.out c.in-Err.end c.loop-index.invariant.opened c.in-Some.ensures c.put.ensures.put c.in-Err.ensures.ends) (omega arith) (omega arith)
 
 pub returns-clause-turns : goal.returns-clause-turns
 returns-clause-turns g c = turns_sent_much _ _ _ _ _ _ _ _ _ _ c.loop-index.invariant.turns (omega arith) refl
@@ -17,7 +20,6 @@ returns-clause-turns g c = turns_sent_much _ _ _ _ _ _ _ _ _ _ c.loop-index.inva
 pub loop-index-preserved : goal.loop-index-preserved
 loop-index-preserved g c = record {
   turns = turns_then _ _ _ _ _ _ _ _ _ _ _ _ _ _ _ _ _ _ _ c.loop-index.invariant.turns
-      (turns_as _ _ _ _ _ _ _ _ _ _ _ _ _ c.in-Ok-true.ensures.turns (ap (λ (b : Bool). mark_given (Ok b)) c.in-Ok-true.field-0-test))
-      (omega (arith, ap (λ (b : Bool). taken_in (Ok b)) c.in-Ok-true.field-0-test)) (omega arith);
-  opened = c.in-Ok-true.ensures.«open»;
+      (out_open _ _ _ _ _ _ _ _ _ c.in-Some.out c.loop-index.invariant.opened c.in-Some.ensures c.put.ensures.put c.in_default-put.ensures.«open») (omega arith) (omega arith);
+  opened = c.in_default-put.ensures.«open»;
 }
