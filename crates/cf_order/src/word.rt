@@ -2,7 +2,7 @@
 ghost use Rattle.std.specs.Prelude.{◌≡◌, ◌+◌, ◌^◌, ◌<◌, ◌≤◌, ◌↔◌, [], ◌∷◌, ◌++◌, length, true, false, IfOk, IsTrue};
 ghost use mathlib.Core.List.{IsPrefix};
 ghost use Rattle.cf_order.specs.Passes.{first_pass, met, caught_up, publishes, published, entry_of};
-ghost use Rattle.cf_order.specs.ShardStep.{IsBehind, Knows, Looked, added, compared, joined, given, with_share};
+ghost use Rattle.cf_order.specs.ShardStep.{Knows, added, compared, joined, given, with_share};
 
 use crate::entry::Entry;
 use crate::view::{Added, Adds, Compares, Gives, Joins, Law, Lends, Looks, Tells, View};
@@ -124,7 +124,7 @@ impl ShardWord {
         ensures rises { IsPrefix pass.old.found pass.new.found }
         ensures share { (pass.old.share ≤ published pass.new.found) × (pass.old.share ≤ result) }
     {
-        load_count(&self.table.shared, &mut pass.seat)
+        self.table.shared.load::<Looks>(&mut pass.seat, 0)
     }
 
     /// Whether the log has no more entries than a mark, by one load. Where it says so to a pass that has seen as many entries
@@ -198,10 +198,8 @@ impl ShardWord {
         add::<Brand>(table, &mut owner.seat, entry);
         give_back(table, &mut owner.seat, &mut pass.seat);
         owner.count += 1;
-        match entry {
-            Entry::Published(_, _, _, _) => pass.share += 1,
-            Entry::Opened(_, _) | Entry::Trimmed(_, _) | Entry::Forgotten(_) | Entry::Sized(_, _) =>
-                {}
+        if let Entry::Published(_, _, _, _) = entry {
+            pass.share += 1;
         }
     }
 
@@ -214,20 +212,10 @@ impl ShardWord {
         ensures share { pass.old.share ≤ published owner.old.log }
         ensures pass { pass.new ≡ caught_up pass.old owner.old.log }
     {
-        let table = &self.table.shared;
-        compare(table, &mut owner.seat, &mut pass.seat);
-        give_back(table, &mut owner.seat, &mut pass.seat);
+        take_in(&self.table.shared, &mut owner.seat, &mut pass.seat);
+        tell(&self.table.shared, &mut owner.seat);
+        give_back(&self.table.shared, &mut owner.seat, &mut pass.seat);
     }
-}
-
-// One step of a pass's seat, which loads the count.
-fn load_count(table: &Shared<u8, View, (), Law>, seat: &mut Seat<u8, View>) -> u64
-    requires table { (seat.old.table_id ≡ table.now.table_id) × (0 < table.now.table_id.words) }
-    requires owns { seat.old.me.0.owns ≡ false }
-    ensures same { (seat.new.table_id ≡ seat.old.table_id) × (seat.new.me.1 ≡ seat.old.me.1) }
-    ensures looked { Looked seat.old.me.0 seat.new.me.0 result }
-{
-    table.load::<Looks>(seat, 0)
 }
 
 // The owner's seat compares its log with what the pass was told of, and has its share for now.
@@ -243,23 +231,6 @@ fn take_in(table: &Shared<u8, View, (), Law>, owner: &mut Seat<u8, View>, pass: 
 {
     let new = table.split_seat::<Gives>(pass);
     table.join_seat::<Compares>(owner, new);
-}
-
-// The same, and a step that tells how they compare.
-fn compare(table: &Shared<u8, View, (), Law>, owner: &mut Seat<u8, View>, pass: &mut Seat<u8, View>)
-    requires table { (owner.old.table_id ≡ table.now.table_id)
-        × (pass.old.table_id ≡ table.now.table_id) × (0 < table.now.table_id.words) }
-    requires owner { (owner.old.me.0.owns ≡ true) × (owner.old.me.0.found ≡ owner.old.me.0.log) }
-    requires pass { (pass.old.me.0.owns ≡ false) × IsPrefix pass.old.me.0.log pass.old.me.0.found }
-    ensures owner { (owner.new.table_id ≡ owner.old.table_id)
-        × (owner.new.me
-        ≡ (compared owner.old.me.0 (given pass.old.me.0 pass.old.me.0.share), owner.old.me.1)) }
-    ensures pass { (pass.new.table_id ≡ pass.old.table_id)
-        × (pass.new.me ≡ (with_share pass.old.me.0 0, pass.old.me.1)) }
-    ensures behind { IsBehind owner.old.me.0 pass.old.me.0 }
-{
-    take_in(table, owner, pass);
-    tell(table, owner);
 }
 
 // The pass's seat gets the owner's share, and the longer log.

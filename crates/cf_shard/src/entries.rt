@@ -11,7 +11,7 @@ ghost use Rattle.cf_shard.specs.ShardLog.{HasWhole, KeepsShare, to_open, HasRoom
 
 use crate::refusal::Refused;
 use cf_order::{Entry, MOST_ENTRIES, Owner, Pass, ShardWord};
-use cf_protocol::{Position, Publication};
+use cf_protocol::Position;
 use cf_stream::{Due, DueWalk, LAST_OFFSET, Streams};
 
 /// The top of a stream that stands there.
@@ -119,34 +119,6 @@ pub(crate) fn note_opening(
     }
 }
 
-/// The entry of an accepted publication under a key, which may be none.
-fn note_publication(
-    word: &ShardWord,
-    owner: &mut Owner,
-    pass: &mut Pass,
-    channel: &str,
-    key: &str,
-    publication: &Publication,
-)
-    requires word { (owner.old.word ≡ word.now) × (pass.old.word ≡ word.now) }
-    requires room { length owner.old.log < 2 ^ 62 }
-    ensures owner { owner.new ≡ record owner.old {
-      log = owner.old.log ++ Publish channel.now key.now publication.now.datum ∷ [];
-    } }
-    ensures whole { HasWhole pass.new owner.new.log }
-    ensures share { KeepsShare pass.old pass.new 1 }
-{
-    let by = match &publication.info {
-        None => None,
-        Some(info) => Some((info.user.as_str(), info.client.as_str())),
-    };
-    word.append(
-        owner,
-        pass,
-        &Entry::Published(channel, key, publication.body.as_str(), by),
-    );
-}
-
 /// The entries of an accepted publish: the stream's opening where none stood, and the newest publication that the channel holds.
 pub(crate) fn note_publish(
     streams: &Streams,
@@ -174,10 +146,15 @@ pub(crate) fn note_publish(
     ensures share { KeepsShare pass.old pass.new 1 }
 {
     note_opening(word, owner, pass, stood, channel, position);
-    match streams.last(channel) {
-        None => unreachable!(),
-        Some(publication) => note_publication(word, owner, pass, channel, key, publication),
-    }
+    let Some(newest) = streams.last(channel) else {
+        unreachable!()
+    };
+    let by = match &newest.info {
+        None => None,
+        Some(info) => Some((info.user.as_str(), info.client.as_str())),
+    };
+    let entry = Entry::Published(channel, key, newest.body.as_str(), by);
+    word.append(owner, pass, &entry);
 }
 
 /// Whether so much room is enough for the entries of all that is due.
