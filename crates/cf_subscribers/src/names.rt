@@ -45,11 +45,11 @@ impl Names {
         ensures ok { IfOk result (λ n. SetsName self.old self.new n (Some name.now)) }
         ensures err { OnErr result (SameNames self.old self.new) }
     {
-        let text = String::from_str(alloc, name)?;
         self.names.reserve(1)?;
         let Ok(number) = u32::try_from(self.names.vacant_key()) else {
             return Err(AllocError);
         };
+        let text = String::from_str(alloc, name)?;
         set_number(&mut self.numbers, alloc, name, number)?;
         self.names.insert_reserved(text);
         Ok(number)
