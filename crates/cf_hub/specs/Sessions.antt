@@ -1,5 +1,5 @@
 -- What a call makes of one of a node's sessions: of the session itself, and of all of them by number.
-use Rattle.std.specs.Prelude.{◌≡◌, ◌≢◌, ◌&&◌, ℕ, not, Bool, true, false, if◌then◌else◌, Option, MatchOption, IfSome}
+use Rattle.std.specs.Prelude.{◌≡◌, ◌≢◌, ◌&&◌, ℕ, not, Bool, true, false, if◌then◌else◌, Option, IfSome}
 use Rattle.std.specs.Prelude.{List, map, option_map}
 use Rattle.cf_protocol.specs.Datum.{Placed}
 use Rattle.cf_queue.specs.OutQueue.{Item, Text, Close}
@@ -10,10 +10,9 @@ use Rattle.cf_hub.specs.Delivery.{fate_of}
 use Rattle.cf_hub.specs.Finish.{FinishesAt}
 use Rattle.cf_hub.specs.Hub.{InState, attached_in, moves}
 use Rattle.cf_hub.specs.Places.{Places}
-use Rattle.cf_hub.specs.Reply.{IsAnswered}
 use Rattle.cf_hub.specs.Rows.{off_after, sub_in}
 use Rattle.cf_hub.specs.Session.{Attached, Badge, badge_of, state_of, ticks}
-use Rattle.cf_model.specs.SessionState.{Off, SessionState, closes_now, comes, is_off, is_ready, push, put_sub, reads}
+use Rattle.cf_model.specs.SessionState.{Off, SessionState, closes_now, comes, is_off, push, put_sub, reads}
 use Rattle.cf_model.specs.SessionState.{no_memory, slow}
 use Rattle.cf_hub.specs.Subscriptions.{reading_of}
 use Rattle.cf_hub.specs.WantOfMemory.{Both, OrCloses, SaysAll, Serves}
@@ -107,12 +106,6 @@ finish_fate a = if a.released.insufficient then Ended else Passed
 -- the channel's subscription is finished where there is one to finish
 abbrev pub FinishesSession : Bool → List ℕ → Session → Session → Type 0
 FinishesSession refused c old new = FinishesAt refused c ((state_of old).subs c) (state_of old) (state_of new)
-
--- the channel's subscription is answered where it is ready, and else nothing changes
-abbrev pub AnswersTo : Option Answered → List ℕ → Session → Session → Type 0
-AnswersTo answered c old new =
-    MatchOption answered ((state_of new ≡ state_of old) × (is_ready ((state_of old).subs c) ≡ false))
-    (λ a. IsAnswered a c (state_of old) (state_of new))
 
 -- ---- the session of a number
 

@@ -28,8 +28,8 @@ impl Hub {
     pub fn asked(&self, session: u32, channel: &str) -> Option<Asked>
         ensures { result ≡ asked_of (sub_at self.now session channel.now) }
     {
-        match self.progress(session, channel)? {
-            Progress::Asked { since, .. } => Some(Asked { since: *since }),
+        match self.progress(session, channel) {
+            Some(Progress::Asked { since, .. }) => Some(Asked { since: *since }),
             _ => None,
         }
     }

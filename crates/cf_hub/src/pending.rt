@@ -73,8 +73,10 @@ impl Pending {
         ensures first { MatchOption result ((self.old.numbers ≡ []) × (self.new.numbers ≡ []))
             (λ k. self.old.numbers ≡ k ∷ self.new.numbers) }
     {
-        let number = self.numbers.pop_front()?;
-        self.is_pending[number as usize] = false;
-        Some(number)
+        let first = self.numbers.pop_front();
+        if let Some(number) = first {
+            self.is_pending[number as usize] = false;
+        }
+        first
     }
 }

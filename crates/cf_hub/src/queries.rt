@@ -25,9 +25,12 @@ impl Hub {
     pub(crate) fn progress(&self, session: u32, channel: &str) -> Option<&Progress>
         ensures { sub_of (option_copied result) ≡ sub_at self.now session channel.now }
     {
-        match self.session(session)?.subscriptions.get(channel) {
+        match self.session(session) {
             None => None,
-            Some(progress) => Some(progress.as_ref()),
+            Some(session) => match session.subscriptions.get(channel) {
+                None => None,
+                Some(progress) => Some(progress.as_ref()),
+            },
         }
     }
 
@@ -35,8 +38,8 @@ impl Hub {
     pub fn place(&self, session: u32, channel: &str) -> Option<Position>
         ensures { result ≡ place_of (sub_at self.now session channel.now) }
     {
-        match self.progress(session, channel)? {
-            Progress::On { at, .. } => Some(*at),
+        match self.progress(session, channel) {
+            Some(Progress::On { at, .. }) => Some(*at),
             _ => None,
         }
     }

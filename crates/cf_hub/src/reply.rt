@@ -6,7 +6,7 @@ ghost use Rattle.cf_model.specs.SessionState.{is_asked, is_ready};
 ghost use Rattle.cf_hub.specs.Subscriptions.{SetsAt, names, progress_at, sub_of};
 
 use crate::fate::Fate;
-use crate::session::{Session, either};
+use crate::session::Session;
 use crate::step::Step;
 use crate::subscription::Progress;
 use crate::wording::{end_text, reply_text};
@@ -147,22 +147,7 @@ impl Session {
     ghost use Rattle.cf_hub.specs.Reply.{answer_notes, finish_texts};
     ghost use Rattle.cf_hub.specs.Session.{badge_of, state_of};
     ghost use Rattle.cf_model.specs.SessionState.{is_asked, is_ready};
-    ghost use Rattle.cf_hub.specs.Sessions.{AnswersTo, EndsAs, FinishesSession, Moves, Tells, closed_or, finish_fate, leaves_if};
-
-    /// Gives a channel's reply and what follows it, where the stream was read. The subscription then stands behind both, or is
-    /// over.
-    fn answer(&mut self, channel: &str) -> Option<Answered>
-        ensures answered { AnswersTo result channel.now self.old self.new }
-        ensures badge { badge_of self.new ≡ badge_of self.old }
-    {
-        match answer_at(&mut self.subscriptions, channel) {
-            None => None,
-            Some(answered) => {
-                self.leave_if(channel, answered.released.insufficient);
-                Some(answered)
-            }
-        }
-    }
+    ghost use Rattle.cf_hub.specs.Sessions.{EndsAs, FinishesSession, Moves, Tells, closed_or, finish_fate, leaves_if};
 
     /// The channel's subscription ends, if so.
     fn leave_if(&mut self, channel: &str, ends: bool)
@@ -183,9 +168,12 @@ impl Session {
         ensures badge { badge_of self.new ≡ badge_of self.old }
     {
         let was_closed = self.queue.is_closed();
-        match self.answer(channel) {
+        match answer_at(&mut self.subscriptions, channel) {
             None => (false, Step::none()),
-            Some(answered) => (true, self.say_finish(alloc, channel, was_closed, answered)),
+            Some(answered) => {
+                self.leave_if(channel, answered.released.insufficient);
+                (true, self.say_finish(alloc, channel, was_closed, answered))
+            }
         }
     }
 
@@ -207,7 +195,7 @@ impl Session {
             return self.step(was_closed, Fate::Passed, refused);
         }
         let end = self.say(end_text(alloc, channel));
-        self.step(was_closed, Fate::Ended, either(refused, end))
+        self.step(was_closed, Fate::Ended, refused | end)
     }
 
     /// Queues a reply and the run that follows it. Says whether memory was refused.
@@ -223,6 +211,6 @@ impl Session {
         } = answered;
         let first = self.say(reply_text(alloc, id, was_recovering, recovery));
         let second = self.pass_on(alloc, channel, &released.run);
-        either(first, second)
+        first | second
     }
 }

@@ -1,5 +1,5 @@
 //! One session: its subscriptions, and what waits for its client.
-ghost use Rattle.std.specs.Prelude.{◌≡◌, ◌||◌};
+ghost use Rattle.std.specs.Prelude.{◌≡◌};
 
 use crate::fate::Fate;
 use crate::step::Step;
@@ -112,18 +112,8 @@ impl Session {
         self.step(was_closed, Fate::Passed, refused)
     }
 
-    /// Queues a text that others get as well, or closes the session. Says whether memory was refused.
-    fn say_shared(&mut self, text: &ByteStr) -> bool
-        ensures state { Acts result (says_one text.now) self.old self.new }
-        ensures badge { badge_of self.new ≡ badge_of self.old }
-    {
-        match self.queue.push_shared(text) {
-            Ok(()) => false,
-            Err(refusal) => self.refuse(refusal),
-        }
-    }
-
-    /// Queues the push of a publication that was written for all, or one of its own where it was not.
+    /// Queues the push of a publication that was written for all, or one of its own where it was not, or closes the session.
+    /// Says whether memory was refused.
     fn say_publication(
         &mut self,
         alloc: Global,
@@ -137,7 +127,10 @@ impl Session {
         ensures badge { badge_of self.new ≡ badge_of self.old }
     {
         match written {
-            Some(text) => self.say_shared(text),
+            Some(text) => match self.queue.push_shared(text) {
+                Ok(()) => false,
+                Err(refusal) => self.refuse(refusal),
+            },
             None => self.say(push_text(alloc, channel, publication)),
         }
     }
@@ -149,8 +142,7 @@ impl Session {
     {
         let mut refused = false;
         for publication in run {
-            let now = self.say(push_text(alloc, channel, publication));
-            refused = either(refused, now);
+            refused |= self.say(push_text(alloc, channel, publication));
         }
         refused
     }
@@ -222,11 +214,4 @@ impl Session {
             }
         }
     }
-}
-
-/// Whether one of two holds.
-pub(crate) fn either(a: bool, b: bool) -> bool
-    ensures { result ≡ (a || b) }
-{
-    a || b
 }

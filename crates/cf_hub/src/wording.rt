@@ -14,7 +14,10 @@ use std::alloc::{AllocError, Global};
 pub(crate) fn shared(text: Result<String, AllocError>) -> Option<ByteStr>
     ensures { IfSome result (λ t. IsOkAnd text (λ s. t ≡ string_bytes s)) }
 {
-    ByteStr::from_string(text.ok()?).ok()
+    match text {
+        Ok(text) => ByteStr::from_string(text).ok(),
+        Err(_) => None,
+    }
 }
 
 /// The push of a publication.

@@ -1,6 +1,5 @@
 -- What always holds of a table's rows in their lists, and of the ends of these.
-use Rattle.std.specs.Prelude.{◌≡◌, ℕ, ◌<◌, List, length}
-use Rattle.std.specs.HashMap.{spare}
+use Rattle.std.specs.Prelude.{◌≡◌, ℕ, List, length}
 use Rattle.cf_subs.specs.declared.linked_rows.LinkedRows.{LinkedRows}
 use Rattle.cf_subs.specs.declared.seat.Seat.{Seat}
 use Rattle.cf_subs.specs.declared.table.Row.{Row}
@@ -14,11 +13,6 @@ pub record IsWhole (r : LinkedRows) : Type 0 where
   pub linked : AreLinked r.seats.blocks.held
   pub channels : IsHeaded channel_of r.channels r.seats.blocks.held
   pub sessions : IsHeaded session_of r.sessions r.seats.blocks.held
-
--- no more memory is needed for the ends of one more list of each kind
-pub record HasRoom (r : LinkedRows) : Type 0 where
-  pub channels : 0 < spare r.channels
-  pub sessions : 0 < spare r.sessions
 
 -- the blocks, and the rows in them
 abbrev pub blocks_of : LinkedRows → List (Held Seat)

@@ -1,19 +1,18 @@
 //! The rows of a table in the lists of their channels and of their sessions.
-ghost use Rattle.std.specs.Prelude.{◌≡◌, ◌+◌, ◌≤◌, [], ◌∷◌, ◌++◌, length, IsSome, OnOk, OnErr, IsErrOf, IsNone, IfSome};
+ghost use Rattle.std.specs.Prelude.{◌≡◌, ◌+◌, ◌≤◌, [], ◌∷◌, ◌++◌, length, IsSome, OnOk, OnErr, IsNone, IfSome};
 ghost use Rattle.cf_subs.specs.Held.{found, without};
 ghost use Rattle.cf_subs.specs.Rows.{most_rows, without_session};
 ghost use Rattle.cf_subs.specs.Seats.{IsUnlinked, channel_of, place_of, rows_of, session_of};
 ghost use Rattle.cf_subs.specs.Threads.{first_of};
-ghost use Rattle.cf_subs.specs.Whole.{HasRoom, IsWhole, blocks_of, rows_in};
+ghost use Rattle.cf_subs.specs.Whole.{IsWhole, blocks_of, rows_in};
 
 use crate::blocks::{At, Blocks};
 use crate::ends;
 use crate::ends::EndsByNumber;
-use crate::refusal::SubRefusal;
 use crate::seat::Seat;
 use crate::seats::Seats;
 use crate::table::Row;
-use std::alloc::Global;
+use std::alloc::{AllocError, Global};
 use std::collections::HashMap;
 
 /// The rows' blocks, and where the list of each channel and of each session begins and ends.
@@ -54,32 +53,19 @@ impl LinkedRows {
     }
 
     /// Adds a row behind all others. All that takes memory comes before the first link.
-    pub(crate) fn push(&mut self, row: Row, alloc: Global) -> Result<(), SubRefusal>
+    pub(crate) fn push(&mut self, row: Row, alloc: Global) -> Result<(), AllocError>
         requires whole { IsWhole self.old }
         ensures whole { IsWhole self.new }
         ensures ok { OnOk result (rows_in self.new ≡ rows_in self.old ++ row ∷ []) }
         ensures err { OnErr result (rows_in self.new ≡ rows_in self.old) }
-        ensures memory { OnErr result (IsErrOf result SubRefusal.Memory) }
     {
         self.channels.reserve(1)?;
         self.sessions.reserve(1)?;
         let block = Box::new(alloc, self.unlinked(row))?;
-        self.link(block);
-        Ok(())
-    }
-
-    /// Links a row in behind all others. It takes no memory.
-    fn link(&mut self, block: Box<Seat>)
-        requires whole { IsWhole self.old }
-        requires room { HasRoom self.old }
-        requires unlinked { IsUnlinked (blocks_of self.old) block.value }
-        ensures whole { IsWhole self.new }
-        ensures rows { rows_in self.new ≡ rows_in self.old ++ block.value.row ∷ [] }
-    {
-        let row = block.row;
         let at = self.seats.link(block);
         ends::grow(&mut self.channels, row.channel, at);
         ends::grow(&mut self.sessions, row.session, at);
+        Ok(())
     }
 
     /// Unlinks a row and frees its block. It takes no memory.

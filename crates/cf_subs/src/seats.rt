@@ -109,20 +109,11 @@ impl Seats {
         ensures seat { Some result ≡ found self.old.blocks.held at.ptr }
         ensures lists { SameLists self.new.blocks.held (without self.old.blocks.held at.ptr) }
     {
-        let seat = self.free(at, alloc);
+        let seat = *self.blocks.release(at, alloc).into_box();
         self.set_after_in_channel(seat.before_in_channel, seat.after_in_channel);
         self.set_before_in_channel(seat.after_in_channel, seat.before_in_channel);
         self.set_after_in_session(seat.before_in_session, seat.after_in_session);
         self.set_before_in_session(seat.after_in_session, seat.before_in_session);
         seat
-    }
-
-    /// Frees a row's block, and says what it held.
-    fn free(&mut self, at: At, alloc: Global) -> Seat
-        requires { IsSome (found self.old.blocks.held at.ptr) }
-        ensures value { Some result ≡ found self.old.blocks.held at.ptr }
-        ensures held { self.new.blocks.held ≡ without self.old.blocks.held at.ptr }
-    {
-        *self.blocks.release(at, alloc).into_box()
     }
 }

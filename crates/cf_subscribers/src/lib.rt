@@ -5,10 +5,8 @@
 
 mod named_rows;
 mod names;
-mod refusal;
 mod subscribers;
 mod walk;
 
-pub use refusal::FollowRefusal;
 pub use subscribers::{MOST_ROWS, Subscribers};
 pub use walk::FollowerWalk;

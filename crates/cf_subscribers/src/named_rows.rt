@@ -1,24 +1,12 @@
 //! Rows by number, under names: what a row's coming or going makes of both.
-ghost use Rattle.std.specs.Prelude.{◌≡◌, false, None, OnOk, OnErr};
-ghost use Rattle.cf_subs.specs.Rows.{follows, with_row, without_row};
+ghost use Rattle.std.specs.Prelude.{◌≡◌, length, None, OnOk, OnErr, IsErrOf};
+ghost use Rattle.cf_subs.specs.Rows.{follows, most_rows, without_row};
 ghost use Rattle.cf_subscribers.specs.Follows.{with_follow};
 ghost use Rattle.cf_subscribers.specs.Names.{AreNumbered, AreUsed, named, number_at};
 
 use crate::names::Names;
-use cf_subs::SubTable;
-use std::alloc::{AllocError, Global};
-
-/// Adds a row to a channel that has rows.
-pub(crate) fn add_row(rows: &mut SubTable, channel: u32, session: u32) -> Result<(), AllocError>
-    requires absent { follows rows.old channel session ≡ false }
-    ensures ok { OnOk result (rows.new ≡ with_row rows.old channel session) }
-    ensures err { OnErr result (rows.new ≡ rows.old) }
-{
-    match rows.add(channel, session) {
-        Ok(()) => Ok(()),
-        Err(_) => Err(AllocError),
-    }
-}
+use cf_subs::{SubRefusal, SubTable};
+use std::alloc::Global;
 
 /// Adds the first row of a channel, under a new number.
 pub(crate) fn add_first_row(
@@ -27,7 +15,7 @@ pub(crate) fn add_first_row(
     alloc: Global,
     channel: &str,
     session: u32,
-) -> Result<(), AllocError>
+) -> Result<(), SubRefusal>
     requires numbered { AreNumbered names.old }
     requires used { AreUsed names.old rows.old }
     requires absent { number_at names.old channel.now ≡ None }
@@ -35,10 +23,11 @@ pub(crate) fn add_first_row(
     ensures used { AreUsed names.new rows.new }
     ensures ok { OnOk result
         (named names.new rows.new ≡ with_follow (named names.old rows.old) channel.now session) }
+    ensures full { IsErrOf result SubRefusal.Full → length rows.old ≡ most_rows }
     ensures err { OnErr result (named names.new rows.new ≡ named names.old rows.old) }
 {
     let number = names.add(alloc, channel)?;
-    match add_row(rows, number, session) {
+    match rows.add(number, session) {
         Ok(()) => Ok(()),
         Err(refused) => {
             names.remove(number);

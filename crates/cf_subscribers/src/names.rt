@@ -1,7 +1,4 @@
 //! The channels' names, each under a number.
-ghost use Rattle.std.specs.Prelude.{◌≡◌, None, Some, OnOk, OnErr};
-ghost use Rattle.std.specs.BTreeMap.{get_by_text};
-ghost use Rattle.cf_subscribers.specs.Numbers.{SetsNumber};
 
 use slab::Slab;
 use std::alloc::{AllocError, Global};
@@ -45,12 +42,13 @@ impl Names {
         ensures ok { IfOk result (λ n. SetsName self.old self.new n (Some name.now)) }
         ensures err { OnErr result (SameNames self.old self.new) }
     {
-        let text = String::from_str(alloc, name)?;
         self.names.reserve(1)?;
         let Ok(number) = u32::try_from(self.names.vacant_key()) else {
             return Err(AllocError);
         };
-        set_number(&mut self.numbers, alloc, name, number)?;
+        let key = String::from_str(alloc, name)?;
+        let text = String::from_str(alloc, name)?;
+        self.numbers.insert(key, number)?;
         self.names.insert_reserved(text);
         Ok(number)
     }
@@ -62,32 +60,7 @@ impl Names {
         ensures gone { SetsName self.old self.new number None }
     {
         if let Some(name) = self.names.try_remove(number as usize) {
-            take_number(&mut self.numbers, name.as_str());
+            let _number = self.numbers.remove(name.as_str());
         }
     }
-}
-
-/// Gives a number to a name that has none, as the map has it.
-#[tactic(auto, using(std::proofs::lemmas::Map::Text::text_keys))]
-fn set_number(
-    numbers: &mut BTreeMap<String, u32>,
-    alloc: Global,
-    name: &str,
-    number: u32,
-) -> Result<(), AllocError>
-    requires { get_by_text numbers.old name.now ≡ None }
-    ensures ok { OnOk result (SetsNumber numbers.old numbers.new name.now (Some number)) }
-    ensures err { OnErr result (numbers.new.entries ≡ numbers.old.entries) }
-{
-    let key = String::from_str(alloc, name)?;
-    numbers.insert(key, number)?;
-    Ok(())
-}
-
-/// Takes a name's number back, as the map has it.
-#[tactic(auto, using(std::proofs::lemmas::Map::Text::text_keys))]
-fn take_number(numbers: &mut BTreeMap<String, u32>, name: &str)
-    ensures { SetsNumber numbers.old numbers.new name.now None }
-{
-    let _gone = numbers.remove(name);
 }

@@ -3,11 +3,10 @@ ghost use Rattle.std.specs.Prelude.{◌≡◌, ◌↔◌, [], length, false, OnO
 ghost use Rattle.cf_subscribers.specs.Follows.{AreFollows, after_in, channels_of, follows, sessions_of, with_follow, without_follow, without_session};
 ghost use Rattle.cf_model.specs.Limits.{most_rows};
 
-use crate::named_rows::{add_first_row, add_row, remove_row};
+use crate::named_rows::{add_first_row, remove_row};
 use crate::names::Names;
-use crate::refusal::FollowRefusal;
 use crate::walk::FollowerWalk;
-use cf_subs::SubTable;
+use cf_subs::{SubRefusal, SubTable};
 use std::alloc::Global;
 use std::marker::Model;
 
@@ -60,22 +59,20 @@ impl Subscribers {
     /// Adds the row of a session that doesn't follow the channel yet, behind all others.
     ///
     /// It is refused with `Full` exactly where there are 65,536 rows, and with `Memory` where memory is refused.
-    pub fn add(&mut self, alloc: Global, channel: &str, session: u32) -> Result<(), FollowRefusal>
+    pub fn add(&mut self, alloc: Global, channel: &str, session: u32) -> Result<(), SubRefusal>
         requires absent { follows self.old channel.now session ≡ false }
         ensures ok { OnOk result (self.new ≡ with_follow self.old channel.now session) }
-        ensures full { IsErrOf result FollowRefusal.Full ↔ (length self.old ≡ most_rows) }
+        ensures full { IsErrOf result SubRefusal.Full ↔ (length self.old ≡ most_rows) }
         ensures err { OnErr result (self.new ≡ self.old) }
         ensures rows { AreFollows self.new }
     {
         if self.rows.len() >= MOST_ROWS {
-            return Err(FollowRefusal::Full);
+            return Err(SubRefusal::Full);
         }
-        let Some(number) = self.names.number(channel) else {
-            add_first_row(&mut self.names, &mut self.rows, alloc, channel, session)?;
-            return Ok(());
-        };
-        add_row(&mut self.rows, number, session)?;
-        Ok(())
+        match self.names.number(channel) {
+            Some(number) => self.rows.add(number, session),
+            None => add_first_row(&mut self.names, &mut self.rows, alloc, channel, session),
+        }
     }
 
     /// Whether a session follows a channel. It takes no memory.

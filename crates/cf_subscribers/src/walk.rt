@@ -28,6 +28,9 @@ impl<'a> Iterator for FollowerWalk<'a> {
     ghost remaining = { item_count (λ w. w) };
 
     fn next(&mut self) -> Option<u32> {
-        self.rest.as_mut()?.next()
+        match &mut self.rest {
+            Some(rest) => rest.next(),
+            None => None,
+        }
     }
 }

@@ -7,8 +7,8 @@ use Rattle.cf_subscribers.proofs.named_rows.add_first_row.Goals as goal
 pub returns-in_err-number-clause-used : goal.returns-in_err-number-clause-used
 returns-in_err-number-clause-used c = covers_same (name_at c.args.names.now) (name_at c.add.new.self) c.args.rows.now c.requires.used c.in_err-number.ensures.err
 
-pub add_row-requires : goal.add_row-requires
-add_row-requires c = record { absent = no_follow c.args.rows.now c.in_ok-number.number c.args.session (no_row (name_at c.args.names.now) c.args.rows.now c.in_ok-number.number c.requires.used c.in_ok-number.ensures.free) }
+pub add-requires-2 : goal.add-requires-2
+add-requires-2 c = record { absent = no_follow c.args.rows.now c.in_ok-number.number c.args.session (no_row (name_at c.args.names.now) c.args.rows.now c.in_ok-number.number c.requires.used c.in_ok-number.ensures.free) }
 
 pub returns-in-Ok-clause-used : goal.returns-in-Ok-clause-used
 returns-in-Ok-clause-used c =

@@ -13,7 +13,6 @@ use Rattle.cf_hub.proofs.session.Session.say_answer.Goals as goal
 pub returns-clause-state : goal.returns-clause-state
 returns-clause-state c =
     let t : List ℕ = reply_text c.args.answered.id c.args.answered.was_recovering (reading_of c.args.answered.recovery) c.args.answered.recovery.publications.items in
-    subst (λ (b : Bool). SaysAll b plain (answer_notes c.args.channel.now c.args.answered) (state_of c.args.self.now) (state_of c.pass_on-second.new.self)) (sym c.either.ensures)
     (all_said plain c.say-first.result c.pass_on-second.result (Text t ∷ []) (map (λ x. Text (push_text c.args.channel.now x)) c.args.answered.released.run.items)
     (state_of c.args.self.now) (state_of c.say-first.new.self) (state_of c.pass_on-second.new.self)
     (one_said plain c.say-first.result (Text t) (state_of c.args.self.now) (state_of c.say-first.new.self) (c.say-first.ensures.state t c.reply_text.ensures))

@@ -18,7 +18,7 @@ returns-then-not-ends-clause-state c =
 pub returns-clause-state : goal.returns-clause-state
 returns-clause-state c =
     let short : c.args.answered.released.insufficient ≡ true = search rules in
-    subst (λ (r : Bool). SaysAll r plain (finish_texts c.args.channel.now c.args.answered) (state_of c.args.self.now) (state_of c.say-end.new.self)) (sym (c.step-2.ensures.refused ∙ c.either.ensures))
+    subst (λ (r : Bool). SaysAll r plain (finish_texts c.args.channel.now c.args.answered) (state_of c.args.self.now) (state_of c.say-end.new.self)) (sym c.step-2.ensures.refused)
     (subst (λ (t : Bool). SaysAll (c.say_answer-refused.result || c.say-end.result) plain (answer_notes c.args.channel.now c.args.answered ++ (if t then Text (end_text c.args.channel.now) ∷ [] else [])) (state_of c.args.self.now) (state_of c.say-end.new.self)) (sym short)
     (all_said plain c.say_answer-refused.result c.say-end.result (answer_notes c.args.channel.now c.args.answered) (Text (end_text c.args.channel.now) ∷ []) (state_of c.args.self.now) (state_of c.say_answer-refused.new.self) (state_of c.say-end.new.self)
     c.say_answer-refused.ensures.state
