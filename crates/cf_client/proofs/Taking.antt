@@ -22,6 +22,11 @@ pub told_one : (before after : List AppEvent) (e : AppEvent) (i : AppItem)
 told_one before after e i h k =
     ap (map shown_item) h ∙ map-append shown_item before (e ∷ []) ∙ ap (λ (x : AppItem). map shown_item before ++ x ∷ []) k
 
+-- one thing more is told, after nothing was
+pub told_next : (before kept after : List AppEvent) (e : AppEvent) (i : AppItem)
+    → kept ≡ before → after ≡ kept ++ e ∷ [] → shown_item e ≡ i → map shown_item after ≡ map shown_item before ++ i ∷ []
+told_next before kept after e i same h k = subst (λ x. map shown_item after ≡ map shown_item x ++ i ∷ []) same (told_one kept after e i h k)
+
 pub told_reply : (before mid after : List AppEvent) (i : AppItem) (is : List AppItem)
     → map shown_item mid ≡ map shown_item before ++ i ∷ [] → map shown_item after ≡ map shown_item mid ++ is
     → map shown_item after ≡ map shown_item before ++ i ∷ is
@@ -33,6 +38,12 @@ pub told_call : (tells : List ℕ → AppItem) (before after : List AppEvent) (e
     → map shown_item after ≡ map shown_item before ++ map tells (option_to_list found)
 told_call tells before after e name found h k is =
     told_one before after e (tells name) h k ∙ ap (λ (o : Option (List ℕ)). map shown_item before ++ map tells (option_to_list o)) is
+
+pub told_next_call : (tells : List ℕ → AppItem) (before kept after : List AppEvent) (e : AppEvent) (name : List ℕ) (found : Option (List ℕ))
+    → kept ≡ before → after ≡ kept ++ e ∷ [] → shown_item e ≡ tells name → Some name ≡ found
+    → map shown_item after ≡ map shown_item before ++ map tells (option_to_list found)
+told_next_call tells before kept after e name found same h k is =
+    subst (λ x. map shown_item after ≡ map shown_item x ++ map tells (option_to_list found)) same (told_call tells kept after e name found h k is)
 
 pub told_no_call : (tells : List ℕ → AppItem) (events : List AppEvent) (found : Option (List ℕ)) → None ≡ found
     → map shown_item events ≡ map shown_item events ++ map tells (option_to_list found)

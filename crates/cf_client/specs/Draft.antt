@@ -9,7 +9,6 @@ use Rattle.cf_client.specs.ClientView.{ids_of}
 use Rattle.cf_client.specs.Shown.{Channels, mode_or_idle, calls_of, TellsAlso}
 use Rattle.cf_client.specs.declared.channels.Mode.{Mode as CodeMode}
 use Rattle.cf_client.specs.declared.draft.Draft.{Draft as CodeDraft}
-use Rattle.cf_client.specs.declared.event.AppEvent.{AppEvent}
 use Rattle.cf_client.specs.declared.known.Known.{Known as CodeKnown}
 
 -- what was changed, or else what was there
@@ -42,7 +41,5 @@ drafted k d = record {
 }
 
 -- a draft takes this step, and the application is told what the step says
-abbrev pub Drafts : CodeKnown → (State → State → List AppItem → Type 0) → CodeDraft → CodeDraft
-    → List AppEvent
-    → List AppEvent → Type 0
-Drafts k step old new before after = TellsAlso (step (drafted k old) (drafted k new)) before after
+abbrev pub Drafts : CodeKnown → (State → State → List AppItem → Type 0) → CodeDraft → CodeDraft → Type 0
+Drafts k step old new = TellsAlso (step (drafted k old) (drafted k new)) old.events.items new.events.items

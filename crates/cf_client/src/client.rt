@@ -334,8 +334,8 @@ impl Client {
             Err(ReadFault::Bad) => return Err(ClientFault::Bad),
             Err(ReadFault::Memory) => return Err(ClientFault::Memory),
         };
-        let (draft, events) = draft_of(self.alloc, &self.known, outgoings)?;
-        draft.carry_out(&mut self.known);
+        let draft = draft_of(self.alloc, &self.known, outgoings)?;
+        let events = draft.carry_out(&mut self.known);
         Ok(events)
     }
 }

@@ -1,5 +1,5 @@
 //! What the replies and pushes of a text make of a client, before any of it is carried out.
-ghost use Rattle.std.specs.Prelude.{◌≡◌, ◌++◌, List, ℕ, Some, None, false, true, IsSome, map, option_map, IfOk, IfSome, IfNone, OnOk, string_bytes, length};
+ghost use Rattle.std.specs.Prelude.{◌≡◌, ◌++◌, [], ◌∷◌, List, ℕ, Some, None, false, true, IsSome, map, option_map, IfOk, IfSome, IfNone, OnOk, string_bytes, length};
 ghost use Rattle.cf_protocol.specs.Outgoing as sent;
 ghost use Rattle.cf_protocol.specs.Shown.{shown_outgoing, shown_outcome, shown_pushed};
 ghost use Rattle.cf_client.specs.ClientCalls.{answered, asks_under, channel_under, moves, AnswersCall, TakesAll, Takes, TakesAnswer, TakesPush};
@@ -20,49 +20,54 @@ use std::collections::BTreeMap;
 /// From this code of an unsubscribe push on the client has to ask again.
 const ASKS_AGAIN: u32 = 2500;
 
-/// What is to change of what a client knows: the modes of channels that it asked for, and the calls that are answered.
+/// What is to change of what a client knows, the modes of channels that it asked for and the calls that are answered; and what its
+/// application gets then.
 #[derive(Drop)]
 pub(crate) struct Draft {
     changed: BTreeMap<String, Mode>,
     answered: Vec<u32>,
+    events: Vec<AppEvent>,
     alloc: Global,
 }
 
-/// What the replies and pushes of a text make of what a client knows, taken one after another, and what its application gets.
+/// What the replies and pushes of a text make of what a client knows, taken one after another.
 pub(crate) fn draft_of(
     alloc: Global,
     known: &Known,
     outgoings: Vec<Outgoing>,
-) -> Result<(Draft, Vec<AppEvent>), AllocError>
-    ensures { IfOk result (λ r. TakesAll (map shown_outgoing outgoings.items)
-        (known_state known.now) (drafted known.now r.0) (map shown_item r.1.items)) }
+) -> Result<Draft, AllocError>
+    ensures { IfOk result (λ d. TakesAll (map shown_outgoing outgoings.items)
+        (known_state known.now) (drafted known.now d) (map shown_item d.events.items)) }
 {
     let mut draft = Draft {
         changed: BTreeMap::new(alloc),
         answered: Vec::new(alloc),
+        events: Vec::new(alloc),
         alloc,
     };
-    let mut events = Vec::new(alloc);
     for outgoing in outgoings {
-        draft.take(known, outgoing, &mut events)?;
+        draft.take(known, outgoing)?;
     }
-    Ok((draft, events))
+    Ok(draft)
 }
 
 impl Draft {
-    /// Carries the changes out. It takes no memory.
-    pub(crate) fn carry_out(self, known: &mut Known)
-        ensures { known_state known.new ≡ drafted known.old self }
+    /// Carries the changes out, and gives what the application gets. It takes no memory.
+    pub(crate) fn carry_out(self, known: &mut Known) -> Vec<AppEvent>
+        ensures state { known_state known.new ≡ drafted known.old self }
+        ensures events { result ≡ self.events }
     {
         let Draft {
             mut changed,
             answered,
+            events,
             ..
         } = self;
         known.calls.retain(|call| !answered.contains(&call.id));
         while let Some((channel, mode)) = changed.pop_last() {
             set_mode(&mut known.channels, channel.as_str(), mode);
         }
+        events
     }
 
     /// What the client is then doing on a channel.
@@ -94,9 +99,19 @@ impl Draft {
         None
     }
 
+    /// Tells the application.
+    fn tell(&mut self, event: AppEvent) -> Result<(), AllocError>
+        ensures told { OnOk result (self.new.events.items ≡ self.old.events.items ++ event ∷ []) }
+        ensures same { self.new ≡ record self.old { events = self.new.events } }
+    {
+        self.events.push(event)?;
+        Ok(())
+    }
+
     /// Changes the mode of a channel.
     fn put(&mut self, channel: &str, mode: Mode) -> Result<(), AllocError>
-        ensures { OnOk result ((k : CodeKnown) → IsSome (get_by_text k.channels channel.now)
+        ensures events { self.new.events ≡ self.old.events }
+        ensures moved { OnOk result ((k : CodeKnown) → IsSome (get_by_text k.channels channel.now)
             → drafted k self.new ≡ moves channel.now (shown_mode mode) (drafted k self.old)) }
     {
         put_mode(&mut self.changed, self.alloc, channel, mode)
@@ -108,6 +123,7 @@ impl Draft {
             ≡ channel_under id (drafted known.now self.old).out) }
         ensures answered { OnOk result (drafted known.now self.new
             ≡ answered id (drafted known.now self.old)) }
+        ensures events { self.new.events ≡ self.old.events }
     {
         let found = if self.answered.contains(&id) {
             None
@@ -118,42 +134,23 @@ impl Draft {
         Ok(found)
     }
 
-    fn take(
-        &mut self,
-        known: &Known,
-        outgoing: Outgoing,
-        events: &mut Vec<AppEvent>,
-    ) -> Result<(), AllocError>
+    fn take(&mut self, known: &Known, outgoing: Outgoing) -> Result<(), AllocError>
         ensures { OnOk result (Drafts known.now (Takes (shown_outgoing outgoing))
-            self.old self.new events.old.items events.new.items) }
+            self.old self.new) }
     {
         match outgoing {
-            Outgoing::Ping => {
-                events.push(AppEvent::PongDue)?;
-                Ok(())
-            }
-            Outgoing::Answer { id, outcome } => self.take_answer(known, id, outcome, events),
+            Outgoing::Ping => self.tell(AppEvent::PongDue),
+            Outgoing::Answer { id, outcome } => self.take_answer(known, id, outcome),
             Outgoing::Push { channel, push } => match push {
-                Pushed::Publication(publication) => self.publication(
-                    known,
-                    channel,
-                    publication,
-                    events,
-                ),
-                Pushed::Unsubscribe { code } => self.unsubscribed(known, channel, code, events),
+                Pushed::Publication(publication) => self.publication(known, channel, publication),
+                Pushed::Unsubscribe { code } => self.unsubscribed(known, channel, code),
             },
         }
     }
 
-    fn take_answer(
-        &mut self,
-        known: &Known,
-        id: u32,
-        outcome: Outcome,
-        events: &mut Vec<AppEvent>,
-    ) -> Result<(), AllocError>
+    fn take_answer(&mut self, known: &Known, id: u32, outcome: Outcome) -> Result<(), AllocError>
         ensures { OnOk result (Drafts known.now (TakesAnswer id (shown_outcome outcome))
-            self.old self.new events.old.items events.new.items) }
+            self.old self.new) }
     {
         match outcome {
             Outcome::Subscribed {
@@ -168,13 +165,12 @@ impl Draft {
                 publications,
                 recovered,
                 was_recovering,
-                events,
             ),
-            Outcome::Failed { code } => self.failed(known, id, code, events),
+            Outcome::Failed { code } => self.failed(known, id, code),
             Outcome::Past {
                 position,
                 publications,
-            } => self.listed(known, id, &position, publications.len(), events),
+            } => self.listed(known, id, &position, publications.len()),
             Outcome::Published => {
                 self.answer_call(known, id)?;
                 Ok(())
@@ -196,37 +192,30 @@ impl Draft {
         publications: Vec<Publication>,
         recovered: bool,
         was_recovering: bool,
-        events: &mut Vec<AppEvent>,
     ) -> Result<(), AllocError>
         ensures { OnOk result (Drafts known.now
             (TakesAnswer id
             (sent.Subscribed position.now publications.items recovered was_recovering))
-            self.old self.new events.old.items events.new.items) }
+            self.old self.new) }
     {
         let Some(channel) = self.channel_asking(known, id) else {
             return Ok(());
         };
         self.put(channel, Mode::Live { at: *position })?;
         let name = String::from_str(self.alloc, channel)?;
-        events.push(AppEvent::Subscribed {
+        self.tell(AppEvent::Subscribed {
             channel: name,
             was_recovering,
             recovered,
             position: *position,
         })?;
-        pass_all(channel, position, publications, events)
+        pass_all(channel, position, publications, &mut self.events)
     }
 
     /// An error reply: the channel that asks under its id is idle, or a call is answered.
-    fn failed(
-        &mut self,
-        known: &Known,
-        id: u32,
-        code: u32,
-        events: &mut Vec<AppEvent>,
-    ) -> Result<(), AllocError>
+    fn failed(&mut self, known: &Known, id: u32, code: u32) -> Result<(), AllocError>
         ensures { OnOk result (Drafts known.now (TakesAnswer id (sent.Failed code))
-            self.old self.new events.old.items events.new.items) }
+            self.old self.new) }
     {
         let refused = match self.channel_asking(known, id) {
             Some(channel) => {
@@ -236,11 +225,11 @@ impl Draft {
             }
             None => self.answer_call(known, id)?,
         };
-        if let Some(channel) = refused {
-            let channel = String::from_str(self.alloc, channel)?;
-            events.push(AppEvent::Refused { channel, code })?;
-        }
-        Ok(())
+        let Some(channel) = refused else {
+            return Ok(());
+        };
+        let channel = String::from_str(self.alloc, channel)?;
+        self.tell(AppEvent::Refused { channel, code })
     }
 
     /// The answer to a history.
@@ -250,23 +239,21 @@ impl Draft {
         id: u32,
         position: &Position,
         count: usize,
-        events: &mut Vec<AppEvent>,
     ) -> Result<(), AllocError>
         ensures { OnOk result (Drafts known.now
             (AnswersCall id (λ c. item.Listed c position.now count))
-            self.old self.new events.old.items events.new.items) }
+            self.old self.new) }
     {
         let Some(channel) = self.answer_call(known, id)? else {
             return Ok(());
         };
         let channel = String::from_str(self.alloc, channel)?;
         let position = *position;
-        events.push(AppEvent::Listed {
+        self.tell(AppEvent::Listed {
             channel,
             position,
             count,
-        })?;
-        Ok(())
+        })
     }
 
     fn publication(
@@ -274,11 +261,10 @@ impl Draft {
         known: &Known,
         channel: String,
         publication: Publication,
-        events: &mut Vec<AppEvent>,
     ) -> Result<(), AllocError>
         ensures { OnOk result (Drafts known.now
             (TakesPush (string_bytes channel) (sent.Publication publication))
-            self.old self.new events.old.items events.new.items) }
+            self.old self.new) }
     {
         let Mode::Live { at } = self.mode_at(known, channel.as_str()) else {
             return Ok(());
@@ -289,20 +275,13 @@ impl Draft {
             at: Position { epoch, offset },
         };
         self.put(channel.as_str(), live)?;
-        events.push(passed(channel, epoch, publication))?;
-        Ok(())
+        self.tell(passed(channel, epoch, publication))
     }
 
-    fn unsubscribed(
-        &mut self,
-        known: &Known,
-        channel: String,
-        code: u32,
-        events: &mut Vec<AppEvent>,
-    ) -> Result<(), AllocError>
+    fn unsubscribed(&mut self, known: &Known, channel: String, code: u32) -> Result<(), AllocError>
         ensures { OnOk result (Drafts known.now
             (TakesPush (string_bytes channel) (sent.Unsubscribe code))
-            self.old self.new events.old.items events.new.items) }
+            self.old self.new) }
     {
         let Mode::Live { at } = self.mode_at(known, channel.as_str()) else {
             return Ok(());
@@ -310,8 +289,9 @@ impl Draft {
         let idle = Mode::Idle { last: Some(at) };
         self.put(channel.as_str(), idle)?;
         if code >= ASKS_AGAIN {
-            events.push(AppEvent::Resubscribing { channel, code })?;
+            self.tell(AppEvent::Resubscribing { channel, code })
+        } else {
+            Ok(())
         }
-        Ok(())
     }
 }

@@ -10,16 +10,16 @@ use Rattle.cf_client.proofs.client.Client.on_text.Goals as goal
 pub invariant_of-self : goal.invariant_of-self
 invariant_of-self c =
     let k = c.self.inside.known in
-    subst (λ (s : State). AreApart s.client) (sym c.carry_out.ensures)
-    (texts_apart (map shown_outgoing c.in-Ok.outgoings.items) (known_state k) (drafted k c.in_ok-draft.draft) (map shown_item c.in_ok-draft.events.items) c.self.invariant c.in_ok-draft.ensures)
+    subst (λ (s : State). AreApart s.client) (sym c.carry_out-events.ensures.state)
+    (texts_apart (map shown_outgoing c.in-Ok.outgoings.items) (known_state k) (drafted k c.in_ok-draft.draft) (map shown_item c.in_ok-draft.draft.events.items) c.self.invariant c.in_ok-draft.ensures)
 
 pub returns-clause-takes : goal.returns-clause-takes
 returns-clause-takes c = λ os reads.
     let k = c.self.inside.known in
-    let told = map shown_item c.in_ok-draft.events.items in
-    rw (← c.self.view_is)
-    (subst (λ xs. TakesAll xs (known_state k) (known_state c.carry_out.new.known) told) (sym (c.in-Ok.ensures.only os reads))
-    (subst (λ s. TakesAll (map shown_outgoing c.in-Ok.outgoings.items) (known_state k) s told) (sym c.carry_out.ensures) c.in_ok-draft.ensures))
+    let told = map shown_item c.in_ok-draft.draft.events.items in
+    rw (← c.self.view_is, c.carry_out-events.ensures.events)
+    (subst (λ xs. TakesAll xs (known_state k) (known_state c.carry_out-events.new.known) told) (sym (c.in-Ok.ensures.only os reads))
+    (subst (λ s. TakesAll (map shown_outgoing c.in-Ok.outgoings.items) (known_state k) s told) (sym c.carry_out-events.ensures.state) c.in_ok-draft.ensures))
 
 pub returns-in-Err-Bad-clause-refused : goal.returns-in-Err-Bad-clause-refused
 returns-in-Err-Bad-clause-refused c = c.in-Err-Bad.ensures.bad c.in-Err-Bad.field-0-is

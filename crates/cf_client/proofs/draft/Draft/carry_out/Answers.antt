@@ -38,8 +38,8 @@ loop-channel-preserved c =
       calls = was.calls;
     }
 
-pub returns : goal.returns
-returns c =
+pub returns-clause-state : goal.returns-clause-state
+returns-clause-state c =
     let was = c.loop-channel.invariant in
     let none : c.loop-channel.changed.entries ≡ [] = nil_from_length c.loop-channel.changed.entries (search rules) in
     all_carried_out c.args.known.now c.loop-channel.known c.args.self was.connected was.last

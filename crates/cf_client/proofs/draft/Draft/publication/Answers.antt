@@ -1,5 +1,6 @@
-use Rattle.std.proofs.Common.{◌≡◌, [], ◌∷◌, sym, ap, subst, List, ℕ}
+use Rattle.std.proofs.Common.{◌≡◌, ◌∙◌, [], ◌∷◌, sym, ap, subst, List, ℕ}
 use Rattle.std.proofs.lemmas.List.{append-nil}
+use Rattle.std.proofs.lemmas.Result.{on_ok_weaker}
 use Rattle.std.specs.String.{string_bytes}
 use Rattle.cf_model.specs.ClientState.{Live}
 use Rattle.cf_client.specs.ClientCalls.{moves}
@@ -7,7 +8,7 @@ use Rattle.cf_client.specs.AppItem.{published}
 use Rattle.cf_client.specs.Draft.{drafted, drafted_mode}
 use Rattle.cf_client.specs.Shown.{shown_mode, shown_item}
 use Rattle.cf_client.proofs.Drafting.{moves_live}
-use Rattle.cf_client.proofs.Taking.{live_at, not_live, passes_publication, takes_publication, told_one}
+use Rattle.cf_client.proofs.Taking.{live_at, not_live, passes_publication, takes_publication, told_next}
 use Rattle.cf_client.proofs.draft.Draft.publication.Goals as goal
 
 pub returns-in_default : goal.returns-in_default
@@ -30,11 +31,13 @@ returns c =
     let told = published name p.epoch q in
     let found : shown_mode c.mode_at.result ≡ drafted_mode base old name = subst (λ (n : List ℕ). shown_mode c.mode_at.result ≡ drafted_mode base old n) c.as_str.ensures.value c.mode_at.ensures in
     let live : drafted_mode base old name ≡ Live p = live_at c.mode_at.result _ p found c.in-Live.is in
-    let sets = moves_live k c.args.self.now to _ name p _ c.as_str-2.ensures.value live (c.in_ok-put.ensures k) in
+    let sets = moves_live k c.args.self.now to _ name p _ c.as_str-2.ensures.value live (c.in_ok-put.ensures.moved k) in
     let goes : drafted k to ≡ moves name (Live (record { epoch = p.epoch; offset = q.offset })) (drafted k c.args.self.now) =
     subst (λ o. drafted k to ≡ moves name (Live (record { epoch = p.epoch; offset = o })) (drafted k c.args.self.now)) (ap (λ x. x.offset) c.publication.view_is) sets in
-    let says : shown_item c.passed.result ≡ told = c.passed.ensures in (
+    let says : shown_item c.passed.result ≡ told = c.passed.ensures in
+    on_ok_weaker c.tell.result (λ tells. (
       told ∷ [],
-      takes_publication name q (drafted_mode base old name) p (drafted c.args.known.now c.args.self.now) _ live goes,
-      told_one c.args.events.now.items c.push.new.self.items c.passed.result told c.in_ok-push.ensures.items says,
-    )
+      takes_publication name q (drafted_mode base old name) p (drafted c.args.known.now c.args.self.now) _ live (ap (drafted k) c.tell.ensures.same ∙ goes),
+      told_next c.args.self.now.events.items c.put.new.self.events.items c.tell.new.self.events.items c.passed.result told (ap (λ v. v.items) c.put.ensures.events) tells says,
+    ))
+    c.tell.ensures.told
