@@ -219,31 +219,44 @@ fn link_option<'a>(alloc: Global) -> Arg<'a> {
         .default_value("1024")
 }
 
+/// A command of this name: what it is for, what stands below its help, and its options.
+fn command<'a>(
+    alloc: Global,
+    name: &'a str,
+    about: &'a str,
+    notes: &'a str,
+    options: Vec<Arg<'a>>,
+) -> Result<Command<'a>, AllocError> {
+    Command::new(alloc, name)
+        .about(about)
+        .after_help(notes)
+        .args(options)
+}
+
 fn simulate_command<'a>(alloc: Global) -> Result<Command<'a>, AllocError> {
     let explain = "Tells beside each event what it did, or why it changed nothing";
-    Command::new(alloc, "simulate")
-        .about(SIMULATE)
-        .after_help(SCHEDULE_NOTES)
-        .arg(nodes_option(alloc))?
-        .arg(namespaces_option(alloc))?
-        .arg(flag(alloc, "explain", explain))
+    let options = [
+        nodes_option(alloc),
+        namespaces_option(alloc),
+        flag(alloc, "explain", explain),
+    ];
+    let options = Vec::from_array(alloc, options)?;
+    command(alloc, "simulate", SIMULATE, SCHEDULE_NOTES, options)
 }
 
 fn speak_command<'a>(alloc: Global) -> Result<Command<'a>, AllocError> {
-    Command::new(alloc, "speak")
-        .about(SPEAK)
-        .after_help(SPEAK_NOTES)
-        .arg(namespaces_option(alloc))?
-        .arg(tokens_option(alloc))?
-        .arg(epochs_option(alloc))
+    let options = [
+        namespaces_option(alloc),
+        tokens_option(alloc),
+        epochs_option(alloc),
+    ];
+    let options = Vec::from_array(alloc, options)?;
+    command(alloc, "speak", SPEAK, SPEAK_NOTES, options)
 }
 
 fn serve_command<'a>(alloc: Global) -> Result<Command<'a>, AllocError> {
     let quiet = "Says nothing on standard error of what goes wrong while it serves";
-    let mut command = Command::new(alloc, "serve")
-        .about(SERVE)
-        .after_help(SERVE_NOTES);
-    for option in [
+    let options = [
         boot_option(alloc),
         nodes_option(alloc),
         port_option(alloc),
@@ -251,10 +264,9 @@ fn serve_command<'a>(alloc: Global) -> Result<Command<'a>, AllocError> {
         namespaces_option(alloc),
         tokens_option(alloc),
         flag(alloc, "quiet", quiet),
-    ] {
-        command = command.arg(option)?;
-    }
-    Ok(command)
+    ];
+    let options = Vec::from_array(alloc, options)?;
+    command(alloc, "serve", SERVE, SERVE_NOTES, options)
 }
 
 // The program with one command more.
