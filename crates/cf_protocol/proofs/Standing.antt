@@ -5,7 +5,7 @@ use Rattle.std.specs.Option.{IsSomeAnd}
 use Rattle.std.specs.Str.{bytes_eq}
 use Rattle.std.specs.declared.string.String.{String}
 use Rattle.std.specs.declared.alloc.Global.{Global}
-use Rattle.cf_json.specs.Spans.{Span, IsAt}
+use Rattle.cf_json.specs.Spans.{Span}
 use Rattle.cf_protocol.specs.Fields.{Fields, look_up}
 use Rattle.cf_protocol.specs.Reading.{Finds, Reads}
 use Rattle.cf_protocol.specs.Settings.{entry_at, named}

@@ -1,4 +1,4 @@
-use Rattle.std.proofs.Common.{rules, Err, ◌≡◌, ℕ, Bool, true, false, ◌&&◌, cond, Option, Some, None, ◌==◌, refl, sym, ap, ◌∙◌, ne_eqb, subst}
+use Rattle.std.proofs.Common.{rules, Err, ◌≡◌, ℕ, Bool, true, false, ◌&&◌, cond, Option, Some, None, ◌==◌, refl, ap, ◌∙◌, ne_eqb, subst}
 use Rattle.cf_json.specs.Grammar.{Tree}
 use Rattle.cf_protocol.specs.Command.{named_command, request_of, needs_id, connect, subscribe, unsubscribe, publish, presence, presence_stats, history}
 use Rattle.cf_protocol.specs.Fields.{Fields, ◌>>=◌, whole, max_u32, as_object, text, flag, position, limit, object_or_none}

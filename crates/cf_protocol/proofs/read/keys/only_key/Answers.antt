@@ -1,4 +1,4 @@
-use Rattle.std.proofs.Common.{rules, refl}
+use Rattle.std.proofs.Common.{rules}
 use Rattle.cf_protocol.specs.Reading.{each_under, with_value, the_key}
 use Rattle.cf_protocol.proofs.Choices.{goes_past, finds_first, finds_second, chosen}
 use Rattle.cf_protocol.proofs.read.keys.only_key.Goals as goal
