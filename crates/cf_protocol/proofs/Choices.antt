@@ -1,20 +1,18 @@
 -- One of several keys, found by going over them.
-use Rattle.std.proofs.Common.{◌≡◌, ℕ, suc, ◌+◌, ◌<◌, ◌≤◌, true, false, List, [], ◌∷◌, ◌++◌, drop, get_or, length, Option, Some, None, option_map, ap, sym, subst, ◌∙◌, add-one}
-use Rattle.std.specs.Prelude.{option_to_list, is_some}
+use Rattle.std.proofs.Common.{◌≡◌, ℕ, suc, ◌+◌, ◌<◌, ◌≤◌, true, false, List, [], ◌∷◌, ◌++◌, map, drop, get_or, length, Option, Some, None, option_map, refl, ap, sym, ◌∙◌, add-one}
+use Rattle.std.specs.Prelude.{Err, option_to_list, is_some}
+use Rattle.std.specs.Option.{ok_or}
 use Rattle.std.specs.Borrow.{Bor}
 use Rattle.std.specs.Option.{IsSomeAnd}
 use Rattle.std.proofs.Math.Seq.{drop-cons}
 use Rattle.std.proofs.lemmas.List.{drop_all}
 use Rattle.cf_json.specs.Grammar.{Tree}
 use Rattle.cf_json.specs.Spans.{Span, IsAt}
-use Rattle.cf_protocol.specs.Fields.{Fields, the_only}
-use Rattle.cf_protocol.specs.Reading.{present_at}
+use Rattle.cf_protocol.specs.Fields.{Fields, ◌>>=◌, the_only}
+use Rattle.cf_protocol.specs.Reading.{present_at, each_under, with_value, the_key, Chooses, Answers}
+use Rattle.cf_protocol.specs.declared.fault.ReadFault.{ReadFault}
+use Rattle.cf_protocol.specs.declared.fault.ReadFault.TheVariants.{Bad, Memory}
 use Rattle.cf_protocol.proofs.Standing.{some_and}
-
--- what the members are read as under these keys, of those that they have
-abbrev pub each_under : {K A : Type 0} → (K → Tree → Option A) → List (Bor (List ℕ) × K) → Fields → List (Option A)
-each_under read [] fs = []
-each_under read (k ∷ ks) fs = option_to_list (option_map (read k.1) (present_at k.0.now fs)) ++ each_under read ks fs
 
 -- what was found so far, of all that is to be found, where the rest is still to come
 abbrev pub HasFound : {K A : Type 0} → List ℕ → (K → Tree → Option A) → Option (K × Span) → List (Option A) → List (Option A) → Type 0
@@ -64,9 +62,37 @@ finds_second text read (Some r) all ks i k fs s at e some h =
     ap the_only (h.2 ∙ ap (λ l. read r.0 h.0 ∷ l) (left read ks i k fs (Some found.0) at found.1))
 
 -- all keys were gone over
-pub finds_only : {K A : Type 0} (text : List ℕ) (read : K → Tree → Option A) (only : Option (K × Span)) (all : List (Option A)) (ks : List (Bor (List ℕ) × K)) (i : ℕ) (r : K × Span) (fs : Fields)
-    → length ks ≤ i → only ≡ Some r → HasFound text read only all (each_under read (drop i ks) fs) → (t : Tree) × IsAt text t r.1 × (the_only all ≡ read r.0 t)
-finds_only {K} {A} text read only all ks i r fs l is h =
-    let none : drop i ks ≡ [] = drop_all i ks l in
-    let found : HasFound text read (Some r) all [] = subst (λ (o : Option (K × Span)). HasFound text read o all []) is (moves text read only all _ _ (ap (λ l. each_under read l fs) none) h) in
-    (found.0, found.1, ap the_only found.2)
+pub chosen : {K : Type 0} (text : List ℕ) (only : Option (K × Span)) (ks : List (Bor (List ℕ) × K)) (i : ℕ) (fs : Fields) → length ks ≤ i
+    → HasFound text with_value only (each_under with_value ks fs) (each_under with_value (drop i ks) fs) → Chooses text (ok_or only Bad) (the_key ks fs)
+unfolding the_key
+chosen text None ks i fs l h = ap the_only (h ∙ ap (λ ks. each_under with_value ks fs) (drop_all i ks l))
+chosen text (Some r) ks i fs l h = (h.0, h.1, ap the_only (h.2 ∙ ap (λ ks. Some (r.0, h.0) ∷ each_under with_value ks fs) (drop_all i ks l)))
+
+-- ---- what a value is read as, by the key that was found
+
+abbrev read_by : {K A : Type 0} → (K → Tree → Option A) → K × Tree → Option A
+read_by read p = read p.0 p.1
+
+bound : {K A : Type 0} (read : K → Tree → Option A) (k : K) (o : Option Tree) (xs : List (Option A)) (ys : List (Option (K × Tree))) → xs ≡ map (λ o. o >>= read_by read) ys
+    → option_to_list (option_map (read k) o) ++ xs ≡ map (λ o. o >>= read_by read) (option_to_list (option_map (λ t. Some (k, t)) o) ++ ys)
+bound read k None xs ys h = h
+bound read k (Some t) xs ys h = ap (λ l. read k t ∷ l) h
+
+each_by : {K A : Type 0} (read : K → Tree → Option A) (ks : List (Bor (List ℕ) × K)) (fs : Fields) → each_under read ks fs ≡ map (λ o. o >>= read_by read) (each_under with_value ks fs)
+each_by read [] fs = refl
+each_by read (k ∷ ks) fs = bound read k.1 (present_at k.0.now fs) (each_under read ks fs) (each_under with_value ks fs) (each_by read ks fs)
+
+only_by : {A B : Type 0} (f : A → Option B) (l : List (Option A)) → the_only (map (λ o. o >>= f) l) ≡ (the_only l >>= f)
+only_by f [] = refl
+only_by f (x ∷ []) = refl
+only_by f (x ∷ y ∷ l) = refl
+
+-- what is read under the keys is what the value of that one key is read as
+pub by_key : {K A : Type 0} (read : K → Tree → Option A) (ks : List (Bor (List ℕ) × K)) (fs : Fields) (o : Option (K × Tree)) → the_key ks fs ≡ o → the_only (each_under read ks fs) ≡ (o >>= λ p. read p.0 p.1)
+unfolding the_key
+by_key read ks fs o is = ap the_only (each_by read ks fs) ∙ only_by (read_by read) (each_under with_value ks fs) ∙ ap (λ o. o >>= read_by read) is
+
+-- and where there is no such key, nothing is read
+pub by_fault : {K A B : Type 0} (show : B → A) (read : K → Tree → Option A) (text : List ℕ) (ks : List (Bor (List ℕ) × K)) (fs : Fields) (fault : ReadFault) → Chooses text (Err fault) (the_key ks fs) → Answers show (Err fault) (the_only (each_under read ks fs))
+by_fault show read text ks fs Bad h = by_key read ks fs None h
+by_fault show read text ks fs Memory h = tt

@@ -2,7 +2,7 @@
 use Rattle.std.proofs.Common.{◌≡◌, ◌≢◌, ℕ, suc, ◌<◌, Bool, true, false, eqb, ne_eqb, Bor, cond, List, [], ◌∷◌, ◌++◌, map, length, get_or, take, drop, Some, None, refl, sym, ap, ◌∙◌, subst, arith, inl, inr}
 use Rattle.std.specs.List.{All, AllZip, AllPairs, slice_split, join_with_byte}
 use Rattle.std.specs.Str.{bytes_eq}
-use Rattle.std.specs.Prelude.{Option, Err, option_copied, is_some}
+use Rattle.std.specs.Prelude.{Option, Result, Ok, Err, IsErrAnd, MatchResult, is_ok, option_copied, is_some}
 use Rattle.std.proofs.Math.Seq.{split_at}
 use Rattle.std.proofs.lemmas.Bool.{cases_Bool}
 use Rattle.std.proofs.lemmas.Slice.Eq.{bytes_eq-Decides}
@@ -169,3 +169,14 @@ pub refused_so : {V : Type 0} {IsEntry : List ℕ → List ℕ × V → Type 0} 
     → (t : List (List ℕ × V)) → IsTable IsEntry text t → t ≢ [] → IsReadAs t (Err fault)
 refused_so g text x seen rest old new Bad cut each none t h some = table_refused g text x seen rest old cut each none t h some
 refused_so g text x seen rest old new Memory cut each none t h some = tt
+
+-- ---- one entry more
+
+-- an entry was pushed, unless memory was refused
+pub pushed : {V F I : Type 0} (IsEntry : List ℕ → List ℕ × V → Type 0) (text : List ℕ) (old new : List (List ℕ × V)) (e : List ℕ × V) (push : Result Unit F) (answer : Result Unit ReadFault) (Named : F → ReadFault → Type 0) (items more was : I)
+    → MatchResult push (λ x. answer ≡ Ok x) (λ f. IsErrAnd answer (Named f)) → ((f : F) (fault : ReadFault) → Named f fault → fault ≡ Memory) → items ≡ cond (is_ok push) more was → (items ≡ more → new ≡ old ++ e ∷ [])
+    → IsEntry text e → entry_at old e.0 ≡ None → Adds IsEntry text old answer new
+pushed IsEntry text old new e (Ok x) answer Named items more was is memory h by found fresh = subst (λ a. Adds IsEntry text old a new) (sym is) (e, found, fresh, by h)
+pushed IsEntry text old new e (Err f) (Ok y) Named items more was is memory h by found fresh = absurd is
+pushed IsEntry text old new e (Err f) (Err Bad) Named items more was is memory h by found fresh = cc (memory f Bad is)
+pushed IsEntry text old new e (Err f) (Err Memory) Named items more was is memory h by found fresh = tt

@@ -7,7 +7,7 @@ use Rattle.std.proofs.lemmas.Bool.{false≢true}
 use Rattle.cf_json.specs.Grammar.{Tree, array}
 use Rattle.cf_json.specs.Compact.{compact_text, key_text, first_text}
 use Rattle.cf_protocol.specs.Written.{Member, parts_of, items_of, object_of, inner, list}
-use Rattle.cf_protocol.specs.Writing.{Grows, Adds, AddsKey, AddsValue, Opens, OpensMember, AddsItems, comma, members_text, items_text, fresh_with, fresh_after, fresh_items}
+use Rattle.cf_protocol.specs.Writing.{IsBegun, Grows, Adds, AddsKey, AddsValue, Opens, OpensMember, AddsItems, comma, members_text, items_text, fresh_with, fresh_after, fresh_items}
 use Rattle.cf_protocol.specs.declared.write.writer.Writer.{Writer}
 
 -- ---- lists
@@ -107,11 +107,13 @@ pub as_value : {a b c d : Writer} {ms : List Member} → Opens a b (123 ∷ []) 
 as_value {a} {b} {c} {d} {ms} f g h =
     record { text = join a b d (123 ∷ []) (first_text true (parts_of ms) ++ 125 ∷ []) (compact_text (object_of ms)) f.text (closed f.fresh g h) refl; fresh = h.fresh }
 
--- the text that a writer gives where no call lacked memory, from an empty one on
-pub whole : {a b c d : Writer} {ms : List Member} (r : Result (String Global) AllocError) → string_bytes a.text ≡ [] → Opens a b (123 ∷ []) → Adds b c ms → AddsValue c d (125 ∷ [])
-    → IfOk r (λ s. (d.failed ≡ false) × (string_bytes s ≡ string_bytes d.text)) → IfOk r (λ s. string_bytes s ≡ compact_text (object_of ms))
-whole {a} {b} {c} {d} {ms} (Ok s) e f g h told = told.1 ∙ ((as_value f g h).text told.0).1 ∙ ap (λ t. t ++ compact_text (object_of ms)) e
-whole (Err x) e f g h told = tt
+-- the text that a writer gives where no call lacked memory
+pub whole : {b c : Writer} {ms : List Member} (r : Result (String Global) AllocError) → IsBegun b → Adds b c ms
+    → IfOk r (λ s. (c.failed ≡ false) × (string_bytes s ≡ string_bytes c.text ++ 125 ∷ [])) → IfOk r (λ s. string_bytes s ≡ compact_text (object_of ms))
+whole {b} {c} {ms} (Ok s) f g told =
+    let grown = g.text told.0 in
+    told.1 ∙ ap (λ t. t ++ 125 ∷ []) (grown.1 ∙ ap (λ t. t ++ members_text b.fresh ms) (f.text grown.0) ∙ ap (λ fresh. 123 ∷ members_text fresh ms) f.fresh)
+whole (Err x) f g told = tt
 
 -- ---- members of an object that may be left out
 

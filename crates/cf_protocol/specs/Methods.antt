@@ -1,5 +1,5 @@
 -- The methods of commands, and the results of replies, by the keys under which they stand.
-use Rattle.std.specs.Prelude.{Bool, true, false, Option, option_map}
+use Rattle.std.specs.Prelude.{Option, option_map}
 use Rattle.cf_json.specs.Grammar.{Tree}
 use Rattle.cf_protocol.specs.Fields.{Fields, object_as}
 use Rattle.cf_protocol.specs.Request as request
@@ -10,11 +10,6 @@ use Rattle.cf_protocol.specs.declared.read.method.Method.{Method}
 use Rattle.cf_protocol.specs.declared.read.method.Method.TheVariants as method
 use Rattle.cf_protocol.specs.declared.read.outcome.ResultKey.{ResultKey}
 use Rattle.cf_protocol.specs.declared.read.outcome.ResultKey.TheVariants as key
-
--- whether a command with this method has an id
-abbrev pub has_id : Method → Bool
-has_id method.Send = false
-has_id m = true
 
 -- the request of a method that has these members
 abbrev pub served : Method → Fields → Option request.Request

@@ -1,5 +1,7 @@
 -- What the reading calls answer, beside what the definitions have.
-use Rattle.std.specs.Prelude.{◌≡◌, ⊤, List, ℕ, Result, Ok, Err, Option, Some, None, option_and_then, []}
+use Rattle.std.specs.Prelude.{◌≡◌, ⊤, List, ℕ, Result, Ok, Err, Option, Some, None, option_and_then, option_map}
+use Rattle.std.specs.Prelude.{option_to_list, [], ◌∷◌, ◌++◌}
+use Rattle.std.specs.Borrow.{Bor}
 use Rattle.std.specs.List.{AllZip}
 use Rattle.std.specs.Option.{IsSomeAnd}
 use Rattle.std.specs.String.{string_bytes}
@@ -7,7 +9,7 @@ use Rattle.std.specs.declared.string.String.{String}
 use Rattle.std.specs.declared.alloc.Global.{Global}
 use Rattle.cf_json.specs.Grammar.{Tree}
 use Rattle.cf_json.specs.Spans.{Span, IsAt}
-use Rattle.cf_protocol.specs.Fields.{Fields, look_up, unless_null, read_or, as_items}
+use Rattle.cf_protocol.specs.Fields.{Fields, look_up, unless_null, read_or, as_items, the_only}
 use Rattle.cf_protocol.specs.declared.read.members.Members.{Members}
 use Rattle.cf_protocol.specs.declared.fault.ReadFault.{ReadFault}
 use Rattle.cf_protocol.specs.declared.fault.ReadFault.TheVariants.{Bad, Memory}
@@ -63,9 +65,23 @@ items_at k fs = read_or [] as_items (present_at k fs)
 abbrev pub Stand : List ℕ → List Span → List Tree → Type 0
 Stand text spans ts = AllZip (λ s t. IsAt text t s) spans ts
 
--- one key of several that has a value, where it stands, and what it is read as; Bad where nothing is read
-abbrev pub Chooses : {K A : Type 0} → List ℕ → (K → Tree → Option A) → Result (K × Span) ReadFault
-    → Option A → Type 0
-Chooses text read (Ok r) o = (t : Tree) × IsAt text t r.1 × (o ≡ read r.0 t)
-Chooses text read (Err Bad) o = o ≡ None
-Chooses text read (Err Memory) o = ⊥
+-- ---- one key of several
+
+-- what the members are read as under these keys, of those that they have
+abbrev pub each_under : {K A : Type 0} → (K → Tree → Option A) → List (Bor (List ℕ) × K) → Fields → List (Option A)
+each_under read [] fs = []
+each_under read (k ∷ ks) fs =
+    option_to_list (option_map (read k.1) (present_at k.0.now fs)) ++ each_under read ks fs
+
+abbrev pub with_value : {K : Type 0} → K → Tree → Option (K × Tree)
+with_value k t = Some (k, t)
+
+-- what the one of these keys that has a value stands for, and that value
+unfoldable pub the_key : {K : Type 0} → List (Bor (List ℕ) × K) → Fields → Option (K × Tree)
+the_key ks fs = the_only (each_under with_value ks fs)
+
+-- that key, and where its value stands; Bad where no key has one, or several have
+abbrev pub Chooses : {K : Type 0} → List ℕ → Result (K × Span) ReadFault → Option (K × Tree) → Type 0
+Chooses text (Ok r) o = (t : Tree) × IsAt text t r.1 × (o ≡ Some (r.0, t))
+Chooses text (Err Bad) o = o ≡ None
+Chooses text (Err Memory) o = ⊥

@@ -12,6 +12,11 @@ abbrev pub Grows : Writer → Writer → List ℕ → Type 0
 Grows old new piece =
     new.failed ≡ false → (old.failed ≡ false) × (string_bytes new.text ≡ string_bytes old.text ++ piece)
 
+-- an object is begun, where no call lacked memory so far, and has no member yet
+pub record IsBegun (w : Writer) : Type 0 where
+  pub text : w.failed ≡ false → string_bytes w.text ≡ 123 ∷ []
+  pub fresh : w.fresh ≡ true
+
 -- a byte that stands for itself in a string
 abbrev pub is_plain : ℕ → Bool
 is_plain x = nat_le 32 x && not (x == 34) && not (x == 92)

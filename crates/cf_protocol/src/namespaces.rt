@@ -162,8 +162,8 @@ fn add(entries: &mut Vec<(String, Settings)>, alloc: Global, text: &str) -> Resu
     if value_of(entries, name).is_some() {
         return Err(ReadFault::Bad);
     }
-    entries.push((String::from_str(alloc, name)?, settings))?;
-    Ok(())
+    let name = String::from_str(alloc, name)?;
+    entries.push((name, settings)).map_err(ReadFault::from)
 }
 
 /// The namespaces that a text sets up: entries separated by `;`, each `NAME=SIZE,SECONDS,FLAGS`. A name is at most 32 ASCII

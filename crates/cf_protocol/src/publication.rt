@@ -60,13 +60,14 @@ impl Publication {
     pub fn copied(&self) -> Result<Publication, AllocError>
         ensures { IfOk result (λ r. r ≡ self.now) }
     {
+        let body = self.body.clone()?;
         let info = match &self.info {
             None => None,
             Some(info) => Some(info.copied()?),
         };
         Ok(Publication {
             offset: self.offset,
-            body: self.body.clone()?,
+            body,
             info,
         })
     }

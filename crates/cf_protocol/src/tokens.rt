@@ -75,11 +75,9 @@ fn add(entries: &mut Vec<(String, String)>, alloc: Global, text: &str) -> Result
     if value_of(entries, token).is_some() {
         return Err(ReadFault::Bad);
     }
-    entries.push((
-        String::from_str(alloc, token)?,
-        String::from_str(alloc, user)?,
-    ))?;
-    Ok(())
+    let token = String::from_str(alloc, token)?;
+    let user = String::from_str(alloc, user)?;
+    entries.push((token, user)).map_err(ReadFault::from)
 }
 
 /// The tokens that a text sets up: entries separated by `;`, each `TOKEN=USER`, both 1 to 64 ASCII letters, digits, `-` or `_`,

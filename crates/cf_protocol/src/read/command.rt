@@ -8,8 +8,9 @@ ghost use Rattle.cf_protocol.specs.Shown.{shown_command, shown_request, shown_da
 
 use crate::command::{Command, Data, Request};
 use crate::fault::ReadFault;
+use crate::read::keys::only_key;
 use crate::read::members::Members;
-use crate::read::method::{Method, the_method};
+use crate::read::method::{METHODS, Method};
 use cf_json::{Span, compact, depth};
 use std::alloc::Global;
 
@@ -37,8 +38,8 @@ fn read_named(alloc: Global, members: &Members<'_>) -> Result<Command, ReadFault
     ensures { OfFields members.now (λ fs. Answers shown_command result (named_command fs)) }
 {
     let id = members.whole("id", u64::from(u32::MAX))? as u32;
-    let (method, value) = the_method(members)?;
-    if id == 0 && method.needs_id() {
+    let (method, value) = only_key(members, &METHODS)?;
+    if id == 0 && !matches!(method, Method::Send) {
         return Err(ReadFault::Bad);
     }
     let request = read_request(alloc, members.text, method, value)?;

@@ -6,6 +6,7 @@ ghost use Rattle.cf_protocol.specs.Reading.{Tells, Answers, Reads, Finds, Stand,
 use crate::epoch::Epoch;
 use crate::fault::ReadFault;
 use crate::position::Position;
+use crate::table::value_of;
 use cf_json::{Kind, Span, items, kind, members, read_signed, read_text, read_whole};
 use std::alloc::Global;
 
@@ -26,16 +27,6 @@ pub fn is_present(text: &str, span: Span) -> bool
     kind(text, span) != Kind::Null
 }
 
-/// The number as a limit, where it fits 32 bits with a sign.
-fn limit_of(number: i64) -> Option<i32>
-    ensures { result ≡ if is_limit number then Some number else None }
-{
-    if number < i64::from(i32::MIN) || number > i64::from(i32::MAX) {
-        return None;
-    }
-    Some(number as i32)
-}
-
 impl<'a> Members<'a> {
     /// The members of the value, which is to be an object.
     pub fn of(alloc: Global, text: &'a str, span: Span) -> Result<Members<'a>, ReadFault>
@@ -43,9 +34,9 @@ impl<'a> Members<'a> {
         ensures { OfValue text.now span (λ t.
             Tells (λ m fs. Reads m.text.now m.found.items fs) result (as_object t)) }
     {
-        if kind(text, span) != Kind::Object {
+        let Kind::Object = kind(text, span) else {
             return Err(ReadFault::Bad);
-        }
+        };
         let found = members(alloc, text, span)?;
         Ok(Members { text, found })
     }
@@ -54,12 +45,7 @@ impl<'a> Members<'a> {
     pub fn get(&self, key: &str) -> Option<Span>
         ensures { OfFields self.now (λ fs. Finds self.now.text.now result (look_up key.now fs)) }
     {
-        for member in &self.found {
-            if key == member.0.as_str() {
-                return Some(member.1);
-            }
-        }
-        None
+        value_of(&self.found, key).copied()
     }
 
     /// The same, where `null` counts as absent.
@@ -67,11 +53,10 @@ impl<'a> Members<'a> {
         requires { AreMembers self.now }
         ensures { OfFields self.now (λ fs. Finds self.now.text.now result (present_at key.now fs)) }
     {
-        let span = self.get(key)?;
-        if kind(self.text, span) == Kind::Null {
-            return None;
+        match self.get(key) {
+            Some(span) if is_present(self.text, span) => Some(span),
+            _ => None,
         }
-        Some(span)
     }
 
     /// A text; the empty one where it is absent.
@@ -83,10 +68,10 @@ impl<'a> Members<'a> {
         let Some(span) = self.present(key) else {
             return Ok(String::new(alloc));
         };
-        if kind(self.text, span) != Kind::Text {
-            return Err(ReadFault::Bad);
+        match kind(self.text, span) {
+            Kind::Text => read_text(alloc, self.text, span).map_err(ReadFault::from),
+            _ => Err(ReadFault::Bad),
         }
-        read_text(alloc, self.text, span).map_err(ReadFault::from)
     }
 
     /// A flag; false where it is absent.
@@ -115,16 +100,13 @@ impl<'a> Members<'a> {
         let Some(span) = self.present(key) else {
             return Ok(0);
         };
-        if kind(self.text, span) != Kind::Number {
-            return Err(ReadFault::Bad);
-        }
-        let Some(number) = read_whole(self.text, span) else {
+        let Kind::Number = kind(self.text, span) else {
             return Err(ReadFault::Bad);
         };
-        if number > most {
-            return Err(ReadFault::Bad);
+        match read_whole(self.text, span) {
+            Some(number) if number <= most => Ok(number),
+            _ => Err(ReadFault::Bad),
         }
-        Ok(number)
     }
 
     /// A limit, a whole number of 32 bits with a sign; 0 where it is absent.
@@ -136,14 +118,11 @@ impl<'a> Members<'a> {
         let Some(span) = self.present(key) else {
             return Ok(0);
         };
-        if kind(self.text, span) != Kind::Number {
-            return Err(ReadFault::Bad);
-        }
-        let Some(number) = read_signed(self.text, span) else {
+        let Kind::Number = kind(self.text, span) else {
             return Err(ReadFault::Bad);
         };
-        match limit_of(number) {
-            Some(limit) => Ok(limit),
+        match read_signed(self.text, span) {
+            Some(number) => i32::try_from(number).or(Err(ReadFault::Bad)),
             None => Err(ReadFault::Bad),
         }
     }
@@ -157,10 +136,10 @@ impl<'a> Members<'a> {
         let Some(span) = self.present(key) else {
             return Ok(Vec::new(alloc));
         };
-        if kind(self.text, span) != Kind::Array {
-            return Err(ReadFault::Bad);
+        match kind(self.text, span) {
+            Kind::Array => items(alloc, self.text, span).map_err(ReadFault::from),
+            _ => Err(ReadFault::Bad),
         }
-        items(alloc, self.text, span).map_err(ReadFault::from)
     }
 
     /// A whole number of 32 bits from 1 on, which is there.

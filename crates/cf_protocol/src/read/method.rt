@@ -1,12 +1,4 @@
 //! The methods of commands.
-ghost use Rattle.std.specs.Prelude.{◌≡◌};
-ghost use Rattle.cf_protocol.specs.Command.{request_of};
-ghost use Rattle.cf_protocol.specs.Methods.{has_id, request_as};
-ghost use Rattle.cf_protocol.specs.Reading.{AreMembers, Chooses, OfFields};
-
-use crate::fault::ReadFault;
-use crate::read::members::Members;
-use cf_json::Span;
 
 /// What a command asks for, by the one of its keys that says so.
 #[derive(Clone, Copy)]
@@ -24,7 +16,8 @@ pub enum Method {
     Other,
 }
 
-const METHODS: [(&str, Method); 12] = [
+/// The keys of commands.
+pub const METHODS: [(&str, Method); 12] = [
     ("connect", Method::Connect),
     ("subscribe", Method::Subscribe),
     ("unsubscribe", Method::Unsubscribe),
@@ -38,34 +31,3 @@ const METHODS: [(&str, Method); 12] = [
     ("refresh", Method::Other),
     ("sub_refresh", Method::Other),
 ];
-
-impl Method {
-    /// Whether a command with this method has an id, by which it is answered.
-    pub fn needs_id(self) -> bool
-        ensures { result ≡ has_id self }
-    {
-        !matches!(self, Method::Send)
-    }
-}
-
-/// The one method of a command, and where its value stands.
-pub fn the_method(members: &Members<'_>) -> Result<(Method, Span), ReadFault>
-    requires { AreMembers members.now }
-    ensures { OfFields members.now (λ fs.
-        Chooses members.now.text.now request_as result (request_of fs)) }
-{
-    let mut only = None;
-    for (key, method) in METHODS {
-        let Some(span) = members.present(key) else {
-            continue;
-        };
-        if only.is_some() {
-            return Err(ReadFault::Bad);
-        }
-        only = Some((method, span));
-    }
-    match only {
-        Some(found) => Ok(found),
-        None => Err(ReadFault::Bad),
-    }
-}

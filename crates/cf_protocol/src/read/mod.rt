@@ -2,6 +2,7 @@
 
 mod command;
 mod frame;
+mod keys;
 mod members;
 mod method;
 mod outcome;

@@ -4,8 +4,8 @@ ghost use Rattle.std.specs.Prelude.{◌≡◌, Some, option_map};
 ghost use Rattle.cf_json.specs.Grammar.{Tree};
 ghost use Rattle.cf_protocol.specs.Fields.{Fields, as_object, object_as};
 ghost use Rattle.cf_protocol.specs.Methods.{outcome_of};
-ghost use Rattle.cf_protocol.specs.Reading.{Answers, AreMembers, Chooses, HasValue, OfFields, OfValue, Reads};
-ghost use Rattle.cf_protocol.specs.Reply.{counted, present_users, result_of, subscribed, users_of};
+ghost use Rattle.cf_protocol.specs.Reading.{Answers, AreMembers, HasValue, OfFields, OfValue, Reads};
+ghost use Rattle.cf_protocol.specs.Reply.{counted, present_users, subscribed, users_of};
 ghost use Rattle.cf_protocol.specs.Shown.{shown_outcome, shown_users};
 
 use crate::fault::ReadFault;
@@ -31,7 +31,8 @@ pub enum ResultKey {
     Ping,
 }
 
-const RESULT_KEYS: [(&str, ResultKey); 9] = [
+/// The keys of results.
+pub const RESULT_KEYS: [(&str, ResultKey); 9] = [
     ("error", ResultKey::Error),
     ("connect", ResultKey::Connect),
     ("subscribe", ResultKey::Subscribe),
@@ -42,28 +43,6 @@ const RESULT_KEYS: [(&str, ResultKey); 9] = [
     ("history", ResultKey::History),
     ("ping", ResultKey::Ping),
 ];
-
-/// The one result of a reply, and where its value stands.
-pub fn the_result(members: &Members<'_>) -> Result<(ResultKey, Span), ReadFault>
-    requires { AreMembers members.now }
-    ensures { OfFields members.now (λ fs.
-        Chooses members.now.text.now (λ key. object_as (outcome_of key)) result (result_of fs)) }
-{
-    let mut only = None;
-    for (key, result) in RESULT_KEYS {
-        let Some(span) = members.present(key) else {
-            continue;
-        };
-        if only.is_some() {
-            return Err(ReadFault::Bad);
-        }
-        only = Some((result, span));
-    }
-    match only {
-        Some(found) => Ok(found),
-        None => Err(ReadFault::Bad),
-    }
-}
 
 /// The result of a key that has this value.
 pub fn read_result(

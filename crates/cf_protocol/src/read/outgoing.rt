@@ -7,8 +7,9 @@ ghost use Rattle.cf_protocol.specs.Shown.{shown_outgoing, told, told_pushed};
 
 use crate::fault::ReadFault;
 use crate::outgoing::{Outgoing, Pushed};
+use crate::read::keys::only_key;
 use crate::read::members::Members;
-use crate::read::outcome::{read_result, the_result};
+use crate::read::outcome::{RESULT_KEYS, read_result};
 use crate::read::publication::read_published;
 use cf_json::Span;
 use std::alloc::Global;
@@ -86,7 +87,7 @@ fn read_answer(alloc: Global, members: &Members<'_>) -> Result<Outgoing, ReadFau
         Answers (λ o. shown_outgoing o ∷ []) result (answer_from fs)) }
 {
     let id = members.positive("id")?;
-    let (key, value) = the_result(members)?;
+    let (key, value) = only_key(members, &RESULT_KEYS)?;
     let outcome = read_result(alloc, members.text, key, value)?;
     Ok(Outgoing::Answer { id, outcome })
 }

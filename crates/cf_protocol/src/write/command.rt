@@ -19,9 +19,7 @@ pub fn write_command(alloc: Global, command: &Command) -> Result<String, AllocEr
     ensures { IfOk result (λ s. string_bytes s ≡ command_text (shown_command command.now)) }
 {
     let mut writer = Writer::new(alloc, 0);
-    writer.begin("{");
     write_members(&mut writer, command.id, &command.request);
-    writer.value("}");
     writer.into_text()
 }
 

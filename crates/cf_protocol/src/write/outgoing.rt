@@ -33,9 +33,7 @@ pub fn write_reply(alloc: Global, outgoing: &Outgoing) -> Result<String, AllocEr
         Outgoing::Ping => String::from_str(alloc, "{}"),
         Outgoing::Answer { id, outcome } => {
             let mut writer = Writer::new(alloc, 0);
-            writer.begin("{");
             write_answer(&mut writer, *id, outcome);
-            writer.value("}");
             writer.into_text()
         }
         Outgoing::Push { channel, push } => match push {

@@ -32,12 +32,10 @@ pub fn write_publication(
     ensures { IfOk result (λ s. string_bytes s ≡ publication_text channel.now publication.now) }
 {
     let mut writer = Writer::new(alloc, publication_room(channel, publication));
-    writer.begin("{");
     writer.open("push", "{");
     writer.text_member("channel", channel);
     writer.key("pub");
     write_placed(&mut writer, publication);
-    writer.value("}");
     writer.value("}");
     writer.into_text()
 }
@@ -55,11 +53,9 @@ pub fn write_unsubscribe(alloc: Global, channel: &str, code: u32) -> Result<Stri
         return String::from_str(alloc, "{}");
     }
     let mut writer = Writer::new(alloc, channel.len().saturating_add(UNSUBSCRIBE_ROOM));
-    writer.begin("{");
     writer.open("push", "{");
     writer.text_member("channel", channel);
     write_end(&mut writer, code);
-    writer.value("}");
     writer.value("}");
     writer.into_text()
 }

@@ -1,9 +1,9 @@
 //! JSON text, written piece by piece.
-ghost use Rattle.std.specs.Prelude.{◌≡◌, ◌∷◌, [], IfOk, string_bytes, false, true};
+ghost use Rattle.std.specs.Prelude.{◌≡◌, ◌∷◌, ◌++◌, [], IfOk, string_bytes, false};
 ghost use Rattle.std.specs.List.{list_all};
 ghost use Rattle.cf_json.specs.Quoting.{quoted, escaped};
 ghost use Rattle.cf_protocol.specs.Written as written;
-ghost use Rattle.cf_protocol.specs.Writing.{Adds, AddsKey, AddsValue, Grows, Opens, OpensMember, comma as comma_after, is_plain};
+ghost use Rattle.cf_protocol.specs.Writing.{Adds, AddsKey, AddsValue, Grows, IsBegun, Opens, OpensMember, comma as comma_after, is_plain};
 
 use cf_json::quote;
 use std::alloc::{AllocError, Global};
@@ -30,30 +30,32 @@ pub struct Writer {
 }
 
 impl Writer {
-    /// An empty text, with room for so many bytes to begin with.
+    /// The text of an object that is begun, with room for so many bytes to begin with.
     pub fn new(alloc: Global, room: usize) -> Writer
-        ensures text { string_bytes result.text ≡ [] }
-        ensures fresh { result.fresh ≡ true }
+        ensures { IsBegun result }
     {
         let mut text = String::new(alloc);
         let failed = text.reserve_exact(room).is_err();
-        Writer {
+        let mut writer = Writer {
             text,
             failed,
             fresh: true,
             alloc,
-        }
+        };
+        writer.begin("{");
+        writer
     }
 
-    /// What was written.
+    /// What was written, with the end of the object.
     ///
     /// # Errors
     ///
     /// Where some call had no memory.
-    pub fn into_text(self) -> Result<String, AllocError>
+    pub fn into_text(mut self) -> Result<String, AllocError>
         ensures { IfOk result (λ s.
-            (self.failed ≡ false) × (string_bytes s ≡ string_bytes self.text)) }
+            (self.failed ≡ false) × (string_bytes s ≡ string_bytes self.text ++ 125 ∷ [])) }
     {
+        self.value("}");
         let Writer { text, failed, .. } = self;
         if failed {
             return Err(AllocError);

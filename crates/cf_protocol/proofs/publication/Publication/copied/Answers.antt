@@ -11,4 +11,4 @@ returns c =
       | in-None w ↦ w.info-is ∙ sym w.in-None.is
       | in-Some+in_ok-copied-in-Some w ↦ w.info-is ∙ ap Some w.in_ok-copied-in-Some.ensures ∙ sym w.in-Some.is
     ] in
-    ap (placed c.match-self.info) c.in_ok-clone.ensures.cases ∙ ap (λ i. placed i (string_bytes c.self.inside.body)) info ∙ c.self.view_is
+    ap (placed c.match-self.info) c.in_ok-body.ensures.cases ∙ ap (λ i. placed i (string_bytes c.self.inside.body)) info ∙ c.self.view_is

@@ -4,4 +4,4 @@ use Rattle.cf_protocol.proofs.write.command.write_command.Goals as goal
 
 pub returns : goal.returns
 unfolding command_text
-returns c = whole c.into_text.result c.new-writer.ensures.text c.begin.ensures c.write_members.ensures c.value.ensures c.into_text.ensures
+returns c = whole c.into_text.result c.new-writer.ensures c.write_members.ensures c.into_text.ensures

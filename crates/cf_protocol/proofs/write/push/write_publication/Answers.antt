@@ -8,4 +8,4 @@ unfolding outgoing_text
 returns c =
     let placed = publication as_it_is c.args.publication.now in
     let push = inside_inner (pub_stands c.args.channel.now placed) c.open.ensures (then c.text_member.ensures (member placed c.key.ensures c.write_placed.ensures)) c.value.ensures in
-    whole c.into_text.result c.new-writer.ensures.text c.begin.ensures push c.value-2.ensures c.into_text.ensures
+    whole c.into_text.result c.new-writer.ensures push c.into_text.ensures

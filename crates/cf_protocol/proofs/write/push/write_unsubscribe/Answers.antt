@@ -23,4 +23,4 @@ returns c =
     let some : 0 < length c.args.channel.now + c.args.code =
     elim c.else-code-eq0.branch [ else-code-eq0-via-then-code-eq0+else-is_empty w ↦ omega (arith, nonzero _ _ w.is_empty.ensures w.if-is_empty.false) | else-code-eq0-via-else-code-eq0 w ↦ omega arith ] in
     let push = inside_inner (unsubscribe_stands c.args.channel.now c.args.code some) c.open.ensures (then c.text_member.ensures c.write_end.ensures) c.value.ensures in
-    whole c.into_text.result c.new-writer.ensures.text c.begin.ensures push c.value-2.ensures c.into_text.ensures
+    whole c.into_text.result c.new-writer.ensures push c.into_text.ensures
