@@ -305,6 +305,7 @@ fn connect(alloc: Global, text: &str, nodes: u8) -> Result<Event, EventFault>
     let client = ClientName::read(alloc, client)?;
     Ok(Event::Connect { client, node })
 }
+
 // The event of a line that has a client and a channel behind its word.
 fn in_channel(alloc: Global, word: &str, text: &str) -> Result<Event, EventFault>
     ensures { (nodes : ℕ) → IsInChannel word.now
