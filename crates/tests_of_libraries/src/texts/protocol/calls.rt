@@ -68,9 +68,9 @@ fn is_too_deep(alloc: Global, text: &str, wanted: &str) -> bool {
 
 /// Calls by their names.
 #[derive(Drop)]
-struct Calls;
+struct ByName;
 
-impl Subject for Calls {
+impl Subject for ByName {
     fn is_so(&mut self, alloc: Global, row: &str) -> bool {
         let (call, wanted) = sides_of(row);
         let (name, passed) = call_of(call);
@@ -130,5 +130,5 @@ too_deep {"id":1,"publish":{"channel":"a","data":*62*[**62*]*}} => true"#;
 fn calls(rt: HostRuntime) {
     assert!(rt; is_shown(ReadFault::Memory, "out of memory"));
     assert!(rt; is_shown(Epoch::from_text("aZ9"), "aZ9"));
-    are_so(&rt, rt.alloc(), &mut Calls, ROWS, '\n');
+    are_so(&rt, rt.alloc(), &mut ByName, ROWS, '\n');
 }
