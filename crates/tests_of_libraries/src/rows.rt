@@ -1,58 +1,99 @@
-//! Rows, each what is done and what comes of it: long texts, numbers, and what a value is shown as.
+//! Rows, each what is done and what comes of it: what they are about, long texts, numbers, and what a value is shown as.
 use std::alloc::Global;
-use std::fmt::{Debug, Display};
+use std::fmt;
+use std::fmt::{Debug, Display, Write};
 use std::process::Abort;
 
-/// Adds a piece with this number in the place of each `#`.
-fn push_numbered(alloc: Global, long: &mut String, number: u32, piece: &str) -> Option<()> {
-    let number = format!(in alloc; "{number}").ok()?;
-    let next = piece.replace(alloc, '#', number.as_str()).ok()?;
-    long.push_str(next.as_str()).ok()
+/// What rows are about.
+pub(crate) trait Subject {
+    /// Whether a row is so.
+    fn is_so(&mut self, alloc: Global, row: &str) -> bool;
 }
 
-/// Adds a piece so many times, with a number from 1,000 on in the place of each `#`.
-fn push_pieces(alloc: Global, long: &mut String, count: usize, piece: &str) -> Option<()> {
-    if !piece.contains('#') {
-        let pieces = piece.repeat(alloc, count).ok()?;
-        return long.push_str(pieces.as_str()).ok();
-    }
-    for number in (1000..10_000).take(count) {
-        push_numbered(alloc, long, number, piece)?;
-    }
-    Some(())
-}
-
-/// A text with each `*COUNT*PIECE*` replaced by as many pieces.
-pub(crate) fn in_full(alloc: Global, text: &str) -> Option<String> {
-    let mut long = String::new(alloc);
-    let (mut turn, mut times) = (0_u8, 1_usize);
-    for part in text.split('*') {
-        if turn == 1 {
-            times = part.parse::<usize>().ok()?;
-        } else {
-            push_pieces(alloc, &mut long, times, part)?;
-            times = 1;
-        }
-        turn = turn.wrapping_add(1) % 3;
-    }
-    Some(long)
-}
-
-/// Each row is so of this, in their order, of rows that are parted by a character. What they repeat is written out before.
-pub(crate) fn are_so<S, F: Fn(Global, &mut S, &str) -> bool>(
+/// Each row is so of a subject, in their order, of rows that are parted by a character. What they repeat is written out before.
+pub(crate) fn are_so<S: Subject>(
     rt: &impl Abort,
     alloc: Global,
     of: &mut S,
     rows: &str,
     parted_by: char,
-    is_so: F,
-)
-    requires { F.IsAlwaysCallable is_so }
-{
-    let rows = in_full(alloc, rows).expect(rt, "memory");
-    for row in rows.as_str().split(parted_by) {
-        assert!(rt; is_so(alloc, of, row), "{row}");
+) {
+    let rows = in_full(alloc, rows);
+    for row in rows.text().expect(rt, "memory").split(parted_by) {
+        assert!(rt; of.is_so(alloc, row), "{row}");
     }
+}
+
+/// A text that is told piece by piece, and whether there was memory for all of it.
+#[derive(Drop)]
+pub(crate) struct Told {
+    text: String,
+    is_whole: bool,
+}
+
+impl Told {
+    /// Nothing is told yet.
+    pub(crate) fn new(alloc: Global) -> Told {
+        Told {
+            text: String::new(alloc),
+            is_whole: true,
+        }
+    }
+
+    /// Tells what a value is shown as.
+    pub(crate) fn tell<T: Display + Drop>(&mut self, value: T) {
+        self.is_whole &= self.text.write(value).is_ok();
+    }
+
+    /// Tells what a call answered, or the words in which it was refused.
+    pub(crate) fn answer<T: Display + Drop, E: Display + Drop>(&mut self, answer: Result<T, E>) {
+        match answer {
+            Ok(value) => self.tell(value),
+            Err(fault) => self.tell(fault),
+        }
+    }
+
+    /// Parts what is told next from what was told before, if anything was.
+    pub(crate) fn part(&mut self, by: &str) {
+        if !self.text.is_empty() {
+            self.tell(by);
+        }
+    }
+
+    /// There was no memory for what would be told.
+    pub(crate) fn lack(&mut self) {
+        self.is_whole = false;
+    }
+
+    /// What was told, if there was memory for it.
+    pub(crate) fn text(&self) -> Option<&str> {
+        self.is_whole.then_some(self.text.as_str())
+    }
+}
+
+/// Tells a piece with a number in the place of each `#`.
+fn tell_numbered(told: &mut Told, number: u32, piece: &str) {
+    let mut parts = piece.split('#');
+    told.tell(parts.next().unwrap_or(""));
+    for part in parts {
+        told.tell(number);
+        told.tell(part);
+    }
+}
+
+/// A text with each `*COUNT*PIECE*` replaced by as many pieces, with a number from 1,000 on in the place of each `#`.
+pub(crate) fn in_full(alloc: Global, text: &str) -> Told {
+    let mut told = Told::new(alloc);
+    let mut parts = text.split('*');
+    told.tell(parts.next().unwrap_or(""));
+    while let Some(count) = parts.next() {
+        let piece = parts.next().unwrap_or("");
+        for number in 0..number_of(count) {
+            tell_numbered(&mut told, number.saturating_add(1000), piece);
+        }
+        told.tell(parts.next().unwrap_or(""));
+    }
+    told
 }
 
 /// What is done in a row, and behind its arrow what comes of it, which is empty where there is none.
@@ -70,30 +111,78 @@ pub(crate) fn number_of(word: &str) -> u32 {
     word.parse::<u32>().unwrap_or(0)
 }
 
+/// What is still to come of a text that is wanted.
+#[derive(Drop)]
+pub(crate) struct Wanted<'a> {
+    rest: &'a str,
+    /// Nothing else came until now.
+    is_so: bool,
+}
+
+impl<'a> Wanted<'a> {
+    /// This text is wanted.
+    pub(crate) fn new(text: &'a str) -> Wanted<'a> {
+        Wanted {
+            rest: text,
+            is_so: true,
+        }
+    }
+
+    /// What a value is shown as comes next.
+    pub(crate) fn tell<T: Display + Drop>(&mut self, value: T) {
+        self.is_so &= self.write(value).is_ok();
+    }
+
+    /// What a call answered comes next, or the words in which it was refused.
+    pub(crate) fn answer<T: Display + Drop, E: Display + Drop>(&mut self, answer: Result<T, E>) {
+        match answer {
+            Ok(value) => self.tell(value),
+            Err(fault) => self.tell(fault),
+        }
+    }
+
+    /// Whether the text came, and nothing else.
+    pub(crate) fn is_met(&self) -> bool {
+        self.is_so && self.rest.is_empty()
+    }
+}
+
+impl<'a> Write for Wanted<'a> {
+    fn write_str(&mut self, piece: &str) -> fmt::Result {
+        match self.rest.strip_prefix(piece) {
+            Some(rest) => {
+                self.rest = rest;
+                Ok(())
+            }
+            None => Err(fmt::Error),
+        }
+    }
+}
+
 /// Whether a value is shown as this text.
-pub(crate) fn is_shown<T: Display>(alloc: Global, value: &T, text: &str) -> bool {
-    match format!(in alloc; "{value}") {
-        Ok(shown) => shown.as_str() == text,
-        Err(_) => false,
-    }
+pub(crate) fn is_shown<T: Display + Drop>(value: T, text: &str) -> bool {
+    let mut wanted = Wanted::new(text);
+    wanted.tell(value);
+    wanted.is_met()
 }
 
-/// Whether `Debug` has this text of a value.
-pub(crate) fn is_debug<T: Debug>(alloc: Global, value: &T, text: &str) -> bool {
-    match format!(in alloc; "{value:?}") {
-        Ok(shown) => shown.as_str() == text,
-        Err(_) => false,
-    }
+/// Whether a call answered what is shown as this text, or was refused in these words.
+pub(crate) fn is_answer<T: Display + Drop, E: Display + Drop>(
+    answer: Result<T, E>,
+    wanted: &str,
+) -> bool {
+    let mut wanted = Wanted::new(wanted);
+    wanted.answer(answer);
+    wanted.is_met()
 }
 
-/// Whether a call answered this text, or was refused in these words.
-pub(crate) fn is_answer<T: Display + Drop>(
-    alloc: Global,
-    answer: Result<String, T>,
+/// Whether a call answered what `Debug` has as this text, or was refused in these words.
+pub(crate) fn is_debug<T: Debug + Drop, E: Display + Drop>(
+    answer: Result<T, E>,
     wanted: &str,
 ) -> bool {
     match answer {
-        Ok(text) => text.as_str() == wanted,
-        Err(fault) => is_shown(alloc, &fault, wanted),
+        Ok(value) => is_shown(format_args!("{value:?}"), wanted),
+        Err(fault) => is_shown(fault, wanted),
     }
 }

@@ -101,16 +101,16 @@ fn is_answered(stream: Pieces, alloc: Global, fault: &str, answer: &str) -> bool
         Err(refused) => {
             refused.answered == !answer.is_empty()
                 && refused.stream.output.as_slice() == answer.as_bytes()
-                && is_shown(alloc, &refused.fault, fault)
+                && is_shown(&refused.fault, fault)
         }
     }
 }
 
 /// A stream of these lines, by pieces of so many bytes.
 fn stream_over(alloc: Global, lines: &str, piece: usize) -> Option<Pieces> {
-    let lines = in_full(alloc, lines)?;
+    let lines = in_full(alloc, lines);
     let mut head = Vec::new(alloc);
-    for line in lines.as_str().split(';') {
+    for line in lines.text()?.split(';') {
         head.extend_from_slice(line_of(line).as_bytes()).ok()?;
         head.extend_from_slice(b"\r\n").ok()?;
     }

@@ -1,6 +1,6 @@
 //! A hub's sessions, and what is said to their clients, as rows of steps and of what comes of them.
 use crate::publications::place;
-use crate::rows::{are_so, call_of, number_of, sides_of};
+use crate::rows::{Subject, Told, are_so, call_of, number_of, sides_of};
 use cf_hub::Hub;
 use cf_protocol::{Epoch, Publication};
 use cf_queue::Out;
@@ -50,17 +50,16 @@ fn name_of(text: &str) -> &'static str {
     }
 }
 
-/// What a client gets next, and whether its session is closed.
-fn taken(hub: &mut Hub, alloc: Global, session: u32) -> Result<String, AllocError> {
-    let state = if hub.is_closed(session) {
-        " closed"
-    } else {
-        ""
-    };
+/// Tells what a client gets next, and whether its session is closed.
+fn tell_taken(told: &mut Told, hub: &mut Hub, session: u32) {
+    let is_closed = hub.is_closed(session);
     match hub.take(session) {
-        Some(Out::Text(text)) => format!(in alloc; "{}{state}", name_of(text.as_str())),
-        Some(Out::Close(code)) => format!(in alloc; "{code}{state}"),
-        None => format!(in alloc; "nothing{state}"),
+        Some(Out::Text(text)) => told.tell(name_of(text.as_str())),
+        Some(Out::Close(code)) => told.tell(code),
+        None => told.tell("nothing"),
+    }
+    if is_closed {
+        told.tell(" closed");
     }
 }
 
@@ -87,61 +86,77 @@ fn is_denied(hub: &mut Hub, alloc: Global, step: Step<'_>) -> bool {
     }
 }
 
-/// What comes of a step.
-fn outcome(hub: &mut Hub, alloc: Global, step: Step<'_>) -> Result<String, AllocError> {
+/// A client of ann comes.
+fn attach(told: &mut Told, hub: &mut Hub, alloc: Global) {
+    match String::from_str(alloc, "ann") {
+        Ok(user) => told.answer(hub.attach(user, 0)),
+        Err(_) => told.lack(),
+    }
+}
+
+/// A publication of nobody comes to `news`.
+fn deliver(told: &mut Told, hub: &mut Hub, alloc: Global, offset: u64) {
+    let Ok(body) = String::from_str(alloc, "1") else {
+        return told.lack();
+    };
+    let publication = Publication {
+        offset,
+        body,
+        info: None,
+    };
+    let came = hub.deliver("news", &Epoch::from_text("aaaa"), &publication);
+    told.tell(format_args!("{came:?}"));
+}
+
+/// A session is said its step's name so often.
+fn say(told: &mut Told, hub: &mut Hub, alloc: Global, step: Step<'_>) {
+    match step.name.repeat(alloc, step.size as usize) {
+        Ok(text) => told.tell(format_args!("{:?}", hub.say(step.number, text))),
+        Err(_) => told.lack(),
+    }
+}
+
+/// Tells what comes of a step.
+fn tell_outcome(told: &mut Told, hub: &mut Hub, alloc: Global, step: Step<'_>) {
     match step.word {
-        "attach" => match hub.attach(String::from_str(alloc, "ann")?, 0) {
-            Ok(session) => format!(in alloc; "{session}"),
-            Err(refusal) => refusal.to_string(alloc),
-        },
+        "attach" => attach(told, hub, alloc),
         "begin" => match hub.begin(step.number, step.name, 2, None) {
-            Ok(()) => String::from_str(alloc, "begun"),
-            Err(refusal) => refusal.to_string(alloc),
+            Ok(()) => told.tell("begun"),
+            Err(refusal) => told.tell(refusal),
         },
-        "deliver" => {
-            let publication = Publication {
-                offset: u64::from(step.number),
-                body: String::from_str(alloc, "1")?,
-                info: None,
-            };
-            let came = hub.deliver("news", &Epoch::from_text("aaaa"), &publication);
-            format!(in alloc; "{came:?}")
-        }
-        "say" => {
-            let text = step.name.repeat(alloc, step.size as usize)?;
-            format!(in alloc; "{:?}", hub.say(step.number, text))
-        }
+        "deliver" => deliver(told, hub, alloc, u64::from(step.number)),
+        "say" => say(told, hub, alloc, step),
         "check" => {
             let top = Some(place(u64::from(step.size)));
-            format!(in alloc; "{:?}", hub.check(step.number, step.name, top))
+            told.tell(format_args!("{:?}", hub.check(step.number, step.name, top)));
         }
-        "take" => taken(hub, alloc, step.number),
-        "detach" => format!(in alloc; "{}", hub.detach(step.number)),
-        "turn" => format!(in alloc; "{:?}", hub.next_with_output()),
-        _ if is_denied(hub, alloc, step) => String::from_str(alloc, "no"),
-        _ => String::from_str(alloc, "yes"),
+        "take" => tell_taken(told, hub, step.number),
+        "detach" => told.tell(hub.detach(step.number)),
+        "turn" => told.tell(format_args!("{:?}", hub.next_with_output())),
+        _ if is_denied(hub, alloc, step) => told.tell("no"),
+        _ => told.tell("yes"),
     }
 }
 
-/// What comes of steps that are separated by `; `, each ended by it too, with `short` where it is the first that memory is refused
-/// to.
-fn outcomes(hub: &mut Hub, alloc: Global, steps: &str) -> Result<String, AllocError> {
-    let mut told = String::new(alloc);
+/// What comes of steps that are separated by `; `, with `short` behind the first that memory is refused to.
+fn outcomes(hub: &mut Hub, alloc: Global, steps: &str) -> Told {
+    let mut told = Told::new(alloc);
     for text in steps.split("; ") {
+        told.part("; ");
         let was_short = hub.short();
-        told.push_str(outcome(hub, alloc, step_of(text))?.as_str())?;
-        let is_first = hub.short() && !was_short;
-        told.push_str(if is_first { " short; " } else { "; " })?;
+        tell_outcome(&mut told, hub, alloc, step_of(text));
+        if hub.short() && !was_short {
+            told.tell(" short");
+        }
     }
-    Ok(told)
+    told
 }
 
-/// Whether what comes of the steps of a row stands behind its arrow.
-fn is_so(alloc: Global, hub: &mut Hub, row: &str) -> bool {
-    let (steps, wanted) = sides_of(row);
-    match outcomes(hub, alloc, steps) {
-        Ok(told) => told.as_str().strip_suffix("; ").unwrap_or("") == wanted,
-        Err(_) => false,
+/// What comes of the steps of a row stands behind its arrow.
+impl Subject for Hub {
+    fn is_so(&mut self, alloc: Global, row: &str) -> bool {
+        let (steps, wanted) = sides_of(row);
+        outcomes(self, alloc, steps).text() == Some(wanted)
     }
 }
 
@@ -153,7 +168,7 @@ fn empty_hub(alloc: Global) -> Result<Box<Hub>, AllocError> {
 /// On an empty hub these rows are so, in their order.
 fn play(rt: &impl Abort, alloc: Global, rows: &str) {
     let mut hub = empty_hub(alloc).expect(rt, "memory");
-    are_so(rt, alloc, &mut *hub, rows, '\n', is_so);
+    are_so(rt, alloc, &mut *hub, rows, '\n');
 }
 
 /// Each refusal, the third where session 0 has begun with 128 channels.
@@ -232,11 +247,10 @@ fn comes_one_of(rt: &impl Abort, alloc: Global, first: &str, others: &str, allow
     let Ok(mut hub) = empty_hub(alloc) else {
         return;
     };
-    if outcomes(&mut hub, alloc, first).is_err() || hub.short() {
+    if outcomes(&mut hub, alloc, first).text().is_none() || hub.short() {
         return;
     }
-    if let Ok(told) = outcomes(&mut hub, alloc, others) {
-        let told = told.as_str().strip_suffix("; ").unwrap_or("");
+    if let Some(told) = outcomes(&mut hub, alloc, others).text() {
         assert!(rt; allowed.split('\n').any(|line| line == told), "{told}");
     }
 }

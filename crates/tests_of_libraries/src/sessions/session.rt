@@ -3,12 +3,12 @@ ghost use Rattle.std.specs.Prelude.{◌≡◌, IfSome};
 ghost use Rattle.cf_session.specs.Shown.{answer_kind};
 
 use crate::publications::{place, publication};
-use crate::rows::{are_so, sides_of};
+use crate::rows::{Subject, Told, are_so, sides_of};
 use cf_presence::Stats;
 use cf_protocol::{ErrorCode, Namespaces, Tokens, close_reason, read_namespaces, read_tokens};
 use cf_session::{Action, Answer, Kind, Session};
 use cf_stream::History;
-use std::alloc::{AllocError, Global};
+use std::alloc::Global;
 use std::collections::BTreeMap;
 use std::process::Abort;
 
@@ -88,83 +88,73 @@ fn channel_of(action: &Action) -> &str {
     }
 }
 
-/// The action in words.
-fn words_of(alloc: Global, action: &Action) -> Result<String, AllocError> {
-    let words = match action {
-        Action::Attach { user } => return format!(in alloc; "attach {user}"),
-        Action::Begin { id, .. } => return format!(in alloc; "begin {id}"),
+/// Tells an action in words.
+fn tell(told: &mut Told, action: &Action) {
+    match action {
+        Action::Attach { user } => told.tell(format_args!("attach {user}")),
+        Action::Begin { id, .. } => told.tell(format_args!("begin {id}")),
         Action::Read {
             since: Some(since),
             ..
-        } => return format!(in alloc; "read {} {}", since.epoch, since.offset),
-        Action::Read { .. } => "read",
-        Action::Finish { .. } => "finish",
-        Action::Leave { .. } => "leave",
+        } => told.tell(format_args!("read {} {}", since.epoch, since.offset)),
+        Action::Read { .. } => told.tell("read"),
+        Action::Finish { .. } => told.tell("finish"),
+        Action::Leave { .. } => told.tell("leave"),
         Action::Publish {
             key,
             body,
             info,
             ..
-        } if key.is_empty() => return format!(in alloc; "publish {body} {}", info.client),
+        } if key.is_empty() => told.tell(format_args!("publish {body} {}", info.client)),
         Action::Publish {
             key,
             body,
             info,
             ..
-        } => return format!(in alloc; "publish {key}: {body} {}", info.client),
-        Action::History { limit, .. } => return format!(in alloc; "history {limit}"),
-        Action::Presence { .. } => "presence",
-        Action::Stats { .. } => "stats",
-        Action::Say(text) => text.as_str(),
-        Action::Pong => "pong",
+        } => told.tell(format_args!("publish {key}: {body} {}", info.client)),
+        Action::History { limit, .. } => told.tell(format_args!("history {limit}")),
+        Action::Presence { .. } => told.tell("presence"),
+        Action::Stats { .. } => told.tell("stats"),
+        Action::Say(text) => told.tell(text),
+        Action::Pong => told.tell("pong"),
         Action::Close(code) => {
             let number = code.code();
-            return format!(in alloc; "close {number} {}", close_reason(number));
+            told.tell(format_args!("close {number} {}", close_reason(number)));
         }
-    };
-    String::from_str(alloc, words)
-}
-
-/// Adds an action's words behind ` / `.
-fn add(alloc: Global, done: &mut String, action: &Action) -> Option<()> {
-    let words = words_of(alloc, action).ok()?;
-    if !done.is_empty() {
-        done.push_str(" / ").ok()?;
     }
-    done.push_str(words.as_str()).ok()
 }
 
-/// Adds what the session does next. Whether it does anything.
-fn step(alloc: Global, session: &mut Session<'_>, done: &mut String) -> Option<bool> {
+/// Tells what the session does next, behind ` / `, and answers it. Whether it does anything.
+fn step(told: &mut Told, alloc: Global, session: &mut Session<'_>) -> bool {
     let Some(action) = session.next_action() else {
-        return Some(false);
+        return false;
     };
-    add(alloc, done, &action)?;
+    told.part(" / ");
+    tell(told, &action);
     answer(alloc, session, channel_of(&action));
-    Some(true)
+    true
 }
 
-/// Serves a text, and gives what the session did, in words separated by ` / `.
-fn serve(alloc: Global, session: &mut Session<'_>, text: &str) -> Option<String> {
-    let mut done = String::new(alloc);
+/// Serves a text, and tells what the session does, up to 100,000 times.
+fn serve(alloc: Global, session: &mut Session<'_>, text: &str) -> Told {
+    let mut told = Told::new(alloc);
     if session.is_idle() {
         session.on_text(text);
     }
     for _ in 0..100_000 {
-        if !step(alloc, session, &mut done)? {
-            return Some(done);
+        if !step(&mut told, alloc, session) {
+            break;
         }
     }
-    None
+    told
 }
 
-/// Whether a session does what stands behind the arrow of a row, or nothing where there is none, and then is idle and has met no
-/// refused request for memory.
-fn is_so(alloc: Global, session: &mut Session<'_>, row: &str) -> bool {
-    let (text, wanted) = sides_of(row);
-    match serve(alloc, session, text) {
-        Some(done) => done.as_str() == wanted && session.is_idle() && !session.short(),
-        None => false,
+/// A session does what stands behind the arrow of a row, or nothing where there is none, and then is idle and has met no refused
+/// request for memory.
+impl Subject for Session<'_> {
+    fn is_so(&mut self, alloc: Global, row: &str) -> bool {
+        let (text, wanted) = sides_of(row);
+        serve(alloc, self, text).text() == Some(wanted) && self.is_idle() && !self.short()
     }
 }
 
@@ -180,7 +170,7 @@ fn talks(rt: &impl Abort, alloc: Global, part: &str, parted_by: char) {
     let (_, tokens) = title.split_once(": ").unwrap_or((title, ""));
     let (namespaces, tokens) = tables(alloc, tokens).expect(rt, "tables");
     let mut session = Session::new(alloc, &namespaces, &tokens);
-    are_so(rt, alloc, &mut session, rows, parted_by, is_so);
+    are_so(rt, alloc, &mut session, rows, parted_by);
 }
 
 /// Each part is played by a session of its own, whose tokens stand behind the colon of its title.
@@ -316,9 +306,9 @@ fn is_one_of(done: &str, allowed: &str, was_refused: bool) -> bool {
 fn goes_on(rt: &impl Abort, alloc: Global, session: &mut Session<'_>, row: &str) -> bool {
     let (text, allowed) = sides_of(row);
     let was_short = session.short();
-    match serve(alloc, session, text) {
+    let told = serve(alloc, session, text);
+    match told.text() {
         Some(done) if session.is_idle() => {
-            let done = done.as_str();
             let was_refused = session.short() && !was_short;
             assert!(rt; is_one_of(done, allowed, was_refused), "{text}: {done}");
             !done.contains("close")
@@ -327,16 +317,20 @@ fn goes_on(rt: &impl Abort, alloc: Global, session: &mut Session<'_>, row: &str)
     }
 }
 
+/// A session goes on with the rows as long as it can.
+fn go_on(rt: &impl Abort, alloc: Global, session: &mut Session<'_>, rows: &str) {
+    for row in rows.split('\n') {
+        if !goes_on(rt, alloc, session, row) {
+            return;
+        }
+    }
+}
+
 // By `.ci/hub-refused` also with each request for memory refused in turn.
 #[test]
 fn session_refused(rt: HostRuntime) {
-    let Some((namespaces, tokens)) = tables(rt.alloc(), "") else {
-        return;
-    };
-    let mut session = Session::new(rt.alloc(), &namespaces, &tokens);
-    for row in OR_GIVEN_UP.split('\n') {
-        if !goes_on(&rt, rt.alloc(), &mut session, row) {
-            break;
-        }
+    if let Some((namespaces, tokens)) = tables(rt.alloc(), "") {
+        let mut session = Session::new(rt.alloc(), &namespaces, &tokens);
+        go_on(&rt, rt.alloc(), &mut session, OR_GIVEN_UP);
     }
 }

@@ -2,7 +2,7 @@
 ghost use Rattle.std.specs.Prelude.{not};
 
 use super::stream::Pieces;
-use crate::rows::{are_so, call_of, is_debug, number_of, sides_of};
+use crate::rows::{Subject, are_so, call_of, is_shown, number_of, sides_of};
 use cf_hub::Hub;
 use cf_queue::Out;
 use cf_wire::{Desk, Gather, TurnEnd, Wire, WireFault};
@@ -90,7 +90,7 @@ fn is_moved(stream: &mut Pieces, alloc: Global, word: &str, bytes: &str) -> bool
 /// Whether a text of so many bytes is met so by the hub.
 fn is_said(desk: &mut Echo, bytes: u32, wanted: &str) -> bool {
     match "x".repeat(desk.alloc, bytes as usize) {
-        Ok(text) => is_debug(desk.alloc, &desk.hub.say(0, text), wanted),
+        Ok(text) => is_shown(format_args!("{:?}", desk.hub.say(0, text)), wanted),
         Err(_) => false,
     }
 }
@@ -102,7 +102,8 @@ fn is_so(wire: &mut Wire<Pieces>, desk: &mut Echo, row: &str) -> bool {
     match word {
         "turn" => {
             let (end, heard) = call_of(wanted);
-            is_debug(desk.alloc, &wire.turn(desk), end) && desk.heard == number_of(heard) as usize
+            is_shown(format_args!("{:?}", wire.turn(desk)), end)
+                && desk.heard == number_of(heard) as usize
         }
         "in" | "out" => is_moved(wire.stream_mut(), desk.alloc, word, rest),
         "say" => is_said(desk, number_of(rest), wanted),
@@ -365,21 +366,23 @@ fn is_met(gather: &mut Gather<Pieces>, word: &str, text: &str) -> bool {
     }
 }
 
-/// Whether a row is so of a stream that gathers.
-fn is_gathered(_alloc: Global, gather: &mut Gather<Pieces>, row: &str) -> bool {
-    let (word, rest) = call_of(row);
-    match word {
-        "waits" => !gather.is_drained(),
-        "empty" => gather.is_drained(),
-        "flushes" => gather.flush().is_ok(),
-        "drains" => gather.drain().is_ok(),
-        "calls" => gather.stream().calls == number_of(rest) as usize,
-        "out" => gather.stream_mut().has_written(rest.as_bytes()),
-        "blocked" => {
-            gather.stream_mut().blocked = rest == "yes";
-            true
+/// A stream that gathers.
+impl Subject for Gather<Pieces> {
+    fn is_so(&mut self, _alloc: Global, row: &str) -> bool {
+        let (word, rest) = call_of(row);
+        match word {
+            "waits" => !self.is_drained(),
+            "empty" => self.is_drained(),
+            "flushes" => self.flush().is_ok(),
+            "drains" => self.drain().is_ok(),
+            "calls" => self.stream().calls == number_of(rest) as usize,
+            "out" => self.stream_mut().has_written(rest.as_bytes()),
+            "blocked" => {
+                self.stream_mut().blocked = rest == "yes";
+                true
+            }
+            _ => is_met(self, word, rest),
         }
-        _ => is_met(gather, word, rest),
     }
 }
 
@@ -407,5 +410,5 @@ out fghijk";
 fn gathers_to_its_limit(rt: HostRuntime) {
     let alloc = rt.alloc();
     let mut gather = Gather::new(alloc, Pieces::new(alloc, Vec::new(alloc), 3), 4);
-    are_so(&rt, alloc, &mut gather, GATHERED, '\n', is_gathered);
+    are_so(&rt, alloc, &mut gather, GATHERED, '\n');
 }

@@ -1,55 +1,53 @@
 //! Whole conversations of a client, by rows: behind the arrow of a call stands its text, and behind that of a text what the
 //! application gets from it, or why it is refused; nothing where there is no arrow.
-use crate::rows::{are_so, call_of, is_answer, number_of, sides_of};
+use crate::rows::{Subject, Wanted, are_so, call_of, is_answer, is_shown, number_of, sides_of};
 use cf_client::{AppEvent, Client, ClientFault};
 use cf_protocol::Position;
-use std::alloc::{AllocError, Global};
+use std::alloc::Global;
 use std::process::Abort;
 
-/// An event as a line.
-fn line_of(alloc: Global, event: &AppEvent) -> Result<String, AllocError> {
+/// Tells an event as a line, which a semicolon ends.
+fn tell(told: &mut Wanted<'_>, event: &AppEvent) {
     match event {
         AppEvent::Subscribed {
             channel,
             was_recovering,
             recovered,
             position: Position { epoch, offset },
-        } => {
-            format!(in alloc; "subscribed {channel} {was_recovering} {recovered} {epoch} {offset}")
-        }
+        } => told.tell(format_args!(
+            "subscribed {channel} {was_recovering} {recovered} {epoch} {offset};"
+        )),
         AppEvent::Published {
             channel,
             position: Position { epoch, offset },
             body,
-        } => format!(in alloc; "published {channel} {epoch} {offset} {body}"),
+        } => told.tell(format_args!("published {channel} {epoch} {offset} {body};")),
         AppEvent::Listed {
             channel,
             position: Position { epoch, offset },
             count,
-        } => format!(in alloc; "listed {channel} {epoch} {offset} {count}"),
-        _ => short_line_of(alloc, event),
-    }
-}
-
-/// An event that has no position as a line.
-fn short_line_of(alloc: Global, event: &AppEvent) -> Result<String, AllocError> {
-    match event {
+        } => told.tell(format_args!("listed {channel} {epoch} {offset} {count};")),
         AppEvent::Resubscribing { channel, code } => {
-            format!(in alloc; "resubscribing {channel} {code}")
+            told.tell(format_args!("resubscribing {channel} {code};"));
         }
-        AppEvent::Refused { channel, code } => format!(in alloc; "refused {channel} {code}"),
-        _ => String::from_str(alloc, "pong due"),
+        AppEvent::Refused { channel, code } => {
+            told.tell(format_args!("refused {channel} {code};"));
+        }
+        AppEvent::PongDue => told.tell("pong due;"),
     }
 }
 
-/// What the application gets: the events' lines, each ended by a semicolon.
-fn told(alloc: Global, events: &[AppEvent]) -> Result<String, ClientFault> {
-    let mut lines = String::new(alloc);
-    for event in events {
-        lines.push_str(line_of(alloc, event)?.as_str())?;
-        lines.push_str(";")?;
+/// Whether the application gets the events of these lines from a text, or it is refused in these words.
+fn is_heard(client: &mut Client, text: &str, wanted: &str) -> bool {
+    let events = match client.on_text(text) {
+        Ok(events) => events,
+        Err(fault) => return is_shown(fault, wanted),
+    };
+    let mut told = Wanted::new(wanted);
+    for event in &events {
+        tell(&mut told, event);
     }
-    Ok(lines)
+    told.is_met()
 }
 
 /// The text of a publish to `news`, or of one under a key, which stands before the data.
@@ -60,55 +58,56 @@ fn put(client: &mut Client, name: &str, passed: &str) -> Result<String, ClientFa
     }
 }
 
-/// Asks for so many channels, and lists each twice.
-fn crowd(alloc: Global, client: &mut Client, count: u32) -> Result<String, ClientFault> {
-    for number in 0..count {
-        let channel = format!(in alloc; "c{number}")?;
-        client.ask(channel.as_str())?;
-        client.list(channel.as_str(), -1)?;
-        client.list(channel.as_str(), -1)?;
-    }
-    Ok(String::new(alloc))
+/// Whether a channel is asked for, and listed twice.
+fn is_crowded(client: &mut Client, channel: &str) -> bool {
+    client.ask(channel).is_ok()
+        && client.list(channel, -1).is_ok()
+        && client.list(channel, -1).is_ok()
 }
 
-/// What comes of a call by its name, and what it is passed.
-fn answer(
-    alloc: Global,
-    client: &mut Client,
-    name: &str,
-    passed: &str,
-) -> Result<String, ClientFault> {
-    match name {
-        "connect" => client.connect(passed),
-        "ask" => client.ask(passed),
-        "ask_from" => client.ask_from(passed),
-        "leave" => client.leave(passed),
-        "list" => client.list(passed, -1),
-        "crowd" => crowd(alloc, client, number_of(passed)),
-        "on_text" => told(alloc, client.on_text(passed)?.as_slice()),
-        "reconnect" => {
-            client.reconnect();
-            Ok(String::new(alloc))
+/// Whether so many channels are.
+fn are_crowded(alloc: Global, client: &mut Client, count: u32) -> bool {
+    for number in 0..count {
+        let is_so = match format!(in alloc; "c{number}") {
+            Ok(channel) => is_crowded(client, channel.as_str()),
+            Err(_) => false,
+        };
+        if !is_so {
+            return false;
         }
-        _ => put(client, name, passed),
     }
+    true
 }
 
 /// Whether a call has this answer, or is refused in these words. A text alone is one that the client hears.
-fn is_so(alloc: Global, client: &mut Client, row: &str) -> bool {
-    let (call, wanted) = sides_of(row);
-    let (name, passed) = if call.starts_with('{') {
-        ("on_text", call)
-    } else {
-        call_of(call)
-    };
-    is_answer(alloc, answer(alloc, client, name, passed), wanted)
+impl Subject for Client {
+    fn is_so(&mut self, alloc: Global, row: &str) -> bool {
+        let (call, wanted) = sides_of(row);
+        if call.starts_with('{') {
+            return is_heard(self, call, wanted);
+        }
+        let (name, passed) = call_of(call);
+        match name {
+            "connect" => is_answer(self.connect(passed), wanted),
+            "ask" => is_answer(self.ask(passed), wanted),
+            "ask_from" => is_answer(self.ask_from(passed), wanted),
+            "leave" => is_answer(self.leave(passed), wanted),
+            "list" => is_answer(self.list(passed, -1), wanted),
+            "crowd" => are_crowded(alloc, self, number_of(passed)),
+            "on_text" => is_heard(self, passed, wanted),
+            "reconnect" => {
+                self.reconnect();
+                true
+            }
+            _ => is_answer(put(self, name, passed), wanted),
+        }
+    }
 }
 
 /// With a new client these rows are so, in their order.
 fn converse(rt: &impl Abort, alloc: Global, rows: &str) {
     let mut client = Client::new(alloc);
-    are_so(rt, alloc, &mut client, rows, '\n', is_so);
+    are_so(rt, alloc, &mut client, rows, '\n');
 }
 
 /// Conversations, with an empty line behind each.

@@ -7,14 +7,13 @@ use cf_queue::QueueRefusal;
 use cf_stream::StreamRefusal;
 use cf_subs::SubRefusal;
 use cf_wire::WireFault;
-use std::alloc::Global;
 use std::fmt::Display;
 use std::process::Abort;
 
 /// Values are shown as these texts.
-fn say<T: Display>(rt: &impl Abort, alloc: Global, values: &[(T, &str)]) {
+fn say<T: Display>(rt: &impl Abort, values: &[(T, &str)]) {
     for (value, text) in values {
-        assert!(rt; is_shown(alloc, value, text), "{text}");
+        assert!(rt; is_shown(value, text), "{text}");
     }
 }
 
@@ -51,15 +50,11 @@ const OF_SUBS: [(SubRefusal, &str); 2] = [
 
 #[test]
 fn refusals_in_words(rt: HostRuntime) {
-    say(&rt, rt.alloc(), &OF_STREAM);
-    say(&rt, rt.alloc(), &OF_CLIENT);
-    say(&rt, rt.alloc(), &OF_QUEUE);
-    say(&rt, rt.alloc(), &OF_SUBS);
-    say(
-        &rt,
-        rt.alloc(),
-        &[(PresenceRefusal::Memory, "out of memory")],
-    );
-    say(&rt, rt.alloc(), &[(HubRefusal::Memory, "out of memory")]);
-    say(&rt, rt.alloc(), &[(WireFault::Memory, "out of memory")]);
+    say(&rt, &OF_STREAM);
+    say(&rt, &OF_CLIENT);
+    say(&rt, &OF_QUEUE);
+    say(&rt, &OF_SUBS);
+    say(&rt, &[(PresenceRefusal::Memory, "out of memory")]);
+    say(&rt, &[(HubRefusal::Memory, "out of memory")]);
+    say(&rt, &[(WireFault::Memory, "out of memory")]);
 }

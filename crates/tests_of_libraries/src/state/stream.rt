@@ -1,6 +1,6 @@
 //! One stream, by rows: behind the arrow of a call stands the number that it answers, or a word where it answers none.
 use crate::publications::ann;
-use crate::rows::{are_so, call_of, number_of, sides_of};
+use crate::rows::{Subject, are_so, call_of, number_of, sides_of};
 use cf_protocol::{Epoch, Position};
 use cf_stream::{LARGEST_SIZE, LAST_OFFSET, Published, Stream};
 use std::alloc::Global;
@@ -86,10 +86,12 @@ fn call(alloc: Global, stream: &mut Stream, name: &str, passed: &str) -> Option<
     }
 }
 
-fn is_so(alloc: Global, stream: &mut Stream, row: &str) -> bool {
-    let (done, answer) = sides_of(row);
-    let (name, passed) = call_of(done);
-    call(alloc, stream, name, passed) == answer.parse::<u64>().ok()
+impl Subject for Stream {
+    fn is_so(&mut self, alloc: Global, row: &str) -> bool {
+        let (done, answer) = sides_of(row);
+        let (name, passed) = call_of(done);
+        call(alloc, self, name, passed) == answer.parse::<u64>().ok()
+    }
 }
 
 /// With a new stream the rows of a part are so, in their order. Its size, and how many offsets it has given, stand in the part's
@@ -99,7 +101,7 @@ fn play(rt: &impl Abort, alloc: Global, part: &str) {
     let (size, top) = call_of(title);
     let top = top.parse::<u64>().unwrap_or(0);
     let mut stream = started(alloc, number_of(size) as usize, top).expect(rt, "a stream");
-    are_so(rt, alloc, &mut *stream, rows, '\n', is_so);
+    are_so(rt, alloc, &mut *stream, rows, '\n');
 }
 
 /// A stream of a thousand. The last offset: a repeat is answered there too, and after a trim to nothing. A stream of three, which knows

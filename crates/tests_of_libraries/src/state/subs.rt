@@ -1,5 +1,5 @@
 //! Which session follows which channel.
-use crate::rows::{are_so, call_of, number_of, sides_of};
+use crate::rows::{Subject, are_so, call_of, number_of, sides_of};
 use cf_subs::{MOST_ROWS, SubRefusal, SubTable};
 use std::alloc::Global;
 
@@ -34,15 +34,17 @@ fn call(table: &mut SubTable, name: &str, channel: u32, session: u32) -> usize {
 }
 
 /// Behind the arrow of a channel stand its sessions, and behind that of a call what it answers.
-fn is_so(_alloc: Global, table: &mut SubTable, row: &str) -> bool {
-    let (done, wanted) = sides_of(row);
-    let (name, passed) = call_of(done);
-    let (channel, session) = call_of(passed);
-    let channel = number_of(channel);
-    if name == "walk" {
-        return walks(table, channel, wanted);
+impl Subject for SubTable {
+    fn is_so(&mut self, _alloc: Global, row: &str) -> bool {
+        let (done, wanted) = sides_of(row);
+        let (name, passed) = call_of(done);
+        let (channel, session) = call_of(passed);
+        let channel = number_of(channel);
+        if name == "walk" {
+            return walks(self, channel, wanted);
+        }
+        call(self, name, channel, number_of(session)) as u64 == u64::from(number_of(wanted))
     }
-    call(table, name, channel, number_of(session)) as u64 == u64::from(number_of(wanted))
 }
 
 const ROWS: &str = "add 1 10 => 1
@@ -66,7 +68,7 @@ walk 4294967295 => 4294967295";
 #[test]
 fn rows_in_order_of_adding(rt: HostRuntime) {
     let mut table = SubTable::new(rt.alloc());
-    are_so(&rt, rt.alloc(), &mut table, ROWS, '\n', is_so);
+    are_so(&rt, rt.alloc(), &mut table, ROWS, '\n');
 }
 
 /// A table of as many rows as it may have, 64 a session. It may go to another thread.

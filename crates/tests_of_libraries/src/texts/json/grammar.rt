@@ -3,9 +3,9 @@
 //! Marks `^` stand round a value, between the values of a frame, and where a text is refused: at the first byte at which what was
 //! read so far can't go on, or at the text's end. A value without marks is the whole text, and a text without one is refused
 //! anywhere.
+use crate::rows::{Subject, are_so};
 use cf_json::{Fault, Span, scan, split_frame};
 use std::alloc::Global;
-use std::process::Abort;
 
 /// What the texts of a table are.
 #[derive(Clone, Copy)]
@@ -35,25 +35,21 @@ fn is_refused<T: Drop>(found: Result<T, Fault>, row: &str) -> bool {
     }
 }
 
-fn is_so(alloc: Global, kind: Kind, row: &str) -> bool {
-    let Ok(text) = row.replace(alloc, '^', "") else {
-        return false;
-    };
-    let text = text.as_str();
-    match kind {
-        Kind::Value => scan(text) == Ok(marked(row)),
-        Kind::NoValue => is_refused(scan(text), row),
-        Kind::Frame => match split_frame(alloc, text) {
-            Ok(found) => found.len() == row.split('^').count(),
-            Err(_) => false,
-        },
-        Kind::NoFrame => is_refused(split_frame(alloc, text), row),
-    }
-}
-
-fn are_so(rt: &impl Abort, alloc: Global, kind: Kind, rows: &str, parted_by: char) {
-    for row in rows.split(parted_by) {
-        assert!(rt; is_so(alloc, kind, row), "{row}");
+impl Subject for Kind {
+    fn is_so(&mut self, alloc: Global, row: &str) -> bool {
+        let Ok(text) = row.replace(alloc, '^', "") else {
+            return false;
+        };
+        let text = text.as_str();
+        match self {
+            Kind::Value => scan(text) == Ok(marked(row)),
+            Kind::NoValue => is_refused(scan(text), row),
+            Kind::Frame => match split_frame(alloc, text) {
+                Ok(found) => found.len() == row.split('^').count(),
+                Err(_) => false,
+            },
+            Kind::NoFrame => is_refused(split_frame(alloc, text), row),
+        }
     }
 }
 
@@ -237,10 +233,10 @@ const NO_FRAMES: &str =
 
 #[test]
 fn values_and_frames(rt: HostRuntime) {
-    are_so(&rt, rt.alloc(), Kind::Value, VALUES, '\n');
-    are_so(&rt, rt.alloc(), Kind::Value, SPACED_VALUES, '|');
-    are_so(&rt, rt.alloc(), Kind::NoValue, NO_VALUES, '\n');
-    are_so(&rt, rt.alloc(), Kind::NoValue, NO_SPACED_VALUES, '|');
-    are_so(&rt, rt.alloc(), Kind::Frame, FRAMES, '|');
-    are_so(&rt, rt.alloc(), Kind::NoFrame, NO_FRAMES, '|');
+    are_so(&rt, rt.alloc(), &mut Kind::Value, VALUES, '\n');
+    are_so(&rt, rt.alloc(), &mut Kind::Value, SPACED_VALUES, '|');
+    are_so(&rt, rt.alloc(), &mut Kind::NoValue, NO_VALUES, '\n');
+    are_so(&rt, rt.alloc(), &mut Kind::NoValue, NO_SPACED_VALUES, '|');
+    are_so(&rt, rt.alloc(), &mut Kind::Frame, FRAMES, '|');
+    are_so(&rt, rt.alloc(), &mut Kind::NoFrame, NO_FRAMES, '|');
 }

@@ -5,12 +5,11 @@ ghost use Rattle.cf_json.specs.Grammar.{Tree};
 ghost use Rattle.cf_json.specs.Spans.{IsAt};
 ghost use Rattle.cf_json.specs.Kinds.{kind_of};
 
-use crate::rows::{are_so, call_of, is_answer, is_shown, sides_of};
+use crate::rows::{Subject, are_so, call_of, is_answer, is_debug, is_shown, sides_of};
 use cf_json::{
     Fault, Kind, Span, compact, items, kind, members, quote, read_text, scan, split_frame,
 };
 use std::alloc::Global;
-use std::fmt::Debug;
 
 /// The span of a text's one value, where that is of the kind.
 fn span_of(text: &str, wanted: Kind) -> Option<Span>
@@ -52,47 +51,50 @@ fn compacted(alloc: Global, text: &str) -> Result<String, Fault> {
     compact(alloc, text, span)
 }
 
-/// How many members an object has, and the key of the last.
-fn keys(alloc: Global, text: &str) -> Result<String, Fault> {
-    let found = members_of(alloc, text)?;
-    match found.last() {
-        Some((key, _)) => Ok(format!(in alloc; "{} to {key}", found.len())?),
-        None => Ok(String::new(alloc)),
+/// Whether this many spans were found.
+fn are_counted(found: Result<Vec<Span>, Fault>, wanted: &str) -> bool {
+    match found {
+        Ok(found) => is_shown(found.len(), wanted),
+        Err(fault) => is_shown(fault, wanted),
     }
 }
 
-/// How many values a frame has, or items an array.
-fn count(alloc: Global, name: &str, text: &str) -> Result<usize, Fault> {
-    let found = match name {
-        "values" => split_frame(alloc, text),
-        _ => items_of(alloc, text),
+/// Whether so many members were found, of which the last has this key: `COUNT to KEY`.
+fn are_keys(found: Result<Vec<(String, Span)>, Fault>, wanted: &str) -> bool {
+    let Ok(found) = found else {
+        return false;
     };
-    Ok(found?.len())
-}
-
-/// What was found, as `Debug` has it.
-fn shown<T: Debug + Drop>(alloc: Global, found: Result<T, Fault>) -> Result<String, Fault> {
-    Ok(format!(in alloc; "{:?}", found?)?)
-}
-
-/// What a call of this name answers of a text.
-fn answer(alloc: Global, name: &str, text: &str) -> Result<String, Fault> {
-    match name {
-        "scan" => shown(alloc, scan(text)),
-        "members" => shown(alloc, members_of(alloc, text)),
-        "values" | "length" => shown(alloc, count(alloc, name, text)),
-        "items" => shown(alloc, items_of(alloc, text)),
-        "keys" => keys(alloc, text),
-        "read" => text_of(alloc, text),
-        "compact" => compacted(alloc, text),
-        _ => Ok(quote(alloc, text)?),
+    match found.last() {
+        Some((key, _)) => is_shown(format_args!("{} to {key}", found.len()), wanted),
+        None => false,
     }
 }
 
-fn is_so(alloc: Global, _: &mut (), row: &str) -> bool {
-    let (call, wanted) = sides_of(row);
-    let (name, text) = call_of(call);
-    is_answer(alloc, answer(alloc, name, text), wanted)
+/// Whether a call of this name answers so of a text.
+fn is_found(alloc: Global, name: &str, text: &str, wanted: &str) -> bool {
+    match name {
+        "scan" => is_debug(scan(text), wanted),
+        "members" => is_debug(members_of(alloc, text), wanted),
+        "keys" => are_keys(members_of(alloc, text), wanted),
+        "values" => are_counted(split_frame(alloc, text), wanted),
+        "length" => are_counted(items_of(alloc, text), wanted),
+        "items" => is_debug(items_of(alloc, text), wanted),
+        "read" => is_answer(text_of(alloc, text), wanted),
+        "compact" => is_answer(compacted(alloc, text), wanted),
+        _ => is_answer(quote(alloc, text), wanted),
+    }
+}
+
+/// Calls by their names.
+#[derive(Drop)]
+struct Calls;
+
+impl Subject for Calls {
+    fn is_so(&mut self, alloc: Global, row: &str) -> bool {
+        let (call, wanted) = sides_of(row);
+        let (name, text) = call_of(call);
+        is_found(alloc, name, text, wanted)
+    }
 }
 
 const ROWS: &str =
@@ -144,8 +146,8 @@ compact [*16000*" ",*12] => [*16000*" ",*12]"#;
 
 #[test]
 fn vectors(rt: HostRuntime) {
-    assert!(rt; is_shown(rt.alloc(), &Fault::Memory, "out of memory"));
-    are_so(&rt, rt.alloc(), &mut (), ROWS, '\n', is_so);
-    are_so(&rt, rt.alloc(), &mut (), SPACED_ROWS, '|', is_so);
-    are_so(&rt, rt.alloc(), &mut (), LONG_ROWS, '\n', is_so);
+    assert!(rt; is_shown(Fault::Memory, "out of memory"));
+    are_so(&rt, rt.alloc(), &mut Calls, ROWS, '\n');
+    are_so(&rt, rt.alloc(), &mut Calls, SPACED_ROWS, '|');
+    are_so(&rt, rt.alloc(), &mut Calls, LONG_ROWS, '\n');
 }

@@ -1,71 +1,88 @@
 //! Calls by their names: settings of a node, pushes from lent parts, data that nest too deep; and what is said of faults.
-use crate::rows::{are_so, call_of, is_answer, is_shown, number_of, sides_of};
+use crate::rows::{Subject, are_so, call_of, is_answer, is_shown, number_of, sides_of};
 use cf_protocol::{
     Command, Data, Epoch, Outgoing, Pushed, ReadFault, Request, read_commands, read_namespaces,
     read_replies, read_tokens, write_publication, write_unsubscribe,
 };
 use std::alloc::Global;
-use std::fmt::Debug;
 
-fn shown<T: Debug>(alloc: Global, value: &T) -> Result<String, ReadFault> {
-    Ok(format!(in alloc; "{value:?}")?)
-}
-
-/// The user of a token, or the settings of a channel, by a text that sets up tokens or namespaces.
-fn look_up(alloc: Global, name: &str, wanted: &str, text: &str) -> Result<String, ReadFault> {
-    if name == "user" {
-        return shown(alloc, &read_tokens(alloc, text)?.user(wanted));
+/// Whether a text that sets up tokens has this user of one.
+fn is_user(alloc: Global, token: &str, text: &str, wanted: &str) -> bool {
+    match read_tokens(alloc, text) {
+        Ok(tokens) => is_shown(format_args!("{:?}", tokens.user(token)), wanted),
+        Err(fault) => is_shown(fault, wanted),
     }
-    let namespaces = read_namespaces(alloc, text)?.copied()?;
-    shown(alloc, &namespaces.find(wanted))
 }
 
-/// The push of a text's one publication, written from parts that are lent.
-fn lent(alloc: Global, text: &str) -> Result<String, ReadFault> {
-    match read_replies(alloc, text)?.first() {
+/// Whether a copy of what a text sets up has these settings of a channel.
+fn are_settings(alloc: Global, channel: &str, text: &str, wanted: &str) -> bool {
+    let namespaces = match read_namespaces(alloc, text) {
+        Ok(namespaces) => namespaces.copied(),
+        Err(fault) => return is_shown(fault, wanted),
+    };
+    match namespaces {
+        Ok(namespaces) => is_shown(format_args!("{:?}", namespaces.find(channel)), wanted),
+        Err(_) => false,
+    }
+}
+
+/// Whether the push of a text's one publication is this, written from parts that are lent.
+fn is_lent(alloc: Global, text: &str, wanted: &str) -> bool {
+    let Ok(replies) = read_replies(alloc, text) else {
+        return false;
+    };
+    match replies.first() {
         Some(
             Outgoing::Push {
                 channel,
                 push: Pushed::Publication(publication),
             },
-        ) => Ok(write_publication(alloc, channel.as_str(), publication)?),
-        _ => Err(ReadFault::Bad),
+        ) => is_answer(
+            write_publication(alloc, channel.as_str(), publication),
+            wanted,
+        ),
+        _ => false,
     }
 }
 
-fn is_too_deep(command: Option<&Command>) -> bool {
-    match command {
-        Some(command) => matches!(
-            &command.request,
-            Request::Publish {
-                body: Data::TooDeep,
-                ..
-            }
-        ),
+fn is_publish_too_deep(command: &Command) -> bool {
+    matches!(
+        &command.request,
+        Request::Publish {
+            body: Data::TooDeep,
+            ..
+        }
+    )
+}
+
+/// Whether it is so that the data of a text's first command nest too deep.
+fn is_too_deep(alloc: Global, text: &str, wanted: &str) -> bool {
+    let Ok(commands) = read_commands(alloc, text) else {
+        return false;
+    };
+    match commands.first() {
+        Some(command) => is_shown(is_publish_too_deep(command), wanted),
         None => false,
     }
 }
 
-/// Whether the data of a text's first command nest too deep.
-fn too_deep(alloc: Global, text: &str) -> Result<String, ReadFault> {
-    shown(alloc, &is_too_deep(read_commands(alloc, text)?.first()))
-}
+/// Calls by their names.
+#[derive(Drop)]
+struct ByName;
 
-/// What a call of this name answers.
-fn answer(alloc: Global, call: &str) -> Result<String, ReadFault> {
-    let (name, passed) = call_of(call);
-    let (first, second) = call_of(passed);
-    match name {
-        "lent" => lent(alloc, passed),
-        "too_deep" => too_deep(alloc, passed),
-        "unsubscribe" => Ok(write_unsubscribe(alloc, second, number_of(first))?),
-        _ => look_up(alloc, name, first, second),
+impl Subject for ByName {
+    fn is_so(&mut self, alloc: Global, row: &str) -> bool {
+        let (call, wanted) = sides_of(row);
+        let (name, passed) = call_of(call);
+        let (first, second) = call_of(passed);
+        match name {
+            "find" => are_settings(alloc, first, second, wanted),
+            "user" => is_user(alloc, first, second, wanted),
+            "lent" => is_lent(alloc, passed, wanted),
+            "too_deep" => is_too_deep(alloc, passed, wanted),
+            _ => is_answer(write_unsubscribe(alloc, second, number_of(first)), wanted),
+        }
     }
-}
-
-fn is_so(alloc: Global, _: &mut (), row: &str) -> bool {
-    let (call, wanted) = sides_of(row);
-    is_answer(alloc, answer(alloc, call), wanted)
 }
 
 const ROWS: &str =
@@ -111,7 +128,7 @@ too_deep {"id":1,"publish":{"channel":"a","data":*62*[**62*]*}} => true"#;
 
 #[test]
 fn calls(rt: HostRuntime) {
-    assert!(rt; is_shown(rt.alloc(), &ReadFault::Memory, "out of memory"));
-    assert!(rt; is_shown(rt.alloc(), &Epoch::from_text("aZ9"), "aZ9"));
-    are_so(&rt, rt.alloc(), &mut (), ROWS, '\n', is_so);
+    assert!(rt; is_shown(ReadFault::Memory, "out of memory"));
+    assert!(rt; is_shown(Epoch::from_text("aZ9"), "aZ9"));
+    are_so(&rt, rt.alloc(), &mut ByName, ROWS, '\n');
 }

@@ -1,5 +1,6 @@
 //! Frames of commands, among them those that nobody means well by.
-use super::{Fate, Sender, are_so};
+use super::Frames;
+use crate::rows::are_so;
 
 /// Frames that are written again as they were read.
 const KEPT: &str = r#"// what clients send
@@ -253,11 +254,10 @@ const REFUSED_LINES: &str = "| \n\t|\u{feff}{}|{\"id\":1,\"connect\":{\"token\":
 
 #[test]
 fn frames_of_commands(rt: HostRuntime) {
-    let kept = (Sender::Client, Fate::Kept);
-    let refused = (Sender::Client, Fate::Refused);
-    are_so(&rt, rt.alloc(), kept, KEPT, '\n');
-    are_so(&rt, rt.alloc(), kept, REWRITTEN, '\n');
-    are_so(&rt, rt.alloc(), kept, REWRITTEN_LINES, '|');
-    are_so(&rt, rt.alloc(), refused, REFUSED, '\n');
-    are_so(&rt, rt.alloc(), refused, REFUSED_LINES, '|');
+    let (mut kept, mut refused) = (Frames::Commands, Frames::NoCommands);
+    are_so(&rt, rt.alloc(), &mut kept, KEPT, '\n');
+    are_so(&rt, rt.alloc(), &mut kept, REWRITTEN, '\n');
+    are_so(&rt, rt.alloc(), &mut kept, REWRITTEN_LINES, '|');
+    are_so(&rt, rt.alloc(), &mut refused, REFUSED, '\n');
+    are_so(&rt, rt.alloc(), &mut refused, REFUSED_LINES, '|');
 }

@@ -1,5 +1,6 @@
 //! Frames of replies and pushes, among them those that nobody means well by.
-use super::{Fate, Sender, are_so};
+use super::Frames;
+use crate::rows::are_so;
 
 /// Frames that are written again as they were read.
 const KEPT: &str = r#"// what the server sends
@@ -241,11 +242,10 @@ null
 
 #[test]
 fn frames_of_replies(rt: HostRuntime) {
-    let kept = (Sender::Server, Fate::Kept);
-    let refused = (Sender::Server, Fate::Refused);
-    are_so(&rt, rt.alloc(), kept, KEPT, '\n');
-    are_so(&rt, rt.alloc(), kept, REWRITTEN, '\n');
-    are_so(&rt, rt.alloc(), kept, " {}{ }\r\n\t{}  => {}{}{}", '|');
-    are_so(&rt, rt.alloc(), refused, REFUSED, '\n');
-    are_so(&rt, rt.alloc(), refused, "| ", '|');
+    let (mut kept, mut refused) = (Frames::Replies, Frames::NoReplies);
+    are_so(&rt, rt.alloc(), &mut kept, KEPT, '\n');
+    are_so(&rt, rt.alloc(), &mut kept, REWRITTEN, '\n');
+    are_so(&rt, rt.alloc(), &mut kept, " {}{ }\r\n\t{}  => {}{}{}", '|');
+    are_so(&rt, rt.alloc(), &mut refused, REFUSED, '\n');
+    are_so(&rt, rt.alloc(), &mut refused, "| ", '|');
 }

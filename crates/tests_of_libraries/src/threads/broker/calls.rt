@@ -9,17 +9,22 @@ use crate::rows::call_of;
 use cf_broker::shard_of;
 use cf_order::Pass;
 use cf_protocol::{Info, Position, namespace_of};
-use cf_shard::{Delivery, Naming, Refused};
-use cf_stream::Published;
+use cf_shard::{Delivery, Naming, ReadAnswer, Refused};
+use cf_stream::{History, Published};
 use std::alloc::Global;
+use std::collections::BTreeMap;
+use std::fmt::InlineText;
 use std::sync::Wait;
+
+/// What comes of a call, in words.
+pub(super) type Came = InlineText<120>;
 
 fn word(alloc: Global, text: &str) -> Option<String> {
     String::from_str(alloc, text).ok()
 }
 
-fn two_numbers(alloc: Global, first: u64, second: u64) -> Option<String> {
-    format!(in alloc; "{first}, {second}").ok()
+fn two_numbers(first: u64, second: u64) -> Came {
+    Came::of(format_args!("{first}, {second}"))
 }
 
 /// A body and a key, if there is one behind it.
@@ -41,7 +46,7 @@ fn publish<N: Naming, R: Wait>(
     channel: &str,
     with: &str,
     now: u64,
-) -> Option<String>
+) -> Option<Came>
     requires pass { pass.old.word ≡ N.words (number_of channel.now) }
     requires set_up { IsSome (settings_of N.namespaces channel.now) }
     ensures { pass.new.word ≡ pass.old.word }
@@ -56,7 +61,8 @@ fn publish<N: Naming, R: Wait>(
     match broker.publish(rt, pass, channel, body, key, client, now) {
         Ok(Published { position, repeated }) => {
             let again = if repeated { "again " } else { "" };
-            format!(in stage.alloc; "{again}{} {}", position.epoch, position.offset).ok()
+            let came = format_args!("{again}{} {}", position.epoch, position.offset);
+            Some(Came::of(came))
         }
         Err(_) => None,
     }
@@ -67,9 +73,33 @@ fn position(offset: &str) -> Option<Position> {
     Some(place(offset.parse::<u64>().ok()?))
 }
 
-/// `read C OFFSET`, or from the newest on: how many publications are recovered, and the length of the shard's log. `history C LIMIT`,
-/// or `after C OFFSET` with no limit: how many publications come. `position C`: where its stream stands, and the length of the
-/// shard's log.
+/// How many publications are recovered, and the length of the shard's log.
+fn recovered(answer: Result<ReadAnswer, Refused>) -> Option<Came> {
+    let ReadAnswer { recovery, mark } = answer.ok()?;
+    if recovery.recovered {
+        Some(two_numbers(recovery.publications.len() as u64, mark))
+    } else {
+        Some(Came::of("not recovered"))
+    }
+}
+
+/// How many publications come.
+fn listed(answer: Result<History, Refused>) -> Came {
+    match answer {
+        Ok(history) => Came::of(history.publications.len()),
+        Err(refused) => Came::of(refused),
+    }
+}
+
+/// Where a stream stands, and the length of its shard's log.
+fn standing((at, mark): (Option<Position>, u64)) -> Came {
+    match at {
+        Some(position) => two_numbers(position.offset, mark),
+        None => Came::of("none"),
+    }
+}
+
+/// `read C OFFSET`, or from the newest on; `position C`; `after C OFFSET` with no limit, or `history C LIMIT`.
 fn look<N: Naming, R: Wait>(
     rt: &R,
     stage: &Stage<'_, '_, N>,
@@ -78,37 +108,19 @@ fn look<N: Naming, R: Wait>(
     channel: &str,
     with: &str,
     now: u64,
-) -> Option<String>
+) -> Option<Came>
     requires pass { pass.old.word ≡ N.words (number_of channel.now) }
     requires set_up { IsSome (settings_of N.namespaces channel.now) }
     ensures { pass.new.word ≡ pass.old.word }
 {
     let (broker, since) = (stage.broker, position(with));
     match name {
-        "read" => match broker.read(rt, pass, channel, since, now) {
-            Ok(answer) if answer.recovery.recovered => {
-                let count = answer.recovery.publications.len() as u64;
-                two_numbers(stage.alloc, count, answer.mark)
-            }
-            Ok(_) => word(stage.alloc, "not recovered"),
-            Err(_) => None,
-        },
-        "position" => {
-            let (at, mark) = broker.position(rt, pass, channel);
-            match at {
-                Some(position) => two_numbers(stage.alloc, position.offset, mark),
-                None => word(stage.alloc, "none"),
-            }
-        }
+        "read" => recovered(broker.read(rt, pass, channel, since, now)),
+        "position" => Some(standing(broker.position(rt, pass, channel))),
+        "after" => Some(listed(broker.history(rt, pass, channel, since, -1, now))),
         _ => {
-            let (since, limit) = match name {
-                "after" => (since, -1),
-                _ => (None, with.parse::<i32>().unwrap_or(-1)),
-            };
-            match broker.history(rt, pass, channel, since, limit, now) {
-                Ok(history) => history.publications.len().to_string(stage.alloc).ok(),
-                Err(refused) => refused.to_string(stage.alloc).ok(),
-            }
+            let limit = with.parse::<i32>().unwrap_or(-1);
+            Some(listed(broker.history(rt, pass, channel, None, limit, now)))
         }
     }
 }
@@ -146,7 +158,7 @@ fn call_on<N: Naming, R: Wait>(
     channel: &str,
     with: &str,
     now: u64,
-) -> Option<String>
+) -> Option<Came>
     requires pass { pass.old.word ≡ N.words (number_of channel.now) }
     requires set_up { IsSome (settings_of N.namespaces channel.now) }
     ensures { pass.new.word ≡ pass.old.word }
@@ -155,15 +167,15 @@ fn call_on<N: Naming, R: Wait>(
         "publish" | "put" => publish(rt, stage, pass, name, channel, with, now),
         "trim" | "forget" | "tick" | "size" => {
             match change(rt, stage, pass, name, channel, with, now) {
-                Ok(()) => word(stage.alloc, "done"),
-                Err(refused) => refused.to_string(stage.alloc).ok(),
+                Ok(()) => Some(Came::of("done")),
+                Err(refused) => Some(Came::of(refused)),
             }
         }
-        "share" => pass.share().to_string(stage.alloc).ok(),
+        "share" => Some(Came::of(pass.share())),
         "quiet" => {
             let mark = with.parse::<u64>().unwrap_or(0);
             let is_quiet = stage.broker.quiet_since(pass, channel, mark);
-            word(stage.alloc, if is_quiet { "yes" } else { "no" })
+            Some(Came::of(if is_quiet { "yes" } else { "no" }))
         }
         _ => look(rt, stage, pass, name, channel, with, now),
     }
@@ -177,7 +189,7 @@ fn call_with_pass<N: Naming, R: Wait>(
     name: &str,
     channel: &str,
     with: &str,
-) -> Option<String> {
+) -> Option<Came> {
     if stage.namespaces.find(channel).is_none() {
         return None;
     }
@@ -195,11 +207,20 @@ fn publish_often<N: Naming, R: Wait>(
     caller: &mut Caller<N>,
     channel: &str,
     with: &str,
-) -> Option<String> {
+) -> Option<Came> {
     for _ in 0..with.parse::<u32>().unwrap_or(0) {
         call_with_pass(rt, stage, caller, "publish", channel, "1")?;
     }
-    word(stage.alloc, "done")
+    Some(Came::of("done"))
+}
+
+/// The user of a client that is there, or `none`.
+fn user_of(answer: Result<BTreeMap<String, String>, Refused>, client: &str) -> Option<Came> {
+    let users = answer.ok()?;
+    match users.get(client) {
+        Some(user) => Some(Came::of(user)),
+        None => Some(Came::of("none")),
+    }
 }
 
 /// `enter C CLIENT USER`, `leave C CLIENT`, `user C CLIENT`, which is the user of a client that is there, or `none`; or `stats C`: how
@@ -211,27 +232,19 @@ fn call_on_presence<N: Naming, R: Wait>(
     channel: &str,
     with: &str,
     now: u64,
-) -> Option<String> {
+) -> Option<Came> {
     let (broker, (client, user)) = (stage.broker, call_of(with));
     match name {
-        "enter" => match broker.enter(rt, channel, client, user, now) {
-            Ok(()) => word(stage.alloc, "done"),
-            Err(_) => None,
-        },
+        "enter" if broker.enter(rt, channel, client, user, now).is_err() => None,
+        "enter" => Some(Came::of("done")),
         "leave" => {
             broker.leave(rt, channel, client);
-            word(stage.alloc, "done")
+            Some(Came::of("done"))
         }
-        "user" => {
-            let users = broker.list(rt, channel).ok()?;
-            match users.get(client) {
-                Some(user) => word(stage.alloc, user.as_str()),
-                None => word(stage.alloc, "none"),
-            }
-        }
+        "user" => user_of(broker.list(rt, channel), client),
         _ => {
             let stats = broker.stats(rt, channel);
-            two_numbers(stage.alloc, stats.clients, stats.users)
+            Some(two_numbers(stats.clients, stats.users))
         }
     }
 }
@@ -243,13 +256,13 @@ pub(super) fn call<N: Naming, R: Wait>(
     stage: &Stage<'_, '_, N>,
     caller: &mut Caller<N>,
     words: &str,
-) -> Option<String> {
+) -> Option<Came> {
     let (name, passed) = call_of(words);
     let (channel, with) = call_of(passed);
     match name {
         "at" => {
             caller.now = passed.parse::<u64>().unwrap_or(0);
-            word(stage.alloc, "done")
+            Some(Came::of("done"))
         }
         "enter" | "leave" | "user" | "stats" => {
             call_on_presence(rt, stage, name, channel, with, caller.now)
@@ -260,18 +273,17 @@ pub(super) fn call<N: Naming, R: Wait>(
 }
 
 /// A delivery in words, and whose its publication is.
-pub(super) fn brought(alloc: Global, delivery: &Delivery) -> Option<String> {
+pub(super) fn brought(delivery: &Delivery) -> Came {
     let Delivery {
         channel,
         epoch,
         publication,
     } = delivery;
     let (offset, body) = (publication.offset, publication.body.as_str());
-    let words = match &publication.info {
-        Some(Info { user, client }) => {
-            format!(in alloc; "{channel} {epoch} {offset} {body} of {user} {client}")
-        }
-        None => format!(in alloc; "{channel} {epoch} {offset} {body}"),
-    };
-    words.ok()
+    match &publication.info {
+        Some(Info { user, client }) => Came::of(format_args!(
+            "{channel} {epoch} {offset} {body} of {user} {client}"
+        )),
+        None => Came::of(format_args!("{channel} {epoch} {offset} {body}")),
+    }
 }

@@ -2,7 +2,7 @@
 ghost use Rattle.std.specs.Prelude.{◌≡◌, ◌<◌};
 ghost use Rattle.cf_broker.specs.Shards.{names};
 
-use super::calls::{brought, call};
+use super::calls::{Came, brought, call};
 use crate::rows::{call_of, number_of, sides_of};
 use cf_broker::{Broker, Passes, Words, shard_of};
 use cf_link::{Receiver, Sender, pair};
@@ -94,6 +94,14 @@ struct Cast<N: Naming> {
     links: Vec<Receiver<Delivery>>,
 }
 
+/// Whether this came.
+fn is_come(came: Option<Came>, wanted: &str) -> bool {
+    match came {
+        Some(came) => came.as_str() == wanted,
+        None => false,
+    }
+}
+
 /// Whether a step is so: what stands behind its arrow comes of it, or where there is none `done`.
 fn is_so<N: Naming, R: Wait>(
     rt: &R,
@@ -102,10 +110,7 @@ fn is_so<N: Naming, R: Wait>(
     row: &str,
 ) -> bool {
     let (step, wanted) = row.split_once(" => ").unwrap_or((row, "done"));
-    match call(rt, stage, caller, step) {
-        Some(came) => came.as_str() == wanted,
-        None => false,
-    }
+    is_come(call(rt, stage, caller, step), wanted)
 }
 
 /// Whether two steps are so that are taken at once, the second by another thread.
@@ -152,15 +157,15 @@ fn offered<N: Naming, R: Wait>(
     stage: &Stage<'_, '_, N>,
     links: &mut [Receiver<Delivery>],
     asked: &str,
-) -> Option<String> {
+) -> Option<Came> {
     let (name, node) = call_of(asked);
     let node = number_of(node) as usize;
     match name {
-        "lost" => stage.broker.lost(node).to_string(stage.alloc).ok(),
-        "crowded" => stage.broker.is_crowded(rt).to_string(stage.alloc).ok(),
+        "lost" => Some(Came::of(stage.broker.lost(node))),
+        "crowded" => Some(Came::of(stage.broker.is_crowded(rt))),
         _ => match links.get_mut(node)?.receive(rt) {
-            Some(delivery) => brought(stage.alloc, &delivery),
-            None => String::from_str(stage.alloc, "nothing").ok(),
+            Some(delivery) => Some(brought(&delivery)),
+            None => Some(Came::of("nothing")),
         },
     }
 }
@@ -174,23 +179,20 @@ fn is_row<N: Naming + Send + Sync, R: Threads + Wait + Sync>(
 ) -> bool {
     let (word, rest) = call_of(row);
     match word {
-        "#" => {}
-        "both" => return are_both(rt, stage, &mut cast.ours, &mut cast.theirs, rest),
-        "they" => return is_so(rt, stage, &mut cast.theirs, rest),
+        "#" => true,
+        "both" => are_both(rt, stage, &mut cast.ours, &mut cast.theirs, rest),
+        "they" => is_so(rt, stage, &mut cast.theirs, rest),
         "meet" | "join" => {
             let (ours, theirs) = (&mut cast.ours.passes, &mut cast.theirs.passes);
             bring_together(stage, ours, theirs, word, rest);
+            true
         }
         "receive" | "lost" | "crowded" => {
             let (asked, wanted) = sides_of(row);
-            return match offered(rt, stage, cast.links.as_mut_slice(), asked) {
-                Some(came) => came.as_str() == wanted,
-                None => false,
-            };
+            is_come(offered(rt, stage, cast.links.as_mut_slice(), asked), wanted)
         }
-        _ => return is_so(rt, stage, &mut cast.ours, row),
+        _ => is_so(rt, stage, &mut cast.ours, row),
     }
-    true
 }
 
 /// These rows are so, in their order.
