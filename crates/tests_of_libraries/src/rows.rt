@@ -1,7 +1,7 @@
 //! Rows, each what is done and what comes of it: what they are about, long texts, numbers, and what a value is shown as.
 use std::alloc::Global;
 use std::fmt;
-use std::fmt::{Debug, Display, Write};
+use std::fmt::{Display, Write};
 use std::process::Abort;
 
 /// What rows are about.
@@ -174,15 +174,4 @@ pub(crate) fn is_answer<T: Display + Drop, E: Display + Drop>(
     let mut wanted = Wanted::new(wanted);
     wanted.answer(answer);
     wanted.is_met()
-}
-
-/// Whether a call answered what `Debug` has as this text, or was refused in these words.
-pub(crate) fn is_debug<T: Debug + Drop, E: Display + Drop>(
-    answer: Result<T, E>,
-    wanted: &str,
-) -> bool {
-    match answer {
-        Ok(value) => is_shown(format_args!("{value:?}"), wanted),
-        Err(fault) => is_shown(fault, wanted),
-    }
 }

@@ -3,6 +3,7 @@ use super::stream::Pieces;
 use crate::rows::{call_of, in_full, is_shown};
 use cf_wire::{Wire, WireFault};
 use std::alloc::Global;
+use std::process::Abort;
 
 const OPENED: &str =
     "HTTP/1.1 101 Switching Protocols\r\nUpgrade: websocket\r\nConnection: Upgrade\r\nSec-WebSocket-Accept: s3pPLMBiTxaQ9kYGzzhZRbK+xOo=\r\n\r\n";
@@ -107,30 +108,27 @@ fn is_answered(stream: Pieces, alloc: Global, fault: &str, answer: &str) -> bool
 }
 
 /// A stream of these lines, by pieces of so many bytes.
-fn stream_over(alloc: Global, lines: &str, piece: usize) -> Option<Pieces> {
+fn stream_over(rt: &impl Abort, alloc: Global, lines: &str, piece: usize) -> Pieces {
     let lines = in_full(alloc, lines);
     let mut head = Vec::new(alloc);
-    for line in lines.text()?.split(';') {
-        head.extend_from_slice(line_of(line).as_bytes()).ok()?;
-        head.extend_from_slice(b"\r\n").ok()?;
+    for line in lines.text().expect(rt, "memory").split(';') {
+        head.extend_from_slice(line_of(line).as_bytes())
+            .expect(rt, "memory");
+        head.extend_from_slice(b"\r\n").expect(rt, "memory");
     }
-    Some(Pieces::new(alloc, head, piece))
+    Pieces::new(alloc, head, piece)
 }
 
 /// Whether a row is as it says, by pieces of so many bytes.
-fn is_so(alloc: Global, row: &str, piece: usize) -> bool {
+fn is_so(rt: &impl Abort, alloc: Global, row: &str, piece: usize) -> bool {
     let (word, lines) = call_of(row);
-    match stream_over(alloc, lines, piece) {
-        Some(stream) => is_answered(stream, alloc, fault_of(word), answer_of(word)),
-        None => false,
-    }
+    let stream = stream_over(rt, alloc, lines, piece);
+    is_answered(stream, alloc, fault_of(word), answer_of(word))
 }
 
 /// Whether a refusal whose call of this number fails is one all the same, and says that its answer isn't whole.
-fn is_refused_unheard(alloc: Global, call: usize) -> bool {
-    let Some(mut stream) = stream_over(alloc, "no request;", 4096) else {
-        return false;
-    };
+fn is_refused_unheard(rt: &impl Abort, alloc: Global, call: usize) -> bool {
+    let mut stream = stream_over(rt, alloc, "no request;", 4096);
     stream.fails = call;
     match Wire::accept(alloc, stream) {
         Ok(_) => false,
@@ -141,10 +139,10 @@ fn is_refused_unheard(alloc: Global, call: usize) -> bool {
 /// Each head is answered as its row says, byte by byte, by pieces of seven bytes, and whole.
 #[test]
 fn answered_heads(rt: HostRuntime) {
-    let alloc = rt.alloc();
     for row in ROWS.lines() {
-        let is_so = is_so(alloc, row, 1) && is_so(alloc, row, 7) && is_so(alloc, row, 4096);
-        assert!(rt; is_so, "{row}");
+        for piece in [1, 7, 4096] {
+            assert!(rt; is_so(&rt, rt.alloc(), row, piece), "{row}");
+        }
     }
 }
 
@@ -152,7 +150,7 @@ fn answered_heads(rt: HostRuntime) {
 /// nothing of why there is no wire.
 #[test]
 fn unheard_refusal(rt: HostRuntime) {
-    assert!(rt; is_refused_unheard(rt.alloc(), 2));
-    assert!(rt; is_refused_unheard(rt.alloc(), 3));
-    assert!(rt; !is_refused_unheard(rt.alloc(), 4));
+    assert!(rt; is_refused_unheard(&rt, rt.alloc(), 2));
+    assert!(rt; is_refused_unheard(&rt, rt.alloc(), 3));
+    assert!(rt; !is_refused_unheard(&rt, rt.alloc(), 4));
 }

@@ -8,27 +8,6 @@ use cf_stream::Recovery;
 use std::alloc::{AllocError, Global};
 use std::process::Abort;
 
-/// A step, `WORD NUMBER NAME SIZE`, of which what isn't needed is left out at the end.
-#[derive(Clone, Copy)]
-struct Step<'a> {
-    word: &'a str,
-    number: u32,
-    name: &'a str,
-    size: u32,
-}
-
-fn step_of(text: &str) -> Step<'_> {
-    let (word, rest) = call_of(text);
-    let (number, rest) = call_of(rest);
-    let (name, size) = call_of(rest);
-    Step {
-        word,
-        number: number_of(number),
-        name,
-        size: number_of(size),
-    }
-}
-
 /// What the read of a stream gives that holds nothing.
 fn nothing_read(alloc: Global) -> Recovery {
     Recovery {
@@ -45,7 +24,6 @@ fn name_of(text: &str) -> &'static str {
         r#"{"push":{"channel":"news","pub":{"data":1,"offset":1}}}"# => "push",
         r#"{"push":{"channel":"news","unsubscribe":{"code":2500,"reason":"insufficient state"}}}"# =>
             { "end" }
-        "{}" => "ping",
         _ => "text",
     }
 }
@@ -60,29 +38,6 @@ fn tell_taken(told: &mut Told, hub: &mut Hub, session: u32) {
     }
     if is_closed {
         told.tell(" closed");
-    }
-}
-
-/// Whether a step that is answered by yes or no, or by nothing, is answered by no.
-fn is_denied(hub: &mut Hub, alloc: Global, step: Step<'_>) -> bool {
-    match step.word {
-        "read" => !hub.read_done(step.number, step.name, nothing_read(alloc)),
-        "finish" => !hub.finish(step.number, step.name),
-        "leave" => !hub.leave(step.number, step.name),
-        "on" => !hub.is_on(step.number, step.name),
-        "close" => {
-            hub.close(step.number, 3001);
-            false
-        }
-        "pong" => {
-            hub.pong(step.number);
-            false
-        }
-        "tick" => {
-            hub.tick(u64::from(step.number));
-            false
-        }
-        _ => true,
     }
 }
 
@@ -108,33 +63,26 @@ fn deliver(told: &mut Told, hub: &mut Hub, alloc: Global, offset: u64) {
     told.tell(format_args!("{came:?}"));
 }
 
-/// A session is said its step's name so often.
-fn say(told: &mut Told, hub: &mut Hub, alloc: Global, step: Step<'_>) {
-    match step.name.repeat(alloc, step.size as usize) {
-        Ok(text) => told.tell(format_args!("{:?}", hub.say(step.number, text))),
-        Err(_) => told.lack(),
-    }
+/// Tells whether a call answered yes.
+fn tell_done(told: &mut Told, is_done: bool) {
+    told.tell(if is_done { "yes" } else { "no" });
 }
 
-/// Tells what comes of a step.
-fn tell_outcome(told: &mut Told, hub: &mut Hub, alloc: Global, step: Step<'_>) {
-    match step.word {
+/// Tells what comes of a step, `WORD NUMBER NAME`, of which what isn't needed is left out at the end.
+fn tell_outcome(told: &mut Told, hub: &mut Hub, alloc: Global, step: &str) {
+    let (word, rest) = call_of(step);
+    let (number, name) = call_of(rest);
+    let number = number_of(number);
+    match word {
         "attach" => attach(told, hub, alloc),
-        "begin" => match hub.begin(step.number, step.name, 2, None) {
+        "begin" => match hub.begin(number, name, 2, None) {
             Ok(()) => told.tell("begun"),
             Err(refusal) => told.tell(refusal),
         },
-        "deliver" => deliver(told, hub, alloc, u64::from(step.number)),
-        "say" => say(told, hub, alloc, step),
-        "check" => {
-            let top = Some(place(u64::from(step.size)));
-            told.tell(format_args!("{:?}", hub.check(step.number, step.name, top)));
-        }
-        "take" => tell_taken(told, hub, step.number),
-        "detach" => told.tell(hub.detach(step.number)),
-        "turn" => told.tell(format_args!("{:?}", hub.next_with_output())),
-        _ if is_denied(hub, alloc, step) => told.tell("no"),
-        _ => told.tell("yes"),
+        "deliver" => deliver(told, hub, alloc, u64::from(number)),
+        "read" => tell_done(told, hub.read_done(number, name, nothing_read(alloc))),
+        "finish" => tell_done(told, hub.finish(number, name)),
+        _ => tell_taken(told, hub, number),
     }
 }
 
@@ -144,7 +92,7 @@ fn outcomes(hub: &mut Hub, alloc: Global, steps: &str) -> Told {
     for text in steps.split("; ") {
         told.part("; ");
         let was_short = hub.short();
-        tell_outcome(&mut told, hub, alloc, step_of(text));
+        tell_outcome(&mut told, hub, alloc, text);
         if hub.short() && !was_short {
             told.tell(" short");
         }
@@ -171,73 +119,34 @@ fn play(rt: &impl Abort, alloc: Global, rows: &str) {
     are_so(rt, alloc, &mut *hub, rows, '\n');
 }
 
-/// Each refusal, the third where session 0 has begun with 128 channels.
-const REFUSALS: &str = "\
-begin 0 news => there is no such session
-attach => 0
-read 0 news; finish 0 news; leave 0 news => no; no; no
-*127*begin 0 c#; *begin 0 c5 => *127*begun; *begun
-begin 0 c5 => the session follows the channel already
-begin 0 news => the node or the session has as many as it may have
-leave 0 c1007; begin 0 news => yes; begun
-close 0; begin 0 chat => yes; there is no such session
-take 0 => 3001 closed";
-
-/// Session 0 answers its ping, and session 1 doesn't.
-const PINGS: &str = "\
-attach; attach => 0; 1
-tick 24; take 0; take 1 => yes; nothing; nothing
-tick 25; take 0; take 1 => yes; ping; ping
-pong 0; tick 32; take 0; take 1 => yes; yes; nothing; nothing
-tick 33; take 0; take 1 => yes; nothing; 3012 closed
-tick 50; take 0; take 1 => yes; ping; nothing closed";
-
-/// In whatever order a publication, the read and the finish come, also where the publication comes twice.
-const REPLY_FIRST: &str = "\
+/// Each part by a hub of its own: in whatever order a publication, the read and the finish come, also where the publication comes
+/// twice; a delivery that comes behind a gap; and a session with as many channels as it may have.
+const PARTS: &str = "\
 attach; begin 0 news; deliver 1; read 0 news; finish 0 news => 0; begun; Delivered { passed: 0, kept: 1, dropped: 0, ended: 0, closed: 0 }; yes; yes
-on 0 news; take 0; take 0; take 0; detach 0 => yes; reply; push; nothing; 1
+take 0; take 0; take 0 => reply; push; nothing
+
 attach; begin 0 news; read 0 news; deliver 1; finish 0 news => 0; begun; yes; Delivered { passed: 0, kept: 1, dropped: 0, ended: 0, closed: 0 }; yes
-on 0 news; take 0; take 0; take 0; detach 0 => yes; reply; push; nothing; 1
+take 0; take 0; take 0 => reply; push; nothing
+
 attach; begin 0 news; read 0 news; finish 0 news; deliver 1 => 0; begun; yes; yes; Delivered { passed: 1, kept: 0, dropped: 0, ended: 0, closed: 0 }
-on 0 news; take 0; take 0; take 0; detach 0 => yes; reply; push; nothing; 1
+take 0; take 0; take 0 => reply; push; nothing
+
 attach; begin 0 news; deliver 1; deliver 1 => 0; begun; Delivered { passed: 0, kept: 1, dropped: 0, ended: 0, closed: 0 }; Delivered { passed: 0, kept: 1, dropped: 0, ended: 0, closed: 0 }
-read 0 news; finish 0 news => yes; yes
-on 0 news; take 0; take 0; take 0; detach 0 => yes; reply; push; nothing; 1
+read 0 news; finish 0 news; take 0; take 0; take 0 => yes; yes; reply; push; nothing
+
 attach; begin 0 news; read 0 news; finish 0 news => 0; begun; yes; yes
 deliver 1; deliver 1 => Delivered { passed: 1, kept: 0, dropped: 0, ended: 0, closed: 0 }; Delivered { passed: 0, kept: 0, dropped: 1, ended: 0, closed: 0 }
-on 0 news; take 0; take 0; take 0; detach 0 => yes; reply; push; nothing; 1";
+take 0; take 0; take 0 => reply; push; nothing
 
-/// A check that finds a subscription behind twice ends it, and so does a delivery that comes behind a gap.
-const GAPS: &str = "\
 attach; begin 0 news; read 0 news; finish 0 news; take 0 => 0; begun; yes; yes; reply
-attach; begin 1 news; read 1 news; finish 1 news; take 1 => 1; begun; yes; yes; reply
-check 1 chat 1 => Nothing
-check 1 news 1; check 1 news 0; check 1 news 1; check 1 news 1; take 1 => Behind; Fine; Behind; Ended; end
 deliver 2; take 0 => Delivered { passed: 0, kept: 0, dropped: 0, ended: 1, closed: 0 }; end
-deliver 3 => Delivered { passed: 0, kept: 0, dropped: 0, ended: 0, closed: 0 }";
 
-/// As much waits for session 0 as may.
-const TOO_SLOW: &str = "\
-attach; begin 0 news; read 0 news; finish 0 news; take 0 => 0; begun; yes; yes; reply
-attach; begin 1 news; read 1 news; finish 1 news; take 1 => 1; begun; yes; yes; reply
-say 0 x 1048576; deliver 1 => Kept; Delivered { passed: 1, kept: 0, dropped: 0, ended: 0, closed: 1 }
-say 0 x 1; take 0; take 0 => Closed; text closed; 3008 closed
-take 1; say 9 x 1 => push; Gone";
+attach => 0
+*128*begin 0 c#; *begin 0 news => *128*begun; *the node or the session has as many as it may have";
 
-/// A number is given again, and each session that a delivery met gets its turn, in order of their subscribing.
-const TURNS: &str = "\
-attach; begin 0 news; read 0 news; finish 0 news; take 0 => 0; begun; yes; yes; reply
-attach; begin 1 news; read 1 news; finish 1 news; take 1 => 1; begun; yes; yes; reply
-attach; begin 2 news; read 2 news; finish 2 news; take 2 => 2; begun; yes; yes; reply
-detach 1; take 1 => 1; nothing closed
-attach; begin 1 news; read 1 news; finish 1 news; take 1 => 1; begun; yes; yes; reply
-turn => None
-deliver 1; turn; turn; turn; turn => Delivered { passed: 3, kept: 0, dropped: 0, ended: 0, closed: 0 }; Some(0); Some(2); Some(1); None";
-
-/// Each by a hub of its own.
 #[test]
 fn steps(rt: HostRuntime) {
-    for rows in [REFUSALS, PINGS, REPLY_FIRST, GAPS, TOO_SLOW, TURNS] {
+    for rows in PARTS.split("\n\n") {
         play(&rt, rt.alloc(), rows);
     }
 }

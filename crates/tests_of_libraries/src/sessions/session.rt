@@ -1,90 +1,47 @@
-//! What sessions say and ask for, against a node that answers by a channel's name.
+//! What sessions say and ask for, against a node that refuses nothing.
 ghost use Rattle.std.specs.Prelude.{◌≡◌, IfSome};
 ghost use Rattle.cf_session.specs.Shown.{answer_kind};
 
 use crate::publications::{place, publication};
 use crate::rows::{Subject, Told, are_so, sides_of};
-use cf_presence::Stats;
-use cf_protocol::{ErrorCode, Namespaces, Tokens, close_reason, read_namespaces, read_tokens};
+use cf_protocol::{Namespaces, Tokens, close_reason, read_namespaces, read_tokens};
 use cf_session::{Action, Answer, Kind, Session};
 use cf_stream::History;
 use std::alloc::Global;
-use std::collections::BTreeMap;
 use std::process::Abort;
 
-/// What the node answers each call on this channel.
-fn or_refused(channel: &str) -> Result<(), ErrorCode> {
-    match channel {
-        "twice" => Err(ErrorCode::AlreadySubscribed),
-        "full" => Err(ErrorCode::LimitExceeded),
-        "old" => Err(ErrorCode::UnrecoverablePosition),
-        "spent" => Err(ErrorCode::Internal),
-        _ => Ok(()),
-    }
-}
-
 /// A history of one publication of ann, at offset 3.
-fn past(alloc: Global, channel: &str) -> Option<Result<History, ErrorCode>> {
-    if let Err(code) = or_refused(channel) {
-        return Some(Err(code));
-    }
+fn past(alloc: Global) -> Option<History> {
     let mut publications = Vec::new(alloc);
     publications.push(publication(alloc, 3, "{}")?).ok()?;
-    Some(Ok(History {
+    Some(History {
         position: place(3),
         publications,
-    }))
+    })
 }
 
-fn users(alloc: Global) -> Option<BTreeMap<String, String>> {
-    let mut users = BTreeMap::new(alloc);
-    let client = String::from_str(alloc, "0-1-1").ok()?;
-    users.insert(client, String::new(alloc)).ok()?;
-    Some(users)
-}
-
-/// What a call of this kind, on this channel, is answered.
-fn answer_to(alloc: Global, kind: Kind, channel: &str) -> Option<Answer>
+/// What a call of this kind is answered; of who is there nothing is asked.
+fn answer_to(alloc: Global, kind: Kind) -> Option<Answer>
     ensures { IfSome result (λ a. answer_kind a ≡ kind) }
 {
     Some(match kind {
         Kind::Attach => Answer::Attach(Ok(String::from_str(alloc, "0-1-1").ok()?)),
-        Kind::Begin if channel == "spent" => Answer::Begin(Ok(())),
-        Kind::Begin => Answer::Begin(or_refused(channel)),
-        Kind::Read => Answer::Read(or_refused(channel)),
+        Kind::Begin => Answer::Begin(Ok(())),
+        Kind::Read => Answer::Read(Ok(())),
         Kind::Finish => Answer::Finish,
         Kind::Leave => Answer::Leave,
-        Kind::Publish => Answer::Publish(or_refused(channel)),
-        Kind::History => Answer::History(past(alloc, channel)?),
-        Kind::Presence => Answer::Presence(Ok(users(alloc)?)),
-        Kind::Stats => Answer::Stats(Stats {
-            clients: 2,
-            users: 1,
-        }),
+        Kind::Publish => Answer::Publish(Ok(())),
+        Kind::History => Answer::History(Ok(past(alloc)?)),
+        _ => return None,
     })
 }
 
-/// Answers the call that is out, which is on this channel.
-fn answer(alloc: Global, session: &mut Session<'_>, channel: &str) {
+/// Answers the call that is out.
+fn answer(alloc: Global, session: &mut Session<'_>) {
     if let Some(kind) = session.awaited() {
-        if let Some(answer) = answer_to(alloc, kind, channel) {
+        if let Some(answer) = answer_to(alloc, kind) {
             session.answered(answer);
         }
-    }
-}
-
-/// The channel that the action is on.
-fn channel_of(action: &Action) -> &str {
-    match action {
-        Action::Begin { channel, .. }
-        | Action::Read { channel, .. }
-        | Action::Finish { channel }
-        | Action::Leave { channel }
-        | Action::Publish { channel, .. }
-        | Action::History { channel, .. }
-        | Action::Presence { channel }
-        | Action::Stats { channel } => channel.as_str(),
-        _ => "",
     }
 }
 
@@ -113,14 +70,13 @@ fn tell(told: &mut Told, action: &Action) {
             ..
         } => told.tell(format_args!("publish {key}: {body} {}", info.client)),
         Action::History { limit, .. } => told.tell(format_args!("history {limit}")),
-        Action::Presence { .. } => told.tell("presence"),
-        Action::Stats { .. } => told.tell("stats"),
         Action::Say(text) => told.tell(text),
         Action::Pong => told.tell("pong"),
         Action::Close(code) => {
             let number = code.code();
             told.tell(format_args!("close {number} {}", close_reason(number)));
         }
+        _ => told.tell("presence"),
     }
 }
 
@@ -131,7 +87,7 @@ fn step(told: &mut Told, alloc: Global, session: &mut Session<'_>) -> bool {
     };
     told.part(" / ");
     tell(told, &action);
-    answer(alloc, session, channel_of(&action));
+    answer(alloc, session);
     true
 }
 
@@ -180,8 +136,6 @@ const TALKS: &str = r#"each command:
 {"id":2,"subscribe":{"channel":"a","recover":true,"epoch":"zz","offset":7}} => begin 2 / read zz 7 / finish
 {"id":3,"publish":{"channel":"news","data":{ "t" : 1.50 }}} => publish {"t":1.50} 0-1-1 / {"id":3,"publish":{}}
 {"id":4,"history":{"channel":"news","limit":-1}} => history -1 / {"history":{"epoch":"aaaa","offset":3,"publications":[{"data":{},"info":{"client":"0-1-1","user":"ann"},"offset":3}]},"id":4}
-{"id":6,"presence":{"channel":"news"}} => presence / {"id":6,"presence":{"presence":{"0-1-1":{"client":"0-1-1"}}}}
-{"id":7,"presence_stats":{"channel":"news"}} => stats / {"id":7,"presence_stats":{"num_clients":2,"num_users":1}}
 
 publishes under a key, which is looked at with the data, behind the channel's name and before the namespace:
 {"id":1,"connect":{}} => attach  / {"connect":{"client":"0-1-1","ping":25,"pong":true,"version":"1.0.0"},"id":1}
@@ -189,7 +143,6 @@ publishes under a key, which is looked at with the data, behind the channel's na
 {"id":3,"publish":{"channel":"news","data":1,"key":null}} => publish 1 0-1-1 / {"id":3,"publish":{}}
 {"id":3,"publish":{"channel":"news","data":1,"key":""}} => publish 1 0-1-1 / {"id":3,"publish":{}}
 {"id":3,"publish":{"key":"k","channel":"news","data":1,"key":"l"}} => publish l: 1 0-1-1 / {"id":3,"publish":{}}
-{"id":3,"publish":{"channel":"full","data":1,"key":"k"}} => publish k: 1 0-1-1 / {"error":{"code":106,"message":"limit exceeded"},"id":3}
 {"id":3,"publish":{"channel":"a","data":1,"key":"*64*k*"}} => publish *64*k*: 1 0-1-1 / {"id":3,"publish":{}}
 {"id":3,"publish":{"channel":"chat:x","data":1,"key":"*64*k*"}} => {"error":{"code":102,"message":"unknown channel"},"id":3}
 {"id":3,"publish":{"channel":"bare:a","data":1,"key":"*64*k*"}} => {"error":{"code":103,"message":"permission denied"},"id":3}
@@ -207,6 +160,7 @@ what isn't answered, and a second connect:
 {"send":{"data":1}}
 {"id":8,"ping":{}} {} => {"id":8,"ping":{}} / pong
 {"id":9,"unsubscribe":{"channel":"news"}} => leave / {"id":9,"unsubscribe":{}}
+{"id":8,"unsubscribe":{"channel":"chat:x"}} => leave / {"id":8,"unsubscribe":{}}
 {"id":1,"connect":{}} => close 3501 bad request
 {"id":2,"ping":{}}
 
@@ -220,15 +174,6 @@ what the session refuses:
 {"id":3,"history":{"channel":"a","reverse":true}} => {"error":{"code":108,"message":"not available"},"id":3}
 {"id":3,"presence":{"channel":"bare:a"}} => {"error":{"code":108,"message":"not available"},"id":3}
 {"id":4,"rpc":{}} => {"error":{"code":108,"message":"not available"},"id":4}
-
-what the hub and the streams refuse, and a connect that is no first, which closes:
-{"id":1,"connect":{}} => attach  / {"connect":{"client":"0-1-1","ping":25,"pong":true,"version":"1.0.0"},"id":1}
-{"id":2,"publish":{"channel":"full","data":1}} => publish 1 0-1-1 / {"error":{"code":106,"message":"limit exceeded"},"id":2}
-{"id":6,"subscribe":{"channel":"twice"}} => begin 6 / {"error":{"code":105,"message":"already subscribed"},"id":6}
-{"id":7,"history":{"channel":"old","since":{"epoch":"zzzz","offset":0}}} => history 0 / {"error":{"code":112,"message":"unrecoverable position"},"id":7}
-{"id":8,"subscribe":{"channel":"spent"}} => begin 8 / read / leave / {"error":{"code":100,"message":"internal server error","temporary":true},"id":8}
-{"id":8,"unsubscribe":{"channel":"chat:x"}} => leave / {"id":8,"unsubscribe":{}}
-{"id":9,"connect":{}} => close 3501 bad request
 
 data that are so many brackets, one in another:
 {"id":1,"connect":{}} => attach  / {"connect":{"client":"0-1-1","ping":25,"pong":true,"version":"1.0.0"},"id":1}
@@ -270,11 +215,9 @@ const FRAME: &str =
     r#"several commands of usual clients in a frame, separated by line feeds, with members that are passed over:
 {"id":1,"connect":{"name":"js","version":"5","data":{}}}
 {"id":2,"subscribe":{"channel":""}}
-{"id":3,"subscribe":{"channel":"full"}}
 {"id":4,"ping":7}{}{"send":[]}
-{"id":5,"subscribe":{"channel":"spent"}}
 {"id":6,"connect":{}}
-{"id":7,"ping":{}} => attach  / {"connect":{"client":"0-1-1","ping":25,"pong":true,"version":"1.0.0"},"id":1} / {"error":{"code":107,"message":"bad request"},"id":2} / begin 3 / {"error":{"code":106,"message":"limit exceeded"},"id":3} / {"id":4,"ping":{}} / pong / begin 5 / read / leave / {"error":{"code":100,"message":"internal server error","temporary":true},"id":5} / close 3501 bad request"#;
+{"id":7,"ping":{}} => attach  / {"connect":{"client":"0-1-1","ping":25,"pong":true,"version":"1.0.0"},"id":1} / {"error":{"code":107,"message":"bad request"},"id":2} / {"id":4,"ping":{}} / pong / close 3501 bad request"#;
 
 #[test]
 fn talk(rt: HostRuntime) {

@@ -371,8 +371,6 @@ impl Subject for Gather<Pieces> {
     fn is_so(&mut self, _alloc: Global, row: &str) -> bool {
         let (word, rest) = call_of(row);
         match word {
-            "waits" => !self.is_drained(),
-            "empty" => self.is_drained(),
             "flushes" => self.flush().is_ok(),
             "drains" => self.drain().is_ok(),
             "calls" => self.stream().calls == number_of(rest) as usize,
@@ -388,7 +386,6 @@ impl Subject for Gather<Pieces> {
 
 /// A write drains first while four bytes or more wait, as it does at the third, by pieces of three bytes.
 const GATHERED: &str = "\
-empty
 takes abc
 takes de
 flushes
@@ -399,10 +396,8 @@ out abcde
 blocked yes
 takes hijk
 refuses l
-waits
 blocked no
 drains
-empty
 calls 5
 out fghijk";
 

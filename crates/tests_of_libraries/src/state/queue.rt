@@ -1,25 +1,14 @@
 //! A session's output.
 use bytes::ByteStr;
-use cf_queue::{Out, OutQueue};
-use std::alloc::Global;
+use cf_queue::OutQueue;
 
-fn is_taken(queue: &mut OutQueue, text: &str) -> bool {
-    match queue.take() {
-        Some(Out::Text(taken)) => taken.as_str() == text,
-        _ => false,
-    }
-}
-
-/// Whether a queue takes a share of a text of so many bytes, which fills it, gives it, and takes the text itself.
-fn takes_and_gives(alloc: Global, length: usize) -> Option<bool> {
-    let text = ByteStr::from_string("x".repeat(alloc, length).ok()?).ok()?;
-    let mut queue = OutQueue::new(alloc, length);
-    let is_given = queue.push_shared(&text).is_ok() && is_taken(&mut queue, text.as_str());
-    Some(is_given && queue.push(text).is_ok())
-}
-
-/// A text of as many bytes as may wait for a client.
+/// A text of as many bytes as may wait for a client: a share of it is pushed, and given, and the text itself is pushed.
 #[test]
 fn whole_limit(rt: HostRuntime) {
-    assert!(rt; takes_and_gives(rt.alloc(), 1_048_576) == Some(true));
+    let text = "x".repeat(rt.alloc(), 1_048_576).expect(&rt, "memory");
+    let text = ByteStr::from_string(text).expect(&rt, "memory");
+    let mut queue = OutQueue::new(rt.alloc(), 1_048_576);
+    assert!(rt; queue.push_shared(&text).is_ok());
+    assert!(rt; queue.take().is_some());
+    assert!(rt; queue.push(text).is_ok());
 }

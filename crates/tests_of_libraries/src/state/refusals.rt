@@ -48,6 +48,19 @@ const OF_SUBS: [(SubRefusal, &str); 2] = [
     (SubRefusal::Memory, "out of memory"),
 ];
 
+const OF_HUB: [(HubRefusal, &str); 4] = [
+    (HubRefusal::NoSession, "there is no such session"),
+    (
+        HubRefusal::Already,
+        "the session follows the channel already",
+    ),
+    (
+        HubRefusal::TooMany,
+        "the node or the session has as many as it may have",
+    ),
+    (HubRefusal::Memory, "out of memory"),
+];
+
 #[test]
 fn refusals_in_words(rt: HostRuntime) {
     say(&rt, &OF_STREAM);
@@ -55,6 +68,6 @@ fn refusals_in_words(rt: HostRuntime) {
     say(&rt, &OF_QUEUE);
     say(&rt, &OF_SUBS);
     say(&rt, &[(PresenceRefusal::Memory, "out of memory")]);
-    say(&rt, &[(HubRefusal::Memory, "out of memory")]);
+    say(&rt, &OF_HUB);
     say(&rt, &[(WireFault::Memory, "out of memory")]);
 }

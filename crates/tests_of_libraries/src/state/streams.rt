@@ -18,21 +18,16 @@ impl Epochs for Same {
     }
 }
 
-/// The streams of one namespace, of 1,000 publications each.
-fn opened(alloc: Global) -> Option<Box<Streams>> {
-    let namespaces = read_namespaces(alloc, "=1000,300,phs").ok()?;
-    let streams = Streams::new(alloc, &namespaces).ok()?;
-    Box::new(alloc, streams).ok()
-}
-
 /// Publishes an empty body to a channel, and answers its offset.
 fn publish(alloc: Global, streams: &mut Streams, channel: &str) -> Option<u64> {
     if !streams.is_set_up(channel) {
         return None;
     }
     let (body, key) = (String::new(alloc), String::new(alloc));
-    let answer = streams.publish(&mut Same, channel, body, key, None, 0);
-    Some(answer.ok()?.position.offset)
+    match streams.publish(&mut Same, channel, body, key, None, 0) {
+        Ok(published) => Some(published.position.offset),
+        Err(_) => None,
+    }
 }
 
 /// How many publications of a channel are recovered from offset 700 on, or listed.
@@ -41,11 +36,15 @@ fn count(streams: &mut Streams, name: &str, channel: &str) -> Option<usize> {
         return None;
     }
     if name == "read" {
-        let answer = streams.read(&mut Same, channel, Some(place(700)), 0);
-        return Some(answer.ok()?.publications.len());
+        return match streams.read(&mut Same, channel, Some(place(700)), 0) {
+            Ok(answer) => Some(answer.publications.len()),
+            Err(_) => None,
+        };
     }
-    let answer = streams.history(&mut Same, channel, None, -1, 0);
-    Some(answer.ok()?.publications.len())
+    match streams.history(&mut Same, channel, None, -1, 0) {
+        Ok(answer) => Some(answer.publications.len()),
+        Err(_) => None,
+    }
 }
 
 /// Whether a channel opens by a history, another by a read, and this one by a publish; and whether it takes a thousand empty bodies, and
@@ -62,14 +61,12 @@ fn takes_and_gives(alloc: Global, streams: &mut Streams, channel: &str) -> bool 
     count(streams, "read", channel) == Some(300) && count(streams, "list", channel) == Some(300)
 }
 
-/// The same of a name that is so long.
-fn take_long_name(alloc: Global, length: usize) -> Option<bool> {
-    let name = "x".repeat(alloc, length).ok()?;
-    let mut streams = opened(alloc)?;
-    Some(takes_and_gives(alloc, &mut *streams, name.as_str()))
-}
-
+/// The same of a name that is so long, in streams of one namespace, of 1,000 publications each.
 #[test]
 fn long_names_and_empty_bodies(rt: HostRuntime) {
-    assert!(rt; take_long_name(rt.alloc(), 65_536) == Some(true));
+    let name = "x".repeat(rt.alloc(), 65_536).expect(&rt, "memory");
+    let namespaces = read_namespaces(rt.alloc(), "=1000,300,phs").expect(&rt, "namespaces");
+    let streams = Streams::new(rt.alloc(), &namespaces).expect(&rt, "memory");
+    let mut streams = Box::new(rt.alloc(), streams).expect(&rt, "memory");
+    assert!(rt; takes_and_gives(rt.alloc(), &mut *streams, name.as_str()));
 }

@@ -1,10 +1,10 @@
 //! The broker's calls, as rows of what is done and what comes of it: on one thread, and on two.
 //!
-//! A row is a call on a channel by passes of our own, as `calls` has it, and behind an arrow what comes of it, or `done`. `they CALL`
-//! is one by passes that were lent to them at the beginning; `both CALL | CALL` are two at once, the second by them on a thread of
-//! its own; `meet C` and `join C` bring their pass of a channel's shard to ours. `at NOW` is the moment of our calls from then on.
-//! `receive I` is what comes next over the link to node I, `lost I` how much that node lost, and `crowded I` whether one is behind:
-//! the link to node 0 has one place, and that to node 1 twenty.
+//! A row is a call on a channel by passes of our own, as `calls` has it, and behind an arrow what comes of it, if it answers
+//! anything. `they CALL` is one by passes that were lent to them at the beginning; `both CALL | CALL` are two at once, the second by
+//! them on a thread of its own; `join C` brings their pass of a channel's shard to ours. `at NOW` is the moment of our calls from then
+//! on. `receive I` is what comes next over the link to node I, `lost I` how much that node lost, and `crowded I` whether one is
+//! behind: the link to node 0 has one place, and that to node 1 twenty.
 mod calls;
 mod stage;
 
@@ -20,18 +20,6 @@ const PARTS: &str =
 put news 1 => aaaa 1
 put news 1 => aaaa 2
 put news 1 => aaaa 3
-position news => 3, 4
-read news 1 => 2, 4
-history news 1 => 1
-trim news 1
-history news => 1
-at 100
-tick news
-history news => 0
-forget news
-position news => none
-after news 1 => wrong epoch
-share news => 3
 lost 0 => 2
 lost 1 => 0
 lost 2 => 0
@@ -42,22 +30,12 @@ receive 1 => news aaaa 2 1 of ann 0-1-1
 receive 1 => news aaaa 3 1 of ann 0-1-1
 receive 1 => nothing
 
-# repeats_are_answered: no link brings a repeat, and a key that comes again after its stream was forgotten is new
+# repeats_are_answered: no link brings a repeat
 publish news 1 k => aaaa 1
 publish news 2 k => again aaaa 1
 publish news 3 => aaaa 2
-publish news 4 => aaaa 3
-position news => 3, 4
-trim news 0
-publish news 5 k => again aaaa 1
-history news => 0
-forget news
-publish news 6 k => aaaa 1
-share news => 4
 receive 1 => news aaaa 1 1
 receive 1 => news aaaa 2 3
-receive 1 => news aaaa 3 4
-receive 1 => news aaaa 1 6
 receive 1 => nothing
 
 # same_to_both_nodes
@@ -119,15 +97,15 @@ at 5592000
 tick news
 position news => none
 
-# pass_handed_over: a thread publishes with a pass that ours then meets. It is quiet until the next publish
+# pass_handed_over: a thread publishes with a pass that ours then takes in. It is quiet until the next publish
 both at 0 | publish news 1 => aaaa 1
-meet news
+join news
 read news 0 => 1, 2
 history news => 1
 quiet news 2 => yes
 they publish news 2 => aaaa 2
 quiet news 2 => no
-meet news
+join news
 quiet news 2 => no
 
 # shares_add_up
@@ -152,8 +130,8 @@ position news => 100, 102
 # two_shards: each thread draws its epoch while the other holds its shard
 both publish news 1 => aaaa 1 | publish b 1 => aaaa 1"#;
 
-/// Each call once, what links bring and lose, and the moments that are handed on; passes that are handed over, met and joined, a size
-/// that is set while another thread publishes, and two shards at once.
+/// What links bring and lose, who is there, and the moments that are handed on; passes that are handed over and joined, a size that is
+/// set while another thread publishes, and two shards at once.
 #[test]
 fn parts_are_so(rt: HostRuntime) {
     let namespaces = read_namespaces(rt.alloc(), "=100,100,phs").expect(&rt, "namespaces");

@@ -5,7 +5,7 @@ ghost use Rattle.cf_json.specs.Grammar.{Tree};
 ghost use Rattle.cf_json.specs.Spans.{IsAt};
 ghost use Rattle.cf_json.specs.Kinds.{kind_of};
 
-use crate::rows::{Subject, are_so, call_of, is_answer, is_debug, is_shown, sides_of};
+use crate::rows::{Subject, are_so, call_of, is_answer, is_shown, sides_of};
 use cf_json::{
     Fault, Kind, Span, compact, items, kind, members, quote, read_text, scan, split_frame,
 };
@@ -59,10 +59,11 @@ fn are_counted(found: Result<Vec<Span>, Fault>, wanted: &str) -> bool {
     }
 }
 
-/// Whether so many members were found, of which the last has this key: `COUNT to KEY`.
+/// Whether so many members were found, of which the last has this key: `COUNT to KEY`; or why there are none.
 fn are_keys(found: Result<Vec<(String, Span)>, Fault>, wanted: &str) -> bool {
-    let Ok(found) = found else {
-        return false;
+    let found = match found {
+        Ok(found) => found,
+        Err(fault) => return is_shown(fault, wanted),
     };
     match found.last() {
         Some((key, _)) => is_shown(format_args!("{} to {key}", found.len()), wanted),
@@ -73,12 +74,9 @@ fn are_keys(found: Result<Vec<(String, Span)>, Fault>, wanted: &str) -> bool {
 /// Whether a call of this name answers so of a text.
 fn is_found(alloc: Global, name: &str, text: &str, wanted: &str) -> bool {
     match name {
-        "scan" => is_debug(scan(text), wanted),
-        "members" => is_debug(members_of(alloc, text), wanted),
         "keys" => are_keys(members_of(alloc, text), wanted),
         "values" => are_counted(split_frame(alloc, text), wanted),
         "length" => are_counted(items_of(alloc, text), wanted),
-        "items" => is_debug(items_of(alloc, text), wanted),
         "read" => is_answer(text_of(alloc, text), wanted),
         "compact" => is_answer(compacted(alloc, text), wanted),
         _ => is_answer(quote(alloc, text), wanted),
@@ -97,12 +95,10 @@ impl Subject for Calls {
     }
 }
 
-const ROWS: &str =
-    r#"members {"a":1,"b":2,"a":3} => [("b", Span { from: 11, to: 12 }), ("a", Span { from: 17, to: 18 })]
-members { } => []
-members {"\u0061":1,"a":2} => [("a", Span { from: 16, to: 17 })]
-members {"\ud800":1} => no JSON at byte 1
-items [1, {} ,[]] => [Span { from: 1, to: 2 }, Span { from: 4, to: 6 }, Span { from: 8, to: 10 }]
+const ROWS: &str = r#"keys {"a":1,"b":2,"a":3} => 2 to a
+keys {"\u0061":1,"a":2} => 1 to a
+keys {"\ud800":1} => no JSON at byte 1
+length [1, {} ,[]] => 3
 compact [ 1.50 , "x y" ] => [1.50,"x y"]
 compact  " \" "  => " \" "
 read  "\u0061b"  => ab
@@ -121,16 +117,16 @@ read "\ud83dude00" => no JSON at byte 0
 quote a"b => "a\"b"
 quote  => ""
 quote \/ => "\\/"
-scan *64*[**64*]* => Span { from: 0, to: 128 }
-scan [*64*[**64*]* => nested too deep at byte 64
-scan *65*[* => nested too deep at byte 64
-scan *65*[*} => nested too deep at byte 64
-scan [}*65*[*} => no JSON at byte 1
+values *64*[**64*]* => 1
+values [*64*[**64*]* => nested too deep at byte 64
+values *65*[* => nested too deep at byte 64
+values *65*[*} => nested too deep at byte 64
+values [}*65*[*} => no JSON at byte 1
 values {}*65*[*} => nested too deep at byte 66"#;
 
 /// With white space and other characters that aren't shown.
 const SPACED_ROWS: &str =
-    "items [\n] => []|compact { \"a\\u0020\" :\t{ } } => {\"a\\u0020\":{}}|compact \n1E+05\r => 1E+05|read \"\\b\\f\\n\\r\\t\" => \u{8}\u{c}\n\r\t|quote \u{8}\u{c}\n\r\t => \"\\b\\f\\n\\r\\t\"|quote \0\u{b}\u{1f}  => \"\\u0000\\u000b\\u001f \"|quote \u{7f}é\u{2028}\u{1d11e} => \"\u{7f}é\u{2028}\u{1d11e}\"|read \"*5416*\\u0009\\n\\\"\\/*\" => *5416*\t\n\"/*|quote *5416*\t\n\"/* => \"*5416*\\t\\n\\\"/*\"";
+    "length [\n] => 0|compact { \"a\\u0020\" :\t{ } } => {\"a\\u0020\":{}}|compact \n1E+05\r => 1E+05|read \"\\b\\f\\n\\r\\t\" => \u{8}\u{c}\n\r\t|quote \u{8}\u{c}\n\r\t => \"\\b\\f\\n\\r\\t\"|quote \0\u{b}\u{1f}  => \"\\u0000\\u000b\\u001f \"|quote \u{7f}é\u{2028}\u{1d11e} => \"\u{7f}é\u{2028}\u{1d11e}\"|read \"*5416*\\u0009\\n\\\"\\/*\" => *5416*\t\n\"/*|quote *5416*\t\n\"/* => \"*5416*\\t\\n\\\"/*\"";
 
 /// Texts of up to 65,536 bytes. Of those that are made compact the first becomes shorter; the others are compact already, without a
 /// space and with one in a string.

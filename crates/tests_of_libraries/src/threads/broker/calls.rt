@@ -5,40 +5,57 @@ ghost use Rattle.cf_broker.specs.Shards.{number_of};
 
 use super::stage::{Caller, Stage};
 use crate::publications::{ann, place};
-use crate::rows::call_of;
+use crate::rows::{Wanted, call_of, is_shown, sides_of};
 use cf_broker::shard_of;
 use cf_order::Pass;
+use cf_presence::Stats;
 use cf_protocol::{Info, Position, namespace_of};
 use cf_shard::{Delivery, Naming, ReadAnswer, Refused};
 use cf_stream::{History, Published};
-use std::alloc::Global;
 use std::collections::BTreeMap;
-use std::fmt::InlineText;
+use std::process::Abort;
 use std::sync::Wait;
 
-/// What comes of a call, in words.
-pub(super) type Came = InlineText<120>;
-
-fn word(alloc: Global, text: &str) -> Option<String> {
-    String::from_str(alloc, text).ok()
+/// Whether a publication has this position, behind `again` where it is repeated. Any is meant where none is wanted.
+fn is_published(answer: Result<Published, Refused>, wanted: &str) -> bool {
+    let Ok(Published { position, repeated }) = answer else {
+        return false;
+    };
+    let again = if repeated { "again " } else { "" };
+    let Position { epoch, offset } = position;
+    wanted.is_empty() || is_shown(format_args!("{again}{epoch} {offset}"), wanted)
 }
 
-fn two_numbers(first: u64, second: u64) -> Came {
-    Came::of(format_args!("{first}, {second}"))
-}
-
-/// A body and a key, if there is one behind it.
-fn body_and_key(alloc: Global, with: &str) -> Option<(String, String)> {
-    let (body, key) = call_of(with);
-    match (word(alloc, body), word(alloc, key)) {
-        (Some(body), Some(key)) => Some((body, key)),
-        _ => None,
+/// Whether so many publications are recovered, and the shard's log is so long.
+fn is_recovered(answer: Result<ReadAnswer, Refused>, wanted: &str) -> bool {
+    match answer {
+        Ok(ReadAnswer { recovery, mark }) if recovery.recovered => {
+            let count = recovery.publications.len();
+            is_shown(format_args!("{count}, {mark}"), wanted)
+        }
+        Ok(_) => wanted == "not recovered",
+        Err(_) => false,
     }
 }
 
-/// `publish C BODY KEY` by no client, and `put C BODY KEY` by one of ann, with or without a key: the publication's position, behind
-/// `again` where it is repeated.
-fn publish<N: Naming, R: Wait>(
+/// Whether so many publications come.
+fn is_listed(answer: Result<History, Refused>, wanted: &str) -> bool {
+    match answer {
+        Ok(history) => is_shown(history.publications.len(), wanted),
+        Err(_) => false,
+    }
+}
+
+/// Whether a stream stands there, and its shard's log is so long.
+fn is_standing((at, mark): (Option<Position>, u64), wanted: &str) -> bool {
+    match at {
+        Some(Position { offset, .. }) => is_shown(format_args!("{offset}, {mark}"), wanted),
+        None => wanted == "none",
+    }
+}
+
+/// `publish C BODY KEY` by no client, and `put C BODY KEY` by one of ann, with or without a key.
+fn publish<N: Naming, R: Wait + Abort>(
     rt: &R,
     stage: &Stage<'_, '_, N>,
     pass: &mut Pass,
@@ -46,60 +63,25 @@ fn publish<N: Naming, R: Wait>(
     channel: &str,
     with: &str,
     now: u64,
-) -> Option<Came>
+) -> Result<Published, Refused>
     requires pass { pass.old.word ≡ N.words (number_of channel.now) }
     requires set_up { IsSome (settings_of N.namespaces channel.now) }
     ensures { pass.new.word ≡ pass.old.word }
 {
-    let (body, key) = body_and_key(stage.alloc, with)?;
-    let client = if name == "put" {
+    let (body, key) = call_of(with);
+    let body = String::from_str(stage.alloc, body).expect(rt, "memory");
+    let key = String::from_str(stage.alloc, key).expect(rt, "memory");
+    let info = if name == "put" {
         ann(stage.alloc)
     } else {
         None
     };
-    let broker = stage.broker;
-    match broker.publish(rt, pass, channel, body, key, client, now) {
-        Ok(Published { position, repeated }) => {
-            let again = if repeated { "again " } else { "" };
-            let came = format_args!("{again}{} {}", position.epoch, position.offset);
-            Some(Came::of(came))
-        }
-        Err(_) => None,
-    }
+    stage
+        .broker
+        .publish(rt, pass, channel, body, key, info, now)
 }
 
-/// The position at an offset that stands in words, if one does.
-fn position(offset: &str) -> Option<Position> {
-    Some(place(offset.parse::<u64>().ok()?))
-}
-
-/// How many publications are recovered, and the length of the shard's log.
-fn recovered(answer: Result<ReadAnswer, Refused>) -> Option<Came> {
-    let ReadAnswer { recovery, mark } = answer.ok()?;
-    if recovery.recovered {
-        Some(two_numbers(recovery.publications.len() as u64, mark))
-    } else {
-        Some(Came::of("not recovered"))
-    }
-}
-
-/// How many publications come.
-fn listed(answer: Result<History, Refused>) -> Came {
-    match answer {
-        Ok(history) => Came::of(history.publications.len()),
-        Err(refused) => Came::of(refused),
-    }
-}
-
-/// Where a stream stands, and the length of its shard's log.
-fn standing((at, mark): (Option<Position>, u64)) -> Came {
-    match at {
-        Some(position) => two_numbers(position.offset, mark),
-        None => Came::of("none"),
-    }
-}
-
-/// `read C OFFSET`, or from the newest on; `position C`; `after C OFFSET` with no limit, or `history C LIMIT`.
+/// `read C OFFSET`, or from the newest on; `position C`; or `history C`.
 fn look<N: Naming, R: Wait>(
     rt: &R,
     stage: &Stage<'_, '_, N>,
@@ -107,183 +89,174 @@ fn look<N: Naming, R: Wait>(
     name: &str,
     channel: &str,
     with: &str,
+    wanted: &str,
     now: u64,
-) -> Option<Came>
-    requires pass { pass.old.word ≡ N.words (number_of channel.now) }
-    requires set_up { IsSome (settings_of N.namespaces channel.now) }
-    ensures { pass.new.word ≡ pass.old.word }
-{
-    let (broker, since) = (stage.broker, position(with));
-    match name {
-        "read" => recovered(broker.read(rt, pass, channel, since, now)),
-        "position" => Some(standing(broker.position(rt, pass, channel))),
-        "after" => Some(listed(broker.history(rt, pass, channel, since, -1, now))),
-        _ => {
-            let limit = with.parse::<i32>().unwrap_or(-1);
-            Some(listed(broker.history(rt, pass, channel, None, limit, now)))
-        }
-    }
-}
-
-/// `trim C COUNT`, `forget C`, `tick C` of its shard, or `size C`, by which its namespace holds three in its shard.
-fn change<N: Naming, R: Wait>(
-    rt: &R,
-    stage: &Stage<'_, '_, N>,
-    pass: &mut Pass,
-    name: &str,
-    channel: &str,
-    with: &str,
-    now: u64,
-) -> Result<(), Refused>
+) -> bool
     requires pass { pass.old.word ≡ N.words (number_of channel.now) }
     requires set_up { IsSome (settings_of N.namespaces channel.now) }
     ensures { pass.new.word ≡ pass.old.word }
 {
     let broker = stage.broker;
-    match name {
-        "trim" => broker.trim(rt, pass, channel, with.parse::<usize>().unwrap_or(0)),
-        "forget" => broker.forget(rt, pass, channel),
-        "tick" => broker.tick(rt, pass, shard_of(channel), now),
-        _ => broker.set_size(rt, pass, shard_of(channel), namespace_of(channel), 3),
+    match (name, with.parse::<u64>()) {
+        ("position", _) => is_standing(broker.position(rt, pass, channel), wanted),
+        ("history", _) => is_listed(broker.history(rt, pass, channel, None, -1, now), wanted),
+        (_, Ok(offset)) => {
+            let since = Some(place(offset));
+            is_recovered(broker.read(rt, pass, channel, since, now), wanted)
+        }
+        _ => is_recovered(broker.read(rt, pass, channel, None, now), wanted),
     }
 }
 
-/// A call on a channel's stream, or on its shard, under a pass of that. `share C` is how many entries the pass added, and `quiet C MARK`
-/// whether the shard's log is as long as that still.
-fn call_on<N: Naming, R: Wait>(
+/// A call on a channel's stream, or on its shard, under a pass of that. `tick C` is one of its shard, and `size C` sets what its
+/// namespace holds there to three. `share C` is how many entries the pass added, and `quiet C MARK` whether the shard's log is as long
+/// as that still.
+fn is_called<N: Naming, R: Wait + Abort>(
     rt: &R,
     stage: &Stage<'_, '_, N>,
     pass: &mut Pass,
     name: &str,
     channel: &str,
     with: &str,
+    wanted: &str,
     now: u64,
-) -> Option<Came>
+) -> bool
     requires pass { pass.old.word ≡ N.words (number_of channel.now) }
     requires set_up { IsSome (settings_of N.namespaces channel.now) }
     ensures { pass.new.word ≡ pass.old.word }
 {
+    let (broker, shard) = (stage.broker, shard_of(channel));
     match name {
-        "publish" | "put" => publish(rt, stage, pass, name, channel, with, now),
-        "trim" | "forget" | "tick" | "size" => {
-            match change(rt, stage, pass, name, channel, with, now) {
-                Ok(()) => Some(Came::of("done")),
-                Err(refused) => Some(Came::of(refused)),
-            }
+        "publish" | "put" => {
+            is_published(publish(rt, stage, pass, name, channel, with, now), wanted)
         }
-        "share" => Some(Came::of(pass.share())),
+        "tick" => broker.tick(rt, pass, shard, now).is_ok(),
+        "size" => broker
+            .set_size(rt, pass, shard, namespace_of(channel), 3)
+            .is_ok(),
+        "share" => is_shown(pass.share(), wanted),
         "quiet" => {
             let mark = with.parse::<u64>().unwrap_or(0);
-            let is_quiet = stage.broker.quiet_since(pass, channel, mark);
-            Some(Came::of(if is_quiet { "yes" } else { "no" }))
+            broker.quiet_since(pass, channel, mark) == (wanted == "yes")
         }
-        _ => look(rt, stage, pass, name, channel, with, now),
+        _ => look(rt, stage, pass, name, channel, with, wanted, now),
     }
 }
 
 /// The same with the pass that the caller has.
-fn call_with_pass<N: Naming, R: Wait>(
+fn is_called_with_pass<N: Naming, R: Wait + Abort>(
     rt: &R,
     stage: &Stage<'_, '_, N>,
     caller: &mut Caller<N>,
     name: &str,
     channel: &str,
     with: &str,
-) -> Option<Came> {
+    wanted: &str,
+) -> bool {
     if stage.namespaces.find(channel).is_none() {
-        return None;
+        return false;
     }
     let shard = shard_of(channel);
     let mut pass = caller.passes.take(stage.broker, shard);
-    let came = call_on(rt, stage, &mut pass, name, channel, with, caller.now);
+    let is_so = is_called(
+        rt, stage, &mut pass, name, channel, with, wanted, caller.now,
+    );
     caller.passes.put(shard, pass);
-    came
+    is_so
 }
 
 /// `often C COUNT`: so many publishes.
-fn publish_often<N: Naming, R: Wait>(
+fn are_published<N: Naming, R: Wait + Abort>(
     rt: &R,
     stage: &Stage<'_, '_, N>,
     caller: &mut Caller<N>,
     channel: &str,
-    with: &str,
-) -> Option<Came> {
-    for _ in 0..with.parse::<u32>().unwrap_or(0) {
-        call_with_pass(rt, stage, caller, "publish", channel, "1")?;
+    count: u32,
+) -> bool {
+    for _ in 0..count {
+        if !is_called_with_pass(rt, stage, caller, "publish", channel, "1", "") {
+            return false;
+        }
     }
-    Some(Came::of("done"))
+    true
 }
 
-/// The user of a client that is there, or `none`.
-fn user_of(answer: Result<BTreeMap<String, String>, Refused>, client: &str) -> Option<Came> {
-    let users = answer.ok()?;
+/// Whether this is the user of a client that is there, or `none`.
+fn is_user(answer: Result<BTreeMap<String, String>, Refused>, client: &str, wanted: &str) -> bool {
+    let Ok(users) = answer else {
+        return false;
+    };
     match users.get(client) {
-        Some(user) => Some(Came::of(user)),
-        None => Some(Came::of("none")),
+        Some(user) => user.as_str() == wanted,
+        None => wanted == "none",
     }
 }
 
 /// `enter C CLIENT USER`, `leave C CLIENT`, `user C CLIENT`, which is the user of a client that is there, or `none`; or `stats C`: how
 /// many clients are there, and how many users.
-fn call_on_presence<N: Naming, R: Wait>(
+fn is_called_on_presence<N: Naming, R: Wait>(
     rt: &R,
     stage: &Stage<'_, '_, N>,
     name: &str,
     channel: &str,
     with: &str,
+    wanted: &str,
     now: u64,
-) -> Option<Came> {
+) -> bool {
     let (broker, (client, user)) = (stage.broker, call_of(with));
     match name {
-        "enter" if broker.enter(rt, channel, client, user, now).is_err() => None,
-        "enter" => Some(Came::of("done")),
+        "enter" => broker.enter(rt, channel, client, user, now).is_ok(),
         "leave" => {
             broker.leave(rt, channel, client);
-            Some(Came::of("done"))
+            true
         }
-        "user" => user_of(broker.list(rt, channel), client),
+        "user" => is_user(broker.list(rt, channel), client, wanted),
         _ => {
-            let stats = broker.stats(rt, channel);
-            Some(two_numbers(stats.clients, stats.users))
+            let Stats { clients, users } = broker.stats(rt, channel);
+            is_shown(format_args!("{clients}, {users}"), wanted)
         }
     }
 }
 
-/// What comes of a call in words, its channel the second of them. None where its words aren't as they should be, or where memory or
-/// a call that is never refused here is refused.
-pub(super) fn call<N: Naming, R: Wait>(
+/// Whether a row is so: what stands behind its arrow comes of its call, whose channel is the second of its words. Not where the words
+/// aren't as they should be, or where memory or a call that is never refused here is refused.
+pub(super) fn is_so<N: Naming, R: Wait + Abort>(
     rt: &R,
     stage: &Stage<'_, '_, N>,
     caller: &mut Caller<N>,
-    words: &str,
-) -> Option<Came> {
-    let (name, passed) = call_of(words);
+    row: &str,
+) -> bool {
+    let (done, wanted) = sides_of(row);
+    let (name, passed) = call_of(done);
     let (channel, with) = call_of(passed);
     match name {
         "at" => {
             caller.now = passed.parse::<u64>().unwrap_or(0);
-            Some(Came::of("done"))
+            true
         }
         "enter" | "leave" | "user" | "stats" => {
-            call_on_presence(rt, stage, name, channel, with, caller.now)
+            is_called_on_presence(rt, stage, name, channel, with, wanted, caller.now)
         }
-        "often" => publish_often(rt, stage, caller, channel, with),
-        _ => call_with_pass(rt, stage, caller, name, channel, with),
+        "often" => are_published(rt, stage, caller, channel, crate::rows::number_of(with)),
+        _ => is_called_with_pass(rt, stage, caller, name, channel, with, wanted),
     }
 }
 
-/// A delivery in words, and whose its publication is.
-pub(super) fn brought(delivery: &Delivery) -> Came {
+/// Whether a delivery is this, with whose its publication is; or there is none, and nothing is wanted.
+pub(super) fn is_brought(delivery: Option<Delivery>, wanted: &str) -> bool {
+    let Some(delivery) = delivery else {
+        return wanted == "nothing";
+    };
     let Delivery {
         channel,
         epoch,
         publication,
-    } = delivery;
+    } = &delivery;
     let (offset, body) = (publication.offset, publication.body.as_str());
-    match &publication.info {
-        Some(Info { user, client }) => Came::of(format_args!(
-            "{channel} {epoch} {offset} {body} of {user} {client}"
-        )),
-        None => Came::of(format_args!("{channel} {epoch} {offset} {body}")),
+    let mut told = Wanted::new(wanted);
+    told.tell(format_args!("{channel} {epoch} {offset} {body}"));
+    if let Some(Info { user, client }) = &publication.info {
+        told.tell(format_args!(" of {user} {client}"));
     }
+    told.is_met()
 }

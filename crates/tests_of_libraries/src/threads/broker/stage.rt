@@ -2,10 +2,10 @@
 ghost use Rattle.std.specs.Prelude.{◌≡◌, ◌<◌};
 ghost use Rattle.cf_broker.specs.Shards.{names};
 
-use super::calls::{Came, brought, call};
-use crate::rows::{call_of, number_of, sides_of};
+use super::calls::{is_brought, is_so};
+use crate::rows::{call_of, is_shown, number_of, sides_of};
 use cf_broker::{Broker, Passes, Words, shard_of};
-use cf_link::{Receiver, Sender, pair};
+use cf_link::{Receiver, pair};
 use cf_protocol::{Epoch, Namespaces};
 use cf_shard::{Delivery, Naming};
 use cf_stream::Epochs;
@@ -94,27 +94,8 @@ struct Cast<N: Naming> {
     links: Vec<Receiver<Delivery>>,
 }
 
-/// Whether this came.
-fn is_come(came: Option<Came>, wanted: &str) -> bool {
-    match came {
-        Some(came) => came.as_str() == wanted,
-        None => false,
-    }
-}
-
-/// Whether a step is so: what stands behind its arrow comes of it, or where there is none `done`.
-fn is_so<N: Naming, R: Wait>(
-    rt: &R,
-    stage: &Stage<'_, '_, N>,
-    caller: &mut Caller<N>,
-    row: &str,
-) -> bool {
-    let (step, wanted) = row.split_once(" => ").unwrap_or((row, "done"));
-    is_come(call(rt, stage, caller, step), wanted)
-}
-
 /// Whether two steps are so that are taken at once, the second by another thread.
-fn are_both<N: Naming + Send + Sync, R: Threads + Wait + Sync>(
+fn are_both<N: Naming + Send + Sync, R: Threads + Wait + Abort + Sync>(
     rt: &R,
     stage: &Stage<'_, '_, N>,
     ours: &mut Caller<N>,
@@ -130,48 +111,41 @@ fn are_both<N: Naming + Send + Sync, R: Threads + Wait + Sync>(
     our && their
 }
 
-/// Both passes of a channel's shard have seen what either has; or ours takes theirs in.
-fn bring_together<N: Naming>(
+/// Our pass of a channel's shard takes theirs in.
+fn join<N: Naming>(
     stage: &Stage<'_, '_, N>,
     ours: &mut Passes<N>,
     theirs: &mut Passes<N>,
-    name: &str,
     channel: &str,
 ) {
     let shard = shard_of(channel);
-    let word = stage.broker.word(shard);
     let mut our = ours.take(stage.broker, shard);
-    let mut their = theirs.take(stage.broker, shard);
-    if name == "meet" {
-        word.meet(&mut our, &mut their);
-        theirs.put(shard, their);
-    } else {
-        word.join(&mut our, their);
-    }
+    let their = theirs.take(stage.broker, shard);
+    stage.broker.word(shard).join(&mut our, their);
     ours.put(shard, our);
 }
 
-/// `receive I`: what comes next over the link to node I; `lost I`: how much that node lost; `crowded I`: whether any is behind.
-fn offered<N: Naming, R: Wait>(
+/// Whether this comes next over the link to node I: `receive I`; whether that node lost so much: `lost I`; or whether any is behind:
+/// `crowded I`.
+fn is_offered<N: Naming, R: Wait>(
     rt: &R,
     stage: &Stage<'_, '_, N>,
     links: &mut [Receiver<Delivery>],
-    asked: &str,
-) -> Option<Came> {
+    row: &str,
+) -> bool {
+    let (asked, wanted) = sides_of(row);
     let (name, node) = call_of(asked);
     let node = number_of(node) as usize;
-    match name {
-        "lost" => Some(Came::of(stage.broker.lost(node))),
-        "crowded" => Some(Came::of(stage.broker.is_crowded(rt))),
-        _ => match links.get_mut(node)?.receive(rt) {
-            Some(delivery) => Some(brought(&delivery)),
-            None => Some(Came::of("nothing")),
-        },
+    match (name, links.get_mut(node)) {
+        ("lost", _) => is_shown(stage.broker.lost(node), wanted),
+        ("crowded", _) => is_shown(stage.broker.is_crowded(rt), wanted),
+        (_, Some(link)) => is_brought(link.receive(rt), wanted),
+        _ => false,
     }
 }
 
 /// Whether a row is so. One that begins with `#` is a remark.
-fn is_row<N: Naming + Send + Sync, R: Threads + Wait + Sync>(
+fn is_row<N: Naming + Send + Sync, R: Threads + Wait + Abort + Sync>(
     rt: &R,
     stage: &Stage<'_, '_, N>,
     cast: &mut Cast<N>,
@@ -182,15 +156,11 @@ fn is_row<N: Naming + Send + Sync, R: Threads + Wait + Sync>(
         "#" => true,
         "both" => are_both(rt, stage, &mut cast.ours, &mut cast.theirs, rest),
         "they" => is_so(rt, stage, &mut cast.theirs, rest),
-        "meet" | "join" => {
-            let (ours, theirs) = (&mut cast.ours.passes, &mut cast.theirs.passes);
-            bring_together(stage, ours, theirs, word, rest);
+        "join" => {
+            join(stage, &mut cast.ours.passes, &mut cast.theirs.passes, rest);
             true
         }
-        "receive" | "lost" | "crowded" => {
-            let (asked, wanted) = sides_of(row);
-            is_come(offered(rt, stage, cast.links.as_mut_slice(), asked), wanted)
-        }
+        "receive" | "lost" | "crowded" => { is_offered(rt, stage, cast.links.as_mut_slice(), row) }
         _ => is_so(rt, stage, &mut cast.ours, row),
     }
 }
@@ -207,54 +177,8 @@ fn are_rows<N: Naming + Send + Sync, R: Threads + Wait + Abort + Sync>(
     }
 }
 
-/// The ends of links, those that send and those that receive.
-#[derive(Drop)]
-struct Links {
-    senders: Vec<Sender<Delivery>>,
-    receivers: Vec<Receiver<Delivery>>,
-}
-
-impl Links {
-    /// One more, with so many places.
-    fn add(&mut self, alloc: Global, room: usize) -> bool
-        requires { 0 < room }
-    {
-        match pair(alloc, room) {
-            Ok((sender, receiver)) => {
-                self.senders.push(sender).is_ok() && self.receivers.push(receiver).is_ok()
-            }
-            Err(_) => false,
-        }
-    }
-}
-
-/// A link of one place, and one of twenty.
-fn both_links(alloc: Global) -> Option<Links> {
-    let mut links = Links {
-        senders: Vec::new(alloc),
-        receivers: Vec::new(alloc),
-    };
-    (links.add(alloc, 1) && links.add(alloc, 20)).then_some(links)
-}
-
-/// A broker and its passes. It lies in a box, since a function that lends a broker of its own is dear to prove.
-fn opened<'d, N: Naming>(
-    alloc: Global,
-    words: Words,
-    namespaces: &Namespaces,
-    epochs: [Draws<'d>; 16],
-    links: Vec<Sender<Delivery>>,
-) -> Option<(Box<Broker<N, Draws<'d>>>, Passes<N>)>
-    requires words { words ≡ names N.words 16 }
-    requires namespaces { namespaces.now ≡ N.namespaces }
-{
-    let opened = Broker::<N, Draws<'d>>::new(alloc, words, namespaces, epochs, links);
-    let (broker, passes) = opened.ok()?;
-    let broker = Box::new(alloc, broker).ok()?;
-    Some((broker, passes))
-}
-
-/// The rows of a part are so of a broker over these words.
+/// The rows of a part are so of a broker over these words, with a link of one place, and one of twenty. The broker lies in a box,
+/// since a function that lends a broker of its own is dear to prove.
 pub(super) fn play<N: Naming + Send + Sync, R: Threads + Wait + Abort + AllocGlobal + Sync>(
     rt: &R,
     words: Words,
@@ -266,9 +190,13 @@ pub(super) fn play<N: Naming + Send + Sync, R: Threads + Wait + Abort + AllocGlo
 {
     let alloc = rt.alloc();
     let Part { epochs, rows } = part;
-    let Links { senders, receivers } = both_links(alloc).expect(rt, "memory");
-    let opened = opened::<N>(alloc, words, namespaces, epochs, senders);
-    let (broker, mut passes) = opened.expect(rt, "memory");
+    let (near, at_near) = pair(alloc, 1).expect(rt, "memory");
+    let (far, at_far) = pair(alloc, 20).expect(rt, "memory");
+    let senders = Vec::from_array(alloc, [near, far]).expect(rt, "memory");
+    let links = Vec::from_array(alloc, [at_near, at_far]).expect(rt, "memory");
+    let made = Broker::<N, Draws<'_>>::new(alloc, words, namespaces, epochs, senders);
+    let (broker, mut passes) = made.expect(rt, "memory");
+    let broker = Box::new(alloc, broker).expect(rt, "memory");
     let stage = Stage {
         alloc,
         broker: &*broker,
@@ -281,7 +209,7 @@ pub(super) fn play<N: Naming + Send + Sync, R: Threads + Wait + Abort + AllocGlo
             passes: lent,
             now: 0,
         },
-        links: receivers,
+        links,
     };
     are_rows(rt, &stage, cast, rows);
 }
