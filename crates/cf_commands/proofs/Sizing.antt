@@ -7,10 +7,7 @@ use native.Mathlib.Decide.{dec_le}
 use Rattle.cf_shard.specs.Shards.{pass_at}
 use Rattle.cf_commands.specs.Sizes.{AreSized, HasFull, IsFullFor}
 use Rattle.cf_order.specs.Passes.{PassState, first_pass}
-use Rattle.cf_protocol.specs.LogEntry.{Entry}
-use Rattle.cf_protocol.specs.LogEntry.Entry.{Size}
 use Rattle.cf_shard.specs.LogAnswer.{IsSized, RefusesSize}
-use Rattle.cf_shard.specs.Shard.{IsFull}
 use Rattle.cf_shard.specs.declared.refusal.Refused.{Refused}
 use Rattle.cf_shard.specs.Naming.{no_word}
 

@@ -1,8 +1,9 @@
 //! The program's words.
 
 use crate::fault::Fault;
+use clap::builder::ValueParser;
 use clap::error::ErrorKind;
-use clap::{Arg, ArgAction, ArgMatches, Command, Error, value_parser};
+use clap::{Arg, ArgAction, ArgMatches, Command, Error};
 use std::alloc::{AllocError, Global};
 use std::process::ExitCode;
 
@@ -10,16 +11,16 @@ const ABOUT: &str = "Broadcast nodes that speak Centrifugo's client protocol, pr
 
 /// The namespaces that are set up unless others are given: one, for the channels without a prefix, which holds 100
 /// publications for 300 seconds and allows all.
-pub const DEFAULT_NAMESPACES: &str = "=100,300,phs";
+const DEFAULT_NAMESPACES: &str = "=100,300,phs";
 
 /// The epochs that a conversation's streams take unless others are given.
-pub const DEFAULT_EPOCHS: &str = "aaaa";
+const DEFAULT_EPOCHS: &str = "aaaa";
 
 /// How many publications wait at most on the link to a node unless another number is given.
-pub const DEFAULT_LINK: u32 = 1024;
+const DEFAULT_LINK: u32 = 1024;
 
 /// What `--version` shows: the program, its number, and what it speaks.
-pub const VERSION: &str = "cf_server 1.0.0 (Centrifugo's client protocol, JSON form)";
+pub(crate) const VERSION: &str = "cf_server 1.0.0 (Centrifugo's client protocol, JSON form)";
 
 const SIMULATE: &str =
     "Reads a schedule from standard input, runs it, and prints what each client gets";
@@ -122,8 +123,8 @@ With --explain, lines that begin with # stand among them: each event with its li
 taken, and what stands otherwise than before, or why nothing changed.";
 
 /// What the program is to do.
-#[derive(Clone, Copy, PartialEq, Eq)]
-pub enum Job<'a> {
+#[derive(Clone, Copy)]
+pub(crate) enum Job<'a> {
     Simulate(Options<'a>),
     Speak(SpeakOptions<'a>),
     Serve(ServeOptions<'a>),
@@ -132,7 +133,7 @@ pub enum Job<'a> {
 }
 
 /// What `simulate` runs with: how many nodes, the text of the namespaces, and whether it tells what each event did.
-#[derive(Clone, Copy, PartialEq, Eq)]
+#[derive(Clone, Copy)]
 pub struct Options<'a> {
     pub nodes: u8,
     pub namespaces: &'a str,
@@ -140,7 +141,7 @@ pub struct Options<'a> {
 }
 
 /// What `speak` runs with: the texts of namespaces, tokens and epochs.
-#[derive(Clone, Copy, PartialEq, Eq)]
+#[derive(Clone, Copy)]
 pub struct SpeakOptions<'a> {
     pub namespaces: &'a str,
     pub tokens: &'a str,
@@ -150,7 +151,7 @@ pub struct SpeakOptions<'a> {
 /// What `serve` runs with: the number of this start, how many nodes, the port of the first (0: any that is free), how many
 /// publications wait at most on the link to a node, whether nothing is said of what goes wrong, and the texts of namespaces and
 /// tokens.
-#[derive(Clone, Copy, PartialEq, Eq)]
+#[derive(Clone, Copy)]
 pub struct ServeOptions<'a> {
     pub boot: u64,
     pub nodes: u8,
@@ -161,138 +162,183 @@ pub struct ServeOptions<'a> {
     pub tokens: &'a str,
 }
 
-// An option of this name, which takes a value.
-fn value_option<'a>(alloc: Global, name: &'a str, value: &'a str, help: &'a str) -> Arg<'a> {
-    Arg::new(alloc, name)
-        .long(name)
-        .value_name(value)
-        .help(help)
+/// An option of the program: its name, its value (a flag has none), and what help says of it.
+#[derive(Clone, Copy)]
+struct Known {
+    name: &'static str,
+    value: Option<Value>,
+    help: &'static str,
 }
 
-// An option of this name, which takes none.
-fn flag<'a>(alloc: Global, name: &'a str, help: &'a str) -> Arg<'a> {
-    Arg::new(alloc, name)
-        .long(name)
-        .help(help)
-        .action(ArgAction::SetTrue)
+/// The value of an option: what help calls it, what it has to be, and what it is unless another is given; where there is nothing, one
+/// has to be given.
+#[derive(Clone, Copy)]
+struct Value {
+    word: &'static str,
+    parser: ValueParser<'static>,
+    default: Option<&'static str>,
 }
 
-fn nodes_option<'a>(alloc: Global) -> Arg<'a> {
-    value_option(alloc, "nodes", "N", "How many nodes there are, 1 to 8")
-        .value_parser(value_parser!(u8).range(1..=8))
-        .default_value("1")
+const NODES: Known = Known {
+    name: "nodes",
+    value: Some(Value {
+        word: "N",
+        parser: ValueParser::Signed(1, 8),
+        default: Some("1"),
+    }),
+    help: "How many nodes there are, 1 to 8",
+};
+
+const NAMESPACES: Known = Known {
+    name: "ns",
+    value: Some(Value {
+        word: "SPEC",
+        parser: ValueParser::String,
+        default: Some(DEFAULT_NAMESPACES),
+    }),
+    help: "The namespaces that are set up, as NAME=SIZE,SECONDS,FLAGS separated by `;`",
+};
+
+const TOKENS: Known = Known {
+    name: "tokens",
+    value: Some(Value {
+        word: "SPEC",
+        parser: ValueParser::String,
+        default: Some(""),
+    }),
+    help: "Who connects by which token, as TOKEN=USER separated by `;`",
+};
+
+const EPOCHS: Known = Known {
+    name: "epochs",
+    value: Some(Value {
+        word: "E1,E2,..",
+        parser: ValueParser::String,
+        default: Some(DEFAULT_EPOCHS),
+    }),
+    help: "The epochs of the streams that open, in order, separated by `,`",
+};
+
+const BOOT: Known = Known {
+    name: "boot",
+    value: Some(Value {
+        word: "B",
+        parser: ValueParser::Unsigned(1, 999_999_999_999_999),
+        default: None,
+    }),
+    help: "The number of this start, 1 to 999999999999999, never used before",
+};
+
+const PORT: Known = Known {
+    name: "port",
+    value: Some(Value {
+        word: "P",
+        parser: ValueParser::Signed(0, 65_535),
+        default: Some("0"),
+    }),
+    help: "Node i listens at port P + i; 0: each at a port that is free",
+};
+
+const LINK: Known = Known {
+    name: "link",
+    value: Some(Value {
+        word: "K",
+        parser: ValueParser::Signed(1, 65_536),
+        default: Some("1024"),
+    }),
+    help: "How many publications wait at most on the link to a node, 1 to 65536",
+};
+
+const EXPLAIN: Known = Known {
+    name: "explain",
+    value: None,
+    help: "Tells beside each event what it did, or why it changed nothing",
+};
+
+const QUIET: Known = Known {
+    name: "quiet",
+    value: None,
+    help: "Says nothing on standard error of what goes wrong while it serves",
+};
+
+const SHOW_VERSION: Known = Known {
+    name: "version",
+    value: None,
+    help: "Says which version this is",
+};
+
+fn option_of<'a>(alloc: Global, known: &Known) -> Arg<'a> {
+    let option = Arg::new(alloc, known.name)
+        .long(known.name)
+        .help(known.help);
+    match &known.value {
+        None => option.action(ArgAction::SetTrue),
+        Some(value) => {
+            let option = option.value_name(value.word).value_parser(value.parser);
+            match value.default {
+                Some(text) => option.default_value(text),
+                None => option.required(true),
+            }
+        }
+    }
 }
 
-fn namespaces_option<'a>(alloc: Global) -> Arg<'a> {
-    let help = "The namespaces that are set up, as NAME=SIZE,SECONDS,FLAGS separated by `;`";
-    value_option(alloc, "ns", "SPEC", help).default_value(DEFAULT_NAMESPACES)
-}
-
-fn tokens_option<'a>(alloc: Global) -> Arg<'a> {
-    let help = "Who connects by which token, as TOKEN=USER separated by `;`";
-    value_option(alloc, "tokens", "SPEC", help).default_value("")
-}
-
-fn epochs_option<'a>(alloc: Global) -> Arg<'a> {
-    let help = "The epochs of the streams that open, in order, separated by `,`";
-    value_option(alloc, "epochs", "E1,E2,..", help).default_value(DEFAULT_EPOCHS)
-}
-
-fn boot_option<'a>(alloc: Global) -> Arg<'a> {
-    let help = "The number of this start, 1 to 999999999999999, never used before";
-    value_option(alloc, "boot", "B", help)
-        .value_parser(value_parser!(u64).range(1..=999_999_999_999_999))
-        .required(true)
-}
-
-fn port_option<'a>(alloc: Global) -> Arg<'a> {
-    let help = "Node i listens at port P + i; 0: each at a port that is free";
-    value_option(alloc, "port", "P", help)
-        .value_parser(value_parser!(u16))
-        .default_value("0")
-}
-
-fn link_option<'a>(alloc: Global) -> Arg<'a> {
-    let help = "How many publications wait at most on the link to a node, 1 to 65536";
-    value_option(alloc, "link", "K", help)
-        .value_parser(value_parser!(u32).range(1..=65_536))
-        .default_value("1024")
-}
-
-/// A command of this name: what it is for, what stands below its help, and its options.
+// A command of this name: what it is for, what stands below its help, and its options.
 fn command<'a>(
     alloc: Global,
     name: &'a str,
     about: &'a str,
     notes: &'a str,
-    options: Vec<Arg<'a>>,
+    options: &[Known],
 ) -> Result<Command<'a>, AllocError> {
-    Command::new(alloc, name)
-        .about(about)
-        .after_help(notes)
-        .args(options)
+    let mut command = Command::new(alloc, name).about(about).after_help(notes);
+    for known in options {
+        command = command.arg(option_of(alloc, known))?;
+    }
+    Ok(command)
 }
 
-fn simulate_command<'a>(alloc: Global) -> Result<Command<'a>, AllocError> {
-    let explain = "Tells beside each event what it did, or why it changed nothing";
-    let options = [
-        nodes_option(alloc),
-        namespaces_option(alloc),
-        flag(alloc, "explain", explain),
-    ];
-    let options = Vec::from_array(alloc, options)?;
-    command(alloc, "simulate", SIMULATE, SCHEDULE_NOTES, options)
-}
-
-fn speak_command<'a>(alloc: Global) -> Result<Command<'a>, AllocError> {
-    let options = [
-        namespaces_option(alloc),
-        tokens_option(alloc),
-        epochs_option(alloc),
-    ];
-    let options = Vec::from_array(alloc, options)?;
-    command(alloc, "speak", SPEAK, SPEAK_NOTES, options)
-}
-
-fn serve_command<'a>(alloc: Global) -> Result<Command<'a>, AllocError> {
-    let quiet = "Says nothing on standard error of what goes wrong while it serves";
-    let options = [
-        boot_option(alloc),
-        nodes_option(alloc),
-        port_option(alloc),
-        link_option(alloc),
-        namespaces_option(alloc),
-        tokens_option(alloc),
-        flag(alloc, "quiet", quiet),
-    ];
-    let options = Vec::from_array(alloc, options)?;
-    command(alloc, "serve", SERVE, SERVE_NOTES, options)
-}
-
-// The program with one command more.
-fn with_command<'a>(
-    program: Command<'a>,
-    command: Result<Command<'a>, AllocError>,
-) -> Result<Command<'a>, AllocError> {
-    match command {
-        Ok(command) => program.subcommand(command),
-        Err(refused) => Err(refused),
+// The program's command of a number from 0.
+fn command_at<'a>(alloc: Global, number: u8) -> Result<Command<'a>, AllocError> {
+    match number {
+        0 => command(
+            alloc,
+            "simulate",
+            SIMULATE,
+            SCHEDULE_NOTES,
+            &[NODES, NAMESPACES, EXPLAIN],
+        ),
+        1 => command(
+            alloc,
+            "speak",
+            SPEAK,
+            SPEAK_NOTES,
+            &[NAMESPACES, TOKENS, EPOCHS],
+        ),
+        _ => {
+            let options = [BOOT, NODES, PORT, LINK, NAMESPACES, TOKENS, QUIET];
+            command(alloc, "serve", SERVE, SERVE_NOTES, &options)
+        }
     }
 }
 
 fn program<'a>(alloc: Global) -> Result<Command<'a>, AllocError> {
-    let program = Command::new(alloc, "cf_server")
-        .about(ABOUT)
-        .after_help(PROGRAM_NOTES)
-        .arg(flag(alloc, "version", "Says which version this is"))?;
-    let program = with_command(program, simulate_command(alloc))?;
-    let program = with_command(program, speak_command(alloc))?;
-    with_command(program, serve_command(alloc))
+    let mut program = command(alloc, "cf_server", ABOUT, PROGRAM_NOTES, &[SHOW_VERSION])?;
+    for number in 0..3 {
+        match command_at(alloc, number) {
+            Ok(command) => program = program.subcommand(command)?,
+            Err(refused) => {
+                drop(program);
+                return Err(refused);
+            }
+        }
+    }
+    Ok(program)
 }
 
 /// Reads the program's words. With none but the program's name they ask for `simulate`. An error is what is to be shown:
 /// the help that was asked for, or why the words can't be used.
-pub fn read_words<'a>(alloc: Global, words: &'a [String]) -> Result<Job<'a>, Error> {
+pub(crate) fn read_words<'a>(alloc: Global, words: &'a [String]) -> Result<Job<'a>, Error> {
     let matches = program(alloc)?.try_get_matches_from(words)?;
     Ok(job_of(&matches))
 }
@@ -328,7 +374,7 @@ fn job_of<'a>(matches: &ArgMatches<'a>) -> Job<'a> {
 }
 
 /// Shows an error of `read_words`, and gives the exit status.
-pub fn show<R: Print + Eprint>(rt: &R, error: &Error) -> Result<ExitCode, Fault> {
+pub(crate) fn show<R: Print + Eprint>(rt: &R, error: &Error) -> Result<ExitCode, Fault> {
     if error.kind() == ErrorKind::OutOfMemory {
         return Err(Fault::Memory);
     }

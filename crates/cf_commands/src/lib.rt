@@ -12,13 +12,9 @@ mod sizes;
 mod speaking;
 
 pub use cf_simulate::simulate;
-pub use command_line::{
-    DEFAULT_EPOCHS, DEFAULT_LINK, DEFAULT_NAMESPACES, Job, Options, ServeOptions, SpeakOptions,
-    VERSION, read_words, show,
-};
+pub use command_line::{Options, ServeOptions, SpeakOptions};
 pub use fault::{Fault, Setting};
 pub use program::run;
 pub use serving::serve;
 pub use settings::config_of;
-pub use sizes::{Line, Listener};
 pub use speaking::{setup_of, speak};

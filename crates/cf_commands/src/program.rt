@@ -24,8 +24,7 @@ fn simulate_standard<R: Input + Print + AllocGlobal>(
     let config = config_of(alloc, options)?;
     let mut reader = rt.reader();
     let mut writer = BufWriter::new(alloc, io::writer(rt))?;
-    simulate(alloc, &mut reader, &mut writer, &config, explains)?;
-    Ok(())
+    simulate(alloc, &mut reader, &mut writer, &config, explains).map_err(Fault::from)
 }
 
 fn speak_standard<R: Input + Print + AllocGlobal>(
@@ -33,10 +32,9 @@ fn speak_standard<R: Input + Print + AllocGlobal>(
     options: SpeakOptions<'_>,
 ) -> Result<(), Fault> {
     let alloc = rt.alloc();
-    let setup = setup_of(alloc, options)?;
     let mut reader = BufReader::new(alloc, rt.reader())?;
     let mut writer = BufWriter::new(alloc, io::writer(rt))?;
-    speak(alloc, &mut reader, &mut writer, setup)
+    speak(alloc, &mut reader, &mut writer, setup_of(alloc, options)?)
 }
 
 // The program's words. One that isn't UTF-8 is unusable.

@@ -16,7 +16,6 @@ use cf_node::{FaultCounts, Node, Setup};
 use cf_protocol::{Namespaces, Tokens, read_namespaces, read_tokens};
 use cf_shard::{Delivery, Naming};
 use mio::net::TcpListener;
-use std::alloc::{AllocError, Global};
 use std::io::{BufWriter, ErrorKind, Write};
 use std::marker::Brand;
 use std::net::{Ipv4Addr, Net, SocketAddr};
@@ -37,12 +36,14 @@ struct Opened<'a, N: Naming> {
     addresses: Vec<SocketAddr>,
 }
 
-// A node that is to be run, with passes of its own.
+// The nodes, the broker between them with its passes, and where they listen. The broker lies in a box, since a function that lends
+// a broker of its own is dear to prove.
 #[derive(Drop)]
-struct Ready<'a, N: Naming> {
-    number: u8,
-    node: Node<'a, N>,
+struct Joined<'a, N: Naming> {
+    broker: Box<Broker<N, BootEpochs>>,
     passes: Passes<N>,
+    nodes: Vec<Node<'a, N>>,
+    addresses: Vec<SocketAddr>,
 }
 
 /// Serves clients until standard input ends. Each node's address is printed as `node I 127.0.0.1:PORT` once all nodes serve.
@@ -103,47 +104,50 @@ where
     requires words { words ≡ names N.words 16 }
     requires namespaces { namespaces.now ≡ N.namespaces }
 {
-    let alloc = rt.alloc();
     let running = Running::new(rt, options.is_quiet)?;
+    let counts = &running.counts;
+    let Joined {
+        broker,
+        passes,
+        nodes,
+        addresses,
+    } = join::<N, R>(rt, options, boot, words, counts, namespaces, tokens)?;
+    let mut sizes = Sizes {
+        rt,
+        broker: &*broker,
+        passes,
+        namespaces,
+    };
+    run_nodes(rt, &running, nodes, addresses.as_slice(), &mut sizes)
+}
+
+// Opens the nodes, and the broker that sends to them.
+fn join<'a, N: Naming, R: Net + AllocGlobal>(
+    rt: &R,
+    options: ServeOptions<'_>,
+    boot: Boot,
+    words: Words,
+    counts: &'a FaultCounts,
+    namespaces: &'a Namespaces,
+    tokens: &'a Tokens,
+) -> Result<Joined<'a, N>, Fault>
+    requires words { words ≡ names N.words 16 }
+    requires namespaces { namespaces.now ≡ N.namespaces }
+{
+    let alloc = rt.alloc();
     let Opened {
         senders,
         nodes,
         addresses,
-    } = open_nodes::<N, R>(rt, options, &running.counts, namespaces, tokens)?;
-    let (broker, mut passes) = open_broker::<N>(alloc, boot, words, namespaces, senders)?;
-    let broker = &*broker;
-    let nodes = with_passes(alloc, broker, &mut passes, nodes)?;
-    let mut sizes = Sizes {
-        rt,
-        broker,
-        passes,
-        namespaces,
-    };
-    run_nodes(
-        rt,
-        broker,
-        &running,
-        nodes,
-        addresses.as_slice(),
-        &mut sizes,
-    )
-}
-
-// The broker and its passes. It lies in a box, since a function that lends a broker of its own is dear to prove.
-fn open_broker<N: Naming>(
-    alloc: Global,
-    boot: Boot,
-    words: Words,
-    namespaces: &Namespaces,
-    senders: Vec<Sender<Delivery>>,
-) -> Result<(Box<Broker<N, BootEpochs>>, Passes<N>), AllocError>
-    requires words { words ≡ names N.words 16 }
-    requires namespaces { namespaces.now ≡ N.namespaces }
-{
+    } = open_nodes::<N, R>(rt, options, counts, namespaces, tokens)?;
     let epochs = BootEpochs::of_shards(boot);
     let (broker, passes) = Broker::<N, BootEpochs>::new(alloc, words, namespaces, epochs, senders)?;
-    let broker = Box::new(alloc, broker)?;
-    Ok((broker, passes))
+    Ok(Joined {
+        broker: Box::new(alloc, broker)?,
+        passes,
+        nodes,
+        addresses,
+    })
 }
 
 // The nodes, at listeners that stand.
@@ -175,45 +179,12 @@ fn add_node<'a, N: Naming, R: Net + AllocGlobal>(
     setup: Setup<'a, N>,
     opened: &mut Opened<'a, N>,
 ) -> Result<(), Fault> {
-    let link = pair(rt.alloc(), room_of(options)?)?;
+    let room = room_of(options)?;
     let listener = listen(rt, options, setup.node(), &mut opened.addresses)?;
-    opened.add(rt, setup, link, listener)
-}
-
-impl<'a, N: Naming> Opened<'a, N> {
-    // Puts one more node behind the others, at this listener and behind this link.
-    fn add<R: Net + AllocGlobal>(
-        &mut self,
-        rt: &R,
-        setup: Setup<'a, N>,
-        (sender, receiver): (Sender<Delivery>, Receiver<Delivery>),
-        listener: TcpListener,
-    ) -> Result<(), Fault> {
-        self.senders.push(sender)?;
-        let node = Node::open(rt, setup, receiver, listener)?;
-        Ok(self.nodes.push(node)?)
-    }
-}
-
-// Each node with passes of its own.
-fn with_passes<'a, N: Naming>(
-    alloc: Global,
-    broker: &Broker<N, BootEpochs>,
-    passes: &mut Passes<N>,
-    nodes: Vec<Node<'a, N>>,
-) -> Result<Vec<Ready<'a, N>>, AllocError> {
-    let mut ready = Vec::new(alloc);
-    let mut number: u8 = 0;
-    for node in nodes {
-        let passes = passes.lend(alloc, broker)?;
-        ready.push(Ready {
-            number,
-            node,
-            passes,
-        })?;
-        number = number.saturating_add(1);
-    }
-    Ok(ready)
+    let (sender, receiver) = pair(rt.alloc(), room)?;
+    opened.senders.push(sender)?;
+    let node = Node::open(rt, setup, receiver, listener)?;
+    opened.nodes.push(node).map_err(Fault::from)
 }
 
 // Listens at the node's port, and notes where, since a port may be any that is free.
@@ -239,24 +210,21 @@ fn listen<R: Net>(
     }
 }
 
-// Starts a node in a thread of its own.
+// Starts a node in a thread of its own, with passes that it is lent.
 fn start<'s, N, R, E>(
     scope: &Scope<'s, E>,
     rt: &'s R,
     broker: &'s Broker<N, BootEpochs>,
     running: &'s Running,
-    ready: Ready<'s, N>,
+    passes: &mut Passes<N>,
+    (number, node): (u8, Node<'s, N>),
     stop: &'s AtomicU64,
 ) -> Result<(), Fault>
 where
     N: Naming + Send + Sync,
     R: AllocGlobal + Threads + Wait + Clock + Sync,
 {
-    let Ready {
-        number,
-        node,
-        passes,
-    } = ready;
+    let passes = passes.lend(rt.alloc(), broker)?;
     let started = scope.spawn(move || {
         if node.run(rt, broker, passes, running, stop).is_err() {
             running.fail(number);
@@ -274,33 +242,35 @@ fn start_all<'s, N, R, E>(
     rt: &'s R,
     broker: &'s Broker<N, BootEpochs>,
     running: &'s Running,
-    nodes: Vec<Ready<'s, N>>,
+    passes: &mut Passes<N>,
+    nodes: Vec<Node<'s, N>>,
     stop: &'s AtomicU64,
 ) -> Result<(), Fault>
 where
     N: Naming + Send + Sync,
     R: AllocGlobal + Threads + Wait + Clock + Sync,
 {
-    for ready in nodes {
-        start(scope, rt, broker, running, ready, stop)?;
+    let mut number: u8 = 0;
+    for node in nodes {
+        start(scope, rt, broker, running, passes, (number, node), stop)?;
+        number = number.saturating_add(1);
     }
     Ok(())
 }
 
-// Runs each node in a thread of its own until standard input, whose lines are heard, ends, or a node doesn't go on.
-fn run_nodes<N, R, L>(
+// Runs each node in a thread of its own until standard input, whose lines set sizes, ends, or a node doesn't go on.
+fn run_nodes<N, R>(
     rt: &R,
-    broker: &Broker<N, BootEpochs>,
     running: &Running,
-    nodes: Vec<Ready<'_, N>>,
+    nodes: Vec<Node<'_, N>>,
     addresses: &[SocketAddr],
-    listener: &mut L,
+    sizes: &mut Sizes<'_, R, N, BootEpochs>,
 ) -> Result<(), Fault>
 where
     N: Naming + Send + Sync,
     R: Input + Print + Eprint + AllocGlobal + Threads + Wait + Clock + Net + Sync,
-    L: Listener,
 {
+    let broker = sizes.broker;
     let stop = AtomicU64::new(0);
     let stop = &stop;
     thread::scope(
@@ -311,11 +281,19 @@ where
             requires send { IsSend N.row }
             requires sync { IsSync N.row }
         {
-            let served = match start_all(scope, rt, broker, running, nodes, stop) {
+            let served = match start_all(
+                scope,
+                rt,
+                broker,
+                running,
+                &mut sizes.passes,
+                nodes,
+                stop,
+            ) {
                 Ok(()) => {
                     // Where nobody can tell what goes wrong, the nodes serve all the same.
                     let _ = scope.spawn(move || report(rt, broker, running, stop));
-                    watch(rt, running, addresses, listener)
+                    watch(rt, running, addresses, sizes)
                 }
                 Err(fault) => Err(fault),
             };

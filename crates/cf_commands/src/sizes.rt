@@ -18,27 +18,27 @@ use std::sync::Wait;
 const KEPT: usize = 44;
 
 /// Who hears the lines of standard input.
-pub trait Listener {
+pub(crate) trait Listener {
     /// A whole line, without its line feed; of a long one its first 44 bytes.
     fn hear_line(&mut self, line: &str);
 }
 
 /// A line of standard input, as far as it has come.
 #[derive(Drop)]
-pub struct Line {
+pub(crate) struct Line {
     bytes: Vec<u8>,
 }
 
 impl Line {
     /// Nothing has come.
-    pub fn new(alloc: Global) -> Result<Line, AllocError> {
+    pub(crate) fn new(alloc: Global) -> Result<Line, AllocError> {
         Ok(Line {
             bytes: Vec::with_capacity(alloc, KEPT)?,
         })
     }
 
     /// These bytes have come. The lines that they end are heard, but for those that aren't UTF-8.
-    pub fn add_all<L: Listener>(&mut self, bytes: &[u8], listener: &mut L) {
+    pub(crate) fn add_all<L: Listener>(&mut self, bytes: &[u8], listener: &mut L) {
         for byte in bytes {
             if *byte == b'\n' {
                 if let Ok(line) = str::from_utf8(self.bytes.as_slice()) {
@@ -70,7 +70,8 @@ where
     E: Epochs + Drop,
 {
     fn hear_line(&mut self, line: &str) {
-        match Event::read(self.rt.alloc(), line, 1) {
+        let read = Event::read(self.rt.alloc(), line, 1);
+        match &read {
             Ok(Some(Event::SetSize { namespace, size })) => {
                 self.set(namespace.as_str(), size.count());
             }
@@ -79,6 +80,7 @@ where
             }
             _ => {}
         }
+        drop(read);
     }
 }
 

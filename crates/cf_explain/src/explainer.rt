@@ -137,14 +137,10 @@ impl<'a> Explainer<'a> {
     // Tells what an event did.
     fn tell(&mut self, world: &World, event: &Event) -> Remarks {
         let mut remarks = Remarks::new(self.alloc);
-        let now = Glance::of(world, event);
-        let is_epoch = self.tell_epoch(&mut remarks, event);
-        let is_sent = self.tell_sent(&mut remarks, event, now);
-        let is_taken = self.tell_taken(&mut remarks, event, now);
-        let is_published = self.tell_published(&mut remarks, world, event, now);
-        let is_sized = self.tell_size(&mut remarks, world, event);
-        let is_changed = self.tell_changes(&mut remarks, world, event);
-        if !(is_epoch || is_sent || is_taken || is_published || is_sized || is_changed) {
+        self.tell_sent(&mut remarks, event, Glance::of(world, event));
+        self.tell_own(&mut remarks, world, event, Glance::of(world, event));
+        self.tell_changes(&mut remarks, world, event);
+        if remarks.as_str().is_empty() {
             self.tell_unchanged(&mut remarks, world, event);
         }
         remarks
@@ -153,109 +149,90 @@ impl<'a> Explainer<'a> {
     // Tells why nothing that is watched has changed.
     fn tell_unchanged(&self, remarks: &mut Remarks, world: &World, event: &Event) {
         let delivered = delivered_in(self.published.as_slice(), event);
-        if let (Event::Deliver { node, .. }, Some(channel)) = (event, delivered)
-            && self.tell_delivery(remarks, world, *node, channel)
-        {
-            return;
+        if let (Event::Deliver { node, .. }, Some(channel)) = (event, delivered) {
+            self.tell_delivery(remarks, world, *node, channel);
         }
-        remarks.add(match reason(self.alloc, world, event, delivered) {
-            Ok(words) => format!(in self.alloc; "   nothing changed: {words}"),
-            Err(error) => Err(error),
-        });
+        if remarks.as_str().is_empty() {
+            remarks.add(match reason(self.alloc, world, event, delivered) {
+                Ok(words) => format!(in self.alloc; "   nothing changed: {words}"),
+                Err(error) => Err(error),
+            });
+        }
     }
 
-    // Tells what became of a publication that nobody is to get now, and says whether there is anybody in its channel.
-    fn tell_delivery(&self, remarks: &mut Remarks, world: &World, node: u8, channel: &str) -> bool {
-        let mut is_told = false;
+    // Tells what became of a publication that nobody is to get now, where there is anybody in its channel.
+    fn tell_delivery(&self, remarks: &mut Remarks, world: &World, node: u8, channel: &str) {
         for watched in self.watched.iter() {
             let subject = &watched.subject;
             if let Some(words) = subject.unchanged_by(world, node, channel) {
                 remarks.add(format!(in self.alloc; "   {subject}: {words}"));
-                is_told = true;
             }
         }
-        is_told
     }
 
-    fn tell_epoch(&self, remarks: &mut Remarks, event: &Event) -> bool {
-        let Event::Epoch { epoch } = event else {
-            return false;
-        };
-        remarks.add(format!(in self.alloc; "   {epoch} waits for the next stream that opens"));
-        true
-    }
-
-    // Tells what a client sent, and says whether it sent anything.
-    fn tell_sent(&self, remarks: &mut Remarks, event: &Event, now: Glance) -> bool {
+    // Tells what a client sent.
+    fn tell_sent(&self, remarks: &mut Remarks, event: &Event, now: Glance) {
         if self.before.id == now.id {
-            return false;
+            return;
         }
-        let (Some(client), Some(command)) = (client_of(event), &self.command) else {
-            return false;
-        };
-        remarks.add(format!(in self.alloc; "   {client} sends {command}"));
-        true
+        if let (Some(client), Some(command)) = (client_of(event), &self.command) {
+            remarks.add(format!(in self.alloc; "   {client} sends {command}"));
+        }
     }
 
-    // Tells what a client took, and says whether it took anything.
-    fn tell_taken(&self, remarks: &mut Remarks, event: &Event, now: Glance) -> bool {
-        let Event::Take { client } = event else {
-            return false;
-        };
+    // Tells what events of this one's kind alone do.
+    fn tell_own(&self, remarks: &mut Remarks, world: &World, event: &Event, now: Glance) {
+        match event {
+            Event::Epoch { epoch } => {
+                remarks.add(format!(in self.alloc;
+                    "   {epoch} waits for the next stream that opens"
+                ));
+            }
+            Event::Take { client } => self.tell_taken(remarks, client.as_str(), now),
+            Event::Publish { .. } => self.tell_published(remarks, world, event, now),
+            Event::PublishBy { .. } => self.tell_published(remarks, world, event, now),
+            Event::SetSize { namespace, size } => {
+                self.tell_size(remarks, world, namespace.as_str(), size.count());
+            }
+            _ => {}
+        }
+    }
+
+    // Tells what a client took.
+    fn tell_taken(&self, remarks: &mut Remarks, client: &str, now: Glance) {
         if self.before.waiting == now.waiting {
-            return false;
+            return;
         }
         let taken = match &self.front {
             None => "the close",
             Some(text) => text.as_str(),
         };
         remarks.add(format!(in self.alloc; "   {client} takes {taken}"));
-        true
     }
 
-    // Tells the number of a publication, or that of the one that it repeats, and says whether there is any.
-    fn tell_published(
-        &self,
-        remarks: &mut Remarks,
-        world: &World,
-        event: &Event,
-        now: Glance,
-    ) -> bool {
-        if published_to(event).is_none() {
-            return false;
-        }
+    // Tells the number of a publication, or that of the one that a publish repeats.
+    fn tell_published(&self, remarks: &mut Remarks, world: &World, event: &Event, now: Glance) {
         if self.before.position == now.position {
-            return self.tell_repeat(remarks, world, event, now);
+            self.tell_repeat(remarks, world, event, now);
+        } else if now.position.is_some() {
+            let number = self.published.len();
+            remarks.add(format!(in self.alloc; "   it is publication {number}"));
         }
-        if now.position.is_none() {
-            return false;
-        }
-        let number = self.published.len();
-        remarks.add(format!(in self.alloc; "   it is publication {number}"));
-        true
     }
 
-    // Tells which publication a publish repeats, and says whether it repeats one.
-    fn tell_repeat(
-        &self,
-        remarks: &mut Remarks,
-        world: &World,
-        event: &Event,
-        now: Glance,
-    ) -> bool {
+    // Tells which publication a publish repeats, if it repeats one.
+    fn tell_repeat(&self, remarks: &mut Remarks, world: &World, event: &Event, now: Glance) {
         let Some(Position { epoch, offset }) = self.before.repeated else {
-            return false;
+            return;
         };
         let Some(number) = number_of(self.published.as_slice(), epoch, offset) else {
-            return false;
+            return;
         };
-        if !self.is_carried_out(world, event, now) {
-            return false;
+        if self.is_carried_out(world, event, now) {
+            remarks.add(format!(in self.alloc;
+                "   it repeats publication {number}, which is at {epoch} {offset}"
+            ));
         }
-        remarks.add(format!(in self.alloc;
-            "   it repeats publication {number}, which is at {epoch} {offset}"
-        ));
-        true
     }
 
     // Whether a publish got as far as the stream: one of a client is to be sent, and allowed.
@@ -277,63 +254,47 @@ impl<'a> Explainer<'a> {
         self.before.id != now.id && settings.publish && !hub.is_closed(session)
     }
 
-    // Tells how much the streams of a namespace may hold from now on, and what they lose by it. Says whether the namespace is
-    // set up.
-    fn tell_size(&self, remarks: &mut Remarks, world: &World, event: &Event) -> bool {
-        let Event::SetSize { namespace, size } = event else {
-            return false;
-        };
-        if !world.streams().has_namespace(namespace.as_str()) {
-            return false;
+    // Tells how much the streams of a namespace may hold from now on, if it is set up, and what they lose by it.
+    fn tell_size(&self, remarks: &mut Remarks, world: &World, namespace: &str, count: usize) {
+        if !world.streams().has_namespace(namespace) {
+            return;
         }
-        let count = size.count();
-        remarks.add(match namespace_words(self.alloc, namespace.as_str()) {
+        remarks.add(match namespace_words(self.alloc, namespace) {
             Ok(words) => format!(in self.alloc; "   a stream of {words} holds {count} at most"),
             Err(error) => Err(error),
         });
         for watched in self.watched.iter() {
-            watched.tell_loss(self.alloc, remarks, world);
+            let lost = watched.held.saturating_sub(watched.subject.held(world));
+            if lost != 0 {
+                let subject = &watched.subject;
+                remarks.add(format!(in self.alloc; "   {subject}: {lost} lost"));
+            }
         }
-        true
     }
 
-    // Tells what stands otherwise than it did, and says whether there is any.
-    fn tell_changes(&mut self, remarks: &mut Remarks, world: &World, event: &Event) -> bool {
-        let mut is_changed = false;
+    // Tells what stands otherwise than it did.
+    fn tell_changes(&mut self, remarks: &mut Remarks, world: &World, event: &Event) {
         let delivered = delivered_in(self.published.as_slice(), event);
         for watched in self.watched.iter_mut() {
             if watched.subject.is_concerned(event, delivered) {
-                let told = watched.tell(self.alloc, remarks, world);
-                is_changed = is_changed || told;
+                watched.tell(self.alloc, remarks, world);
             }
         }
-        is_changed
     }
 }
 
 impl Watched {
-    // Tells how many publications it lost.
-    fn tell_loss(&self, alloc: Global, remarks: &mut Remarks, world: &World) {
-        let lost = self.held.saturating_sub(self.subject.held(world));
-        if lost != 0 {
-            let subject = &self.subject;
-            remarks.add(format!(in alloc; "   {subject}: {lost} lost"));
-        }
-    }
-
-    // Tells how it stands, where that is not as it was told before. Says whether it was.
-    fn tell(&mut self, alloc: Global, remarks: &mut Remarks, world: &World) -> bool {
+    // Tells how it stands, where that is not as it was told before.
+    fn tell(&mut self, alloc: Global, remarks: &mut Remarks, world: &World) {
         let Ok(words) = self.subject.words(alloc, world) else {
-            remarks.fall_short();
-            return false;
+            remarks.add(Err(AllocError));
+            return;
         };
-        if words.as_str() == self.told.as_str() {
-            return false;
+        if words.as_str() != self.told.as_str() {
+            let subject = &self.subject;
+            remarks.add(format!(in alloc; "   {subject}: {words}"));
+            self.told = words;
         }
-        let subject = &self.subject;
-        remarks.add(format!(in alloc; "   {subject}: {words}"));
-        self.told = words;
-        true
     }
 }
 
@@ -342,9 +303,13 @@ fn delivered_in<'a>(published: &'a [Accepted], event: &Event) -> Option<&'a str>
     let Event::Deliver { publication, .. } = event else {
         return None;
     };
-    let index = publication.checked_sub(1)?;
-    let accepted = published.get(index as usize)?;
-    Some(accepted.channel.as_str())
+    let Some(index) = publication.checked_sub(1) else {
+        return None;
+    };
+    match published.get(index as usize) {
+        None => None,
+        Some(accepted) => Some(accepted.channel.as_str()),
+    }
 }
 
 // The channel that an event publishes to.

@@ -31,40 +31,31 @@ impl Glance {
 
     /// Of an event in a world.
     pub(crate) fn of(world: &World, event: &Event) -> Glance {
-        Glance {
-            id: next_id(world, event),
-            waiting: waiting(world, event),
-            position: position(world, event),
-            repeated: repeated(world, event),
+        let mut glance = Glance::none();
+        if let Some(name) = client_of(event) {
+            if let Some(client) = world.client(name) {
+                glance.id = client.next_id().ok();
+            }
+            if let Some((hub, session)) = session_of(world, name) {
+                glance.waiting = hub.waiting(session);
+            }
         }
+        if let Some(channel) = channel_of(event) {
+            let streams = world.streams();
+            glance.position = streams.position(channel);
+            glance.repeated = streams.repeat_of(channel, key_of(event));
+        }
+        glance
     }
-}
-
-fn next_id(world: &World, event: &Event) -> Option<u32> {
-    let client = world.client(client_of(event)?)?;
-    client.next_id().ok()
-}
-
-fn waiting(world: &World, event: &Event) -> usize {
-    let Some(client) = client_of(event) else {
-        return 0;
-    };
-    match session_of(world, client) {
-        None => 0,
-        Some((hub, session)) => hub.waiting(session),
-    }
-}
-
-fn position(world: &World, event: &Event) -> Option<Position> {
-    world.streams().position(channel_of(event)?)
-}
-
-fn repeated(world: &World, event: &Event) -> Option<Position> {
-    world.streams().repeat_of(channel_of(event)?, key_of(event))
 }
 
 /// The text that waits first for the client of an event.
 pub(crate) fn front_of<'a>(world: &'a World, event: &Event) -> Option<&'a str> {
-    let (hub, session) = session_of(world, client_of(event)?)?;
-    hub.front(session)
+    let Some(name) = client_of(event) else {
+        return None;
+    };
+    match session_of(world, name) {
+        None => None,
+        Some((hub, session)) => hub.front(session),
+    }
 }

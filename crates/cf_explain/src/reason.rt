@@ -18,7 +18,10 @@ pub(crate) fn reason(
         Event::Publish { channel, .. } => no_stream(alloc, world, channel.as_str()),
         Event::Trim { channel, .. } => no_cut(alloc, world, channel.as_str()),
         Event::Forget { channel } => no_cut(alloc, world, channel.as_str()),
-        Event::SetSize { namespace, .. } => no_namespace(alloc, namespace.as_str()),
+        Event::SetSize { namespace, .. } => match namespace_words(alloc, namespace.as_str()) {
+            Ok(words) => format!(in alloc; "{words} isn't set up"),
+            Err(error) => Err(error),
+        },
         Event::BrokerRestart => String::from_str(alloc, "no channel has a stream"),
         Event::Restart { node } => format!(in alloc; "node {node} has no session"),
         Event::Deliver { node, publication } => match delivered {
@@ -50,12 +53,6 @@ fn no_cut(alloc: Global, world: &World, channel: &str) -> Result<String, AllocEr
         None => format!(in alloc; "{channel} has no stream"),
         Some(_) => format!(in alloc; "{channel} holds no more than that"),
     }
-}
-
-// Of a history size.
-fn no_namespace(alloc: Global, name: &str) -> Result<String, AllocError> {
-    let namespace = namespace_words(alloc, name)?;
-    format!(in alloc; "{namespace} isn't set up")
 }
 
 /// A namespace by its name.

@@ -69,21 +69,13 @@ impl Remarks {
 
     /// Adds a text, if there was memory for it: each of its lines is a remark.
     pub(crate) fn add(&mut self, text: Result<String, AllocError>) {
-        match text {
-            Ok(text) => self.add_lines(text.as_str()),
-            Err(_) => self.fall_short(),
-        }
-    }
-
-    /// There was no memory for what was to be added.
-    pub(crate) fn fall_short(&mut self) {
-        self.is_short = true;
-    }
-
-    fn add_lines(&mut self, text: &str) {
-        for line in text.split('\n') {
+        let Ok(text) = text else {
+            self.is_short = true;
+            return;
+        };
+        for line in text.as_str().split('\n') {
             if self.add_line(line).is_err() {
-                self.fall_short();
+                self.is_short = true;
             }
         }
     }

@@ -58,8 +58,9 @@ impl Subject {
         let Subject::Subscription { client, channel } = self else {
             return None;
         };
-        let seat = world.seat(client.as_str())?;
-        let hub = world.hub(node)?;
+        let (Some(seat), Some(hub)) = (world.seat(client.as_str()), world.hub(node)) else {
+            return None;
+        };
         if seat.node != node || channel.as_str() != delivered {
             return None;
         }
@@ -134,9 +135,13 @@ fn stream_words(alloc: Global, world: &World, channel: &str) -> Result<String, A
 
 /// A client's node, and its session there.
 pub(crate) fn session_of<'a>(world: &'a World, client: &str) -> Option<(&'a Hub, u32)> {
-    let Seat { node, session } = world.seat(client)?;
-    let hub = world.hub(node)?;
-    Some((hub, session))
+    let Some(Seat { node, session }) = world.seat(client) else {
+        return None;
+    };
+    match world.hub(node) {
+        None => None,
+        Some(hub) => Some((hub, session)),
+    }
 }
 
 fn client_words(alloc: Global, world: &World, client: &str) -> Result<String, AllocError> {

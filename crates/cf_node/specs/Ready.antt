@@ -1,5 +1,5 @@
 -- When a session that a desk holds can be carried on. (This project's own profile.)
-use Rattle.std.specs.Prelude.{◌≡◌, Bool, true, false}
+use Rattle.std.specs.Prelude.{Bool, true, false}
 use mathlib.Core.Bool.{Bool-set}
 use mathlib.Core.HLevel.{Unit-prop, ×_prop, Π_prop}
 use Rattle.cf_protocol.specs.Settings.{NamespaceTable}

@@ -93,53 +93,6 @@ impl<'a, B: Backend> Connection<'a, B> {
             Connection::Refusing(refusing) => !is_head_over(refusing.answered, now),
         }
     }
-
-    /// Takes a turn, in which its client is heard or only served, and wakes who brings on what was
-    /// published in it. A connection whose head has not come whole has nothing to do.
-    pub(crate) fn turn(&mut self, buffer: &mut Vec<u8>, now: u64, hears: bool) -> Turned {
-        match self {
-            Connection::Open(open) => {
-                let turned = open.turn(buffer, now, hears);
-                open.desk.handler.ring();
-                turned
-            }
-            Connection::Refusing(refusing) => refusing.turn(),
-            Connection::Empty | Connection::Head(_) => Turned::Idle,
-        }
-    }
-
-    /// The connection is over: its socket is closed, and then its client's session goes. Whether
-    /// there was one.
-    pub(crate) fn gives_up(self) -> bool {
-        match self {
-            Connection::Empty => false,
-            Connection::Head(_) | Connection::Refusing(_) => true,
-            Connection::Open(open) => {
-                let Open { wire, mut desk, .. } = Box::into_inner(open);
-                drop(wire);
-                desk.handler.give_up();
-                true
-            }
-        }
-    }
-
-    /// The number of its session in the hub, once it is attached.
-    pub(crate) fn session(&self) -> Option<u32> {
-        match self {
-            Connection::Open(open) => open.desk.handler.client.standing.number(),
-            _ => None,
-        }
-    }
-
-    /// Its socket, if there is one.
-    pub(crate) fn socket_mut(&mut self) -> Option<&mut Socket> {
-        match self {
-            Connection::Empty => None,
-            Connection::Head(head) => Some(&mut head.socket),
-            Connection::Open(open) => Some(open.wire.stream_mut().stream_mut()),
-            Connection::Refusing(refusing) => Some(refusing.stream.stream_mut()),
-        }
-    }
 }
 
 /// How a connection stands after its turn.
@@ -178,19 +131,14 @@ impl<'a, B: Backend> Open<'a, B> {
             TurnEnd::Idle if self.has_more() => Turned::More,
             TurnEnd::Idle => Turned::Idle,
             TurnEnd::More => Turned::More,
-            TurnEnd::Closed(_) => self.closes(),
+            // What was gathered for the client, the close too, still waits for the socket.
+            TurnEnd::Closed(_) if !self.wire.stream().is_drained() => {
+                self.desk.handler.stop();
+                Turned::Idle
+            }
+            TurnEnd::Closed(_) => Turned::Over,
             TurnEnd::StreamFault | TurnEnd::Memory => Turned::Over,
         }
-    }
-
-    // The wire is closed, by either side: from now on its session does nothing more, and what was
-    // gathered for the client, the close too, still waits for the socket.
-    fn closes(&mut self) -> Turned {
-        if self.wire.stream().is_drained() {
-            return Turned::Over;
-        }
-        self.desk.handler.stop();
-        Turned::Idle
     }
 
     // Whether there is more to do at once.

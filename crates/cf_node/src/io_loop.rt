@@ -128,42 +128,36 @@ pub(crate) fn serve<R: Wait + Clock, B: Backend, G: Gate>(
 }
 
 // A connection whose head is whole: the handshake is answered, or the question whether the node
-// lives. Empty where there is no answer.
+// lives. One that speaks gets a desk of its own. Empty where there is no answer, or memory is refused.
 fn opened<'a, B: Backend>(
     backend: &'a B,
     connection: Connection<'a, B>,
     now: u64,
 ) -> Connection<'a, B> {
-    let Connection::Head(head) = connection else {
-        return Connection::Empty;
+    let head = match connection {
+        Connection::Head(head) => head,
+        other => {
+            drop(other);
+            return Connection::Empty;
+        }
     };
     let gather = Gather::new(backend.alloc(), head.socket, GATHERED);
     match Wire::accept(backend.alloc(), gather) {
-        Ok(wire) => seated(backend, wire, now),
+        Ok(wire) => {
+            let open = Open {
+                wire,
+                desk: SessionDesk::new(backend, now),
+                is_spent: false,
+            };
+            match Box::new(backend.alloc(), open) {
+                Ok(open) => Connection::Open(open),
+                Err(_) => Connection::Empty,
+            }
+        }
         Err(refused) => match Refusing::new(refused, backend.shared().is_well(now), now) {
             Some(refusing) => Connection::Refusing(refusing),
             None => Connection::Empty,
         },
-    }
-}
-
-// A connection that speaks, at a desk of its own. Empty where memory is refused.
-fn seated<'a, B: Backend>(
-    backend: &'a B,
-    wire: Wire<Gather<Socket>>,
-    now: u64,
-) -> Connection<'a, B> {
-    let open = Box::new(
-        backend.alloc(),
-        Open {
-            wire,
-            desk: SessionDesk::new(backend, now),
-            is_spent: false,
-        },
-    );
-    match open {
-        Ok(open) => Connection::Open(open),
-        Err(_) => Connection::Empty,
     }
 }
 
@@ -198,7 +192,13 @@ impl<'a, B: Backend> IoLoop<'a, B> {
 
     // Waits for readiness, where nothing is left to do.
     fn wait(&mut self, events: &mut Events) -> io::Result<()> {
-        let patience = if !self.is_done() {
+        let is_done = self.agenda.is_empty()
+            && self.spenders.is_empty()
+            && (self.held.is_empty() || self.backend.is_crowded())
+            && !self.is_behind
+            && self.accepts != Accepts::More
+            && !self.seconds.is_late();
+        let patience = if !is_done {
             0
         } else if self.held.is_empty() {
             PATIENCE
@@ -206,16 +206,6 @@ impl<'a, B: Backend> IoLoop<'a, B> {
             SHORT_PATIENCE
         };
         self.acceptor.wait(events, Duration::from_millis(patience))
-    }
-
-    // Whether nothing is left to do at once.
-    fn is_done(&self) -> bool {
-        self.agenda.is_empty()
-            && self.spenders.is_empty()
-            && (self.held.is_empty() || self.backend.is_crowded())
-            && !self.is_behind
-            && self.accepts != Accepts::More
-            && !self.seconds.is_late()
     }
 
     // One turn: what is ready is noted, who has a turn to come has it, and then comes a new second.
@@ -232,8 +222,7 @@ impl<'a, B: Backend> IoLoop<'a, B> {
         }
         self.serve_named();
         self.serve_agenda();
-        self.serve_spender();
-        self.serve_held();
+        self.serve_waiting();
         if !self.is_behind {
             self.backend.shared().catch_up();
         }
@@ -265,39 +254,28 @@ impl<'a, B: Backend> IoLoop<'a, B> {
         if token == LISTENER {
             self.accepts = Accepts::More;
         } else if token != WAKER {
-            let place = token.0;
+            let readable = event.is_readable();
             let ended = event.is_read_closed() || event.is_error();
-            if let Some(connection) = self.places.get_mut(place) {
-                if let Some(socket) = connection.socket_mut() {
-                    socket.notice(event.is_readable(), ended);
-                    self.owe(place);
+            match self.places.get_mut(token.0) {
+                Some(Connection::Head(head)) => head.socket.notice(readable, ended),
+                Some(Connection::Open(open)) => {
+                    open.wire.stream_mut().stream_mut().notice(readable, ended);
                 }
+                Some(Connection::Refusing(refusing)) => {
+                    refusing.stream.stream_mut().notice(readable, ended);
+                }
+                Some(Connection::Empty) | None => return,
             }
-        }
-    }
-
-    // The connection at a place, where it speaks.
-    fn open_at(&self, place: usize) -> Option<&Open<'a, B>> {
-        match self.places.get(place) {
-            Some(Connection::Open(open)) => Some(open),
-            _ => None,
-        }
-    }
-
-    // The same, to be changed.
-    fn open_at_mut(&mut self, place: usize) -> Option<&mut Open<'a, B>> {
-        match self.places.get_mut(place) {
-            Some(Connection::Open(open)) => Some(open),
-            _ => None,
+            self.owe(token.0);
         }
     }
 
     // A turn of the connection at a place is to come: held back, where it published while some node
     // was behind; behind all others, where it has spent the bounds of its last turn.
     fn owe(&mut self, place: usize) {
-        let (is_held, is_spent) = match self.open_at(place) {
-            Some(open) => (open.desk.handler.is_held, open.is_spent),
-            None => (false, false),
+        let (is_held, is_spent) = match self.places.get(place) {
+            Some(Connection::Open(open)) => (open.desk.handler.is_held, open.is_spent),
+            _ => (false, false),
         };
         let added = if is_held {
             self.held.add(place)
@@ -314,31 +292,26 @@ impl<'a, B: Backend> IoLoop<'a, B> {
     // Accepts some of what waits to be.
     fn accept_some(&mut self) {
         for _ in 0..MOST_ACCEPTED {
-            self.accepts = self.accept();
+            self.accepts = match self.acceptor.accept() {
+                Ok(stream) => {
+                    if !self.put(stream) {
+                        self.backend.count(Fault::Refused);
+                    }
+                    Accepts::More
+                }
+                Err(error) => match error.kind() {
+                    // It was gone before it was accepted.
+                    ErrorKind::ConnectionAborted => Accepts::More,
+                    ErrorKind::WouldBlock => Accepts::All,
+                    _ => {
+                        self.backend.count(Fault::Refused);
+                        Accepts::Failed
+                    }
+                },
+            };
             if self.accepts != Accepts::More {
                 return;
             }
-        }
-    }
-
-    // Accepts a connection, if one waits.
-    fn accept(&mut self) -> Accepts {
-        match self.acceptor.accept() {
-            Ok(stream) => {
-                if !self.put(stream) {
-                    self.backend.count(Fault::Refused);
-                }
-                Accepts::More
-            }
-            Err(error) => match error.kind() {
-                // It was gone before it was accepted.
-                ErrorKind::ConnectionAborted => Accepts::More,
-                ErrorKind::WouldBlock => Accepts::All,
-                _ => {
-                    self.backend.count(Fault::Refused);
-                    Accepts::Failed
-                }
-            },
         }
     }
 
@@ -351,10 +324,11 @@ impl<'a, B: Backend> IoLoop<'a, B> {
         let is_registered = self.acceptor.registers(&mut stream, place);
         match self.places.get_mut(place) {
             Some(connection) if is_registered => {
-                *connection = Connection::Head(Head {
+                let head = Connection::Head(Head {
                     socket: Socket::new(self.backend.alloc(), stream),
                     accepted: self.seconds.done(),
                 });
+                drop(mem::replace(connection, head));
                 true
             }
             _ => {
@@ -373,8 +347,7 @@ impl<'a, B: Backend> IoLoop<'a, B> {
         self.places.reserve(1)?;
         self.owners.push(0)?;
         let place = self.places.len();
-        // There is room for it.
-        let _ = self.places.push(Connection::Empty);
+        self.places.push_reserved(Connection::Empty);
         Ok(place)
     }
 
@@ -390,25 +363,17 @@ impl<'a, B: Backend> IoLoop<'a, B> {
         }
     }
 
-    // One that has spent the bounds of its last turn goes on, where nothing is left to be sent, or it
-    // has waited for that for long.
-    fn serve_spender(&mut self) {
-        if self.spenders.is_empty() {
-            return;
-        }
-        if self.is_behind && self.waited < MOST_WAITED {
+    // Two that have waited go on: one that has spent the bounds of its last turn, where nothing is
+    // left to be sent, or it has waited for that for long; and then one that published while some
+    // node was behind, where none is any more.
+    fn serve_waiting(&mut self) {
+        if self.is_behind && self.waited < MOST_WAITED && !self.spenders.is_empty() {
             self.waited += 1;
-            return;
-        }
-        self.waited = 0;
-        if let Some(place) = self.spenders.next() {
+        } else if let Some(place) = self.spenders.next() {
+            self.waited = 0;
             self.hear(place);
             self.serve_named();
         }
-    }
-
-    // One that published while some node was behind goes on, where none is any more.
-    fn serve_held(&mut self) {
         if self.held.is_empty() || self.backend.is_crowded() {
             return;
         }
@@ -437,7 +402,7 @@ impl<'a, B: Backend> IoLoop<'a, B> {
             return;
         };
         let head = mem::replace(connection, Connection::Empty);
-        *connection = opened(self.backend, head, self.now);
+        drop(mem::replace(connection, opened(self.backend, head, self.now)));
         if matches!(connection, Connection::Empty) {
             self.vacate(place);
         } else {
@@ -445,16 +410,27 @@ impl<'a, B: Backend> IoLoop<'a, B> {
         }
     }
 
-    // Turns the connection at a place, where its client is heard or only served. The place is its
-    // session's from then on.
+    // Turns the connection at a place, where its client is heard or only served, and wakes who brings
+    // on what was published in the turn. The place is its session's from then on.
     fn serve(&mut self, place: usize, hears: bool) {
         let Some(connection) = self.places.get_mut(place) else {
             return;
         };
-        let turned = connection.turn(&mut self.buffer, self.seconds.done(), hears);
-        if let Some(number) = connection.session() {
-            note_place(&mut self.owners, number, place);
-        }
+        let turned = match connection {
+            Connection::Open(open) => {
+                let turned = open.turn(&mut self.buffer, self.seconds.done(), hears);
+                open.desk.handler.ring();
+                if let Some(number) = open.desk.handler.client.standing.number() {
+                    if let Some(owner) = self.owners.get_mut(number as usize) {
+                        *owner = place;
+                    }
+                }
+                turned
+            }
+            Connection::Refusing(refusing) => refusing.turn(),
+            // One whose head has not come whole has nothing to do.
+            Connection::Empty | Connection::Head(_) => Turned::Idle,
+        };
         match turned {
             Turned::Idle => {}
             Turned::More => self.owe(place),
@@ -462,14 +438,21 @@ impl<'a, B: Backend> IoLoop<'a, B> {
         }
     }
 
-    // The connection at a place is over.
+    // The connection at a place is over: its socket is closed, and then its client's session goes.
     fn end(&mut self, place: usize) {
         let Some(connection) = self.places.get_mut(place) else {
             return;
         };
-        if mem::replace(connection, Connection::Empty).gives_up() {
-            self.vacate(place);
+        match mem::replace(connection, Connection::Empty) {
+            Connection::Empty => return,
+            Connection::Open(open) => {
+                let Open { wire, mut desk, .. } = Box::into_inner(open);
+                drop(wire);
+                desk.handler.give_up();
+            }
+            unheard => drop(unheard),
         }
+        self.vacate(place);
     }
 
     // A place stands empty again.
@@ -504,37 +487,29 @@ impl<'a, B: Backend> IoLoop<'a, B> {
         for index in 0..self.batch.len() {
             match self.batch.get(index).copied() {
                 Some(named) if named.is_free => self.serve(named.place, false),
-                Some(named) => self.look_over(named.place),
+                Some(named) => {
+                    if let Some(Connection::Open(open)) = self.places.get_mut(named.place) {
+                        open.desk.handler.sees_end();
+                    }
+                }
                 None => {}
             }
         }
         self.batch.clear();
     }
 
-    // Looks whether the session at a place whose socket takes nothing was closed.
-    fn look_over(&mut self, place: usize) {
-        if let Some(open) = self.open_at_mut(place) {
-            open.desk.handler.sees_end();
-        }
-    }
-
     // All sessions are closed with 3001, and told so as far as their sockets take it.
     fn shut_down(&mut self) {
         for place in 0..self.places.len() {
-            self.close(place);
+            if let Some(Connection::Open(open)) = self.places.get_mut(place) {
+                // Its close is still to be told.
+                open.desk.owed = true;
+                if let Some(number) = open.desk.handler.client.standing.number() {
+                    self.backend.hub().close(number, CloseCode::Shutdown.code());
+                }
+            }
             self.serve(place, false);
             self.end(place);
-        }
-    }
-
-    // The session of the connection at a place is closed, which is still to be told.
-    fn close(&mut self, place: usize) {
-        let Some(open) = self.open_at_mut(place) else {
-            return;
-        };
-        open.desk.owed = true;
-        if let Some(number) = open.desk.handler.client.standing.number() {
-            self.backend.hub().close(number, CloseCode::Shutdown.code());
         }
     }
 }
@@ -542,13 +517,6 @@ impl<'a, B: Backend> IoLoop<'a, B> {
 // At which place a session's connection is, if it has one.
 fn place_of(owners: &[usize], session: u32) -> usize {
     owners.get(session as usize).copied().unwrap_or(0)
-}
-
-// Notes at which place a session's connection is.
-fn note_place(owners: &mut [usize], session: u32, place: usize) {
-    if let Some(owner) = owners.get_mut(session as usize) {
-        *owner = place;
-    }
 }
 
 impl<'a, B: Backend> Outlets for IoLoop<'a, B> {
@@ -560,27 +528,27 @@ impl<'a, B: Backend> Outlets for IoLoop<'a, B> {
     ghost gets = { λ _ _ _ _ _. Unit {0} };
 
     fn is_free(&self, session: u32) -> bool {
-        match self.open_at(place_of(&self.owners, session)) {
-            Some(open) => {
+        match self.places.get(place_of(&self.owners, session)) {
+            Some(Connection::Open(open)) => {
                 open.desk.handler.client.standing.number() == Some(session)
                     && takes_more(&open.wire, &open.desk.taken)
             }
-            None => false,
+            _ => false,
         }
     }
 
     fn lend(&mut self, session: u32) -> VecDeque<Out> {
         let nothing = VecDeque::new(self.backend.alloc());
         let place = place_of(&self.owners, session);
-        match self.open_at_mut(place) {
-            Some(open) => mem::replace(&mut open.desk.taken, nothing),
-            None => nothing,
+        match self.places.get_mut(place) {
+            Some(Connection::Open(open)) => mem::replace(&mut open.desk.taken, nothing),
+            _ => nothing,
         }
     }
 
     fn give(&mut self, session: u32, taken: VecDeque<Out>, more: bool) {
         let place = place_of(&self.owners, session);
-        let Some(open) = self.open_at_mut(place) else {
+        let Some(Connection::Open(open)) = self.places.get_mut(place) else {
             return;
         };
         let is_free = takes_more(&open.wire, &open.desk.taken);

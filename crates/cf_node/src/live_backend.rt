@@ -160,7 +160,11 @@ impl<'a, R: Wait, N: Naming, E: Epochs + Drop> Backend for LiveBackend<'a, R, N,
     fn tick(&self, now: u64) {
         if self.setup.node() == 0 {
             for shard in 0..SHARDS {
-                self.tick_shard(shard, now);
+                if let Some(mut pass) = taken(&self.passes, self.broker, shard) {
+                    // Where the shard's log is full, its streams stay as they are.
+                    let _ = self.broker.tick(self.rt, &mut pass, shard, now);
+                    put_back(&self.passes, shard, pass);
+                }
             }
         }
     }
@@ -181,18 +185,5 @@ impl<'a, R: Wait, N: Naming, E: Epochs + Drop> Backend for LiveBackend<'a, R, N,
 
     fn stats(&self, channel: &str) -> Stats {
         self.broker.stats(self.rt, channel)
-    }
-}
-
-impl<'a, R: Wait, N: Naming, E: Epochs + Drop> LiveBackend<'a, R, N, E> {
-    // Brings a moment to a shard of the broker. Where its log is full, its streams stay as they
-    // are.
-    fn tick_shard(&self, shard: usize, now: u64)
-        requires { shard < SHARDS }
-    {
-        if let Some(mut pass) = taken(&self.passes, self.broker, shard) {
-            let _ = self.broker.tick(self.rt, &mut pass, shard, now);
-            put_back(&self.passes, shard, pass);
-        }
     }
 }

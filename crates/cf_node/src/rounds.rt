@@ -36,20 +36,15 @@ impl<'a, B: Backend> CommandHandler<'a, B> {
         self.client.forgets_ended(&self.backend.hub(), number);
         for _ in 0..self.client.channels.len() {
             // Each is taken from the front and, where it stands, put back behind the others.
-            if let Some(present) = self.client.channels.pop_front() {
-                self.look_at(number, present);
+            if let Some(mut present) = self.client.channels.pop_front() {
+                if self.stands(number, &mut present) {
+                    self.enter(present.channel.as_str());
+                    let _ = self.client.channels.push_back(present);
+                } else {
+                    self.backend
+                        .leave(present.channel.as_str(), self.client.id.as_str());
+                }
             }
-        }
-    }
-
-    // A subscription's position is checked, and where it goes on, the client is present again.
-    fn look_at(&mut self, number: u32, mut present: Present) {
-        if self.stands(number, &mut present) {
-            self.enter(present.channel.as_str());
-            let _ = self.client.channels.push_back(present);
-        } else {
-            self.backend
-                .leave(present.channel.as_str(), self.client.id.as_str());
         }
     }
 

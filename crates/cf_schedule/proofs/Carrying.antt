@@ -1,66 +1,53 @@
 -- An event by the method of its kind.
-use Rattle.std.proofs.Common.{◌≡◌, ℕ, Bool, true, false, if◌then◌else◌, List, [], map, refl, sym, ap, subst, ◌∙◌}
+use Rattle.std.proofs.Common.{◌≡◌, ◌≢◌, ℕ, Result, Ok, Err, Bool, true, false, if◌then◌else◌, List, [], map, refl, sym, ap, subst, ◌∙◌}
+use Rattle.std.specs.Result.{OnOk}
 use Rattle.cf_machine.specs.Config.{Config}
-use Rattle.cf_machine.specs.Event.{Event, Epoch, Connect, Ask, AskFrom, Read, Finish, Publish, PublishBy, Deliver, Take, Break, Leave, Trim, Forget, BrokerRestart, SetSize, Restart, Check, ListHistory}
+use Rattle.cf_machine.specs.Event.{Event}
 use Rattle.cf_machine.specs.IntervalMachine.{allows}
 use Rattle.cf_machine.specs.Told.{tells, writes}
 use Rattle.cf_machine.specs.Trace.{Entry}
 use Rattle.cf_machine.specs.World.{World}
+use Rattle.cf_schedule.specs.Seen.{seen}
+use Rattle.cf_schedule.specs.declared.event.Event as declared
+use Rattle.cf_schedule.specs.declared.event.Event.TheVariants as variant
 use Rattle.cf_world.specs.Entries.{shown_entry}
 use Rattle.cf_world.specs.Tie.{GoesOn}
 use Rattle.cf_world.specs.declared.entry.Entry.{Entry as CodeEntry}
 use Rattle.cf_world.specs.declared.world.World.{World as Parts}
 
-pub goes-so : {e f : Event} (old : Parts) {new now : Parts} → f ≡ e → now ≡ new → GoesOn e old new → GoesOn f old now
-goes-so {e} {f} old {new} {now} same is h = subst (λ (v : Parts). GoesOn f old v) (sym is) (subst (λ (x : Event). GoesOn x old new) (sym same) h)
+pub goes-so : {e f : Event} (old new : Parts) → f ≡ e → GoesOn e old new → GoesOn f old new
+goes-so {e} {f} old new same h = subst (λ (x : Event). GoesOn x old new) (sym same) h
 
--- an event that tells nobody anything
-abbrev pub IsQuiet : Event → Type 0
-IsQuiet (Epoch e) = Unit {0}
-IsQuiet (Connect x n) = Unit {0}
-IsQuiet (Ask x c) = Unit {0}
-IsQuiet (AskFrom x c) = Unit {0}
-IsQuiet (Read x c) = Unit {0}
-IsQuiet (Finish x c) = Unit {0}
-IsQuiet (Publish c key body) = Unit {0}
-IsQuiet (PublishBy x c key body) = Unit {0}
-IsQuiet (Deliver n i) = Unit {0}
-IsQuiet (Take x) = ⊥
-IsQuiet (Break x) = Unit {0}
-IsQuiet (Leave x c) = Unit {0}
-IsQuiet (Trim c k) = Unit {0}
-IsQuiet (Forget c) = Unit {0}
-IsQuiet BrokerRestart = Unit {0}
-IsQuiet (SetSize name n) = Unit {0}
-IsQuiet (Restart n) = Unit {0}
-IsQuiet (Check x c) = Unit {0}
-IsQuiet (ListHistory x c limit) = Unit {0}
+-- the same where the event was carried out, if it is such a one
+pub goes-where : {e f : Event} {E : Type 0} (D : Type 0) (old new : Parts) (r : Result Unit E) → f ≡ e → OnOk r (GoesOn e old new) → OnOk r (D → GoesOn f old new)
+goes-where D old new (Ok u) same h = λ d. goes-so old new same h
+goes-where D old new (Err f) same h = tt
 
-tells-none : (n : ℕ) (m : World) (e : Event) → IsQuiet e → tells n m e ≡ []
-tells-none n m (Epoch e) q = refl
-tells-none n m (Connect x k) q = refl
-tells-none n m (Ask x c) q = refl
-tells-none n m (AskFrom x c) q = refl
-tells-none n m (Read x c) q = refl
-tells-none n m (Finish x c) q = refl
-tells-none n m (Publish c key body) q = refl
-tells-none n m (PublishBy x c key body) q = refl
-tells-none n m (Deliver k i) q = refl
-tells-none n m (Take x) q = absurd q
-tells-none n m (Break x) q = refl
-tells-none n m (Leave x c) q = refl
-tells-none n m (Trim c k) q = refl
-tells-none n m (Forget c) q = refl
-tells-none n m BrokerRestart q = refl
-tells-none n m (SetSize name k) q = refl
-tells-none n m (Restart k) q = refl
-tells-none n m (Check x c) q = refl
-tells-none n m (ListHistory x c limit) q = refl
+-- any event but a take tells nobody anything
+tells-none : (n : ℕ) (m : World) (e : declared.Event) → ((x : List ℕ) → e ≢ variant.Take x) → tells n m (seen e) ≡ []
+tells-none n m (variant.Epoch e) other = refl
+tells-none n m (variant.Connect x k) other = refl
+tells-none n m (variant.Ask x c) other = refl
+tells-none n m (variant.AskFrom x c) other = refl
+tells-none n m (variant.Read x c) other = refl
+tells-none n m (variant.Finish x c) other = refl
+tells-none n m (variant.Publish c key body) other = refl
+tells-none n m (variant.PublishBy x c key body) other = refl
+tells-none n m (variant.Deliver k i) other = refl
+tells-none n m (variant.Take x) other = absurd (other x refl)
+tells-none n m (variant.Break x) other = refl
+tells-none n m (variant.Leave x c) other = refl
+tells-none n m (variant.Trim c k) other = refl
+tells-none n m (variant.Forget c) other = refl
+tells-none n m variant.BrokerRestart other = refl
+tells-none n m (variant.SetSize name k) other = refl
+tells-none n m (variant.Restart k) other = refl
+tells-none n m (variant.Check x c) other = refl
+tells-none n m (variant.ListHistory x c limit) other = refl
 
 either-way : (b : Bool) (es : List Entry) → es ≡ [] → [] ≡ (if b then es else [])
 either-way true es h = sym h
 either-way false es h = refl
 
-pub quiet : {e f : Event} {es : List CodeEntry} → f ≡ e → IsQuiet e → es ≡ [] → (cfg : Config) (n : ℕ) (m : World) → map shown_entry es ≡ writes cfg n m f
-quiet {e} {f} {es} same q none cfg n m =
-    ap (map shown_entry) none ∙ either-way (allows cfg m e) (tells n m e) (tells-none n m e q) ∙ ap (writes cfg n m) (sym same)
+pub quiet : (e : declared.Event) {es : List CodeEntry} → ((x : List ℕ) → e ≢ variant.Take x) → es ≡ [] → (cfg : Config) (n : ℕ) (m : World) → map shown_entry es ≡ writes cfg n m (seen e)
+quiet e {es} other none cfg n m = ap (map shown_entry) none ∙ either-way (allows cfg m (seen e)) (tells n m (seen e)) (tells-none n m e other)

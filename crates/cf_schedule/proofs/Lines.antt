@@ -1,5 +1,5 @@
 -- A line, cut behind its first word: of the kinds of line one alone has that word.
-use Rattle.std.proofs.Common.{◌≡◌, ◌≢◌, ℕ, ◌<◌, ◌≤◌, ℤ, true, false, List, [], ◌∷◌, ◌++◌, codes, refl, sym, ap, ◌∙◌}
+use Rattle.std.proofs.Common.{◌≡◌, ◌≢◌, ℕ, ◌<◌, ◌≤◌, ℤ, Bool, true, false, List, [], ◌∷◌, ◌++◌, codes, refl, sym, ap, ◌∙◌}
 use Rattle.std.specs.Str.{bytes_eq}
 use Rattle.std.specs.Fmt.{decimal}
 use Rattle.std.proofs.lemmas.Bool.{false≢true}
@@ -7,7 +7,7 @@ use Rattle.cf_schedule.specs.Word.{IsClientName, IsChannelName, IsKey, IsNamespa
 use Rattle.cf_machine.specs.Event.{Event, Epoch, Connect, Ask, AskFrom, Read, Finish, Publish, PublishBy, Deliver, Take, Break, Leave, Trim, Forget, BrokerRestart, SetSize, Restart, Check, ListHistory}
 use Rattle.cf_machine.specs.TraceLine.{spaced}
 use Rattle.cf_schedule.specs.ScheduleLine.{Says, IsEpochWord, IsLimit, IsData, largest_size, last_number, most_left}
-use Rattle.cf_schedule.specs.LineRead.{IsUnspaced, IsNone}
+use Rattle.cf_schedule.specs.LineRead.{IsUnspaced, IsNone, IsPublication, publish_word, put_word}
 use Rattle.cf_schedule.proofs.Spacing.{one_cut, never_cut, unspaced_word}
 
 -- what a publish's word has more where it has a key
@@ -200,13 +200,13 @@ no_finish nodes r lacks = λ e h.
     let i = is_finish nodes r e s.0 s.1 in
     lacks i.0 i.1 i.3
 
-pub no_publish : (nodes : ℕ) (r : List ℕ) → ((c : List ℕ) (body : List ℕ) → Rest nodes r (Publish c [] body) → ⊥) → IsNone (Says nodes (codes "publish" ++ 32 ∷ r))
+no_publish : (nodes : ℕ) (r : List ℕ) → ((c : List ℕ) (body : List ℕ) → Rest nodes r (Publish c [] body) → ⊥) → IsNone (Says nodes (codes "publish" ++ 32 ∷ r))
 no_publish nodes r lacks = λ e h.
     let s = splits nodes (codes "publish") r e (unspaced_word (codes "publish") refl) h in
     let i = is_publish nodes r e s.0 s.1 in
     lacks i.0 i.1 i.3
 
-pub no_publishkey : (nodes : ℕ) (r : List ℕ) → ((c : List ℕ) (k : ℕ) (ks : List ℕ) (body : List ℕ) → Rest nodes r (Publish c (k ∷ ks) body) → ⊥) → IsNone (Says nodes (codes "publishkey" ++ 32 ∷ r))
+no_publishkey : (nodes : ℕ) (r : List ℕ) → ((c : List ℕ) (k : ℕ) (ks : List ℕ) (body : List ℕ) → Rest nodes r (Publish c (k ∷ ks) body) → ⊥) → IsNone (Says nodes (codes "publishkey" ++ 32 ∷ r))
 no_publishkey nodes r lacks = λ e h.
     let s = splits nodes (codes "publishkey") r e (unspaced_word (codes "publishkey") refl) h in
     let i = is_publishkey nodes r e s.0 s.1 in
@@ -242,13 +242,13 @@ no_askfrom nodes r lacks = λ e h.
     let i = is_askfrom nodes r e s.0 s.1 in
     lacks i.0 i.1 i.3
 
-pub no_put : (nodes : ℕ) (r : List ℕ) → ((x : List ℕ) (c : List ℕ) (body : List ℕ) → Rest nodes r (PublishBy x c [] body) → ⊥) → IsNone (Says nodes (codes "put" ++ 32 ∷ r))
+no_put : (nodes : ℕ) (r : List ℕ) → ((x : List ℕ) (c : List ℕ) (body : List ℕ) → Rest nodes r (PublishBy x c [] body) → ⊥) → IsNone (Says nodes (codes "put" ++ 32 ∷ r))
 no_put nodes r lacks = λ e h.
     let s = splits nodes (codes "put") r e (unspaced_word (codes "put") refl) h in
     let i = is_put nodes r e s.0 s.1 in
     lacks i.0 i.1 i.2 i.4
 
-pub no_putkey : (nodes : ℕ) (r : List ℕ) → ((x : List ℕ) (c : List ℕ) (k : ℕ) (ks : List ℕ) (body : List ℕ) → Rest nodes r (PublishBy x c (k ∷ ks) body) → ⊥) → IsNone (Says nodes (codes "putkey" ++ 32 ∷ r))
+no_putkey : (nodes : ℕ) (r : List ℕ) → ((x : List ℕ) (c : List ℕ) (k : ℕ) (ks : List ℕ) (body : List ℕ) → Rest nodes r (PublishBy x c (k ∷ ks) body) → ⊥) → IsNone (Says nodes (codes "putkey" ++ 32 ∷ r))
 no_putkey nodes r lacks = λ e h.
     let s = splits nodes (codes "putkey") r e (unspaced_word (codes "putkey") refl) h in
     let i = is_putkey nodes r e s.0 s.1 in
@@ -289,6 +289,28 @@ no_list nodes r lacks = λ e h.
     let s = splits nodes (codes "list") r e (unspaced_word (codes "list") refl) h in
     let i = is_list nodes r e s.0 s.1 in
     lacks i.0 i.1 i.2 i.4
+
+-- ---- what is published, with a key or without
+
+pub publish_said : (nodes : ℕ) (keyed : Bool) (r c k body : List ℕ) → IsPublication keyed c k body r → Says nodes (publish_word keyed ++ 32 ∷ r) (Publish c k body)
+publish_said nodes false r c [] body h = (h.0, h.1, h.4, ap (λ t. codes "publish" ++ 32 ∷ t) (h.5 ∙ ap (λ t. c ++ 32 ∷ t) h.3.1))
+publish_said nodes false r c (k ∷ ks) body h = absurd (cc (h.3.0))
+publish_said nodes true r c [] body h = absurd (false≢true h.3.0)
+publish_said nodes true r c (k ∷ ks) body h = (h.0, h.3.0, h.1, h.4, ap (λ t. codes "publishkey" ++ 32 ∷ t) (h.5 ∙ ap (λ t. c ++ 32 ∷ t) h.3.1))
+
+pub no_publication : (nodes : ℕ) (keyed : Bool) (r : List ℕ) → ((c k body : List ℕ) → IsPublication keyed c k body r → ⊥) → IsNone (Says nodes (publish_word keyed ++ 32 ∷ r))
+no_publication nodes false r lacks = no_publish nodes r (λ c body h. lacks c [] body (h.0, h.1, h.1, (refl, refl), h.2, h.3))
+no_publication nodes true r lacks = no_publishkey nodes r (λ c k ks body h. lacks c (k ∷ ks) body (h.0, h.2, spaced ((k ∷ ks) ∷ h.2 ∷ []), (h.1, refl), h.3, h.4))
+
+pub put_said : (nodes : ℕ) (keyed : Bool) (r x end c k body : List ℕ) → IsClientName x → r ≡ x ++ 32 ∷ end → IsPublication keyed c k body end → Says nodes (put_word keyed ++ 32 ∷ r) (PublishBy x c k body)
+put_said nodes false r x end c [] body name e h = (name, h.0, h.1, h.4, ap (λ t. codes "put" ++ 32 ∷ t) (e ∙ ap (λ t. x ++ 32 ∷ t) (h.5 ∙ ap (λ t. c ++ 32 ∷ t) h.3.1)))
+put_said nodes false r x end c (k ∷ ks) body name e h = absurd (cc (h.3.0))
+put_said nodes true r x end c [] body name e h = absurd (false≢true h.3.0)
+put_said nodes true r x end c (k ∷ ks) body name e h = (name, h.0, h.3.0, h.1, h.4, ap (λ t. codes "putkey" ++ 32 ∷ t) (e ∙ ap (λ t. x ++ 32 ∷ t) (h.5 ∙ ap (λ t. c ++ 32 ∷ t) h.3.1)))
+
+pub no_put_publication : (nodes : ℕ) (keyed : Bool) (r : List ℕ) → ((x c k body end : List ℕ) → IsClientName x → r ≡ x ++ 32 ∷ end → IsPublication keyed c k body end → ⊥) → IsNone (Says nodes (put_word keyed ++ 32 ∷ r))
+no_put_publication nodes false r lacks = no_put nodes r (λ x c body h. lacks x c [] body (spaced (c ∷ h.2 ∷ [])) h.0 h.4 (h.1, h.2, h.2, (refl, refl), h.3, refl))
+no_put_publication nodes true r lacks = no_putkey nodes r (λ x c k ks body h. lacks x c (k ∷ ks) body (spaced (c ∷ (k ∷ ks) ∷ h.3 ∷ [])) h.0 h.5 (h.1, h.3, spaced ((k ∷ ks) ∷ h.3 ∷ []), (h.2, refl), h.4, refl))
 
 -- the word is none of a line's
 abbrev pub IsStrange : List ℕ → Type 0

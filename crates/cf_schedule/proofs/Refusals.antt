@@ -1,17 +1,17 @@
 -- What is refused as unreadable.
-use Rattle.std.proofs.Common.{◌≡◌, ◌≢◌, inl, inr, ℕ, List, [], ◌∷◌, ◌++◌, Result, Err, refl, sym, ap, subst, ◌∙◌}
+use Rattle.std.proofs.Common.{◌≡◌, ◌≢◌, codes, inl, inr, ℕ, Bool, true, false, List, [], ◌∷◌, ◌++◌, Result, Err, refl, sym, ap, subst, ◌∙◌}
 use Rattle.std.proofs.Common.{◌<◌, MatchOption, Bor}
 use Rattle.std.specs.Prelude.{◌↔◌, IsErrOf, Option, Some, None}
 use Rattle.std.proofs.lemmas.Str.Pattern.{split_parts, IsSplitOnceResult}
 use Rattle.cf_machine.specs.TraceLine.{spaced}
 use Rattle.cf_schedule.specs.ScheduleLine.{Says}
-use Rattle.cf_schedule.specs.LineRead.{IsInChannel, IsUnspaced, Lacks, CutsAt, CutsAtSpace, Refused, IsNone, Answers}
+use Rattle.cf_schedule.specs.LineRead.{IsInChannel, IsKeyBefore, IsUnspaced, Lacks, CutsAt, CutsAtSpace, Refused, IsNone, Answers}
 use Rattle.cf_schedule.specs.declared.event.Event as declared
 use Rattle.cf_schedule.specs.declared.event.EventFault.{EventFault}
 use Rattle.cf_schedule.specs.declared.event.EventFault.TheVariants.{Unreadable, Memory}
 use Rattle.cf_schedule.specs.Word.{IsClientName, IsChannelName}
 use Rattle.cf_schedule.proofs.Lines.{no_ask, no_askfrom, no_check, no_finish, no_leave, no_read}
-use Rattle.cf_schedule.proofs.Spacing.{cut_once, lacks_at}
+use Rattle.cf_schedule.proofs.Spacing.{cut_once, lacks_at, one_cut, unspaced_key}
 
 pub refused_so : (e : EventFault) (P Q : Type 0) → (P → Q) → Refused e P → Refused e Q
 refused_so Unreadable P Q f h = f h
@@ -27,6 +27,11 @@ cut_same d s a b x y h u e = cut_once d x a y b u h.word (sym e ∙ h.whole)
 
 pub same_cut : (s a b x y : List ℕ) → CutsAtSpace s a b → IsUnspaced x → s ≡ x ++ 32 ∷ y → (x ≡ a) × (y ≡ b)
 same_cut = cut_same 32
+
+-- one last word alone stands in what is cut, behind a key where there is one
+pub one_key : (keyed : Bool) (k l s t a b : List ℕ) → a ≡ b → IsKeyBefore keyed k s a → IsKeyBefore keyed l t b → s ≡ t
+one_key false k l s t a b e h g = sym h.1 ∙ e ∙ g.1
+one_key true k l s t a b e h g = (one_cut k l s t (unspaced_key k h.0) (unspaced_key l g.0) (sym h.1 ∙ e ∙ g.1)).1
 
 -- what a part's reader answers for a line that is cut so
 pub answers_at : (nodes : ℕ) (line word w rest : List ℕ) (r : Result declared.Event EventFault) → CutsAtSpace line word rest → word ≡ w
@@ -44,6 +49,19 @@ none_in_channel nodes w r (inr (inr (inl e))) none = subst (λ (v : List ℕ). I
 none_in_channel nodes w r (inr (inr (inr (inl e)))) none = subst (λ (v : List ℕ). IsNone (Says nodes (v ++ 32 ∷ r))) (sym e) (no_finish nodes r (λ x c h. none x c h.0 h.1 h.2))
 none_in_channel nodes w r (inr (inr (inr (inr (inl e))))) none = subst (λ (v : List ℕ). IsNone (Says nodes (v ++ 32 ∷ r))) (sym e) (no_leave nodes r (λ x c h. none x c h.0 h.1 h.2))
 none_in_channel nodes w r (inr (inr (inr (inr (inr e))))) none = subst (λ (v : List ℕ). IsNone (Says nodes (v ++ 32 ∷ r))) (sym e) (no_check nodes r (λ x c h. none x c h.0 h.1 h.2))
+
+-- the line of a client and a channel
+pub line_in_channel : (w v r a b x c : List ℕ) → w ≡ v → CutsAtSpace r a b → x ≡ a → c ≡ b → w ++ 32 ∷ r ≡ v ++ 32 ∷ spaced (x ∷ c ∷ [])
+line_in_channel w v r a b x c is cut client channel = ap (λ t. t ++ 32 ∷ r) is ∙ ap (λ t. v ++ 32 ∷ t) (cut.whole ∙ (λ i. sym client i ++ 32 ∷ sym channel i))
+
+-- of the words before a client and a channel one is left
+pub last_in_channel : (w : List ℕ) → IsInChannel w → w ≢ codes "ask" → w ≢ codes "askfrom" → w ≢ codes "read" → w ≢ codes "finish" → w ≢ codes "leave" → w ≡ codes "check"
+last_in_channel w (inl e) a b c d f = absurd (a e)
+last_in_channel w (inr (inl e)) a b c d f = absurd (b e)
+last_in_channel w (inr (inr (inl e))) a b c d f = absurd (c e)
+last_in_channel w (inr (inr (inr (inl e)))) a b c d f = absurd (d e)
+last_in_channel w (inr (inr (inr (inr (inl e))))) a b c d f = absurd (f e)
+last_in_channel w (inr (inr (inr (inr (inr e))))) a b c d f = e
 
 -- what split_once answers
 pub cut_by : (d : ℕ) (s : List ℕ) → d < 128 → (r : Option (Bor (List ℕ) × Bor (List ℕ))) → IsSplitOnceResult d s r → MatchOption r (Lacks d s) (λ p. CutsAt d s p.0.now p.1.now)

@@ -1,10 +1,11 @@
 -- What the readers of a line's parts answer. (This project's own format.)
-use Rattle.std.specs.Prelude.{◌≡◌, ◌≢◌, ◌⊎◌, codes, ℕ, ◌≤◌, List, [], ◌∷◌, ◌++◌, Result, Ok, Err, Option, Some, None}
+use Rattle.std.specs.Prelude.{◌≡◌, ◌≢◌, ◌⊎◌, codes, ℕ, Bool, true, false, ◌≤◌, List, [], ◌∷◌, ◌++◌, Result, Ok, Err, Option, Some, None}
 use Rattle.std.specs.Fmt.{decimal}
 use Rattle.cf_machine.specs.Event.{Event}
 use Rattle.cf_machine.specs.TraceLine.{spaced}
 use Rattle.cf_schedule.specs.ScheduleLine.{IsData, last_number}
 use Rattle.cf_schedule.specs.Seen.{seen}
+use Rattle.cf_schedule.specs.Word.{IsChannelName, IsKey}
 use Rattle.cf_schedule.specs.declared.event.Event as declared
 use Rattle.cf_schedule.specs.declared.event.EventFault.{EventFault}
 use Rattle.cf_schedule.specs.declared.event.EventFault.TheVariants.{Unreadable, Memory}
@@ -31,15 +32,31 @@ CutsAtSpace = CutsAt 32
 abbrev pub IsNoNumber : List ℕ → Type 0
 IsNoNumber s = (n : ℕ) → n ≤ last_number → s ≢ decimal n
 
--- r is the word c and, behind a space, a last word as P says
-abbrev pub IsLastWord : (List ℕ → Type 0) → List ℕ → List ℕ → Type 0
-IsLastWord P c r = (s : List ℕ) × P s × (r ≡ spaced (c ∷ s ∷ []))
-
 -- what stands behind this word is a client and a channel
 abbrev pub IsInChannel : List ℕ → Type 0
 IsInChannel w =
     (w ≡ codes "ask") ⊎ ((w ≡ codes "askfrom") ⊎ ((w ≡ codes "read") ⊎ ((w ≡ codes "finish")
     ⊎ ((w ≡ codes "leave") ⊎ (w ≡ codes "check")))))
+
+-- the words of a publish, with a key and without
+abbrev pub publish_word : Bool → List ℕ
+publish_word false = codes "publish"
+publish_word true = codes "publishkey"
+
+abbrev pub put_word : Bool → List ℕ
+put_word false = codes "put"
+put_word true = codes "putkey"
+
+-- r is the last word s, behind the key k where there is one
+abbrev pub IsKeyBefore : Bool → List ℕ → List ℕ → List ℕ → Type 0
+IsKeyBefore false k s r = (k ≡ []) × (r ≡ s)
+IsKeyBefore true k s r = IsKey k × (r ≡ spaced (k ∷ s ∷ []))
+
+-- r is the channel c, perhaps the key k, and a datum
+abbrev pub IsPublication : Bool → List ℕ → List ℕ → List ℕ → List ℕ → Type 0
+IsPublication keyed c k body r =
+    IsChannelName c × (s end : List ℕ) × IsKeyBefore keyed k s end × IsData s body
+    × (r ≡ spaced (c ∷ end ∷ []))
 
 -- ---- what is refused
 

@@ -1,13 +1,12 @@
 //! One line of a schedule, as a value.
 
-ghost use Rattle.std.specs.Prelude.{◌≡◌, ◌≢◌, ℕ, ℤ, pos, neg_ℤ, ◌^◌, ◌<◌, List, [], ◌∷◌, ◌++◌, codes, IfOk, IfErr, MatchOption, ◌≤◌};
+ghost use Rattle.std.specs.Prelude.{◌≡◌, ◌≢◌, ℕ, ℤ, pos, neg_ℤ, ◌^◌, ◌<◌, List, ◌∷◌, ◌++◌, codes, IfOk, IfErr, MatchOption, ◌≤◌};
 ghost use Rattle.std.specs.Fmt.{decimal};
-ghost use Rattle.cf_schedule.specs.Word.{IsClientName, IsChannelName, IsKey};
-ghost use Rattle.cf_machine.specs.TraceLine.{spaced};
-ghost use Rattle.cf_schedule.specs.ScheduleLine.{Says, IsPassedOver, IsLimit, IsData, last_number};
+ghost use Rattle.cf_schedule.specs.ScheduleLine.{Says, IsPassedOver, IsLimit, last_number};
 ghost use Rattle.cf_machine.specs.Event.{Event as SaidEvent};
-ghost use Rattle.cf_schedule.specs.Seen.{seen};
-ghost use Rattle.cf_schedule.specs.LineRead.{IsUnspaced, CutsAtSpace, IsInChannel, IsLastWord, Refused, IsNone, Answers, ReadAs};
+ghost use Rattle.cf_schedule.specs.Seen.{key_of, seen};
+ghost use Rattle.cf_schedule.specs.LineRead.{IsUnspaced, CutsAtSpace, IsInChannel, IsKeyBefore, IsPublication, publish_word, put_word};
+ghost use Rattle.cf_schedule.specs.LineRead.{Refused, IsNone, Answers, ReadAs};
 
 use crate::body::Body;
 use crate::name::{ChannelName, ClientName, Key, NamespaceName};
@@ -190,21 +189,24 @@ fn event_of(alloc: Global, line: &str, nodes: u8) -> Result<Event, EventFault>
         "epoch" => epoch(rest),
         "connect" => connect(alloc, rest, nodes),
         "ask" | "askfrom" | "read" | "finish" | "leave" | "check" => in_channel(alloc, word, rest),
-        "publish" => publish(alloc, rest),
-        "publishkey" => publish_key(alloc, rest),
-        "put" => put(alloc, rest),
-        "putkey" => put_key(alloc, rest),
+        "publish" => publish(alloc, rest, false),
+        "publishkey" => publish(alloc, rest, true),
+        "put" => put(alloc, rest, false),
+        "putkey" => put(alloc, rest, true),
         "deliver" => deliver(rest, nodes),
-        "take" => Ok(Event::Take {
-            client: ClientName::read(alloc, rest)?,
-        }),
-        "break" => Ok(Event::Break {
-            client: ClientName::read(alloc, rest)?,
-        }),
+        "take" => match ClientName::read(alloc, rest) {
+            Ok(client) => Ok(Event::Take { client }),
+            Err(fault) => Err(fault),
+        },
+        "break" => match ClientName::read(alloc, rest) {
+            Ok(client) => Ok(Event::Break { client }),
+            Err(fault) => Err(fault),
+        },
         "trim" => trim(alloc, rest),
-        "forget" => Ok(Event::Forget {
-            channel: ChannelName::read(alloc, rest)?,
-        }),
+        "forget" => match ChannelName::read(alloc, rest) {
+            Ok(channel) => Ok(Event::Forget { channel }),
+            Err(fault) => Err(fault),
+        },
         "size" => size(alloc, rest),
         "restart" => restart(rest, nodes),
         "list" => list(alloc, rest),
@@ -268,21 +270,6 @@ fn least_of(digits: &str) -> Option<i32>
     }
 }
 
-fn client_and_channel(alloc: Global, text: &str) -> Result<(ClientName, ChannelName), EventFault>
-    ensures ok { IfOk result
-        (λ p. IsClientName p.0 × IsChannelName p.1 × (text.now ≡ spaced (p.0 ∷ p.1 ∷ []))) }
-    ensures err { IfErr result
-        (λ e. Refused e
-        ((x c : List ℕ) → IsClientName x → IsChannelName c → text.now ≢ spaced (x ∷ c ∷ []))) }
-{
-    let Some((client, channel)) = cut(text) else {
-        return Err(EventFault::Unreadable);
-    };
-    let client = ClientName::read(alloc, client)?;
-    let channel = ChannelName::read(alloc, channel)?;
-    Ok((client, channel))
-}
-
 fn epoch(text: &str) -> Result<Event, EventFault>
     ensures { (nodes : ℕ) → Answers (Says nodes (codes "epoch" ++ 32 ∷ text.now)) result }
 {
@@ -302,8 +289,10 @@ fn connect(alloc: Global, text: &str, nodes: u8) -> Result<Event, EventFault>
     let Some(node) = node(number, nodes) else {
         return Err(EventFault::Unreadable);
     };
-    let client = ClientName::read(alloc, client)?;
-    Ok(Event::Connect { client, node })
+    match ClientName::read(alloc, client) {
+        Ok(client) => Ok(Event::Connect { client, node }),
+        Err(fault) => Err(fault),
+    }
 }
 
 // The event of a line that has a client and a channel behind its word.
@@ -311,107 +300,86 @@ fn in_channel(alloc: Global, word: &str, text: &str) -> Result<Event, EventFault
     ensures { (nodes : ℕ) → IsInChannel word.now
         → Answers (Says nodes (word.now ++ 32 ∷ text.now)) result }
 {
-    let (client, channel) = client_and_channel(alloc, text)?;
+    let Some((client, channel)) = cut(text) else {
+        return Err(EventFault::Unreadable);
+    };
+    let client = ClientName::read(alloc, client)?;
+    let channel = ChannelName::read(alloc, channel)?;
     match word {
         "ask" => Ok(Event::Ask { client, channel }),
         "askfrom" => Ok(Event::AskFrom { client, channel }),
         "read" => Ok(Event::Read { client, channel }),
         "finish" => Ok(Event::Finish { client, channel }),
         "leave" => Ok(Event::Leave { client, channel }),
-        "check" => Ok(Event::Check { client, channel }),
-        _ => Err(EventFault::Unreadable),
+        _ => Ok(Event::Check { client, channel }),
     }
 }
 
-fn channel_and_data(alloc: Global, text: &str) -> Result<(ChannelName, Body), EventFault>
-    ensures ok { IfOk result
-        (λ p. IsChannelName p.0 × IsLastWord (λ s. IsData s p.1) p.0 text.now) }
+// A channel, a key where there is one, and a datum.
+fn publication(
+    alloc: Global,
+    text: &str,
+    is_keyed: bool,
+) -> Result<(ChannelName, Option<Key>, Body), EventFault>
+    ensures ok { IfOk result (λ p. IsPublication is_keyed p.0 (key_of p.1) p.2 text.now) }
     ensures err { IfErr result
-        (λ e. Refused e
-        ((c s body : List ℕ) → IsChannelName c → IsData s body
-        → text.now ≢ spaced (c ∷ s ∷ []))) }
-{
-    let Some((channel, data)) = cut(text) else {
-        return Err(EventFault::Unreadable);
-    };
-    let channel = ChannelName::read(alloc, channel)?;
-    let body = Body::read(alloc, data)?;
-    Ok((channel, body))
-}
-
-fn publish(alloc: Global, text: &str) -> Result<Event, EventFault>
-    ensures { (nodes : ℕ) → Answers (Says nodes (codes "publish" ++ 32 ∷ text.now)) result }
-{
-    let (channel, body) = channel_and_data(alloc, text)?;
-    Ok(Event::Publish {
-        channel,
-        key: None,
-        body,
-    })
-}
-
-fn channel_key_and_data(alloc: Global, text: &str) -> Result<(ChannelName, Key, Body), EventFault>
-    ensures ok { IfOk result
-        (λ p. IsChannelName p.0 × IsKey p.1 × (s : List ℕ) × IsData s p.2
-        × (text.now ≡ spaced (p.0 ∷ p.1 ∷ s ∷ []))) }
-    ensures err { IfErr result
-        (λ e. Refused e
-        ((c k s body : List ℕ) → IsChannelName c → IsKey k → IsData s body
-        → text.now ≢ spaced (c ∷ k ∷ s ∷ []))) }
+        (λ e. Refused e ((c k body : List ℕ) → IsPublication is_keyed c k body text.now → ⊥)) }
 {
     let Some((channel, rest)) = cut(text) else {
         return Err(EventFault::Unreadable);
     };
-    let Some((key, data)) = cut(rest) else {
-        return Err(EventFault::Unreadable);
-    };
     let channel = ChannelName::read(alloc, channel)?;
-    let key = Key::read(alloc, key)?;
-    let body = Body::read(alloc, data)?;
-    Ok((channel, key, body))
+    let (key, data) = key_before(alloc, rest, is_keyed)?;
+    match Body::read(alloc, data) {
+        Ok(body) => Ok((channel, key, body)),
+        Err(fault) => Err(fault),
+    }
 }
 
-fn publish_key(alloc: Global, text: &str) -> Result<Event, EventFault>
-    ensures { (nodes : ℕ) → Answers (Says nodes (codes "publishkey" ++ 32 ∷ text.now)) result }
+// The key that stands before a datum, where there is one, and the datum.
+fn key_before(alloc: Global, text: &str, is_keyed: bool) -> Result<(Option<Key>, &str), EventFault>
+    ensures ok { IfOk result (λ p. IsKeyBefore is_keyed (key_of p.0) p.1.now text.now) }
+    ensures err { IfErr result
+        (λ e. Refused e ((k s : List ℕ) → IsKeyBefore is_keyed k s text.now → ⊥)) }
 {
-    let (channel, key, body) = channel_key_and_data(alloc, text)?;
-    Ok(Event::Publish {
-        channel,
-        key: Some(key),
-        body,
-    })
+    if !is_keyed {
+        return Ok((None, text));
+    }
+    let Some((key, data)) = cut(text) else {
+        return Err(EventFault::Unreadable);
+    };
+    match Key::read(alloc, key) {
+        Ok(key) => Ok((Some(key), data)),
+        Err(fault) => Err(fault),
+    }
 }
 
-fn put(alloc: Global, text: &str) -> Result<Event, EventFault>
-    ensures { (nodes : ℕ) → Answers (Says nodes (codes "put" ++ 32 ∷ text.now)) result }
+fn publish(alloc: Global, text: &str, is_keyed: bool) -> Result<Event, EventFault>
+    ensures { (nodes : ℕ)
+        → Answers (Says nodes (publish_word is_keyed ++ 32 ∷ text.now)) result }
+{
+    match publication(alloc, text, is_keyed) {
+        Ok((channel, key, body)) => Ok(Event::Publish { channel, key, body }),
+        Err(fault) => Err(fault),
+    }
+}
+
+fn put(alloc: Global, text: &str, is_keyed: bool) -> Result<Event, EventFault>
+    ensures { (nodes : ℕ) → Answers (Says nodes (put_word is_keyed ++ 32 ∷ text.now)) result }
 {
     let Some((client, rest)) = cut(text) else {
         return Err(EventFault::Unreadable);
     };
     let client = ClientName::read(alloc, client)?;
-    let (channel, body) = channel_and_data(alloc, rest)?;
-    Ok(Event::PublishBy {
-        client,
-        channel,
-        key: None,
-        body,
-    })
-}
-
-fn put_key(alloc: Global, text: &str) -> Result<Event, EventFault>
-    ensures { (nodes : ℕ) → Answers (Says nodes (codes "putkey" ++ 32 ∷ text.now)) result }
-{
-    let Some((client, rest)) = cut(text) else {
-        return Err(EventFault::Unreadable);
-    };
-    let client = ClientName::read(alloc, client)?;
-    let (channel, key, body) = channel_key_and_data(alloc, rest)?;
-    Ok(Event::PublishBy {
-        client,
-        channel,
-        key: Some(key),
-        body,
-    })
+    match publication(alloc, rest, is_keyed) {
+        Ok((channel, key, body)) => Ok(Event::PublishBy {
+            client,
+            channel,
+            key,
+            body,
+        }),
+        Err(fault) => Err(fault),
+    }
 }
 
 fn deliver(text: &str, nodes: u8) -> Result<Event, EventFault>
@@ -441,9 +409,11 @@ fn trim(alloc: Global, text: &str) -> Result<Event, EventFault>
     if count > MOST_LEFT {
         return Err(EventFault::Unreadable);
     }
-    let channel = ChannelName::read(alloc, channel)?;
     let count = count as usize;
-    Ok(Event::Trim { channel, count })
+    match ChannelName::read(alloc, channel) {
+        Ok(channel) => Ok(Event::Trim { channel, count }),
+        Err(fault) => Err(fault),
+    }
 }
 
 fn size(alloc: Global, text: &str) -> Result<Event, EventFault>
@@ -455,8 +425,10 @@ fn size(alloc: Global, text: &str) -> Result<Event, EventFault>
     let Some(size) = HistorySize::read(number) else {
         return Err(EventFault::Unreadable);
     };
-    let namespace = NamespaceName::read(alloc, name)?;
-    Ok(Event::SetSize { namespace, size })
+    match NamespaceName::read(alloc, name) {
+        Ok(namespace) => Ok(Event::SetSize { namespace, size }),
+        Err(fault) => Err(fault),
+    }
 }
 
 fn restart(text: &str, nodes: u8) -> Result<Event, EventFault>
@@ -481,10 +453,12 @@ fn list(alloc: Global, text: &str) -> Result<Event, EventFault>
         return Err(EventFault::Unreadable);
     };
     let client = ClientName::read(alloc, client)?;
-    let channel = ChannelName::read(alloc, channel)?;
-    Ok(Event::ListHistory {
-        client,
-        channel,
-        limit,
-    })
+    match ChannelName::read(alloc, channel) {
+        Ok(channel) => Ok(Event::ListHistory {
+            client,
+            channel,
+            limit,
+        }),
+        Err(fault) => Err(fault),
+    }
 }

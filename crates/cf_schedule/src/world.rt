@@ -1,5 +1,5 @@
 //! The world of a schedule, event by event.
-ghost use Rattle.std.specs.Prelude.{◌≡◌, ◌+◌, IfOk, IsErr, IsTrue, OnOk, false, is_err, option_copied};
+ghost use Rattle.std.specs.Prelude.{◌≡◌, ◌≢◌, ◌+◌, ℕ, List, IfOk, IsErr, IsTrue, OnOk, false, is_err, option_copied};
 ghost use Rattle.cf_machine.specs.World.{start};
 ghost use Rattle.cf_schedule.specs.Seen.{seen, shown_config};
 ghost use Rattle.cf_world.specs.Tie.{GoesOn, Tied, Writes, client_of, hub_of, seat_at, streams_of};
@@ -121,14 +121,28 @@ fn carry_out(
     ensures writes { IfOk result (λ es. Writes at (seen event.now) parts.old es.items) }
 {
     match event {
-        Event::Epoch { epoch } => parts.epoch(*epoch)?,
-        Event::Connect { client, node } => parts.connect(client.as_str(), *node)?,
-        Event::Ask { client, channel } => parts.ask(client.as_str(), channel.as_str())?,
-        Event::AskFrom { client, channel } => parts.ask_from(client.as_str(), channel.as_str())?,
-        Event::Read { client, channel } => parts.read(client.as_str(), channel.as_str())?,
-        Event::Finish { client, channel } => parts.finish(client.as_str(), channel.as_str())?,
+        Event::Take { client } => parts.take(at, client.as_str()),
+        _ => {
+            carry_on(parts, event)?;
+            Ok(Vec::new(alloc))
+        }
+    }
+}
+
+// An event that gives no application anything. A take changes nothing here.
+fn carry_on(parts: &mut Parts, event: &Event) -> Result<(), Short>
+    ensures { OnOk result (((client : List ℕ) → event.now ≢ Event.Take client)
+        → GoesOn (seen event.now) parts.old parts.new) }
+{
+    match event {
+        Event::Epoch { epoch } => parts.epoch(*epoch),
+        Event::Connect { client, node } => parts.connect(client.as_str(), *node),
+        Event::Ask { client, channel } => parts.ask(client.as_str(), channel.as_str()),
+        Event::AskFrom { client, channel } => parts.ask_from(client.as_str(), channel.as_str()),
+        Event::Read { client, channel } => parts.read(client.as_str(), channel.as_str()),
+        Event::Finish { client, channel } => parts.finish(client.as_str(), channel.as_str()),
         Event::Publish { channel, key, body } => {
-            parts.publish(channel.as_str(), key_text(key), body.as_str())?
+            parts.publish(channel.as_str(), key_text(key), body.as_str())
         }
         Event::PublishBy {
             client,
@@ -140,22 +154,36 @@ fn carry_out(
             channel.as_str(),
             key_text(key),
             body.as_str(),
-        )?,
-        Event::Deliver { node, publication } => parts.deliver(*node, *publication)?,
-        Event::Take { client } => return parts.take(at, client.as_str()),
-        Event::Break { client } => parts.break_off(client.as_str()),
-        Event::Leave { client, channel } => parts.leave(client.as_str(), channel.as_str())?,
-        Event::Trim { channel, count } => parts.trim(channel.as_str(), *count),
-        Event::Forget { channel } => parts.forget(channel.as_str()),
-        Event::BrokerRestart => parts.restart_broker(),
-        Event::SetSize { namespace, size } => parts.set_size(namespace.as_str(), size.count()),
-        Event::Restart { node } => parts.restart(*node)?,
-        Event::Check { client, channel } => parts.check(client.as_str(), channel.as_str())?,
+        ),
+        Event::Deliver { node, publication } => parts.deliver(*node, *publication),
+        Event::Leave { client, channel } => parts.leave(client.as_str(), channel.as_str()),
+        Event::Restart { node } => parts.restart(*node),
+        Event::Check { client, channel } => parts.check(client.as_str(), channel.as_str()),
         Event::ListHistory {
             client,
             channel,
             limit,
-        } => parts.list(client.as_str(), channel.as_str(), *limit)?,
+        } => parts.list(client.as_str(), channel.as_str(), *limit),
+        Event::Break { client } => {
+            parts.break_off(client.as_str());
+            Ok(())
+        }
+        Event::Trim { channel, count } => {
+            parts.trim(channel.as_str(), *count);
+            Ok(())
+        }
+        Event::Forget { channel } => {
+            parts.forget(channel.as_str());
+            Ok(())
+        }
+        Event::BrokerRestart => {
+            parts.restart_broker();
+            Ok(())
+        }
+        Event::SetSize { namespace, size } => {
+            parts.set_size(namespace.as_str(), size.count());
+            Ok(())
+        }
+        Event::Take { .. } => Ok(()),
     }
-    Ok(Vec::new(alloc))
 }

@@ -1,5 +1,5 @@
 -- What was written, read as the lines of a trace that is safe.
-use Rattle.std.proofs.Common.{◌≡◌, ℕ, suc, Bool, true, false, Option, Some, None, Result, Ok, Err, List, [], ◌∷◌, ◌++◌, take, flat_map, refl, ap, subst, ◌∙◌, ◌⊎◌, inl, inr}
+use Rattle.std.proofs.Common.{◌≡◌, ℕ, suc, Bool, true, false, Option, Some, None, Result, Ok, Err, List, [], ◌∷◌, ◌++◌, take, flat_map, refl, sym, ap, subst, ◌∙◌, ◌⊎◌, inl, inr}
 use Rattle.std.specs.Prelude.{OnErr, OnOk, IfErr, IfSome}
 use Rattle.std.specs.Io.KnownBytes.{Keeps}
 use Rattle.cf_machine.specs.Config.{Config}
@@ -11,7 +11,7 @@ use Rattle.cf_machine.specs.Told.{trace, writes}
 use Rattle.cf_machine.specs.Trace.{Entry}
 use Rattle.cf_machine.specs.World.{World, start}
 use Rattle.cf_simulate.specs.ScheduleText.{IsSchedule}
-use Rattle.cf_simulate.specs.Simulation.{AreExplained, AreShown, Ends, EndsRun, Prints, Stops}
+use Rattle.cf_simulate.specs.Simulation.{AreExplained, AreShown, Ends, EndsRun, IsOutside, Prints, Stops}
 use Rattle.cf_simulate.specs.WrittenTrace.{AreLinesOf, AreRemarked, ShowsTrace, WritesFront, WritesFrontAtMost, WritesTrace}
 use Rattle.cf_simulate.specs.declared.fault.SimulateFault.{SimulateFault}
 use Rattle.cf_simulate.specs.declared.fault.SimulateFault.TheVariants.{Unreadable, UsedTwice, NotUtf8, Memory, InputOutput}
@@ -109,9 +109,34 @@ pub safe_front : {T : Type 0} → SafeLaw → (explains : Bool) (cfg : Config) (
 safe_front law explains cfg input a b (Ok x) h = tt
 safe_front law explains cfg input a b (Err f) h = ends_so law explains cfg input a b f h
 
--- what is so of the bytes that were read is so of the reader's
+-- ---- what is so of the bytes that were read is so of the reader's
+
+held_so : (P : List ℕ → Type 0) (left : Option (List ℕ)) (before now held : List ℕ) → before ≡ [] → held ≡ now → IfSome left (λ bytes. now ≡ before ++ bytes) → P held → IfSome left P
+held_so P None before now held none is read h = tt
+held_so P (Some bytes) before now held none is read h = subst P (is ∙ read ∙ ap (λ t. t ++ bytes) none) h
+
 pub on_input : {T : Type 0} (r : Result T SimulateFault) (P : List ℕ → Type 0) (left : Option (List ℕ)) (before now held : List ℕ)
     → before ≡ [] → held ≡ now → IfSome left (λ bytes. now ≡ before ++ bytes) → OnOk r (P held) → OnOk r (IfSome left P)
 on_input (Err f) P left before now held none is read h = tt
-on_input (Ok x) P None before now held none is read h = tt
-on_input (Ok x) P (Some bytes) before now held none is read h = subst P (is ∙ read ∙ ap (λ t. t ++ bytes) none) h
+on_input (Ok x) P left before now held none is read h = held_so P left before now held none is read h
+
+pub fails_on_input : {T : Type 0} (r : Result T SimulateFault) (P : List ℕ → SimulateFault → Type 0) (left : Option (List ℕ)) (before now held : List ℕ)
+    → before ≡ [] → held ≡ now → IfSome left (λ bytes. now ≡ before ++ bytes) → IfErr r (P held) → IfErr r (λ f. IfSome left (λ input. P input f))
+fails_on_input (Err f) P left before now held none is read h = held_so (λ input. P input f) left before now held none is read h
+fails_on_input (Ok x) P left before now held none is read h = tt
+
+pub front_on_input : {T : Type 0} (r : Result T SimulateFault) (P : List ℕ → Type 0) (left : Option (List ℕ)) (before now held : List ℕ)
+    → before ≡ [] → held ≡ now → IfSome left (λ bytes. now ≡ before ++ bytes) → OnErr r (P held) → OnErr r (IfSome left P)
+front_on_input (Err f) P left before now held none is read h = held_so P left before now held none is read h
+front_on_input (Ok x) P left before now held none is read h = tt
+
+-- ---- where the input isn't read
+
+pub unread_ends : (explains : Bool) (cfg : Config) (f : SimulateFault) (left : Option (List ℕ)) (a : Bytes) → IsOutside f → IfSome left (λ input. Ends explains cfg input a a f)
+unread_ends explains cfg f None a out = tt
+unread_ends explains cfg f (Some input) a (inl e) = subst (λ (g : SimulateFault). Ends explains cfg input a a g) (sym e) (inl (keeps_same a))
+unread_ends explains cfg f (Some input) a (inr e) = subst (λ (g : SimulateFault). Ends explains cfg input a a g) (sym e) (inl (keeps_same a))
+
+pub unread_front : (explains : Bool) (cfg : Config) (left : Option (List ℕ)) (a : Bytes) → IfSome left (λ input. WritesFrontAtMost explains cfg input a a (IsSafe cfg))
+unread_front explains cfg None a = tt
+unread_front explains cfg (Some input) a = inl (keeps_same a)

@@ -18,7 +18,7 @@ use cf_explain::Explainer;
 use cf_machine::laws::{one_event_more, safe_always};
 use cf_schedule::{Config, Event, World};
 use cf_world::{Entry, Short};
-use std::alloc::{AllocError, Global};
+use std::alloc::Global;
 use std::io::{ErrorKind, Read, Write};
 use std::str;
 
@@ -56,36 +56,10 @@ pub fn simulate<R: Read, W: Write>(
         (W.contents writer.old) (W.contents writer.new)
         (λ events trace. Safe (shown_config config.now) (lines events) trace))) }
 {
+    safe_always();
     let mut input = Vec::new(alloc);
     reader.read_to_end(&mut input)?;
-    simulate_bytes(alloc, input.as_slice(), writer, config, explains)
-}
-
-// The same of an input that was read.
-fn simulate_bytes<W: Write>(
-    alloc: Global,
-    input: &[u8],
-    writer: &mut W,
-    config: &Config,
-    explains: bool,
-) -> Result<(), SimulateFault>
-    ensures done { OnOk result
-        (Prints explains (shown_config config.now) input.now (W.contents writer.old)
-        (W.contents writer.new)) }
-    ensures ends { IfErr result
-        (Ends explains (shown_config config.now) input.now (W.contents writer.old)
-        (W.contents writer.new)) }
-    ensures safe { OnOk result
-        (WritesTrace explains (shown_config config.now) input.now (W.contents writer.old)
-        (W.contents writer.new)
-        (λ events trace. Safe (shown_config config.now) (lines events) trace)) }
-    ensures safe_front { OnErr result
-        (WritesFrontAtMost explains (shown_config config.now) input.now (W.contents writer.old)
-        (W.contents writer.new)
-        (λ events trace. Safe (shown_config config.now) (lines events) trace)) }
-{
-    safe_always();
-    write_input(alloc, input, writer, config, explains)
+    write_input(alloc, input.as_slice(), writer, config, explains)
 }
 
 // Runs the schedule of an input, and writes its trace up to where it stops.
@@ -243,12 +217,11 @@ fn event_lines(alloc: Global, world: &mut World, event: &Event) -> Result<String
         (λ text. ShowsEvent false (seen event.now) world.old (string_bytes text)) }
 {
     let entries = world.step(event)?;
-    let lines = entry_lines(alloc, entries.as_slice())?;
-    Ok(lines)
+    entry_lines(alloc, entries.as_slice())
 }
 
 // The lines of entries.
-fn entry_lines(alloc: Global, entries: &[Entry]) -> Result<String, AllocError>
+fn entry_lines(alloc: Global, entries: &[Entry]) -> Result<String, Short>
     ensures { IfOk result (λ lines. string_bytes lines ≡ printed (map shown_entry entries.now)) }
 {
     let mut lines = String::new(alloc);

@@ -62,6 +62,10 @@ pub record HearsAt (table : NamespaceTable) (s : Seat) (text : List ℕ) (old ne
 same-node : (x y : Node) → Some x ≡ Some y → x ≡ y
 same-node x y h = cc
 
+-- what goes from h to g and to z goes from g to z
+pub after-another : {n : ℕ} {h g z : Node} {old mid new : Hubs} → Moves n h g old mid → Moves n h z old new → Moves n g z mid new
+after-another v u = record { was = v.now; now = u.now; others = λ j ne. u.others j ne ∙ sym (v.others j ne) }
+
 module _ {n : ℕ} {h g : Node} {old new : Hubs} (v : Moves n h g old new) where
   pub moved : (P : Node → Node → Type 0) → P h g → AtHub n P old new
   moved P does = λ z is.

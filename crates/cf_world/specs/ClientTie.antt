@@ -1,9 +1,6 @@
 -- A client of the world beside the machine's, and what the calls of clients make of all of them.
 use Rattle.std.specs.Prelude.{◌≡◌, ◌≢◌, ◌<◌, ⊤, ℕ, ◌==◌, Bool, false, if◌then◌else◌, Option, Some, None, is_some, List}
 use Rattle.std.specs.List.{All}
-use Rattle.std.specs.String.{string_bytes}
-use Rattle.std.specs.declared.alloc.Global.{Global}
-use Rattle.std.specs.declared.string.String.{String}
 use Rattle.cf_protocol.specs.Frame.{IsReplies}
 use Rattle.cf_protocol.specs.Names.{with}
 use Rattle.cf_protocol.specs.Note.{Note, Reply, Pub, End, Fails, Put as PutDone, Left, Listed, PingDue, Close}
@@ -136,11 +133,6 @@ pub record Sent (e : ClientCommand) (x text : List ℕ) (p : Peer) (old new : Li
 pub record NotSent (e : ClientCommand) (x : List ℕ) (p : Peer) (old new : List ℕ → Option Peer) : Type 0 where
   pub refused : send_fault e (state_of p.client) ≢ None
   pub becomes : Becomes x p (state_of p.client) old new
-
-abbrev pub Sends : ClientCommand → List ℕ → Peer → (List ℕ → Option Peer) → (List ℕ → Option Peer)
-    → Option (String Global) → Type 0
-Sends e x p old new None = NotSent e x p old new
-Sends e x p old new (Some text) = Sent e x (string_bytes text) p old new
 
 -- a client takes a text, and its application is told this
 pub record Heard (x text : List ℕ) (p : Peer) (old new : List ℕ → Option Peer)

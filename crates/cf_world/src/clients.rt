@@ -39,10 +39,10 @@ pub(crate) fn join(
     if let Some(peer) = clients.get_mut(name) {
         return peer.join(seat);
     }
+    let key = String::from_str(alloc, name)?;
     let client = Client::new(alloc);
     let mut peer = Peer { client, seat: None };
     peer.join(seat)?;
-    let key = String::from_str(alloc, name)?;
     clients.insert(key, peer)?;
     Ok(())
 }
@@ -95,7 +95,7 @@ impl Peer {
     ghost use Rattle.cf_client.specs.ClientView.{state_of};
     ghost use Rattle.cf_client.specs.OneAnswer.{AreApart};
     ghost use Rattle.cf_machine.specs.ClientRequest.{command_of};
-    ghost use Rattle.cf_world.specs.ClientTie.{AsksFrom, LeavesAs, is_at, request_by, send_fault};
+    ghost use Rattle.cf_world.specs.ClientTie.{AsksFrom, LeavesAs, request_by, send_fault};
     ghost use Rattle.cf_world.specs.ClientTie.{sent_state};
     ghost use Rattle.cf_world.specs.Exchange.{sent_by};
 

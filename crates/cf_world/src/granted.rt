@@ -1,5 +1,5 @@
 //! What a command comes to at the broker, and what its session is told of it.
-ghost use Rattle.std.specs.Prelude.{◌≡◌, ℕ, None, IfOk, IsSome, OnOk};
+ghost use Rattle.std.specs.Prelude.{◌≡◌, None, IfOk, IsSome, OnOk};
 ghost use Rattle.cf_protocol.specs.Regular.{IsBody, IsInfo};
 ghost use Rattle.cf_protocol.specs.Settings.{NamespaceTable, settings_of};
 ghost use Rattle.cf_protocol.specs.Shown.{shown_command};
@@ -48,7 +48,7 @@ pub(crate) fn lacks_epoch(
                 key: String::from_str(alloc, key)?,
                 body: Data::Body(String::from_str(alloc, body)?),
             };
-            passes(alloc, namespaces, &Command { id, request })
+            passes(alloc, namespaces, Command { id, request })
         }
         ClientCommand::List { channel, limit } => {
             if broker.can_open(channel) {
@@ -60,20 +60,23 @@ pub(crate) fn lacks_epoch(
                 since: None,
                 reverse: false,
             };
-            passes(alloc, namespaces, &Command { id, request })
+            passes(alloc, namespaces, Command { id, request })
         }
         _ => Ok(false),
     }
 }
 
 /// Whether a command passes its checks.
-fn passes(alloc: Global, namespaces: &Namespaces, command: &Command) -> Result<bool, Short>
-    ensures { IfOk result (λ pass. pass ≡ passes namespaces.now (shown_command command.now)) }
+fn passes(alloc: Global, namespaces: &Namespaces, command: Command) -> Result<bool, Short>
+    ensures { IfOk result (λ pass. pass ≡ passes namespaces.now (shown_command command)) }
 {
     if refusal_of(namespaces, &command.request).is_some() {
+        drop(command);
         return Ok(false);
     }
-    let text = write_command(alloc, command)?;
+    let written = write_command(alloc, &command);
+    drop(command);
+    let text = written?;
     Ok(text.len() <= LONGEST_TEXT)
 }
 

@@ -68,6 +68,7 @@ pub(crate) fn judge(
         None => Ok(Judged::Granted { command }),
         Some(code) => {
             let id = command.id;
+            drop(command);
             Ok(Judged::Refused { id, code })
         }
     }

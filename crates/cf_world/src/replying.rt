@@ -18,7 +18,8 @@ pub(crate) fn answer(
 ) -> Result<(), Short>
     ensures { OnOk result (Told session (reply_text id (shown_outcome outcome)) hub.old hub.new) }
 {
-    let text = write_reply(alloc, &Outgoing::Answer { id, outcome })?;
+    let written = write_reply(alloc, &Outgoing::Answer { id, outcome });
+    let text = written?;
     let _said = hub.say(session, text);
     if hub.short() {
         return Err(Short);

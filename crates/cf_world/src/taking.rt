@@ -85,9 +85,9 @@ fn closed(alloc: Global, at: usize, name: &str, code: u16) -> Result<Vec<Entry>,
     ensures { IfOk result (λ es. map shown_entry es.items
         ≡ entries_of at name.now (item.Closed code ∷ [])) }
 {
-    let mut entries = Vec::new(alloc);
     let client = String::from_str(alloc, name)?;
     let item = Item::Closed(code);
+    let mut entries = Vec::new(alloc);
     entries.push(Entry { at, client, item })?;
     Ok(entries)
 }

@@ -1,6 +1,5 @@
 use Rattle.std.proofs.Common.{sym, subst}
 use Rattle.std.specs.Fmt.{decimal}
-use Rattle.std.proofs.lemmas.Result.{err_from_is_err_and}
 use Rattle.cf_schedule.specs.Word.{IsClientName}
 use Rattle.cf_schedule.proofs.Spacing.{never_cut, unspaced_client}
 use Rattle.cf_schedule.proofs.Lines.{no_connect}
@@ -15,9 +14,8 @@ returns-in_default-node c = no_connect c.args.nodes c.args.text.now (λ x n h.
     let cut = same_cut c.args.text.now c.in-Some.client.now c.in-Some.number.now x (decimal n) c.in-Some.ensures (unspaced_client x h.0) h.2 in
     c.in_default-node.ensures n h.1 (sym cut.1))
 
-pub returns-in_err-client : goal.returns-in_err-client
-returns-in_err-client c =
-    let p = err_from_is_err_and c.from_residual.result c.from_residual.ensures.1 in
-    rw (p.1, p.2) (refused_name _ _ _ c.in_err-client.ensures.unreadable (λ not_name. no_connect c.args.nodes c.args.text.now (λ x n h.
+pub returns-in-Err : goal.returns-in-Err
+returns-in-Err c =
+    refused_name _ _ _ c.in-Err.ensures.unreadable (λ not_name. no_connect c.args.nodes c.args.text.now (λ x n h.
     let cut = same_cut c.args.text.now c.in-Some.client.now c.in-Some.number.now x (decimal n) c.in-Some.ensures (unspaced_client x h.0) h.2 in
-    not_name (subst IsClientName cut.0 h.0))))
+    not_name (subst IsClientName cut.0 h.0)))

@@ -29,10 +29,9 @@ returns-in_err-client c = λ nodes.
     let cut = same_cut c.args.text.now c.in-Some.client.now c.in-Some.rest.now x (spaced (d ∷ h.2 ∷ [])) c.in-Some.ensures (unspaced_client x h.0) h.4 in
     not_name (subst IsClientName cut.0 h.0))))
 
-pub returns-in_err-channel : goal.returns-in_err-channel
-returns-in_err-channel c = λ nodes.
-    let p = err_from_is_err_and c.from_residual-in_err-channel.result c.from_residual-in_err-channel.ensures.1 in
-    rw (p.1, p.2) (refused_name _ _ _ c.in_err-channel.ensures.unreadable (λ not_name. no_list nodes c.args.text.now (λ x d limit h.
+pub returns-in-Err : goal.returns-in-Err
+returns-in-Err c = λ nodes.
+    refused_name _ _ _ c.in-Err.ensures.unreadable (λ not_name. no_list nodes c.args.text.now (λ x d limit h.
     let cut = same_cut c.args.text.now c.in-Some.client.now c.in-Some.rest.now x (spaced (d ∷ h.2 ∷ [])) c.in-Some.ensures (unspaced_client x h.0) h.4 in
     let inner = same_cut c.in-Some.rest.now c.in-Some-cut.channel.now c.in-Some-cut.limit.now d h.2 c.in-Some-cut.ensures (unspaced_channel d h.1) (sym cut.1) in
-    not_name (subst IsChannelName inner.0 h.1))))
+    not_name (subst IsChannelName inner.0 h.1)))

@@ -1,14 +1,15 @@
-use Rattle.std.proofs.Common.{◌≢◌, ℕ, List, [], ◌∷◌}
-use Rattle.std.proofs.lemmas.Result.{err_from_is_err_and}
-use Rattle.cf_schedule.specs.Word.{IsChannelName}
-use Rattle.cf_machine.specs.TraceLine.{spaced}
-use Rattle.cf_schedule.specs.ScheduleLine.{IsData}
-use Rattle.cf_schedule.proofs.Lines.{no_publish}
+use Rattle.std.proofs.Common.{ℕ, List}
+use Rattle.cf_schedule.specs.LineRead.{IsPublication}
+use Rattle.cf_schedule.specs.Seen.{key_of}
+use Rattle.cf_schedule.proofs.Lines.{no_publication, publish_said}
 use Rattle.cf_schedule.proofs.Refusals.{refused_so}
 use Rattle.cf_schedule.proofs.event.publish.Goals as goal
 
-pub returns-in_err-channel : goal.returns-in_err-channel
-returns-in_err-channel c = λ nodes.
-    let p = err_from_is_err_and c.from_residual.result c.from_residual.ensures.1 in
-    rw (p.1, p.2) (refused_so _ ((d s body : List ℕ) → IsChannelName d → IsData s body → c.args.text.now ≢ spaced (d ∷ s ∷ [])) _
-    (λ none. no_publish nodes c.args.text.now (λ d body h. none d h.1 body h.0 h.2 h.3)) c.in_err-channel.ensures.err)
+pub returns-in-Ok : goal.returns-in-Ok
+returns-in-Ok c = λ nodes.
+    publish_said nodes c.args.is_keyed c.args.text.now c.in-Ok.channel (key_of c.in-Ok.key) c.in-Ok.body c.in-Ok.ensures.ok
+
+pub returns-in-Err : goal.returns-in-Err
+returns-in-Err c = λ nodes.
+    refused_so _ ((d k body : List ℕ) → IsPublication c.args.is_keyed d k body c.args.text.now → ⊥) _
+    (λ none. no_publication nodes c.args.is_keyed c.args.text.now none) c.in-Err.ensures.err

@@ -1,6 +1,5 @@
 use Rattle.std.proofs.Common.{arith, Some, None, sym, subst}
 use Rattle.std.specs.Fmt.{decimal}
-use Rattle.std.proofs.lemmas.Result.{err_from_is_err_and}
 use Rattle.cf_schedule.specs.Word.{IsNamespaceName}
 use Rattle.cf_schedule.proofs.Spacing.{namespace_lacks, uncut}
 use Rattle.cf_schedule.proofs.Lines.{no_size}
@@ -15,9 +14,8 @@ returns-in_default-read c = λ nodes. no_size nodes c.args.text.now (λ name n h
     let cut = cut_same 61 c.args.text.now c.in-Some.name.now c.in-Some.number.now name (decimal n) (cut_by 61 c.args.text.now (omega arith) (Some (c.in-Some.name, c.in-Some.number)) c.in-Some.ensures.cases) (namespace_lacks name h.0) h.3 in
     c.in_default-read.ensures n h.1 h.2 (sym cut.1))
 
-pub returns-in_err-namespace : goal.returns-in_err-namespace
-returns-in_err-namespace c = λ nodes.
-    let p = err_from_is_err_and c.from_residual.result c.from_residual.ensures.1 in
-    rw (p.1, p.2) (refused_name _ _ _ c.in_err-namespace.ensures.unreadable (λ not_name. no_size nodes c.args.text.now (λ name n h.
+pub returns-in-Err : goal.returns-in-Err
+returns-in-Err c = λ nodes.
+    refused_name _ _ _ c.in-Err.ensures.unreadable (λ not_name. no_size nodes c.args.text.now (λ name n h.
     let cut = cut_same 61 c.args.text.now c.in-Some.name.now c.in-Some.number.now name (decimal n) (cut_by 61 c.args.text.now (omega arith) (Some (c.in-Some.name, c.in-Some.number)) c.in-Some.ensures.cases) (namespace_lacks name h.0) h.3 in
-    not_name (subst IsNamespaceName cut.0 h.0))))
+    not_name (subst IsNamespaceName cut.0 h.0)))

@@ -1,7 +1,6 @@
 use Rattle.std.proofs.Common.{arith, sym, subst, ◌∙◌}
 use Rattle.std.proofs.lemmas.Fmt.{decimal_injective}
 use Rattle.std.specs.Fmt.{decimal}
-use Rattle.std.proofs.lemmas.Result.{err_from_is_err_and}
 use Rattle.cf_schedule.specs.Word.{IsChannelName}
 use Rattle.cf_schedule.proofs.Spacing.{never_cut, unspaced_channel}
 use Rattle.cf_schedule.proofs.Lines.{no_trim}
@@ -23,9 +22,8 @@ returns-then-count-gt-MOST_LEFT c = λ nodes. no_trim nodes c.args.text.now (λ 
     let same = decimal_injective k c.in-Some-whole_number.count (omega (arith, few)) (omega arith) (cut.1 ∙ c.in-Some-whole_number.ensures) in
     omega (arith, few))
 
-pub returns-in_err-channel : goal.returns-in_err-channel
-returns-in_err-channel c = λ nodes.
-    let p = err_from_is_err_and c.from_residual.result c.from_residual.ensures.1 in
-    rw (p.1, p.2) (refused_name _ _ _ c.in_err-channel.ensures.unreadable (λ not_name. no_trim nodes c.args.text.now (λ d k h.
+pub returns-in-Err : goal.returns-in-Err
+returns-in-Err c = λ nodes.
+    refused_name _ _ _ c.in-Err.ensures.unreadable (λ not_name. no_trim nodes c.args.text.now (λ d k h.
     let cut = same_cut c.args.text.now c.in-Some.channel.now c.in-Some.number.now d (decimal k) c.in-Some.ensures (unspaced_channel d h.0) h.2 in
-    not_name (subst IsChannelName cut.0 h.0))))
+    not_name (subst IsChannelName cut.0 h.0)))

@@ -1,4 +1,4 @@
-use Rattle.std.proofs.Common.{rules, ◌≡◌, ◌∙◌, ℕ, List, Option, Some, IsSome, refl, sym, slice_get, slice_set, subst}
+use Rattle.std.proofs.Common.{rules, ◌≡◌, ◌∙◌, ℕ, List, Option, Some, IsSome, refl, slice_get, slice_set, subst}
 use Rattle.std.proofs.lemmas.Map.Text.{btree_map_updates_text}
 use Rattle.std.proofs.lemmas.Result.{on_ok_weaker}
 use Rattle.std.specs.BTreeMap.{get_by_text}
@@ -6,10 +6,10 @@ use Rattle.cf_protocol.specs.declared.command.Command.{Command}
 use Rattle.cf_hub.specs.Hub.{Node}
 use Rattle.cf_machine.specs.IntervalMachine.{run}
 use Rattle.cf_machine.specs.World.{World, start}
-use Rattle.cf_world.specs.HubCalls.{Moves}
 use Rattle.cf_world.specs.Sending.{IsSent, PeerMoves, SendsAs}
 use Rattle.cf_world.specs.declared.clients.Peer.{Peer}
 use Rattle.cf_world.specs.declared.clients.Seat.{Seat}
+use Rattle.cf_world.proofs.AtHubs.{after-another}
 use Rattle.cf_world.proofs.Changed.{lends, none-there}
 use Rattle.cf_world.proofs.Exchanges.{served}
 use Rattle.cf_world.proofs.Named.{sets-peer}
@@ -17,10 +17,6 @@ use Rattle.cf_world.proofs.Sends.{no_seat}
 use Rattle.cf_world.proofs.SentSo.{client-still}
 use Rattle.cf_world.proofs.Sitting.{hub_there, seat_here}
 use Rattle.cf_world.proofs.world.World.serve.Goals as goal
-
--- what goes from h to g and to z goes from g to z
-after-another : {n : ℕ} {h g z : Node} {old mid new : ℕ → Option Node} → Moves n h g old mid → Moves n h z old new → Moves n g z mid new
-after-another v u = record { was = v.now; now = u.now; others = λ j ne. u.others j ne ∙ sym (v.others j ne) }
 
 pub returns-in_default-seat : goal.returns-in_default-seat
 returns-in_default-seat c = λ back cfg past t.

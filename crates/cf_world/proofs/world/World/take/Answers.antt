@@ -12,10 +12,10 @@ use Rattle.cf_machine.specs.IntervalMachine.{run}
 use Rattle.cf_machine.specs.Leading.{coming}
 use Rattle.cf_machine.specs.LooseRun.{lines}
 use Rattle.cf_machine.specs.World.{World, start}
-use Rattle.cf_world.specs.HubCalls.{Gone, Moves, Taken}
+use Rattle.cf_world.specs.HubCalls.{Gone, Taken}
 use Rattle.cf_world.specs.Tie.{seats_of}
 use Rattle.cf_world.specs.declared.clients.Peer.{Peer}
-use Rattle.cf_world.proofs.AtHubs.{moved}
+use Rattle.cf_world.proofs.AtHubs.{after-another, moved}
 use Rattle.cf_world.proofs.Changed.{lends}
 use Rattle.cf_world.proofs.Looking.{TextFront, close_waits, none_waits, text_waits}
 use Rattle.cf_world.proofs.Sitting.{seat_found}
@@ -26,10 +26,6 @@ use Rattle.cf_world.proofs.world.World.take.Goals as goal
 on_ok_always : {T E P : Type 0} (r : Result T E) → P → OnOk r P
 on_ok_always (Ok v) p = p
 on_ok_always (Err e) p = tt
-
--- what goes from h to g and to z goes from g to z
-after-another : {n : ℕ} {h g z : Node} {old mid new : ℕ → Option Node} → Moves n h g old mid → Moves n h z old new → Moves n g z mid new
-after-another v u = record { was = v.now; now = u.now; others = λ j ne. u.others j ne ∙ sym (v.others j ne) }
 
 pub returns-in_default-clause-ok : goal.returns-in_default-clause-ok
 returns-in_default-clause-ok c = λ cfg past t.
