@@ -21,10 +21,10 @@ def without_comments(file, text):
 
 
 def paths_of(folder):
-    """The paths of a crate's wrong bodies, of both folders."""
+    """The paths of a crate's wrong bodies, of both folders; a page there is only to be read."""
     for kind in FOLDERS:
         names = sorted(os.listdir(f"{folder}/{kind}")) if os.path.isdir(f"{folder}/{kind}") else []
-        yield from (f"{folder}/{kind}/{name}" for name in names if name.endswith(".edit"))
+        yield from (f"{folder}/{kind}/{name}" for name in names if not name.endswith(".md"))
 
 
 def text_of(path):
@@ -49,7 +49,11 @@ def pairs_of(path):
 
 def faults_of(path, folder):
     """What is wrong with a wrong body of the crate in a folder; nothing if it can be tried."""
-    name, texts, pairs = os.path.relpath(path, os.path.dirname(os.path.dirname(folder))), {}, pairs_of(path)
+    name, texts = os.path.relpath(path, os.path.dirname(os.path.dirname(folder))), {}
+    if not os.path.isfile(path) or not re.fullmatch(r"[\w-][\w.-]*\.edit", os.path.basename(path), flags=re.A):
+        yield f"{name}: is no file with a name of letters, digits, `_`, `-` and `.` that ends in .edit"
+        return
+    pairs = pairs_of(path)
     if not pairs:
         yield f"{name}: has no line `old: `"
     for file, old, new in pairs:
