@@ -1,7 +1,7 @@
 #!/usr/bin/env python3
 """Time and memory of `cf_server simulate` on long schedules.
 
-    cd crates/cf_server && rt run < stdin && cd ../.. && bench/simulate.py [LINES ..]
+    cd crates/cf_server && rt run < stdin && cd ../.. && bench/simulate.py [LINES ..] [--program FILE]
 
 For each kind of schedule and each number of lines (50,000, 100,000 and 400,000 by default) the proved program runs a schedule of
 so many lines. The best time of fifteen runs is printed, the most memory of them, and how many times the time before it took.
@@ -27,7 +27,10 @@ import sys
 import tempfile
 import time
 
-PROGRAM = os.path.join(os.path.dirname(os.path.abspath(__file__)), "..", "crates", "cf_server", "out", "cf_server")
+sys.path.insert(0, os.path.join(os.path.dirname(os.path.abspath(__file__)), "..", "tools"))
+
+from program import program_at, words_and_program  # noqa: E402
+
 WORDS = ["simulate", "--nodes", "8"]
 CLIENTS = 1_000
 CHANNELS = 100
@@ -151,12 +154,12 @@ def measure(programs, kind, counts):
 
 def main():
     words = sys.argv[1:]
-    if words[:1] == ["--print"]:
+    if words[:1] == ["--print"] and len(words) == 3:
         sys.stdout.write(schedule(words[1], int(words[2])))
         return
-    programs, kinds = [PROGRAM], list(KINDS)
-    if words[:1] == ["--against"]:
-        programs, kinds, words = [PROGRAM, os.path.abspath(words[1])], ["one", "many"], words[2:]
+    against = words[:1] == ["--against"] and len(words) > 1 and words[1]
+    words, program = words_and_program(usage=__doc__, words=words[2:] if against else words)
+    programs, kinds = ([program, program_at(against)], ["one", "many"]) if against else ([program], list(KINDS))
     for kind in kinds:
         measure(programs, kind, [int(word) for word in words] or [50_000, 100_000, 400_000])
 
