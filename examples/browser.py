@@ -76,7 +76,7 @@ class Page:
                 return answer.get("result", {})
 
     async def run(self, script):
-        result = await self.call("Runtime.evaluate", expression=script, returnByValue=True)
+        result = await self.call("Runtime.evaluate", expression=f"{{{script}}}", returnByValue=True)
         return result["result"].get("value")
 
     async def state(self):
@@ -86,7 +86,7 @@ class Page:
     async def messages(self):
         """Offset and text of each message that the chat page shows."""
         script = ("[...document.querySelectorAll('#rows li:not(.note)')]"
-                  ".map(line => [Number(line.children[0].textContent), line.children[1].textContent])")
+                  ".map(line => [Number(line.querySelector('.offset').textContent), line.querySelector('.text').textContent])")
         return [tuple(line) for line in await self.run(script) or []]
 
     async def notes(self):
@@ -94,8 +94,14 @@ class Page:
         return await self.run("[...document.querySelectorAll('#rows li.note')].map(line => line.textContent)") or []
 
     async def say(self, text):
-        await self.run(f"document.getElementById('text').value = {json.dumps(text)}; "
-                       "document.getElementById('say').requestSubmit()")
+        await self.type(text)
+        await self.press("send")
+
+    async def type(self, text):
+        await self.run(f"const text = document.getElementById('text'); text.value = {json.dumps(text)}; text.dispatchEvent(new Event('input'))")
+
+    async def press(self, name):
+        await self.run(f"document.getElementById('{name}').click()")
 
     async def picture(self, path):
         data = (await self.call("Page.captureScreenshot", format="png"))["data"]
@@ -104,7 +110,7 @@ class Page:
 
 
 async def until(what, test, seconds=30):
-    """Waits until the test holds; ends the script where it doesn't in time."""
+    """Waits until the test holds; ends the script if it doesn't in time."""
     for _ in range(seconds * 10):
         if await test():
             return

@@ -5,7 +5,7 @@
 //
 // It does what client.py does, and prints the same: a line for each publication, its offset and its data, and on standard error how
 // each subscription began and that it was away: no server, a proxy that answers 502 and a handshake that is cut short are one to it,
-// since node tells no more. It ends where the server tells it not to come back.
+// since node tells no more. It ends if the server tells it not to come back.
 "use strict";
 
 // So many publications fit one reply, 1,048,576 bytes, however long they are: each came in a frame of 65,536 bytes at most.
@@ -36,7 +36,8 @@ class Follower {
       clearTimeout(patience);
       this.asks = false;
       say(`away: ${how}`);
-      setTimeout(() => this.connect(), this.delay);
+      // Half of it more or less: many clients of a server that was restarted don't all come at one time.
+      setTimeout(() => this.connect(), this.delay * (0.5 + Math.random()));
       this.delay = Math.min(this.delay * 2, 5000);
     };
     const patience = setTimeout(() => { lost("no answer to the handshake"); socket.close(); }, PATIENCE);
@@ -47,7 +48,6 @@ class Follower {
       if (isOver) return;
       clearTimeout(patience);
       this.ask({ connect: {} }, () => {
-        this.delay = 100;
         if (this.behind) this.catchUp(0);
         else this.subscribe();
       });
@@ -95,6 +95,7 @@ class Follower {
 
   subscribed({ recovered = false, was_recovering = false, epoch, offset = 0, publications = [] }) {
     say(`${recovered ? "recovered" : was_recovering ? "lost" : "fresh"} at epoch ${epoch} offset ${offset}`);
+    this.delay = 100;
     this.epoch = epoch;
     if (!recovered) this.offset = offset;
     for (const publication of publications) this.got(publication);
@@ -109,7 +110,7 @@ class Follower {
         this.epoch = null;
       }
       const page = reply.history?.publications || [];
-      // Where the next one is gone, or of another epoch, the reply to the subscribe says so.
+      // If the next one is gone, or of another epoch, the reply to the subscribe says so.
       const follows = page.length > 0 && page[0].offset === this.offset + 1;
       if (follows) for (const publication of page) this.got(publication);
       const all = missed + (follows ? page.length : 0);
@@ -129,4 +130,8 @@ class Follower {
 const words = process.argv.slice(2);
 if (words.length !== 2 || !/^wss?:\/\//.test(words[0])) fail("give a server and a channel: client.js ws://127.0.0.1:8000 news");
 if (typeof WebSocket === "undefined") fail("this node has no WebSocket: node 20 has it by --experimental-websocket, node 22 as it is");
-new Follower(...words).connect();
+try {
+  new Follower(...words).connect();
+} catch (error) {
+  fail(error.message);   // no address
+}

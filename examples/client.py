@@ -5,15 +5,16 @@
     examples/client.py ws://127.0.0.1:8000 news
 
 Prints a line for each publication, its offset and its data, and says on standard error how each subscription began. When the
-connection is lost it comes back and asks from its position: what it missed follows, or it is told that it can't be had. Where
+connection is lost it comes back and asks from its position: what it missed follows, or it is told that it can't be had. If
 that ask is closed with 3008, what it missed doesn't fit one reply: then it reads it by `history`, page by page, and asks from there.
 
 It comes back also from where there is no server, from a proxy that answers 502, and from a handshake that is cut short, and says
-on standard error what it met. It ends where the server tells it not to come back: by an error in place of a subscription, with a
-code from 3500 to 3999, and where its address is no WebSocket's.
+on standard error what it met. It ends if the server tells it not to come back, by an error in place of a subscription or with a
+code from 3500 to 3999, and if its address is no WebSocket's.
 """
 import asyncio
 import json
+import random
 import sys
 
 import websockets
@@ -53,14 +54,14 @@ class Follower:
             except (OSError, EOFError, asyncio.TimeoutError, websockets.WebSocketException) as error:
                 # No server, a proxy's 502, a handshake that is cut short or takes for ever.
                 self.say(f"away: {error or type(error).__name__}")
-            await asyncio.sleep(self.delay)
+            # Half of it more or less: many clients of a server that was restarted don't all come at one time.
+            await asyncio.sleep(self.delay * random.uniform(0.5, 1.5))
             self.delay = min(self.delay * 2, 5)
 
     async def serve(self, socket):
         """One connection, until it is lost."""
         self.heard, self.last_id, self.asks = [], 0, False
         await self.ask(socket, {"connect": {}})
-        self.delay = 0.1
         if self.behind:
             await self.catch_up(socket)
         await self.subscribe(socket)
@@ -127,6 +128,7 @@ class Follower:
         recovered = result.get("recovered", False)
         state = "recovered" if recovered else "lost" if result.get("was_recovering") else "fresh"
         self.say(f"{state} at epoch {result['epoch']} offset {result.get('offset', 0)}")
+        self.delay = 0.1
         self.epoch = result["epoch"]
         if not recovered:
             self.offset = result.get("offset", 0)

@@ -1,4 +1,5 @@
-// Runs the script of chat.html without a browser, and prints each row that its room gets as JSON: the row's class and its cells.
+// Runs the script of chat.html without a browser, and prints each row that its room gets as JSON: the row's class and its cells, who
+// said it, the text, and the offset.
 //
 //     node --experimental-websocket examples/page.js ws://127.0.0.1:8000 news
 "use strict";
@@ -19,15 +20,18 @@ class Element {
     this.parentNode = null;
     this.scrollHeight = this.scrollTop = this.clientHeight = 0;
   }
-  append(child) {
-    this.children.push(child);
-    child.parentNode = this;
+  append(...more) {
+    this.children.push(...more);
+    for (const child of more) child.parentNode = this;
   }
   insertBefore(line) {
     console.log(JSON.stringify([line.className, ...line.children.map(cell => cell.textContent)]));
   }
   remove() {
     this.parentNode = null;
+  }
+  contains() {
+    return false;
   }
 }
 
@@ -53,4 +57,4 @@ const document = {
 };
 const location = { search: `?${new URLSearchParams({ server, channel })}`, protocol: "file:" };
 document.getElementById("channel").value = channel;
-vm.runInNewContext(script, { document, location, URLSearchParams, WebSocket: Socket, setTimeout, clearTimeout, crypto });
+vm.runInNewContext(script, { document, location, URLSearchParams, WebSocket: Socket, setTimeout, clearTimeout, crypto, TextEncoder });

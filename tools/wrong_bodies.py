@@ -7,7 +7,7 @@ is a fault: no `file:`, no `old:`, an old text that doesn't stand once in its fi
 import os
 import re
 
-FOLDERS = ("must-fail", "wrong-bodies")
+FOLDER = "must-fail"
 # A comment of Rattle, or what only looks like one, since it stands in a text.
 OF_RATTLE = re.compile(r"""//[^\n]*|/\*.*?\*/|r(#*)".*?"\1|"(?:\\.|[^"\\])*"|'(?:\\.|[^'\\\n])'""", re.S)
 # The same of the language of definitions and proofs.
@@ -21,10 +21,9 @@ def without_comments(file, text):
 
 
 def paths_of(folder):
-    """The paths of a crate's wrong bodies, of both folders; a page there is only to be read."""
-    for kind in FOLDERS:
-        names = sorted(os.listdir(f"{folder}/{kind}")) if os.path.isdir(f"{folder}/{kind}") else []
-        yield from (f"{folder}/{kind}/{name}" for name in names if not name.endswith(".md"))
+    """The paths of a crate's wrong bodies; a page there is only to be read."""
+    names = sorted(os.listdir(f"{folder}/{FOLDER}")) if os.path.isdir(f"{folder}/{FOLDER}") else []
+    yield from (f"{folder}/{FOLDER}/{name}" for name in names if not name.endswith(".md"))
 
 
 def text_of(path):
