@@ -31,7 +31,7 @@ const LARGE_BUFFER: usize = 16_777_216;
 // The nodes, the broker's ends of their links, and where they listen.
 #[derive(Drop)]
 struct Opened<'a, N: Naming> {
-    senders: Vec<Sender<Delivery>>,
+    senders: Vec<Sender<Delivery<N>>>,
     nodes: Vec<Node<'a, N>>,
     addresses: Vec<SocketAddr>,
 }

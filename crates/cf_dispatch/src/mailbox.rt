@@ -3,30 +3,31 @@ ghost use Rattle.std.specs.Prelude.{◌≡◌};
 ghost use Rattle.cf_dispatch.specs.Dispatch.{TakesTurn, stirs};
 
 use cf_hub::Delivered;
-use cf_shard::Delivery;
 
 /// Where publications come from, and where they go. What each call does it states itself.
 pub trait Mailbox {
+    /// What comes.
+    type Letter;
+
     ghost use Rattle.std.specs.Prelude.{Option};
-    ghost use Rattle.cf_shard.specs.Delivery.{Carried};
     ghost use Rattle.cf_hub.specs.declared.delivered.Delivered.{Delivered as Counts};
 
     /// This comes, or nothing does.
-    ghost receives: { Self → Option Carried → Self → Type 0 };
+    ghost receives: { Self → Option Self.Letter → Self → Type 0 };
 
     /// This is brought to the hub, and so many sessions met it.
-    ghost brings: { Self → Carried → Counts → Self → Type 0 };
+    ghost brings: { Self → Self.Letter → Counts → Self → Type 0 };
 
     /// The IO loop is woken.
     ghost wakes: { Self → Self → Type 0 };
 
     /// The oldest publication that waits. It may wait for one.
-    fn receive(&mut self) -> Option<Delivery>
+    fn receive(&mut self) -> Option<Self::Letter>
         ensures { receives self.old result self.new };
 
-    /// Brings a publication to the hub.
-    fn bring(&mut self, delivery: &Delivery) -> Delivered
-        ensures { brings self.old delivery.now result self.new };
+    /// Brings a publication to the hub, where it is used up.
+    fn bring(&mut self, letter: Self::Letter) -> Delivered
+        ensures { brings self.old letter result self.new };
 
     /// Wakes the worker that sends what the hub has.
     fn wake(&mut self)
@@ -37,8 +38,8 @@ pub trait Mailbox {
 pub fn pass_on<M: Mailbox>(mailbox: &mut M)
     ensures { TakesTurn M.receives M.brings M.wakes mailbox.old mailbox.new }
 {
-    if let Some(delivery) = mailbox.receive() {
-        let delivered = mailbox.bring(&delivery);
+    if let Some(letter) = mailbox.receive() {
+        let delivered = mailbox.bring(letter);
         if stirs(&delivered) {
             mailbox.wake();
         }

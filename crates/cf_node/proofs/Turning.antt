@@ -1,10 +1,9 @@
 -- Turns of a dispatcher, one after another.
 use Rattle.std.proofs.Common.{Option, [], ◌∷◌, refl}
-use Rattle.cf_shard.specs.Delivery.{Carried}
 use Rattle.cf_hub.specs.declared.delivered.Delivered.{Delivered}
 use Rattle.cf_dispatch.specs.Dispatch.{Dispatches, TakesTurn}
 
-module _ {P : Type 0} (receives : P → Option Carried → P → Type 0) (brings : P → Carried → Delivered → P → Type 0) (wakes : P → P → Type 0) where
+module _ {P L : Type 0} (receives : P → Option L → P → Type 0) (brings : P → L → Delivered → P → Type 0) (wakes : P → P → Type 0) where
   pub no_turn : (p : P) → Dispatches receives brings wakes p p
   no_turn p = ([], refl)
 

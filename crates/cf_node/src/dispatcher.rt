@@ -7,7 +7,7 @@ use crate::shared::{MANY, Shared};
 use cf_dispatch::{Mailbox, pass_on};
 use cf_hub::{Delivered, Hub};
 use cf_link::Receiver;
-use cf_shard::Delivery;
+use cf_shard::{Delivery, Naming};
 use std::sync::atomic::{AtomicU64, Ordering};
 use std::sync::{MutexGuard, Wait};
 use std::thread;
@@ -19,10 +19,10 @@ const LONGEST_SLEEP: u64 = 500;
 
 /// The dispatcher's end of the node's link, and the hub under its lock.
 #[derive(Drop)]
-pub(crate) struct NodeMailbox<'a, R, G> {
+pub(crate) struct NodeMailbox<'a, R, G, N: Naming> {
     rt: &'a R,
     gate: &'a G,
-    receiver: Receiver<Delivery>,
+    receiver: Receiver<Delivery<N>>,
     shared: &'a Shared,
     // The hub, while more waits to be brought to it.
     hub: Option<MutexGuard<'a, Hub>>,
@@ -30,14 +30,14 @@ pub(crate) struct NodeMailbox<'a, R, G> {
     met: u32,
 }
 
-impl<'a, R: Wait, G> NodeMailbox<'a, R, G> {
+impl<'a, R: Wait, G, N: Naming> NodeMailbox<'a, R, G, N> {
     /// The mailbox of a node, at its end of the node's link.
     pub(crate) fn new(
         rt: &'a R,
         gate: &'a G,
-        receiver: Receiver<Delivery>,
+        receiver: Receiver<Delivery<N>>,
         shared: &'a Shared,
-    ) -> NodeMailbox<'a, R, G> {
+    ) -> NodeMailbox<'a, R, G, N> {
         NodeMailbox {
             rt,
             gate,
@@ -58,7 +58,9 @@ impl<'a, R: Wait, G> NodeMailbox<'a, R, G> {
     }
 }
 
-impl<'a, R: Wait + Clock, G: Gate> Mailbox for NodeMailbox<'a, R, G> {
+impl<'a, R: Wait + Clock, G: Gate, N: Naming> Mailbox for NodeMailbox<'a, R, G, N> {
+    type Letter = Delivery<N>;
+
     ghost use Rattle.std.specs.Prelude.{◌≡◌, ◌++◌, ◌∷◌, [], MatchOption};
     ghost use Rattle.cf_link.specs.Link.{IsSameLink};
 
@@ -72,13 +74,13 @@ impl<'a, R: Wait + Clock, G: Gate> Mailbox for NodeMailbox<'a, R, G> {
 
     ghost wakes = { λ old new. new ≡ old };
 
-    fn receive(&mut self) -> Option<Delivery> {
+    fn receive(&mut self) -> Option<Delivery<N>> {
         self.shared.note_turn(self.gate.now(self.rt));
         self.receiver
             .receive_within(self.rt, Duration::from_millis(LONGEST_SLEEP))
     }
 
-    fn bring(&mut self, delivery: &Delivery) -> Delivered {
+    fn bring(&mut self, delivery: Delivery<N>) -> Delivered {
         let mut hub = match self.hub.take() {
             Some(hub) => hub,
             None => {
@@ -87,13 +89,9 @@ impl<'a, R: Wait + Clock, G: Gate> Mailbox for NodeMailbox<'a, R, G> {
                 self.shared.lock(self.rt)
             }
         };
-        let delivered = hub.deliver(
-            delivery.channel.as_str(),
-            &delivery.epoch,
-            &delivery.publication,
-        );
-        self.shared
-            .note_brought(delivered.passed, delivery.publication.body.len());
+        let bytes = delivery.publication().body.len();
+        let delivered = hub.deliver(delivery.channel(), delivery.epoch(), delivery.publication());
+        self.shared.note_brought(delivered.passed, bytes);
         if self.goes_on(&delivered) {
             self.hub = Some(hub);
         }

@@ -72,7 +72,7 @@ impl<'a, N: Naming> Setup<'a, N> {
 pub struct Node<'a, N: Naming> {
     setup: Setup<'a, N>,
     acceptor: Acceptor,
-    receiver: Receiver<Delivery>,
+    receiver: Receiver<Delivery<N>>,
     shared: Shared,
 }
 
@@ -82,7 +82,7 @@ impl<'a, N: Naming> Node<'a, N> {
     pub fn open<R: Net + AllocGlobal>(
         rt: &R,
         setup: Setup<'a, N>,
-        receiver: Receiver<Delivery>,
+        receiver: Receiver<Delivery<N>>,
         listener: TcpListener,
     ) -> io::Result<Node<'a, N>> {
         let (acceptor, waker) = Acceptor::open(rt, listener)?;

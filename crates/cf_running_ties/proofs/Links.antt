@@ -5,6 +5,7 @@ use Rattle.std.specs.Option.{option_map}
 use Rattle.std.proofs.lemmas.Bool.{and_parts}
 use Rattle.std.proofs.lemmas.Bool.Decides.{nat_tests}
 use Rattle.std.proofs.lemmas.List.{append_cancel_left, length-append}
+use Rattle.std.proofs.lemmas.List.Elements.{All-pop}
 use Rattle.cf_protocol.specs.Datum.{Datum, Placed}
 use Rattle.cf_protocol.specs.Fields.{max_u64}
 use Rattle.cf_protocol.specs.LogEntry.{Entry}
@@ -28,14 +29,14 @@ use Rattle.cf_machine.specs.Lives.{life_by}
 use Rattle.cf_machine.specs.PublicationList.{Place}
 use Rattle.cf_machine.specs.World.{World}
 use Rattle.cf_machine.proofs.Names.{by_test, itself}
-use Rattle.cf_shard.specs.Delivery.{Carried, OfferedToAll, carried}
+use Rattle.cf_shard.specs.Delivery.{AreCopies, AreLeft as AreHandedOut, Carried, IsCopy, Left, carried}
 use Rattle.cf_shard.specs.LogAnswer.{IsPublished}
 use Rattle.cf_running.specs.Server as server
 use Rattle.cf_running.specs.Server.{Connection, Delivers, Offers, Publishes, Section, Server, Site, Work, accepts, after, answers, at_number, can_gain, change, comes_by, life_of, lists_of, log_of, place_in, place_of, ran, start, words_of}
 use Rattle.cf_running.proofs.Beside.{Beside, at-same, number_tells}
 use Rattle.cf_running.proofs.Gaining.{life-more}
 use Rattle.cf_running.proofs.Steps.{stands_beside}
-use Rattle.cf_running_ties.specs.Links.{AddsNothing, IsAnswered, IsFirst, IsNumbered, IsSentOrLost, Lines, Waits, is_at_link, place}
+use Rattle.cf_running_ties.specs.Links.{AddsNothing, IsAnswered, IsFirst, IsNumbered, IsSentOrLost, Lines, OffersCopies, OffersNext, Waits, is_at_link, place}
 use Rattle.cf_running_ties.proofs.Growing.{Any, any-section, grown-lists, grows, links-stay, listed-later, place-more}
 
 -- ---- each link is offered it once
@@ -65,13 +66,32 @@ module _ (x : Carried) where
     ];
   }
 
-  all_offered : (count : ℕ) (old new : Lines) → OfferedToAll IsSentOrLost count x old new → IsOffered count old new
-  unfolding OfferedToAll
-  all_offered zero old new h = record { once = λ n. inl (λ i. h i n); above = λ n k. (λ i. h i n) }
-  all_offered (suc count) old new h = one_more count old h.0 new (all_offered count old h.0 h.1) h.2
+module _ (c : List ℕ) (p : Position) (d : Datum) where
+  -- so many copies of the datum at the position were offered, and those that are left are copies of it for that place
+  record Goes (count : ℕ) (old : Lines) (left : Left) (new : Lines) : Type 0 where
+    copies : AreCopies c d left.copies
+    position : left.position ≡ p
+    offered : IsOffered (carried c p d) count old new
 
-  pub offered : (count : ℕ) (old new : Lines) → OfferedToAll IsSentOrLost count x old new → (n : ℕ) → OnceAt old new n
-  offered count old new h n = (all_offered count old new h).once n
+  goes-on : (n : ℕ) (old : Lines) (left : Left) (mid : Lines) (after : Left) (new : Lines) → Goes n old left mid → OffersNext n left mid after new → Goes (suc n) old after new
+  goes-on n old left mid after new h o =
+      let cut = All-pop (IsCopy c d) left.copies after.copies (Some o.next.copy) o.next.left h.copies in
+      let is : o.delivery ≡ carried c p d = o.next.is ∙ ap (λ (q : Position). carried o.next.copy.channel q o.next.copy.publication.datum) h.position ∙ (λ i. carried (cut.1.0 i) p (cut.1.1 i)) in record {
+        copies = cut.0;
+        position = o.next.position ∙ h.position;
+        offered = one_more (carried c p d) n old mid new h.offered (subst (λ (x : Carried). IsSentOrLost mid n x new) is o.offered);
+      }
+
+  goes : (count : ℕ) (first : Left) (old : Lines) (last : Left) (new : Lines) → AreCopies c d first.copies → first.position ≡ p → OffersCopies count first old last new → Goes count old last new
+  goes zero first old last new copies at h = record {
+    copies = subst (λ (l : Left). AreCopies c d l.copies) (sym h.0) copies;
+    position = ap (λ (l : Left). l.position) h.0 ∙ at;
+    offered = record { once = λ n. inl (λ i. h.1 i n); above = λ n k. (λ i. h.1 i n) };
+  }
+  goes (suc n) first old last new copies at h = goes-on n old h.0 h.1 last new (goes n first old h.0 h.1 copies at h.2) h.3
+
+  pub offered : (nodes count : ℕ) (first last : Left) (old new : Lines) → AreHandedOut nodes c p d first → OffersCopies count first old last new → (n : ℕ) → OnceAt (carried c p d) old new n
+  offered nodes count first last old new left h n = (goes count first old last new left.copies left.position h).offered.once n
 
 -- ---- a number stays, and what waits too
 

@@ -1,6 +1,6 @@
 -- What is sent on the links of the nodes and received from them, beside what waits on the links of the running server.
 -- (This project's own profile.)
-use Rattle.std.specs.Prelude.{◌≡◌, ◌⊎◌, ℕ, Bool, true, false, if◌then◌else◌, Some, List, [], ◌∷◌, ◌++◌}
+use Rattle.std.specs.Prelude.{◌≡◌, ◌⊎◌, ℕ, zero, suc, Bool, true, false, if◌then◌else◌, Some, List, [], ◌∷◌, ◌++◌}
 use Rattle.std.specs.List.{AllZip}
 use Rattle.cf_protocol.specs.Datum.{Datum}
 use Rattle.cf_protocol.specs.LogEntry.{Entry}
@@ -8,7 +8,7 @@ use Rattle.cf_protocol.specs.LogEntry.Entry.{Publish}
 use Rattle.cf_stream.specs.declared.answer.Published.{Published}
 use Rattle.cf_hub.specs.InNotes.{IsListed}
 use Rattle.cf_machine.specs.PublicationList.{Place}
-use Rattle.cf_shard.specs.Delivery.{Carried}
+use Rattle.cf_shard.specs.Delivery.{Carried, IsNext, Left}
 use Rattle.cf_shard.specs.LogAnswer.{IsPublished}
 use Rattle.cf_running.specs.Server.{Delivers, Offers, Section, Server, Site, ToPublish, at_number, can_gain, lists_of}
 use Rattle.cf_running.specs.Server.{log_of, place_of}
@@ -46,6 +46,18 @@ Lines = ℕ → List Carried
 -- an offer to a node is sent on its link, or lost
 abbrev pub IsSentOrLost : Lines → ℕ → Carried → Lines → Type 0
 IsSentOrLost old n x new = (new ≡ at_number old n (old n ++ x ∷ [])) ⊎ (new ≡ old)
+
+-- the next copy that is left of an accepted publication is taken, and is offered to a node
+pub record OffersNext (node : ℕ) (before : Left) (old : Lines) (after : Left) (new : Lines) : Type 0 where
+  pub delivery : Carried
+  pub next : IsNext delivery before after
+  pub offered : IsSentOrLost old node delivery new
+
+-- so is a copy to each of the first nodes, the first node first, and nothing else is offered
+abbrev pub OffersCopies : (count : ℕ) → (before : Left) (old : Lines) (after : Left) (new : Lines) → Type 0
+OffersCopies zero before old after new = (after ≡ before) × (new ≡ old)
+OffersCopies (suc n) before old after new =
+    (left : Left) × (mid : Lines) × OffersCopies n before old left mid × OffersNext n left mid after new
 
 -- what was sent on each link and not received is what waits there in the running server, number by number
 pub record Waits (site : Site) (s : Server) (sent received : Lines) : Type 0 where

@@ -18,7 +18,7 @@ ghost use Rattle.cf_stream.specs.Streams.{StreamMap, stream_of};
 ghost use Rattle.cf_hub.specs.Hub.{client_id};
 ghost use Rattle.cf_epochs.specs.Source.{IsSource, Source, draws_next};
 ghost use Rattle.cf_link.specs.Link.{AreLeft};
-ghost use Rattle.cf_shard.specs.Delivery.{Carried, OfferedToAll, carried};
+ghost use Rattle.cf_shard.specs.Delivery.{AreLeft as AreHandedOut, Carried, Left, carried};
 ghost use Rattle.cf_shard.specs.LogAnswer.{IsHistoryAnswer, IsReadAnswer};
 ghost use Rattle.cf_shard.specs.Shard.{DrawsFor, Lent};
 ghost use Rattle.cf_shard.specs.ShardLog.{entries_of_forget, entries_of_publish, entries_of_size, entries_of_tick, entries_of_trim, entries_of_use};
@@ -26,7 +26,7 @@ ghost use Rattle.cf_machine.specs.Config.{Config};
 ghost use Rattle.cf_running.specs.Server.{Delivers, Offers, Publishes, Section, Server, Site, after, at_number, log_of, ran, start};
 ghost use Rattle.cf_running_ties.specs.Heard.{AreHeard, SayTheirNotes};
 ghost use Rattle.cf_running_ties.specs.HubAsides.{MovesAmong};
-ghost use Rattle.cf_running_ties.specs.Links.{AddsNothing, IsAnswered, IsFirst, IsNumbered, IsSentOrLost, Lines, Waits, is_at_link};
+ghost use Rattle.cf_running_ties.specs.Links.{AddsNothing, IsAnswered, IsFirst, IsNumbered, Lines, OffersCopies, Waits, is_at_link};
 ghost use Rattle.cf_running_ties.specs.Reads.{AllReadBack, IsDatum, IsListing, IsReading, SectionHas};
 ghost use Rattle.cf_running_ties.specs.ShardCalls.{IsDrawn, IsGained, IsNotLast, MayAll, answered};
 ghost use Rattle.cf_running_ties.specs.ShardLife.{AreMade, Call};
@@ -104,10 +104,10 @@ pub fn drawn_epochs_are_new()
 }
 
 /// What comes over a node's link is listed. What a shard accepted has a number, and stays listed at its
-/// place; each node is offered just that, and is sent it or loses it, some time after it was accepted. A
-/// publish that repeats one adds nothing, and puts nothing on a link. What was sent on a link and not
-/// received is what waits there in the running server. So what is received is what waits there first, which
-/// the next delivery takes.
+/// place; of the copies that `Shard::publish` hands out each node is offered one, which is just that, and
+/// is sent it or loses it, some time after it was accepted. A publish that repeats one adds nothing, and puts
+/// nothing on a link. What was sent on a link and not received is what waits there in the running server. So
+/// what is received is what waits there first, which the next delivery takes.
 pub fn links_carry_what_is_listed()
     ensures accepted { (site : Site) (sections : List Section) (connection : ℕ)
         (channel key : List ℕ) (datum : Datum) (answer : Published)
@@ -121,9 +121,11 @@ pub fn links_carry_what_is_listed()
         → AddsNothing server (after site (Publishes connection) server) }
     ensures stays { (site : Site) (server : Server) (section : Section) (number : ℕ) (x : Carried)
         → IsNumbered site server number x → IsNumbered site (after site section server) number x }
-    ensures offered { (count : ℕ) (x : Carried) (old new : Lines)
-        → OfferedToAll IsSentOrLost count x old new
-        → (n : ℕ) → (new n ≡ old n) ⊎ (new n ≡ old n ++ x ∷ []) }
+    ensures offered { (nodes count : ℕ) (channel : List ℕ) (position : Position) (datum : Datum)
+        (first last : Left) (old new : Lines)
+        → AreHandedOut nodes channel position datum first
+        → OffersCopies count first old last new → (n : ℕ)
+        → (new n ≡ old n) ⊎ (new n ≡ old n ++ carried channel position datum ∷ []) }
     ensures starts { (site : Site) → Waits site start (λ n. []) (λ n. []) }
     ensures sent { (site : Site) (server : Server) (number n : ℕ) (x : Carried)
         (sent received : Lines)

@@ -36,7 +36,7 @@ pub(super) fn default_settings<R: Abort + AllocGlobal>(rt: &R) -> Settings {
 #[derive(Drop)]
 pub(super) struct Opened<'a, N: Naming> {
     /// The broker's end of the node's link.
-    pub(super) sender: Sender<Delivery>,
+    pub(super) sender: Sender<Delivery<N>>,
     pub(super) node: Node<'a, N>,
     pub(super) address: SocketAddr,
 }
@@ -74,7 +74,7 @@ pub(super) fn broker_to<N: Naming, R: Abort + AllocGlobal>(
     rt: &R,
     words: Words,
     settings: &Settings,
-    senders: Vec<Sender<Delivery>>,
+    senders: Vec<Sender<Delivery<N>>>,
 ) -> (Box<Broker<N, BootEpochs>>, Passes<N>, Passes<N>)
     requires words { words ≡ names N.words 16 }
     requires namespaces { settings.now.namespaces ≡ N.namespaces }

@@ -3,7 +3,7 @@ use Rattle.cf_dispatch.proofs.mailbox.pass_on.Goals as goal
 
 pub returns-then-stirs : goal.returns-then-stirs
 returns-then-stirs g c = (
-  Some c.in-Some.delivery,
+  Some c.in-Some.letter,
   record {
     received = c.receive.new.self;
     receiving = c.in-Some.ensures;

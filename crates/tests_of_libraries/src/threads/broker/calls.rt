@@ -243,15 +243,12 @@ pub(super) fn is_so<N: Naming, R: Wait + Abort>(
 }
 
 /// Whether a delivery is this, with whose its publication is; or there is none, and nothing is wanted.
-pub(super) fn is_brought(delivery: Option<Delivery>, wanted: &str) -> bool {
+pub(super) fn is_brought<N: Naming>(delivery: Option<Delivery<N>>, wanted: &str) -> bool {
     let Some(delivery) = delivery else {
         return wanted == "nothing";
     };
-    let Delivery {
-        channel,
-        epoch,
-        publication,
-    } = &delivery;
+    let (channel, epoch, publication) =
+        (delivery.channel(), delivery.epoch(), delivery.publication());
     let (offset, body) = (publication.offset, publication.body.as_str());
     let mut told = Wanted::new(wanted);
     told.tell(format_args!("{channel} {epoch} {offset} {body}"));

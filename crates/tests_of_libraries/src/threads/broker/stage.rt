@@ -91,7 +91,7 @@ pub(super) struct Caller<N: Naming> {
 struct Cast<N: Naming> {
     ours: Caller<N>,
     theirs: Caller<N>,
-    links: Vec<Receiver<Delivery>>,
+    links: Vec<Receiver<Delivery<N>>>,
 }
 
 /// Whether two steps are so that are taken at once, the second by another thread.
@@ -130,7 +130,7 @@ fn join<N: Naming>(
 fn is_offered<N: Naming, R: Wait>(
     rt: &R,
     stage: &Stage<'_, '_, N>,
-    links: &mut [Receiver<Delivery>],
+    links: &mut [Receiver<Delivery<N>>],
     row: &str,
 ) -> bool {
     let (asked, wanted) = sides_of(row);
