@@ -2,7 +2,7 @@
 use Rattle.std.proofs.Common.{◌≡◌, ℕ, List, true, false, refl}
 use Rattle.cf_json.specs.Grammar.{Tree, null, boolean, number, text, array, object, Parts}
 use Rattle.cf_json.specs.Kinds.{kind_of}
-use Rattle.cf_json.specs.declared.kinds.Kind.TheVariants.{Object, Array, Text}
+use Rattle.cf_json.specs.declared.kinds.Kind.TheVariants.{Object, Array, Text, Number}
 
 pub is_object : (t : Tree) → kind_of t ≡ Object → (ps : Parts) × (t ≡ object ps)
 is_object null e = absurd cc
@@ -30,3 +30,12 @@ is_text (number n) e = absurd cc
 is_text (text c) e = (c, refl)
 is_text (array ps) e = absurd cc
 is_text (object ps) e = absurd cc
+
+pub is_number : (t : Tree) → kind_of t ≡ Number → (n : List ℕ) × (t ≡ number n)
+is_number null e = absurd cc
+is_number (boolean true) e = absurd cc
+is_number (boolean false) e = absurd cc
+is_number (number n) e = (n, refl)
+is_number (text c) e = absurd cc
+is_number (array ps) e = absurd cc
+is_number (object ps) e = absurd cc

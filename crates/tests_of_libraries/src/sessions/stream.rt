@@ -53,11 +53,18 @@ impl Pieces {
         self.input.len().saturating_sub(self.at)
     }
 
-    /// Whether these bytes are what was written next behind those that were looked at.
+    /// Whether these bytes are what was written next behind those that were looked at; if so they are looked at.
     pub(crate) fn has_written(&mut self, bytes: &[u8]) -> bool {
-        let rest = self.output.get(self.seen..).unwrap_or(&[]);
+        if !self.written().starts_with(bytes) {
+            return false;
+        }
         self.seen = self.seen.saturating_add(bytes.len());
-        rest.starts_with(bytes)
+        true
+    }
+
+    /// What was written behind what was looked at.
+    pub(crate) fn written(&self) -> &[u8] {
+        self.output.get(self.seen..).unwrap_or(&[])
     }
 
     /// Counts all that was written as looked at.

@@ -15,14 +15,22 @@ fn kept(alloc: Global, last: u32) -> Option<Waiting> {
     Some(waiting)
 }
 
-/// How many of so many are released at the start of the epoch, and whether none is missing. None: there was no memory.
-fn released(alloc: Global, last: u32) -> Option<(usize, bool)> {
+/// How many are released at the start of the epoch, if they stand in order from offset 1 on, and whether none is missing. None: there
+/// was no memory, or they don't stand so.
+fn released(alloc: Global, last: u32) -> Option<(u64, bool)> {
     let waiting = kept(alloc, last)?;
     if waiting.short() {
         return None;
     }
     let released = waiting.release(&place(0));
-    Some((released.run.len(), !released.insufficient))
+    let mut count = 0_u64;
+    for publication in &released.run {
+        count = count.saturating_add(1);
+        if publication.offset != count {
+            return None;
+        }
+    }
+    Some((count, !released.insufficient))
 }
 
 #[test]

@@ -1,5 +1,5 @@
 //! What a refusal says.
-use crate::rows::is_shown;
+use crate::rows::Told;
 use cf_client::ClientFault;
 use cf_hub::HubRefusal;
 use cf_presence::PresenceRefusal;
@@ -7,13 +7,18 @@ use cf_queue::QueueRefusal;
 use cf_stream::StreamRefusal;
 use cf_subs::SubRefusal;
 use cf_wire::WireFault;
+use std::alloc::Global;
 use std::fmt::Display;
-use std::process::Abort;
 
-/// Values are shown as these texts.
-fn say<T: Display>(rt: &impl Abort, values: &[(T, &str)]) {
+/// Tells each value that isn't shown as its text.
+fn tell_wrong<T: Display>(wrong: &mut Told, alloc: Global, values: &[(T, &str)]) {
     for (value, text) in values {
-        assert!(rt; is_shown(value, text), "{text}");
+        let mut shown = Told::new(alloc);
+        shown.tell(value);
+        if shown.text() != Some(*text) {
+            wrong.part("; ");
+            wrong.tell(format_args!("wanted {text}, got {value}"));
+        }
     }
 }
 
@@ -63,11 +68,22 @@ const OF_HUB: [(HubRefusal, &str); 4] = [
 
 #[test]
 fn refusals_in_words(rt: HostRuntime) {
-    say(&rt, &OF_STREAM);
-    say(&rt, &OF_CLIENT);
-    say(&rt, &OF_QUEUE);
-    say(&rt, &OF_SUBS);
-    say(&rt, &[(PresenceRefusal::Memory, "out of memory")]);
-    say(&rt, &OF_HUB);
-    say(&rt, &[(WireFault::Memory, "out of memory")]);
+    let mut wrong = Told::new(rt.alloc());
+    tell_wrong(&mut wrong, rt.alloc(), &OF_STREAM);
+    tell_wrong(&mut wrong, rt.alloc(), &OF_CLIENT);
+    tell_wrong(&mut wrong, rt.alloc(), &OF_QUEUE);
+    tell_wrong(&mut wrong, rt.alloc(), &OF_SUBS);
+    tell_wrong(
+        &mut wrong,
+        rt.alloc(),
+        &[(PresenceRefusal::Memory, "out of memory")],
+    );
+    tell_wrong(&mut wrong, rt.alloc(), &OF_HUB);
+    tell_wrong(
+        &mut wrong,
+        rt.alloc(),
+        &[(WireFault::Memory, "out of memory")],
+    );
+    let wrong = wrong.text().expect(&rt, "memory");
+    assert!(rt; wrong.is_empty(), "{wrong}");
 }

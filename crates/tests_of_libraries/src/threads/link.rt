@@ -1,4 +1,5 @@
-use crate::rows::{number_of, sides_of};
+//! A link of one place step by step, a receiver that is woken for each of a thousand items, and at once, and what an end is told.
+use crate::rows::{Table, Told, call_of, done_in, in_full};
 use cf_link::{Receiver, Sender, pair, settle};
 use std::alloc::Global;
 use std::process::Abort;
@@ -7,44 +8,76 @@ use std::thread;
 use std::thread::Threads;
 use std::time::{Clock, Duration, Instant};
 
-/// A number is an item that is sent.
-const STEPS: &str = "waiting => 0
-7 => sent
+/// `send ITEM` gives the item back where there is no room.
+const STEPS: &str = "\
+waiting => 0
+send 7 => sent
 waiting => 1
-8 => full
+send 8 => 8 comes back
 receive => 7
 waiting => 0
 receive => none
-receive within a millisecond => none
-9 => sent
-receive within a millisecond => 9";
+within a millisecond => none
+send 9 => sent
+within a millisecond => 9";
 
-/// Whether a row is so at the two ends of a link. Behind its arrow stands an item or `none`, how many wait, or whether it was sent.
-fn is_so<R: Wait + Clock>(
+/// Tells an item, or that there is none.
+fn tell_item(told: &mut Told, item: Option<u32>) {
+    match item {
+        Some(item) => told.tell(item),
+        None => told.tell("none"),
+    }
+}
+
+/// Takes a step at the two ends of a link.
+fn tell_step<R: Wait + Clock>(
     rt: &R,
     sender: &mut Sender<u32>,
     receiver: &mut Receiver<u32>,
-    row: &str,
-) -> bool {
-    let (step, wanted) = sides_of(row);
-    let number = wanted.parse::<u32>().ok();
-    match step {
-        "receive" => receiver.receive(rt) == number,
-        "receive within a millisecond" => {
-            receiver.receive_within(rt, Duration::from_millis(1)) == number
+    done: &str,
+    told: &mut Told,
+) {
+    let (word, item) = call_of(done);
+    match word {
+        "receive" => tell_item(told, receiver.receive(rt)),
+        "within" => tell_item(told, receiver.receive_within(rt, Duration::from_millis(1))),
+        "waiting" => told.tell(sender.waiting(rt)),
+        _ => {
+            let item = told.number(item);
+            match sender.send(rt, item) {
+                Ok(()) => told.tell("sent"),
+                Err(item) => told.tell(format_args!("{item} comes back")),
+            }
         }
-        "waiting" => sender.waiting(rt) == number_of(wanted) as usize,
-        _ if sender.send(rt, number_of(step)).is_ok() => wanted == "sent",
-        _ => wanted == "full",
     }
 }
 
 #[test]
 fn one_place(rt: HostRuntime) {
     let (mut sender, mut receiver) = pair(rt.alloc(), 1).expect(&rt, "memory");
-    for row in STEPS.lines() {
-        assert!(rt; is_so(&rt, &mut sender, &mut receiver, row), "{row}");
+    let mut table = Table::new(rt.alloc(), "threads/link");
+    for line in STEPS.split('\n') {
+        if table.has_row(line) {
+            let row = in_full(rt.alloc(), line);
+            let mut told = Told::new(rt.alloc());
+            tell_step(&rt, &mut sender, &mut receiver, done_in(&row), &mut told);
+            table.compare(&row, &told);
+        }
     }
+    table.ends(&rt);
+    assert!(rt; settle(&rt, sender, receiver) == 0);
+}
+
+/// What is left at the end was sent and not received: one, where a further send came before it.
+#[test]
+fn settled_behind_a_send(rt: HostRuntime) {
+    let (mut sender, mut receiver) = pair(rt.alloc(), 1).expect(&rt, "memory");
+    assert!(rt; sender.send(&rt, 7u32) == Ok(()));
+    assert!(rt; sender.send(&rt, 8) == Err(8));
+    assert!(rt; receiver.receive(&rt) == Some(7));
+    assert!(rt; receiver.receive(&rt).is_none());
+    assert!(rt; sender.send(&rt, 9) == Ok(()));
+    assert!(rt; settle(&rt, sender, receiver) == 1);
 }
 
 /// Sends the numbers below `count`, each until it is taken.

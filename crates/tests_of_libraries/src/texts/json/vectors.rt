@@ -1,13 +1,14 @@
-//! Members, items, strings (RFC 8259, section 7), compact texts and depths, with answers by hand; each call at its largest size, with
-//! ample memory; and what is said of each fault.
+//! Members, items, numbers, strings (RFC 8259, section 7), compact texts and depths, with answers by hand; each call at its largest
+//! size, with ample memory; and what is said of each fault.
 ghost use Rattle.std.specs.Prelude.{◌≡◌, IfSome};
 ghost use Rattle.cf_json.specs.Grammar.{Tree};
 ghost use Rattle.cf_json.specs.Spans.{IsAt};
 ghost use Rattle.cf_json.specs.Kinds.{kind_of};
 
-use crate::rows::{Subject, are_so, call_of, is_answer, is_shown, sides_of};
+use crate::rows::{Subject, Told, are_so, call_of};
 use cf_json::{
-    Fault, Kind, Span, compact, items, kind, members, quote, read_text, scan, split_frame,
+    Fault, Kind, Span, compact, items, kind, members, quote, read_signed, read_text, read_whole,
+    scan, split_frame,
 };
 use std::alloc::Global;
 
@@ -45,96 +46,184 @@ fn text_of(alloc: Global, text: &str) -> Result<String, Fault> {
     }
 }
 
+fn whole_of(text: &str) -> Option<u64> {
+    match span_of(text, Kind::Number) {
+        Some(span) => read_whole(text, span),
+        None => None,
+    }
+}
+
+fn signed_of(text: &str) -> Option<i64> {
+    match span_of(text, Kind::Number) {
+        Some(span) => read_signed(text, span),
+        None => None,
+    }
+}
+
 /// A text's one value without white space.
 fn compacted(alloc: Global, text: &str) -> Result<String, Fault> {
     let span = scan(text)?;
     compact(alloc, text, span)
 }
 
-/// Whether this many spans were found.
-fn are_counted(found: Result<Vec<Span>, Fault>, wanted: &str) -> bool {
+/// Tells a span, behind those that were told before.
+fn tell_span(told: &mut Told, span: Span) {
+    told.part(", ");
+    let Span { from, to } = span;
+    told.tell(format_args!("{from} {to}"));
+}
+
+/// Tells the span of a text's one value.
+fn tell_value(told: &mut Told, text: &str) {
+    match scan(text) {
+        Ok(span) => tell_span(told, span),
+        Err(fault) => told.tell(format_args!("{fault:?}")),
+    }
+}
+
+/// Tells spans, one behind another.
+fn tell_spans(told: &mut Told, found: Result<Vec<Span>, Fault>) {
     match found {
-        Ok(found) => is_shown(found.len(), wanted),
-        Err(fault) => is_shown(fault, wanted),
+        Ok(found) => {
+            for span in &found {
+                tell_span(told, *span);
+            }
+        }
+        Err(fault) => told.tell(format_args!("{fault:?}")),
     }
 }
 
-/// Whether so many members were found, of which the last has this key: `COUNT to KEY`; or why there are none.
-fn are_keys(found: Result<Vec<(String, Span)>, Fault>, wanted: &str) -> bool {
-    let found = match found {
-        Ok(found) => found,
-        Err(fault) => return is_shown(fault, wanted),
-    };
+/// Tells how many spans there are.
+fn tell_count(told: &mut Told, found: Result<Vec<Span>, Fault>) {
+    match found {
+        Ok(found) => told.tell(found.len()),
+        Err(fault) => told.tell(fault),
+    }
+}
+
+/// Tells each member's key, and the span of its value.
+fn tell_members(told: &mut Told, found: &[(String, Span)]) {
+    for (key, Span { from, to }) in found {
+        told.part(", ");
+        told.tell(format_args!("{key} {from} {to}"));
+    }
+}
+
+/// Tells how many members there are, and the last one's key: `COUNT to KEY`.
+fn tell_last(told: &mut Told, found: &[(String, Span)]) {
     match found.last() {
-        Some((key, _)) => is_shown(format_args!("{} to {key}", found.len()), wanted),
-        None => false,
+        Some((key, _)) => told.tell(format_args!("{} to {key}", found.len())),
+        None => told.tell("0"),
     }
 }
 
-/// Whether a call of this name answers so of a text.
-fn is_found(alloc: Global, name: &str, text: &str, wanted: &str) -> bool {
+/// Tells the members of an object by one of these, or why there are none.
+fn tell_object(told: &mut Told, alloc: Global, name: &str, text: &str) {
+    match members_of(alloc, text) {
+        Ok(found) if name == "keys" => tell_last(told, found.as_slice()),
+        Ok(found) => tell_members(told, found.as_slice()),
+        Err(fault) => told.tell(fault),
+    }
+}
+
+/// Tells a number, or `none`.
+fn tell_number(told: &mut Told, name: &str, text: &str) {
     match name {
-        "keys" => are_keys(members_of(alloc, text), wanted),
-        "values" => are_counted(split_frame(alloc, text), wanted),
-        "length" => are_counted(items_of(alloc, text), wanted),
-        "read" => is_answer(text_of(alloc, text), wanted),
-        "compact" => is_answer(compacted(alloc, text), wanted),
-        _ => is_answer(quote(alloc, text), wanted),
+        "read_whole" => match whole_of(text) {
+            Some(number) => told.tell(number),
+            None => told.tell("none"),
+        },
+        _ => match signed_of(text) {
+            Some(number) => told.tell(number),
+            None => told.tell("none"),
+        },
     }
 }
 
-/// Calls by their names.
+/// Calls by their names. `keys`, `count` and `length` tell of `members`, `split_frame` and `items` how many there are.
 #[derive(Drop)]
-struct Calls;
+pub(super) struct Calls;
 
 impl Subject for Calls {
-    fn is_so(&mut self, alloc: Global, row: &str) -> bool {
-        let (call, wanted) = sides_of(row);
-        let (name, text) = call_of(call);
-        is_found(alloc, name, text, wanted)
+    fn play(&mut self, alloc: Global, done: &str, told: &mut Told) {
+        let (name, text) = call_of(done);
+        match name {
+            "scan" => tell_value(told, text),
+            "split_frame" => tell_spans(told, split_frame(alloc, text)),
+            "items" => tell_spans(told, items_of(alloc, text)),
+            "members" | "keys" => tell_object(told, alloc, name, text),
+            "count" => tell_count(told, split_frame(alloc, text)),
+            "length" => tell_count(told, items_of(alloc, text)),
+            "read_whole" | "read_signed" => tell_number(told, name, text),
+            "read_text" => told.answer(text_of(alloc, text)),
+            "compact" => told.answer(compacted(alloc, text)),
+            "quote" => told.answer(quote(alloc, text)),
+            _ => told.tell("no call"),
+        }
     }
 }
 
-const ROWS: &str = r#"keys {"a":1,"b":2,"a":3} => 2 to a
+const ROWS: &str = r#"members {"a":1,"b":2,"a":3} => b 11 12, a 17 18
+members {} => nothing
+items [1, {} ,[]] => 1 2, 4 6, 8 10
+items [] => nothing
+read_whole 18446744073709551615 => 18446744073709551615
+read_whole 18446744073709551616 => none
+read_whole 1.0 => none
+read_whole 0 => 0
+read_whole -1 => none
+read_signed -1 => -1
+read_signed 9223372036854775807 => 9223372036854775807
+read_signed 9223372036854775808 => none
+read_signed -9223372036854775808 => -9223372036854775808
+read_signed 1e2 => none
+scan *64*[**64*]* => 0 128
+scan *65*[**65*]* => TooDeep(64)
 keys {"\u0061":1,"a":2} => 1 to a
 keys {"\ud800":1} => no JSON at byte 1
-length [1, {} ,[]] => 3
 compact [ 1.50 , "x y" ] => [1.50,"x y"]
 compact  " \" "  => " \" "
-read  "\u0061b"  => ab
-read "" => 
-read "\"\\\/" => "\/
-read "\u00E9\u20ac" => é€
-read "\uD834\uDD1E" => 𝄞
-read "\u005C\u0022n" => \"n
-read "\ud83d" => no JSON at byte 0
-read "\ud834" => no JSON at byte 0
-read "\ude00" => no JSON at byte 0
-read "\ud83d\u0061" => no JSON at byte 0
-read "\ud83d\ud83d\ude00" => no JSON at byte 0
-read "\ud83d\n" => no JSON at byte 0
-read "\ud83dude00" => no JSON at byte 0
+read_text  "\u0061b"  => ab
+read_text "" => nothing
+read_text "\"\\\/" => "\/
+read_text "\u00E9\u20ac" => é€
+read_text "\uD834\uDD1E" => 𝄞
+read_text "\u005C\u0022n" => \"n
+read_text "\ud83d" => no JSON at byte 0
+read_text "\ud834" => no JSON at byte 0
+read_text "\ude00" => no JSON at byte 0
+read_text "\ud83d\u0061" => no JSON at byte 0
+read_text "\ud83d\ud83d\ude00" => no JSON at byte 0
+read_text "\ud83d\n" => no JSON at byte 0
+read_text "\ud83dude00" => no JSON at byte 0
 quote a"b => "a\"b"
 quote  => ""
 quote \/ => "\\/"
-values *64*[**64*]* => 1
-values [*64*[**64*]* => nested too deep at byte 64
-values *65*[* => nested too deep at byte 64
-values *65*[*} => nested too deep at byte 64
-values [}*65*[*} => no JSON at byte 1
-values {}*65*[*} => nested too deep at byte 66"#;
+count [*64*[**64*]* => nested too deep at byte 64
+count *65*[* => nested too deep at byte 64
+count *65*[*} => nested too deep at byte 64
+count [}*65*[*} => no JSON at byte 1
+count {}*65*[*} => nested too deep at byte 66"#;
 
 /// With white space and other characters that aren't shown.
-const SPACED_ROWS: &str =
-    "length [\n] => 0|compact { \"a\\u0020\" :\t{ } } => {\"a\\u0020\":{}}|compact \n1E+05\r => 1E+05|read \"\\b\\f\\n\\r\\t\" => \u{8}\u{c}\n\r\t|quote \u{8}\u{c}\n\r\t => \"\\b\\f\\n\\r\\t\"|quote \0\u{b}\u{1f}  => \"\\u0000\\u000b\\u001f \"|quote \u{7f}é\u{2028}\u{1d11e} => \"\u{7f}é\u{2028}\u{1d11e}\"|read \"*5416*\\u0009\\n\\\"\\/*\" => *5416*\t\n\"/*|quote *5416*\t\n\"/* => \"*5416*\\t\\n\\\"/*\"";
+const SPACED_ROWS: &str = "\
+length [␊] => 0
+compact { \"a\\u0020\" :\t{ } } => {\"a\\u0020\":{}}
+compact ␊1E+05\r => 1E+05
+read_text \"\\b\\f\\n\\r\\t\" => \u{8}\u{c}␊\r\t
+quote \u{8}\u{c}␊\r\t => \"\\b\\f\\n\\r\\t\"
+quote \0\u{b}\u{1f}  => \"\\u0000\\u000b\\u001f \"
+quote \u{7f}é\u{2028}\u{1d11e} => \"\u{7f}é\u{2028}\u{1d11e}\"
+read_text \"*5416*\\u0009\\n\\\"\\/*\" => *5416*\t␊\"/*
+quote *5416*\t␊\"/* => \"*5416*\\t\\n\\\"/*\"";
 
 /// Texts of up to 65,536 bytes. Of those that are made compact the first becomes shorter; the others are compact already, without a
 /// space and with one in a string.
 const LONG_ROWS: &str = r#"keys {*5999*"k#":1,*"end":1} => 6000 to end
 keys {*5000*"end":1,*"end":2} => 1 to end
-values *32768*{}* => 32768
+count *32768*{}* => 32768
 length [*999*1, *1] => 1000
-read "*13000*abcde*" => *13000*abcde*
+read_text "*13000*abcde*" => *13000*abcde*
 quote *13000*abcde* => "*13000*abcde*"
 compact [*10922*" " , *12] => [*10922*" ",*12]
 compact [*16000*1,*12] => [*16000*1,*12]
@@ -142,8 +231,19 @@ compact [*16000*" ",*12] => [*16000*" ",*12]"#;
 
 #[test]
 fn vectors(rt: HostRuntime) {
-    assert!(rt; is_shown(Fault::Memory, "out of memory"));
-    are_so(&rt, rt.alloc(), &mut Calls, ROWS, '\n');
-    are_so(&rt, rt.alloc(), &mut Calls, SPACED_ROWS, '|');
-    are_so(&rt, rt.alloc(), &mut Calls, LONG_ROWS, '\n');
+    are_so(&rt, rt.alloc(), "texts/json/vectors", &mut Calls, ROWS);
+    are_so(
+        &rt,
+        rt.alloc(),
+        "texts/json/vectors spaced",
+        &mut Calls,
+        SPACED_ROWS,
+    );
+    are_so(
+        &rt,
+        rt.alloc(),
+        "texts/json/vectors long",
+        &mut Calls,
+        LONG_ROWS,
+    );
 }

@@ -1,37 +1,43 @@
 //! Calls by their names: settings of a node and pushes from lent parts, at their largest sizes; and what is said of faults.
 use crate::publications::publication;
-use crate::rows::{Subject, are_so, call_of, is_answer, is_shown, number_of, sides_of};
+use crate::rows::{Subject, Told, are_so, call_of};
 use cf_protocol::{
     Epoch, ReadFault, read_namespaces, read_tokens, write_publication, write_unsubscribe,
 };
 use std::alloc::Global;
 
-/// Whether a text that sets up tokens has this user of one.
-fn is_user(alloc: Global, token: &str, text: &str, wanted: &str) -> bool {
+/// Tells which user of a text that sets up tokens has this one.
+fn tell_user(told: &mut Told, alloc: Global, token: &str, text: &str) {
     match read_tokens(alloc, text) {
-        Ok(tokens) => is_shown(format_args!("{:?}", tokens.user(token)), wanted),
-        Err(fault) => is_shown(fault, wanted),
+        Ok(tokens) => told.tell(format_args!("{:?}", tokens.user(token))),
+        Err(fault) => told.tell(fault),
     }
 }
 
-/// Whether a copy of what a text sets up has these settings of a channel.
-fn are_settings(alloc: Global, channel: &str, text: &str, wanted: &str) -> bool {
+/// Tells which settings of a channel a copy of what a text sets up has.
+fn tell_settings(told: &mut Told, alloc: Global, channel: &str, text: &str) {
     let namespaces = match read_namespaces(alloc, text) {
         Ok(namespaces) => namespaces.copied(),
-        Err(fault) => return is_shown(fault, wanted),
+        Err(fault) => return told.tell(fault),
     };
     match namespaces {
-        Ok(namespaces) => is_shown(format_args!("{:?}", namespaces.find(channel)), wanted),
-        Err(_) => false,
+        Ok(namespaces) => told.tell(format_args!("{:?}", namespaces.find(channel))),
+        Err(_) => told.lack(),
     }
 }
 
-/// Whether the push of a publication of ann with these data is this, written from parts that are lent.
-fn is_lent(alloc: Global, body: &str, wanted: &str) -> bool {
+/// Tells the push of a publication of ann with these data, written from parts that are lent.
+fn tell_lent(told: &mut Told, alloc: Global, body: &str) {
     match publication(alloc, 7, body) {
-        Some(publication) => is_answer(write_publication(alloc, "news", &publication), wanted),
-        None => false,
+        Some(publication) => told.answer(write_publication(alloc, "news", &publication)),
+        None => told.lack(),
     }
+}
+
+/// Tells the push that ends a subscription.
+fn tell_end(told: &mut Told, alloc: Global, code: &str, channel: &str) {
+    let code = told.number(code);
+    told.answer(write_unsubscribe(alloc, channel, code));
 }
 
 /// Calls by their names.
@@ -39,15 +45,17 @@ fn is_lent(alloc: Global, body: &str, wanted: &str) -> bool {
 struct ByName;
 
 impl Subject for ByName {
-    fn is_so(&mut self, alloc: Global, row: &str) -> bool {
-        let (call, wanted) = sides_of(row);
-        let (name, passed) = call_of(call);
+    fn play(&mut self, alloc: Global, done: &str, told: &mut Told) {
+        let (name, passed) = call_of(done);
         let (first, second) = call_of(passed);
         match name {
-            "find" => are_settings(alloc, first, second, wanted),
-            "user" => is_user(alloc, first, second, wanted),
-            "lent" => is_lent(alloc, passed, wanted),
-            _ => is_answer(write_unsubscribe(alloc, second, number_of(first)), wanted),
+            "find" => tell_settings(told, alloc, first, second),
+            "user" => tell_user(told, alloc, first, second),
+            "lent" => tell_lent(told, alloc, passed),
+            "unsubscribe" => tell_end(told, alloc, first, second),
+            "epoch" => told.tell(Epoch::from_text(passed)),
+            "memory" => told.tell(ReadFault::Memory),
+            _ => told.tell("no call"),
         }
     }
 }
@@ -61,11 +69,11 @@ user t9 t9=ann;T-_=bob => Some("ann")
 user t9 a=b; => unreadable
 user last *99*n#=ann;*last=bob => Some("bob")
 lent *65000*1* => {"push":{"channel":"news","pub":{"data":*65000*1*,"info":{"client":"0-1-1","user":"ann"},"offset":7}}}
-unsubscribe 2500 news => {"push":{"channel":"news","unsubscribe":{"code":2500,"reason":"insufficient state"}}}"#;
+unsubscribe 2500 news => {"push":{"channel":"news","unsubscribe":{"code":2500,"reason":"insufficient state"}}}
+epoch aZ9 => aZ9
+memory => out of memory"#;
 
 #[test]
 fn calls(rt: HostRuntime) {
-    assert!(rt; is_shown(ReadFault::Memory, "out of memory"));
-    assert!(rt; is_shown(Epoch::from_text("aZ9"), "aZ9"));
-    are_so(&rt, rt.alloc(), &mut ByName, ROWS, '\n');
+    are_so(&rt, rt.alloc(), "texts/protocol/calls", &mut ByName, ROWS);
 }

@@ -5,52 +5,60 @@ ghost use Rattle.cf_broker.specs.Shards.{number_of};
 
 use super::stage::{Caller, Stage};
 use crate::publications::{ann, place};
-use crate::rows::{Wanted, call_of, is_shown, sides_of};
+use crate::rows::{Told, call_of};
 use cf_broker::shard_of;
 use cf_order::Pass;
 use cf_presence::Stats;
-use cf_protocol::{Info, Position, namespace_of};
+use cf_protocol::{Info, Position, Publication, namespace_of};
 use cf_shard::{Delivery, Naming, ReadAnswer, Refused};
 use cf_stream::{History, Published};
 use std::collections::BTreeMap;
 use std::process::Abort;
 use std::sync::Wait;
 
-/// Whether a publication has this position, behind `again` where it is repeated. Any is meant where none is wanted.
-fn is_published(answer: Result<Published, Refused>, wanted: &str) -> bool {
+/// Tells the position of a publication, behind `again` where it is repeated.
+fn tell_published(told: &mut Told, answer: Result<Published, Refused>) {
     let Ok(Published { position, repeated }) = answer else {
-        return false;
+        return told.tell("refused");
     };
     let again = if repeated { "again " } else { "" };
     let Position { epoch, offset } = position;
-    wanted.is_empty() || is_shown(format_args!("{again}{epoch} {offset}"), wanted)
+    told.tell(format_args!("{again}{epoch} {offset}"));
 }
 
-/// Whether so many publications are recovered, and the shard's log is so long.
-fn is_recovered(answer: Result<ReadAnswer, Refused>, wanted: &str) -> bool {
+/// Tells how many publications there are, and the last one.
+fn tell_publications(told: &mut Told, publications: &[Publication]) {
+    told.tell(publications.len());
+    if let Some(Publication { offset, body, .. }) = publications.last() {
+        told.tell(format_args!(", the last {offset} {body}"));
+    }
+}
+
+/// Tells what is recovered, behind how long the shard's log is.
+fn tell_recovered(told: &mut Told, answer: Result<ReadAnswer, Refused>) {
     match answer {
         Ok(ReadAnswer { recovery, mark }) if recovery.recovered => {
-            let count = recovery.publications.len();
-            is_shown(format_args!("{count}, {mark}"), wanted)
+            told.tell(format_args!("log {mark}, recovered "));
+            tell_publications(told, recovery.publications.as_slice());
         }
-        Ok(_) => wanted == "not recovered",
-        Err(_) => false,
+        Ok(_) => told.tell("not recovered"),
+        Err(_) => told.tell("refused"),
     }
 }
 
-/// Whether so many publications come.
-fn is_listed(answer: Result<History, Refused>, wanted: &str) -> bool {
+/// Tells the publications of a history.
+fn tell_listed(told: &mut Told, answer: Result<History, Refused>) {
     match answer {
-        Ok(history) => is_shown(history.publications.len(), wanted),
-        Err(_) => false,
+        Ok(history) => tell_publications(told, history.publications.as_slice()),
+        Err(_) => told.tell("refused"),
     }
 }
 
-/// Whether a stream stands there, and its shard's log is so long.
-fn is_standing((at, mark): (Option<Position>, u64), wanted: &str) -> bool {
+/// Tells where a stream stands, and how long its shard's log is.
+fn tell_standing(told: &mut Told, (at, mark): (Option<Position>, u64)) {
     match at {
-        Some(Position { offset, .. }) => is_shown(format_args!("{offset}, {mark}"), wanted),
-        None => wanted == "none",
+        Some(Position { offset, .. }) => told.tell(format_args!("{offset}, {mark}")),
+        None => told.tell("none"),
     }
 }
 
@@ -89,38 +97,57 @@ fn look<N: Naming, R: Wait>(
     name: &str,
     channel: &str,
     with: &str,
-    wanted: &str,
+    told: &mut Told,
     now: u64,
-) -> bool
+)
     requires pass { pass.old.word ≡ N.words (number_of channel.now) }
     requires set_up { IsSome (settings_of N.namespaces channel.now) }
     ensures { pass.new.word ≡ pass.old.word }
 {
     let broker = stage.broker;
     match (name, with.parse::<u64>()) {
-        ("position", _) => is_standing(broker.position(rt, pass, channel), wanted),
-        ("history", _) => is_listed(broker.history(rt, pass, channel, None, -1, now), wanted),
+        ("position", _) => tell_standing(told, broker.position(rt, pass, channel)),
+        ("history", _) => tell_listed(told, broker.history(rt, pass, channel, None, -1, now)),
         (_, Ok(offset)) => {
             let since = Some(place(offset));
-            is_recovered(broker.read(rt, pass, channel, since, now), wanted)
+            tell_recovered(told, broker.read(rt, pass, channel, since, now));
         }
-        _ => is_recovered(broker.read(rt, pass, channel, None, now), wanted),
+        _ => tell_recovered(told, broker.read(rt, pass, channel, None, now)),
     }
 }
 
+/// What is answered without waiting, so that nothing here could: `look C` is how long the shard's log is found to be, and
+/// `quiet C MARK` whether it is as long as that still.
+fn no_wait<N: Naming>(
+    stage: &Stage<'_, '_, N>,
+    pass: &mut Pass,
+    name: &str,
+    channel: &str,
+    with: &str,
+    told: &mut Told,
+)
+    requires pass { pass.old.word ≡ N.words (number_of channel.now) }
+    ensures { pass.new.word ≡ pass.old.word }
+{
+    if name == "look" {
+        return told.tell(stage.broker.word(shard_of(channel)).look(pass));
+    }
+    let mark = told.long_number(with);
+    told.is_so(stage.broker.quiet_since(pass, channel, mark));
+}
+
 /// A call on a channel's stream, or on its shard, under a pass of that. `tick C` is one of its shard, and `size C` sets what its
-/// namespace holds there to three. `share C` is how many entries the pass added, and `quiet C MARK` whether the shard's log is as long
-/// as that still.
-fn is_called<N: Naming, R: Wait + Abort>(
+/// namespace holds there to three. `share C` is how many entries the pass added.
+fn call<N: Naming, R: Wait + Abort>(
     rt: &R,
     stage: &Stage<'_, '_, N>,
     pass: &mut Pass,
     name: &str,
     channel: &str,
     with: &str,
-    wanted: &str,
+    told: &mut Told,
     now: u64,
-) -> bool
+)
     requires pass { pass.old.word ≡ N.words (number_of channel.now) }
     requires set_up { IsSome (settings_of N.namespaces channel.now) }
     ensures { pass.new.word ≡ pass.old.word }
@@ -128,132 +155,121 @@ fn is_called<N: Naming, R: Wait + Abort>(
     let (broker, shard) = (stage.broker, shard_of(channel));
     match name {
         "publish" | "put" => {
-            is_published(publish(rt, stage, pass, name, channel, with, now), wanted)
+            tell_published(told, publish(rt, stage, pass, name, channel, with, now));
         }
-        "tick" => broker.tick(rt, pass, shard, now).is_ok(),
-        "size" => broker
-            .set_size(rt, pass, shard, namespace_of(channel), 3)
-            .is_ok(),
-        "share" => is_shown(pass.share(), wanted),
-        "quiet" => {
-            let mark = with.parse::<u64>().unwrap_or(0);
-            broker.quiet_since(pass, channel, mark) == (wanted == "yes")
-        }
-        _ => look(rt, stage, pass, name, channel, with, wanted, now),
+        "tick" => told.is_so(broker.tick(rt, pass, shard, now).is_ok()),
+        "size" => told.is_so(
+            broker
+                .set_size(rt, pass, shard, namespace_of(channel), 3)
+                .is_ok(),
+        ),
+        "share" => told.tell(pass.share()),
+        "look" | "quiet" => no_wait(stage, pass, name, channel, with, told),
+        _ => look(rt, stage, pass, name, channel, with, told, now),
     }
 }
 
 /// The same with the pass that the caller has.
-fn is_called_with_pass<N: Naming, R: Wait + Abort>(
+fn call_with_pass<N: Naming, R: Wait + Abort>(
     rt: &R,
     stage: &Stage<'_, '_, N>,
     caller: &mut Caller<N>,
     name: &str,
     channel: &str,
     with: &str,
-    wanted: &str,
-) -> bool {
+    told: &mut Told,
+) {
     if stage.namespaces.find(channel).is_none() {
-        return false;
+        return told.tell("no such namespace");
     }
     let shard = shard_of(channel);
     let mut pass = caller.passes.take(stage.broker, shard);
-    let is_so = is_called(
-        rt, stage, &mut pass, name, channel, with, wanted, caller.now,
-    );
+    call(rt, stage, &mut pass, name, channel, with, told, caller.now);
     caller.passes.put(shard, pass);
-    is_so
 }
 
-/// `often C COUNT`: so many publishes.
-fn are_published<N: Naming, R: Wait + Abort>(
+/// `often C COUNT`: so many publishes, of which the last is told.
+fn publish_often<N: Naming, R: Wait + Abort>(
     rt: &R,
     stage: &Stage<'_, '_, N>,
     caller: &mut Caller<N>,
     channel: &str,
-    count: u32,
-) -> bool {
-    for _ in 0..count {
-        if !is_called_with_pass(rt, stage, caller, "publish", channel, "1", "") {
-            return false;
+    count: &str,
+    told: &mut Told,
+) {
+    for number in 0..told.number(count) {
+        let mut one = Told::new(stage.alloc);
+        call_with_pass(rt, stage, caller, "publish", channel, "1", &mut one);
+        if one.text() == Some("refused") {
+            return told.tell(format_args!("refused at {number}"));
         }
     }
-    true
 }
 
-/// Whether this is the user of a client that is there, or `none`.
-fn is_user(answer: Result<BTreeMap<String, String>, Refused>, client: &str, wanted: &str) -> bool {
+/// Tells who is there, each with its user.
+fn tell_users(told: &mut Told, answer: Result<BTreeMap<String, String>, Refused>) {
     let Ok(users) = answer else {
-        return false;
+        return told.tell("refused");
     };
-    match users.get(client) {
-        Some(user) => user.as_str() == wanted,
-        None => wanted == "none",
+    for (client, user) in users.iter() {
+        told.part(", ");
+        told.tell(format_args!("{client} {user}"));
     }
 }
 
-/// `enter C CLIENT USER`, `leave C CLIENT`, `user C CLIENT`, which is the user of a client that is there, or `none`; or `stats C`: how
-/// many clients are there, and how many users.
-fn is_called_on_presence<N: Naming, R: Wait>(
+/// `enter C CLIENT USER`, `leave C CLIENT`, `list C`: who is there, each with its user; or `stats C`: how many clients are there, and
+/// how many users.
+fn call_on_presence<N: Naming, R: Wait>(
     rt: &R,
     stage: &Stage<'_, '_, N>,
     name: &str,
     channel: &str,
     with: &str,
-    wanted: &str,
+    told: &mut Told,
     now: u64,
-) -> bool {
+) {
     let (broker, (client, user)) = (stage.broker, call_of(with));
     match name {
-        "enter" => broker.enter(rt, channel, client, user, now).is_ok(),
-        "leave" => {
-            broker.leave(rt, channel, client);
-            true
-        }
-        "user" => is_user(broker.list(rt, channel), client, wanted),
+        "enter" => told.is_so(broker.enter(rt, channel, client, user, now).is_ok()),
+        "leave" => broker.leave(rt, channel, client),
+        "list" => tell_users(told, broker.list(rt, channel)),
         _ => {
             let Stats { clients, users } = broker.stats(rt, channel);
-            is_shown(format_args!("{clients}, {users}"), wanted)
+            told.tell(format_args!("{clients}, {users}"));
         }
     }
 }
 
-/// Whether a row is so: what stands behind its arrow comes of its call, whose channel is the second of its words. Not where the words
-/// aren't as they should be, or where memory or a call that is never refused here is refused.
-pub(super) fn is_so<N: Naming, R: Wait + Abort>(
+/// Does what a row does, whose channel is the second of its words, and tells what comes of it.
+pub(super) fn tell_call<N: Naming, R: Wait + Abort>(
     rt: &R,
     stage: &Stage<'_, '_, N>,
     caller: &mut Caller<N>,
-    row: &str,
-) -> bool {
-    let (done, wanted) = sides_of(row);
+    done: &str,
+    told: &mut Told,
+) {
     let (name, passed) = call_of(done);
     let (channel, with) = call_of(passed);
     match name {
-        "at" => {
-            caller.now = passed.parse::<u64>().unwrap_or(0);
-            true
+        "at" => caller.now = told.long_number(passed),
+        "enter" | "leave" | "list" | "stats" => {
+            call_on_presence(rt, stage, name, channel, with, told, caller.now);
         }
-        "enter" | "leave" | "user" | "stats" => {
-            is_called_on_presence(rt, stage, name, channel, with, wanted, caller.now)
-        }
-        "often" => are_published(rt, stage, caller, channel, crate::rows::number_of(with)),
-        _ => is_called_with_pass(rt, stage, caller, name, channel, with, wanted),
+        "often" => publish_often(rt, stage, caller, channel, with, told),
+        _ => call_with_pass(rt, stage, caller, name, channel, with, told),
     }
 }
 
-/// Whether a delivery is this, with whose its publication is; or there is none, and nothing is wanted.
-pub(super) fn is_brought<N: Naming>(delivery: Option<Delivery<N>>, wanted: &str) -> bool {
+/// Tells a delivery, with whose its publication is.
+pub(super) fn tell_brought<N: Naming>(told: &mut Told, delivery: Option<Delivery<N>>) {
     let Some(delivery) = delivery else {
-        return wanted == "nothing";
+        return;
     };
     let (channel, epoch, publication) =
         (delivery.channel(), delivery.epoch(), delivery.publication());
     let (offset, body) = (publication.offset, publication.body.as_str());
-    let mut told = Wanted::new(wanted);
     told.tell(format_args!("{channel} {epoch} {offset} {body}"));
     if let Some(Info { user, client }) = &publication.info {
         told.tell(format_args!(" of {user} {client}"));
     }
-    told.is_met()
 }

@@ -2,8 +2,8 @@
 ghost use Rattle.std.specs.Prelude.{◌≡◌, ◌<◌};
 ghost use Rattle.cf_broker.specs.Shards.{names};
 
-use super::calls::{is_brought, is_so};
-use crate::rows::{call_of, is_shown, number_of, sides_of};
+use super::calls::{tell_brought, tell_call};
+use crate::rows::{Table, Told, call_of, done_in, in_full};
 use cf_broker::{Broker, Passes, Words, shard_of};
 use cf_link::{Receiver, pair};
 use cf_protocol::{Epoch, Namespaces};
@@ -94,21 +94,34 @@ struct Cast<N: Naming> {
     links: Vec<Receiver<Delivery<N>>>,
 }
 
-/// Whether two steps are so that are taken at once, the second by another thread.
-fn are_both<N: Naming + Send + Sync, R: Threads + Wait + Abort + Sync>(
+/// What a step of a caller tells.
+fn told_of<N: Naming, R: Wait + Abort>(
+    rt: &R,
+    stage: &Stage<'_, '_, N>,
+    caller: &mut Caller<N>,
+    step: &str,
+) -> Told {
+    let mut told = Told::new(stage.alloc);
+    tell_call(rt, stage, caller, step, &mut told);
+    told
+}
+
+/// Tells two steps that are taken at once, the second by another thread.
+fn tell_both<N: Naming + Send + Sync, R: Threads + Wait + Abort + Sync>(
     rt: &R,
     stage: &Stage<'_, '_, N>,
     ours: &mut Caller<N>,
     theirs: &mut Caller<N>,
-    rows: &str,
-) -> bool {
-    let (our_row, their_row) = rows.split_once(" | ").unwrap_or((rows, ""));
+    steps: &str,
+    told: &mut Told,
+) {
+    let (our_step, their_step) = steps.split_once(" | ").unwrap_or((steps, ""));
     let (our, their) = thread::join(
         rt,
-        || is_so(rt, stage, ours, our_row),
-        || is_so(rt, stage, theirs, their_row),
+        || told_of(rt, stage, ours, our_step),
+        || told_of(rt, stage, theirs, their_step),
     );
-    our && their
+    told.tell(format_args!("{} | {}", our.shown(), their.shown()));
 }
 
 /// Our pass of a channel's shard takes theirs in.
@@ -125,65 +138,88 @@ fn join<N: Naming>(
     ours.put(shard, our);
 }
 
-/// Whether this comes next over the link to node I: `receive I`; whether that node lost so much: `lost I`; or whether any is behind:
-/// `crowded I`.
-fn is_offered<N: Naming, R: Wait>(
+/// Our pass of a channel's shard and theirs meet: each has seen what the other has.
+fn meet<N: Naming>(
+    stage: &Stage<'_, '_, N>,
+    ours: &mut Passes<N>,
+    theirs: &mut Passes<N>,
+    channel: &str,
+) {
+    let shard = shard_of(channel);
+    let mut our = ours.take(stage.broker, shard);
+    let mut their = theirs.take(stage.broker, shard);
+    stage.broker.word(shard).meet(&mut our, &mut their);
+    ours.put(shard, our);
+    theirs.put(shard, their);
+}
+
+/// Tells what comes next over the link to node I: `receive I`; how much that node lost: `lost I`; or whether any is behind:
+/// `crowded`.
+fn tell_offered<N: Naming, R: Wait>(
     rt: &R,
     stage: &Stage<'_, '_, N>,
     links: &mut [Receiver<Delivery<N>>],
-    row: &str,
-) -> bool {
-    let (asked, wanted) = sides_of(row);
-    let (name, node) = call_of(asked);
-    let node = number_of(node) as usize;
+    done: &str,
+    told: &mut Told,
+) {
+    let (name, node) = call_of(done);
+    let node = told.number(node) as usize;
     match (name, links.get_mut(node)) {
-        ("lost", _) => is_shown(stage.broker.lost(node), wanted),
-        ("crowded", _) => is_shown(stage.broker.is_crowded(rt), wanted),
-        (_, Some(link)) => is_brought(link.receive(rt), wanted),
-        _ => false,
+        ("lost", _) => told.tell(stage.broker.lost(node)),
+        ("crowded", _) => told.is_so(stage.broker.is_crowded(rt)),
+        (_, Some(link)) => tell_brought(told, link.receive(rt)),
+        _ => told.tell("no link"),
     }
 }
 
-/// Whether a row is so. One that begins with `#` is a remark.
-fn is_row<N: Naming + Send + Sync, R: Threads + Wait + Abort + Sync>(
+/// Does what a row does, and tells what comes of it.
+fn tell_row<N: Naming + Send + Sync, R: Threads + Wait + Abort + Sync>(
     rt: &R,
     stage: &Stage<'_, '_, N>,
     cast: &mut Cast<N>,
-    row: &str,
-) -> bool {
-    let (word, rest) = call_of(row);
+    done: &str,
+    told: &mut Told,
+) {
+    let (word, rest) = call_of(done);
     match word {
-        "#" => true,
-        "both" => are_both(rt, stage, &mut cast.ours, &mut cast.theirs, rest),
-        "they" => is_so(rt, stage, &mut cast.theirs, rest),
-        "join" => {
-            join(stage, &mut cast.ours.passes, &mut cast.theirs.passes, rest);
-            true
+        "both" => tell_both(rt, stage, &mut cast.ours, &mut cast.theirs, rest, told),
+        "they" => tell_call(rt, stage, &mut cast.theirs, rest, told),
+        "join" => join(stage, &mut cast.ours.passes, &mut cast.theirs.passes, rest),
+        "meet" => meet(stage, &mut cast.ours.passes, &mut cast.theirs.passes, rest),
+        "receive" | "lost" | "crowded" => {
+            tell_offered(rt, stage, cast.links.as_mut_slice(), done, told);
         }
-        "receive" | "lost" | "crowded" => { is_offered(rt, stage, cast.links.as_mut_slice(), row) }
-        _ => is_so(rt, stage, &mut cast.ours, row),
+        _ => tell_call(rt, stage, &mut cast.ours, done, told),
     }
 }
 
-/// These rows are so, in their order.
-fn are_rows<N: Naming + Send + Sync, R: Threads + Wait + Abort + Sync>(
+/// These rows are played, in their order.
+fn play_rows<N: Naming + Send + Sync, R: Threads + Wait + Abort + Sync>(
     rt: &R,
     stage: &Stage<'_, '_, N>,
     mut cast: Cast<N>,
-    rows: &str,
+    table: &mut Table<'_>,
+    part: &str,
 ) {
-    for row in rows.lines() {
-        assert!(rt; is_row(rt, stage, &mut cast, row), "{row}");
+    for line in part.split('\n') {
+        if table.has_row(line) {
+            let row = in_full(stage.alloc, line);
+            let mut told = Told::new(stage.alloc);
+            tell_row(rt, stage, &mut cast, done_in(&row), &mut told);
+            table.compare(&row, &told);
+        }
     }
+    table.part_ends();
 }
 
-/// The rows of a part are so of a broker over these words, with a link of one place, and one of twenty. The broker lies in a box,
+/// The rows of a part are played on a broker over these words, with a link of one place, and one of twenty. The broker lies in a box,
 /// since a function that lends a broker of its own is dear to prove.
 pub(super) fn play<N: Naming + Send + Sync, R: Threads + Wait + Abort + AllocGlobal + Sync>(
     rt: &R,
     words: Words,
     namespaces: &Namespaces,
     part: Part<'_>,
+    table: &mut Table<'_>,
 )
     requires words { words ≡ names N.words 16 }
     requires namespaces { namespaces.now ≡ N.namespaces }
@@ -211,5 +247,5 @@ pub(super) fn play<N: Naming + Send + Sync, R: Threads + Wait + Abort + AllocGlo
         },
         links,
     };
-    are_rows(rt, &stage, cast, rows);
+    play_rows(rt, &stage, cast, table, rows);
 }
