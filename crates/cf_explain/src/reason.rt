@@ -10,7 +10,7 @@ use std::alloc::{AllocError, Global};
 /// Why an event changed nothing. `delivered` is the channel of the publication that it delivers.
 pub(crate) fn reason(
     alloc: Global,
-    world: &World,
+    world: &World<'_>,
     event: &Event,
     delivered: Option<&str>,
 ) -> Result<String, AllocError> {
@@ -36,7 +36,7 @@ pub(crate) fn reason(
 }
 
 // Of a publish, or a command that would open a stream.
-fn no_stream(alloc: Global, world: &World, channel: &str) -> Result<String, AllocError> {
+fn no_stream(alloc: Global, world: &World<'_>, channel: &str) -> Result<String, AllocError> {
     let streams = world.streams();
     if !streams.is_set_up(channel) {
         return format!(in alloc; "the namespace of {channel} isn't set up");
@@ -48,7 +48,7 @@ fn no_stream(alloc: Global, world: &World, channel: &str) -> Result<String, Allo
 }
 
 // Of a trim or a forget.
-fn no_cut(alloc: Global, world: &World, channel: &str) -> Result<String, AllocError> {
+fn no_cut(alloc: Global, world: &World<'_>, channel: &str) -> Result<String, AllocError> {
     match world.streams().position(channel) {
         None => format!(in alloc; "{channel} has no stream"),
         Some(_) => format!(in alloc; "{channel} holds no more than that"),
@@ -64,7 +64,12 @@ pub(crate) fn namespace_words(alloc: Global, name: &str) -> Result<String, Alloc
 }
 
 // Of an event of a client.
-fn no_move(alloc: Global, world: &World, event: &Event, name: &str) -> Result<String, AllocError> {
+fn no_move(
+    alloc: Global,
+    world: &World<'_>,
+    event: &Event,
+    name: &str,
+) -> Result<String, AllocError> {
     let Some((hub, session)) = session_of(world, name) else {
         return match event {
             Event::Connect { node, .. } => format!(in alloc; "node {node} has no room"),
@@ -116,7 +121,7 @@ fn no_finish(
 
 fn no_check(
     alloc: Global,
-    world: &World,
+    world: &World<'_>,
     hub: &Hub,
     session: u32,
     name: &str,
@@ -136,7 +141,7 @@ fn no_check(
 // Of a command that a client would send.
 fn no_command(
     alloc: Global,
-    world: &World,
+    world: &World<'_>,
     hub: &Hub,
     session: u32,
     event: &Event,

@@ -8,8 +8,8 @@ use Rattle.cf_protocol.specs.Note.{Fails, Left, Listed, Lists, Note, Put}
 use Rattle.cf_protocol.specs.Outgoing.{Answer as Reply, Outcome}
 use Rattle.cf_protocol.specs.declared.codes.ErrorCode.{ErrorCode}
 use Rattle.cf_model.specs.SessionState.{is_off}
-use Rattle.cf_session.specs.Calls.{Answer, Finish, History as ListCall, Leave, Publish as PublishCall, Read}
-use Rattle.cf_session.specs.CommandScripts.{after_finish, after_lost, after_read, replies}
+use Rattle.cf_session.specs.Calls.{Answer, History as ListCall, Leave, Publish as PublishCall}
+use Rattle.cf_session.specs.CommandScripts.{after_lost, after_read, replies, to_finish, to_read}
 use Rattle.cf_session.specs.Script.{Ask, Say, Script}
 use Rattle.cf_machine.specs.ClientRequest.{ClientRequest, SentCommand, Subscribe, Unsubscribe, Publish, History}
 use Rattle.cf_running.specs.Server.{Began, Connection, Free, HasRead, Server, Site, ToFinish, ToGiveUp, ToList}
@@ -20,9 +20,9 @@ use Rattle.cf_running_ties.specs.Reads.{SaysLater}
 -- in hand amid a call, before it is answered.
 abbrev pub InHand : Lists → Who → (after : Script) → Work → Script → Type 0
 InHand lists who after Free script = script ≡ after
-InHand lists who after (Began c id since) script = script ≡ Ask (Read c since) (after_read id c after)
+InHand lists who after (Began c id since) script = script ≡ to_read id c since after
 InHand lists who after (HasRead c r) script = ⊥
-InHand lists who after (ToFinish c) script = script ≡ Ask (Finish c) (after_finish after)
+InHand lists who after (ToFinish c) script = script ≡ to_finish c after
 InHand lists who after (ToGiveUp c id code) script =
     (e : ErrorCode) × (code ≡ code_of e) × (script ≡ Ask (Leave c) (after_lost id e after))
 InHand lists who after (ToPublish c id key d) script =

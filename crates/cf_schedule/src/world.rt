@@ -17,14 +17,14 @@ use std::marker::Model;
 /// The broker, the nodes and all clients, and how many events were carried out. Once a part of it found no memory it carries
 /// out nothing more.
 #[derive(Drop)]
-pub struct World {
-    parts: Parts,
+pub struct World<'a> {
+    parts: Parts<'a>,
     count: usize,
     is_short: bool,
     alloc: Global,
 }
 
-impl Model for World {
+impl<'a> Model for World<'a> {
     ghost use Rattle.cf_schedule.specs.Running.{Running};
     ghost use Rattle.cf_world.specs.contracts.world.World as world;
     ghost use Rattle.std.specs.Coded.{codes};
@@ -36,9 +36,9 @@ impl Model for World {
     ghost view = { λ w. record { parts = w.parts; count = w.count; is_short = w.is_short } };
 }
 
-impl World {
+impl<'a> World<'a> {
     /// A world in which nothing has happened.
-    pub fn new(alloc: Global, config: &Config) -> Result<World, Short>
+    pub fn new(alloc: Global, config: &'a Config) -> Result<World<'a>, Short>
         ensures tied { IfOk result (λ w. Tied (shown_config config.now) w.parts start) }
         ensures count { IfOk result (λ w. w.count ≡ 0) }
         ensures ready { IfOk result (λ w. w.is_short ≡ false) }
@@ -112,7 +112,7 @@ impl World {
 
 // An event, by the method of its kind. Only a take gives an application something.
 fn carry_out(
-    parts: &mut Parts,
+    parts: &mut Parts<'_>,
     alloc: Global,
     at: usize,
     event: &Event,
@@ -130,7 +130,7 @@ fn carry_out(
 }
 
 // An event that gives no application anything. A take changes nothing here.
-fn carry_on(parts: &mut Parts, event: &Event) -> Result<(), Short>
+fn carry_on(parts: &mut Parts<'_>, event: &Event) -> Result<(), Short>
     ensures { OnOk result (((client : List ℕ) → event.now ≢ Event.Take client)
         → GoesOn (seen event.now) parts.old parts.new) }
 {

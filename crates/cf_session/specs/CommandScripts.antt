@@ -47,11 +47,19 @@ after_lost id e after a = refuses id e after
 abbrev pub after_finish : Script → Answer → Script
 after_finish after a = after
 
+-- a subscription that was read is to be finished
+abbrev pub to_finish : List ℕ → Script → Script
+to_finish c after = Ask (Finish c) (after_finish after)
+
 abbrev pub after_read : ℕ → List ℕ → Script → Answer → Script
 after_read id c after (Refused e) = Ask (Leave c) (after_lost id e after)
-after_read id c after Done = Ask (Finish c) (after_finish after)
-after_read id c after (Found outcome) = Ask (Finish c) (after_finish after)
-after_read id c after (Attached client) = Ask (Finish c) (after_finish after)
+after_read id c after Done = to_finish c after
+after_read id c after (Found outcome) = to_finish c after
+after_read id c after (Attached client) = to_finish c after
+
+-- one that was begun is to be read
+abbrev pub to_read : ℕ → List ℕ → Option Position → Script → Script
+to_read id c since after = Ask (Read c since) (after_read id c after)
 
 abbrev pub after_begin : ℕ → List ℕ → List ℕ → Option Position → Script → Answer → Script
 after_begin id read c since after (Refused e) = refuses id e after

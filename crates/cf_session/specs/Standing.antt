@@ -1,11 +1,13 @@
 -- Where a session of the code stands on its script.
 use Rattle.std.specs.Prelude.{◌≡◌, ◌⊎◌, ℕ, ◌+◌, ◌*◌, Bool, true, false, not, ◌||◌, ◌==◌, Option, Some, None}
 use Rattle.std.specs.Prelude.{option_map, MatchOption, List, [], ◌∷◌, map, length}
+use Rattle.std.specs.Borrow.{Bor}
 use Rattle.std.specs.String.{string_bytes}
 use Rattle.cf_protocol.specs.Datum.{Who}
 use Rattle.cf_protocol.specs.Request as request
 use Rattle.cf_protocol.specs.Request.{Command}
 use Rattle.cf_protocol.specs.Outgoing as outgoing
+use Rattle.cf_protocol.specs.Settings.{TokenTable}
 use Rattle.cf_protocol.specs.Shown.{shown_command, shown_outcome}
 use Rattle.cf_protocol.specs.declared.codes.ErrorCode.{ErrorCode}
 use Rattle.cf_protocol.specs.declared.codes.CloseCode.TheVariants as close
@@ -46,8 +48,13 @@ progress_at t ks who (stage.Says id outcome) = Todo (Say id (shown_outcome outco
 progress_at t ks who (stage.Closes code) = Todo (Close code)
 progress_at t ks who stage.Closed = Todo Over
 
+-- of a session that no tokens are lent to: none
+abbrev pub tokens_in : Option (Bor TokenTable) → TokenTable
+tokens_in None = []
+tokens_in (Some tokens) = tokens.now
+
 abbrev pub tables_of : Session → Tables
-tables_of s = record { namespaces = s.namespaces.now; tokens = s.tokens.now }
+tables_of s = record { namespaces = s.namespaces.now; tokens = tokens_in s.tokens }
 
 abbrev pub commands_left : Session → List Command
 commands_left s = map shown_command s.frame.items

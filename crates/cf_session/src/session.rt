@@ -1,17 +1,18 @@
 //! What a session does for its client's commands.
-ghost use Rattle.std.specs.Prelude.{◌≡◌, ◌+◌, ◌<◌, ◌≤◌, Option, Some, None, true, false, IsSome, string_bytes, length, map, IfErr, IfOk, OnOk, OnErr};
+ghost use Rattle.std.specs.Prelude.{◌≡◌, ◌+◌, ◌<◌, ◌≤◌, Option, Some, None, [], true, false, IsSome, option_copied, string_bytes, length, map, IfErr, IfOk, OnOk, OnErr};
 ghost use Rattle.cf_protocol.specs.Checks.{longest_text};
 ghost use Rattle.cf_protocol.specs.Codes.{code_of};
 ghost use Rattle.cf_protocol.specs.declared.codes.CloseCode.TheVariants as close;
 ghost use Rattle.cf_protocol.specs.Datum.{Who};
 ghost use Rattle.cf_protocol.specs.Frame.{IsCommands};
+ghost use Rattle.cf_protocol.specs.Settings.{user_of};
 ghost use Rattle.cf_protocol.specs.Shown.{shown_command, shown_outcome, shown_request};
 ghost use Rattle.cf_session.specs.Calls as call;
 ghost use Rattle.cf_session.specs.CommandScripts.{IsUnreadable, granted, replies, after_attach, after_begin};
 ghost use Rattle.cf_session.specs.Script as script;
 ghost use Rattle.cf_session.specs.SessionMachine.{Todo, Out, Calls, Closes, GoesOn, awaits, reply_text};
 ghost use Rattle.cf_session.specs.Shown.{shown_action, shown_answer, answer_kind};
-ghost use Rattle.cf_session.specs.Standing.{tables_of, commands_left, rest_of, rest_with, progress_at, progress_of, is_idle, is_over, is_short, refusals, work_at, work_of, Keeps, HearsFrame, ActsNext, TakesAnswer, ActsOn, Begins, script_from, opening_script, Falls};
+ghost use Rattle.cf_session.specs.Standing.{tables_of, tokens_in, commands_left, rest_of, rest_with, progress_at, progress_of, is_idle, is_over, is_short, refusals, work_at, work_of, Keeps, HearsFrame, ActsNext, TakesAnswer, ActsOn, Begins, script_from, opening_script, Falls};
 ghost use Rattle.cf_session.specs.declared.kind.Kind.TheVariants as kind;
 
 use crate::action::{Action, Answer};
@@ -33,7 +34,8 @@ const LONGEST_TEXT: usize = 65_536;
 /// One session of a client: it reads the client's texts, and says what is to be done for them, one action after another.
 pub struct Session<'a> {
     namespaces: &'a Namespaces,
-    tokens: &'a Tokens,
+    /// None: only the empty token is known.
+    tokens: Option<&'a Tokens>,
     client: Option<Info>,
     frame: VecDeque<Command>,
     stage: Stage,
@@ -65,6 +67,26 @@ impl<'a> Session<'a> {
         ensures progress { progress_of result ≡ Todo (script.Served None) }
         ensures tables { tables_of result
             ≡ record { namespaces = namespaces.now; tokens = tokens.now } }
+        ensures idle { is_idle result ≡ true }
+        ensures short { is_short result ≡ false }
+    {
+        Session::begun(alloc, namespaces, Some(tokens))
+    }
+
+    /// A session that waits for its client's connect, and to which no token but the empty one is known.
+    pub fn without_tokens(alloc: Global, namespaces: &'a Namespaces) -> Session<'a>
+        ensures progress { progress_of result ≡ Todo (script.Served None) }
+        ensures tables { tables_of result ≡ record { namespaces = namespaces.now; tokens = [] } }
+        ensures idle { is_idle result ≡ true }
+        ensures short { is_short result ≡ false }
+    {
+        Session::begun(alloc, namespaces, None)
+    }
+
+    fn begun(alloc: Global, namespaces: &'a Namespaces, tokens: Option<&'a Tokens>) -> Session<'a>
+        ensures progress { progress_of result ≡ Todo (script.Served None) }
+        ensures tables { tables_of result
+            ≡ record { namespaces = namespaces.now; tokens = tokens_in tokens.entry } }
         ensures idle { is_idle result ≡ true }
         ensures short { is_short result ≡ false }
     {
@@ -321,8 +343,7 @@ impl<'a> Session<'a> {
         let Request::Connect { token } = request else {
             return self.close(CloseCode::BadRequest);
         };
-        let tokens = self.tokens;
-        let Some(user) = tokens.user(token.as_str()) else {
+        let Some(user) = user_in(self.tokens, token.as_str()) else {
             return self.close(CloseCode::InvalidToken);
         };
         match self.attach(id, user) {
@@ -556,6 +577,19 @@ impl<'a> Session<'a> {
         self.stage = Stage::Closed;
         Action::Close(code)
     }
+}
+
+/// The user that a token connects. Where no tokens are set up, only the empty one connects, and the empty user.
+fn user_in<'a>(tokens: Option<&'a Tokens>, token: &str) -> Option<&'a str>
+    ensures { option_copied result ≡ user_of (tokens_in tokens.entry) token.now }
+{
+    let Some(tokens) = tokens else {
+        if token.is_empty() {
+            return Some("");
+        }
+        return None;
+    };
+    tokens.user(token)
 }
 
 /// The commands of a client's text. One that is too long is bad.

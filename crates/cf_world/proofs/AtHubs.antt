@@ -12,7 +12,8 @@ use Rattle.cf_machine.specs.Refusals.{bad_message}
 use Rattle.cf_stream.specs.declared.answer.History.{History}
 use Rattle.cf_world.specs.BrokerTie.{Histories, Publishes}
 use Rattle.cf_world.specs.Exchange.{ListAnswered, Lists, PutAnswered, Puts}
-use Rattle.cf_world.specs.HubCalls.{Answered, AreSame, AtHub, Closed, Hubs, Moves, Told, error_text, reply_text, who_in}
+use Rattle.cf_session.specs.SessionMachine.{reply_text}
+use Rattle.cf_world.specs.HubCalls.{Answered, AreSame, AtHub, Closed, Hubs, Moves, Told, error_text, who_in}
 use Rattle.cf_world.specs.Judging.{Judges}
 use Rattle.cf_world.specs.NodesTie.{seated, session_in}
 use Rattle.cf_world.specs.Sending.{Acts}
@@ -20,15 +21,15 @@ use Rattle.cf_world.specs.declared.broker.Broker.{Broker as Code}
 use Rattle.cf_world.specs.declared.broker.Published.{Published}
 use Rattle.cf_world.specs.declared.broker.Published.TheVariants as outcome
 use Rattle.cf_world.specs.declared.clients.Seat.{Seat}
-use Rattle.cf_world.specs.declared.judging.Judged.{Judged}
-use Rattle.cf_world.specs.declared.judging.Judged.TheVariants as judged
+use Rattle.cf_world.specs.Judging.{Judged}
+use Rattle.cf_world.specs.Judging as judged
 
 abbrev pub PutAnsweredAt : Published → Seat → ℕ → Hubs → Hubs → Type 0
 PutAnsweredAt outcome.Accepted s id old new = Answered s id PutDone old new
 PutAnsweredAt outcome.Repeated s id old new = Answered s id PutDone old new
 PutAnsweredAt outcome.AtLastOffset s id old new = Answered s id (Failed (code_of error.LimitExceeded)) old new
-PutAnsweredAt outcome.NoEpoch s id old new = AreSame old new
-PutAnsweredAt outcome.NotSetUp s id old new = AreSame old new
+PutAnsweredAt outcome.NoEpoch s id old new = Answered s id (Failed (code_of error.Internal)) old new
+PutAnsweredAt outcome.NotSetUp s id old new = Answered s id (Failed (code_of error.Internal)) old new
 
 pub record PutsAt (table : NamespaceTable) (m : Broker) (s : Seat) (c key body : List ℕ) (id : ℕ) (new : Code)
     (hubs hubs' : Hubs) : Type 0 where
@@ -38,7 +39,7 @@ pub record PutsAt (table : NamespaceTable) (m : Broker) (s : Seat) (c key body :
 
 abbrev pub ListAnsweredAt : Option History → Seat → ℕ → Hubs → Hubs → Type 0
 ListAnsweredAt (Some h) s id old new = Answered s id (Past h.position h.publications.items) old new
-ListAnsweredAt None s id old new = AreSame old new
+ListAnsweredAt None s id old new = Answered s id (Failed (code_of error.Internal)) old new
 
 pub record ListsAt (table : NamespaceTable) (m : Broker) (s : Seat) (c : List ℕ) (limit : ℤ) (id : ℕ) (new : Code)
     (hubs hubs' : Hubs) : Type 0 where
@@ -85,8 +86,8 @@ module _ (s : Seat) {h g : Node} {old new : Hubs} (v : Moves s.node h g old new)
   put-answered outcome.Accepted id a = moved v (Told s.session (reply_text id PutDone)) a
   put-answered outcome.Repeated id a = moved v (Told s.session (reply_text id PutDone)) a
   put-answered outcome.AtLastOffset id a = moved v (Told s.session (error_text id error.LimitExceeded)) a
-  put-answered outcome.NoEpoch id a = unmoved v a
-  put-answered outcome.NotSetUp id a = unmoved v a
+  put-answered outcome.NoEpoch id a = moved v (Told s.session (error_text id error.Internal)) a
+  put-answered outcome.NotSetUp id a = moved v (Told s.session (error_text id error.Internal)) a
 
   pub puts-at : {table : NamespaceTable} {m : Broker} {c key body : List ℕ} {id : ℕ} {b : Code} → Puts table m s.session c key body id b h g → PutsAt table m s c key body id b old new
   puts-at {table} {m} {c} {key} {body} {id} {b} y = record {
@@ -97,7 +98,7 @@ module _ (s : Seat) {h g : Node} {old new : Hubs} (v : Moves s.node h g old new)
 
   list-answered : (r : Option History) (id : ℕ) → ListAnswered r s.session id h g → ListAnsweredAt r s id old new
   list-answered (Some r) id a = moved v (Told s.session (reply_text id (Past r.position r.publications.items))) a
-  list-answered None id a = unmoved v a
+  list-answered None id a = moved v (Told s.session (error_text id error.Internal)) a
 
   pub lists-at : {table : NamespaceTable} {m : Broker} {c : List ℕ} {limit : ℤ} {id : ℕ} {b : Code} → Lists table m s.session c limit id b h g → ListsAt table m s c limit id b old new
   lists-at {id = id} y = record { result = y.result; finds = y.finds; answered = list-answered y.result id y.answered }

@@ -41,7 +41,8 @@ use Rattle.cf_machine.proofs.Brokering.{lists-opened}
 use Rattle.cf_world.specs.BrokerTie.{Histories, IsStanding, Publishes, ShowsBroker}
 use Rattle.cf_world.specs.ClientTie.{Becomes, IsOwn, ShowsPeer, sent_state}
 use Rattle.cf_world.specs.Exchange.{IsGranted}
-use Rattle.cf_world.specs.HubCalls.{Answered, AskedTooMuch, AskedTwice, Asks, AtHub, Began, Hubs, LeftTold, OneHub, Told, error_text, reply_text, who_in}
+use Rattle.cf_session.specs.SessionMachine.{reply_text}
+use Rattle.cf_world.specs.HubCalls.{Answered, AskedTooMuch, AskedTwice, Asks, AtHub, Began, Hubs, LeftTold, OneHub, Told, error_text, who_in}
 use Rattle.cf_world.specs.NodesTie.{IsSeated, name_of, seated, session_in}
 use Rattle.cf_world.specs.Tie.{AreTied}
 use Rattle.cf_world.specs.declared.broker.Broker.{Broker as Code}

@@ -15,6 +15,15 @@ pub mod Publishing
 pub mod Sitting
 pub mod Owned
 pub mod Served
+pub mod Long
+pub mod Running
+pub mod Waiting
+pub mod OneText
+pub mod ServedStill
+pub mod SessionReads
+pub mod Staying
+pub mod Greeting
+pub mod TextDone
 pub mod Breaking
 pub mod Reading
 pub mod ReadGoes

@@ -12,7 +12,8 @@ use Rattle.cf_hub.specs.Session.{Attached}
 use Rattle.cf_machine.specs.PublicationList.{Broker}
 use Rattle.cf_world.specs.BrokerTie.{IsDatum, Publishes, datum_from, who_by}
 use Rattle.cf_world.specs.Exchange.{PutAnswered, Puts}
-use Rattle.cf_world.specs.HubCalls.{reply_text, who_in}
+use Rattle.cf_session.specs.SessionMachine.{reply_text}
+use Rattle.cf_world.specs.HubCalls.{who_in}
 use Rattle.cf_world.specs.declared.broker.Broker.{Broker as Code}
 use Rattle.cf_world.specs.declared.broker.Published.{Published}
 use Rattle.cf_world.proofs.Reading.{Missing}

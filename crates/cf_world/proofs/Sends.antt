@@ -12,10 +12,8 @@ use Rattle.cf_protocol.specs.Outgoing.{Failed}
 use Rattle.cf_protocol.specs.Regular.{IsCode, IsRegularCommand}
 use Rattle.cf_protocol.specs.Request.{Command}
 use Rattle.cf_protocol.specs.Settings.{NamespaceTable}
-use Rattle.cf_protocol.specs.Shown.{shown_command}
 use Rattle.cf_protocol.specs.Written.{command_text}
 use Rattle.cf_protocol.specs.declared.codes.ErrorCode.{ErrorCode}
-use Rattle.cf_protocol.specs.declared.command.Command.{Command as CodeCommand}
 use Rattle.cf_protocol.specs.declared.codes.ErrorCode.TheVariants as error
 use Rattle.cf_client.specs.ClientCalls.{State, call_fault}
 use Rattle.cf_model.specs.Limits.{last_id}
@@ -34,7 +32,8 @@ use Rattle.cf_machine.specs.World.{World}
 use Rattle.cf_world.specs.ClientTie.{AsksFrom, IsOwn, NotSent, Sent, ShowsClient, ShowsPeer, request_by, sent_state}
 use Rattle.cf_world.specs.ClientCommands.{IsReadBack, event_by}
 use Rattle.cf_world.specs.Exchange.{asks_too_much, lacks_by, sent_by}
-use Rattle.cf_world.specs.HubCalls.{AtHub, Told, reply_text}
+use Rattle.cf_session.specs.SessionMachine.{reply_text}
+use Rattle.cf_world.specs.HubCalls.{AtHub, Told}
 use Rattle.cf_world.specs.Judging.{Judges, Passes}
 use Rattle.cf_world.specs.NodesTie.{IsSeated, ShowsNodes, seated}
 use Rattle.cf_world.specs.Sending.{IsSent}
@@ -42,8 +41,8 @@ use Rattle.cf_world.specs.Tie.{AreTied, seats_of}
 use Rattle.cf_world.specs.declared.broker.Broker.{Broker as Code}
 use Rattle.cf_world.specs.declared.client_command.ClientCommand.{ClientCommand}
 use Rattle.cf_world.specs.declared.client_command.ClientCommand.TheVariants as client_command
-use Rattle.cf_world.specs.declared.judging.Judged.{Judged}
-use Rattle.cf_world.specs.declared.judging.Judged.TheVariants as judged
+use Rattle.cf_world.specs.Judging.{Judged}
+use Rattle.cf_world.specs.Judging as judged
 use Rattle.cf_world.specs.declared.clients.Peer.{Peer}
 use Rattle.cf_world.specs.declared.clients.Seat.{Seat}
 use Rattle.cf_world.proofs.AtHubs.{ActsAt, HearsAt}
@@ -78,7 +77,7 @@ fresh_code v h =
     let left : nat_le (state_of v).client.fresh last_id ≡ true = left-of v.connected (nat_le (state_of v).client.fresh last_id) h in
     (omega arith, grind (arith, nat_tests, left))
 
-is_regular : (e : ClientCommand) (v : ClientView) → call_fault (state_of v) ≡ None → AsksFrom (request_by e (state_of v).client) → IsReadBack e
+pub is_regular : (e : ClientCommand) (v : ClientView) → call_fault (state_of v) ≡ None → AsksFrom (request_by e (state_of v).client) → IsReadBack e
     → IsRegularCommand (command_of (record { id = (state_of v).client.fresh; request = request_by e (state_of v).client }))
 is_regular (client_command.Ask channel) v left from back = (fresh_code v left, tt)
 is_regular (client_command.AskFrom channel) v left from back = (fresh_code v left, from)
@@ -105,7 +104,7 @@ IsAgainst judged.Unreadable = Unit {0}
 IsAgainst (judged.Refused id code) = Unit {0}
 IsAgainst (judged.Granted command) = ⊥
 
-pub against_by : (j : Judged) → ((command : CodeCommand) → j ≡ judged.Granted command → ⊥) → IsAgainst j
+pub against_by : (j : Judged) → ((command : Command) → j ≡ judged.Granted command → ⊥) → IsAgainst j
 against_by judged.Unheard h = tt
 against_by judged.TooLong h = tt
 against_by judged.Unreadable h = tt
@@ -182,13 +181,13 @@ module _ {cfg : Config} {table : NamespaceTable} {b : Code} {hubs : ℕ → Opti
             namespaces = t.namespaces;
             broker = t.broker;
             nodes = subst (λ (f : List ℕ → Option Seat). ShowsNodes cfg hubs f m) (λ i y. sym (seats y) i) t.nodes;
-            clients = λ y. subst (λ (o : Option Peer). ShowsClient o (m.links y)) (sym (n.becomes.now y)) (with-all (λ z (o : Option Peer). ShowsClient o (m.links z)) peers x (Some (record p { client = n.becomes.client })) same (λ z ne. t.clients z) y);
+            clients = λ y. subst (λ (o : Option Peer). ShowsClient o (m.links y)) (sym (n.becomes.now y)) (with-all (λ z (o : Option Peer). ShowsClient o (m.links z)) peers x (Some (record p { client = n.becomes.client; session = n.becomes.session })) same (λ z ne. t.clients z) y);
           })
         where
           seats : (y : List ℕ) → seats_of peers' y ≡ seats_of peers y
-          seats y = seats-with peers peers' x (record p { client = n.becomes.client }) n.becomes.now y ∙ same-seats peers x p.seat (seat_here peers x p found) y
+          seats y = seats-with peers peers' x (record p { client = n.becomes.client; session = n.becomes.session }) n.becomes.now y ∙ same-seats peers x p.seat (seat_here peers x p found) y
 
-          same : ShowsPeer (record p { client = n.becomes.client }) l
+          same : ShowsPeer (record p { client = n.becomes.client; session = n.becomes.session }) l
           same = record {
             client = ap (λ (v : State). v.client) n.becomes.state_is ∙ here.client;
             connected = ap (λ (v : State). v.connected) n.becomes.state_is ∙ here.connected;
@@ -266,10 +265,10 @@ module _ {cfg : Config} {table : NamespaceTable} {b : Code} {hubs : ℕ → Opti
               subst (λ (w : World). AreTied cfg table b hubs' peers' w) (sym happens_is)
               (by_judged j h.closed (h.is_closed ∙ closed_here) h.judges h.acts a)
 
-          pub granted : (command : CodeCommand) → HearsAt table s text hubs hubs' (judged.Granted command) → IsSent cfg m x e hubs hubs' peers peers' s command
+          pub granted : (command : Command) → HearsAt table s text hubs hubs' (judged.Granted command) → IsSent cfg m x e hubs hubs' peers peers' s command
           granted command h =
-              let passes : Passes table h.closed text (shown_command command) = h.judges in
-              let read : shown_command command ≡ command_of k = read_is (shown_command command) passes.said in
+              let passes : Passes table h.closed text command = h.judges in
+              let read : command ≡ command_of k = read_is command passes.said in
               let opened : l.session.closed ≡ false = sym (h.is_closed ∙ closed_here) ∙ passes.opened in
               let fits : nat_lt longest_text (command_length (command_of k)) ≡ false = sym long_is ∙ passes.fits in
               let checked : first_failed (checks cfg.namespaces (request_of request)) ≡ None = sym (λ i. first_failed (checks (t.namespaces i) (read i).request)) ∙ passes.none in

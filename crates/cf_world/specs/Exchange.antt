@@ -24,7 +24,8 @@ use Rattle.cf_machine.specs.Weights.{command_length}
 use Rattle.cf_machine.specs.World.{World}
 use Rattle.cf_world.specs.BrokerTie.{Histories, Publishes, ShowsBroker}
 use Rattle.cf_world.specs.ClientTie.{request_by}
-use Rattle.cf_world.specs.HubCalls.{Asks, LeftTold, Told, error_text, reply_text, who_in}
+use Rattle.cf_session.specs.SessionMachine.{reply_text}
+use Rattle.cf_world.specs.HubCalls.{Asks, LeftTold, Told, error_text, who_in}
 use Rattle.cf_world.specs.declared.broker.Broker.{Broker as Code}
 use Rattle.cf_world.specs.declared.broker.Published.{Published}
 use Rattle.cf_world.specs.declared.broker.Published.TheVariants as outcome
@@ -69,8 +70,8 @@ abbrev pub PutAnswered : Published → ℕ → ℕ → Node → Node → Type 0
 PutAnswered outcome.Accepted k id h g = Told k (reply_text id PutDone) h g
 PutAnswered outcome.Repeated k id h g = Told k (reply_text id PutDone) h g
 PutAnswered outcome.AtLastOffset k id h g = Told k (error_text id error.LimitExceeded) h g
-PutAnswered outcome.NoEpoch k id h g = g ≡ h
-PutAnswered outcome.NotSetUp k id h g = g ≡ h
+PutAnswered outcome.NoEpoch k id h g = Told k (error_text id error.Internal) h g
+PutAnswered outcome.NotSetUp k id h g = Told k (error_text id error.Internal) h g
 
 -- a client's datum, which names it, is published under a key, and the client is answered
 pub record Puts (table : NamespaceTable) (m : Broker) (k : ℕ) (c key body : List ℕ) (id : ℕ) (new : Code)
@@ -82,7 +83,7 @@ pub record Puts (table : NamespaceTable) (m : Broker) (k : ℕ) (c key body : Li
 -- what is said to a history of session k
 abbrev pub ListAnswered : Option History → ℕ → ℕ → Node → Node → Type 0
 ListAnswered (Some r) k id h g = Told k (reply_text id (Past r.position r.publications.items)) h g
-ListAnswered None k id h g = g ≡ h
+ListAnswered None k id h g = Told k (error_text id error.Internal) h g
 
 pub record Lists (table : NamespaceTable) (m : Broker) (k : ℕ) (c : List ℕ) (limit : ℤ) (id : ℕ) (new : Code)
     (h g : Node) : Type 0 where

@@ -3,9 +3,8 @@ use Rattle.std.specs.Prelude.{◌≡◌, ◌≢◌, ◌⊎◌, ◌+◌, ℕ, suc
 use Rattle.std.specs.Prelude.{option_and_then, option_map, slice_get}
 use Rattle.cf_protocol.specs.Codes.{code_of}
 use Rattle.cf_protocol.specs.Datum.{Placed}
-use Rattle.cf_protocol.specs.Outgoing.{Answer, Failed, Outcome, Unsubscribed}
+use Rattle.cf_protocol.specs.Outgoing.{Failed, Outcome, Unsubscribed}
 use Rattle.cf_protocol.specs.Position.{Position}
-use Rattle.cf_protocol.specs.Written.{outgoing_text}
 use Rattle.cf_protocol.specs.declared.codes.ErrorCode.{ErrorCode}
 use Rattle.cf_protocol.specs.declared.codes.ErrorCode.TheVariants as error
 use Rattle.cf_queue.specs.OutQueue.{Item, Close, Text}
@@ -18,6 +17,7 @@ use Rattle.cf_hub.specs.Session.{Attached}
 use Rattle.cf_model.specs.SessionState.{checks, closes_now, is_off, is_unfinished, leaves, push, reads, takes_front}
 use Rattle.cf_hub.specs.Subscriptions.{reading_of}
 use Rattle.cf_hub.specs.WantOfMemory.{OrCloses}
+use Rattle.cf_session.specs.SessionMachine.{reply_text}
 use Rattle.cf_hub.specs.Wordings.{plain, reading}
 use Rattle.cf_stream.specs.declared.answer.Recovery.{Recovery}
 use Rattle.cf_protocol.specs.Datum.{Who}
@@ -136,10 +136,7 @@ Attaches n (Some k) old new = (h : Node) × (old n ≡ Some h) × OneHub n (Sits
 
 -- ---- a command is answered
 
--- the text of the reply to command id
-abbrev pub reply_text : ℕ → Outcome → List ℕ
-reply_text id o = outgoing_text (Answer id o)
-
+-- the text that refuses command id
 abbrev pub error_text : ℕ → ErrorCode → List ℕ
 error_text id code = reply_text id (Failed (code_of code))
 

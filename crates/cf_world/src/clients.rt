@@ -1,13 +1,17 @@
 //! The clients by name, and where their sessions are.
-ghost use Rattle.std.specs.Prelude.{◌≡◌, ℕ, List, Some, map, IfOk, OnOk};
+ghost use Rattle.std.specs.Prelude.{◌≡◌, ℕ, List, Some, map, IfOk, OnOk, string_bytes, true};
 ghost use Rattle.std.specs.BTreeMap.{get_by_text};
 ghost use Rattle.cf_client.specs.Shown.{shown_item};
+ghost use Rattle.cf_session.specs.Standing.{is_idle};
 ghost use Rattle.cf_world.specs.ClientTie.{Heard, Joins, LeavesNode, Unseats, state_before};
 ghost use Rattle.cf_world.specs.declared.clients.Peer.{Peer as AnyPeer};
 
 use crate::client_command::ClientCommand;
 use crate::short::Short;
+use crate::stepping::greet;
 use cf_client::{AppEvent, Client, ClientFault};
+use cf_protocol::laws::commands_read_back;
+use cf_session::Session;
 use std::alloc::Global;
 use std::collections::BTreeMap;
 
@@ -18,37 +22,47 @@ pub struct Seat {
     pub session: u32,
 }
 
-/// A client, and its session while it is connected.
+/// A client, and where its session is while it is connected. The node's part of that session, which reads the client's texts, is
+/// the one that it has now, or had last.
 #[derive(Drop)]
-pub(crate) struct Peer {
+pub(crate) struct Peer<'a> {
     pub(crate) client: Client,
     pub(crate) seat: Option<Seat>,
+    pub(crate) session: Session<'a>,
 }
 
 /// A client connects, and sits here; one that was never seen comes new.
-pub(crate) fn join(
+pub(crate) fn join<'a>(
     alloc: Global,
-    clients: &mut BTreeMap<String, Peer>,
+    clients: &mut BTreeMap<String, Peer<'a>>,
     name: &str,
     seat: Seat,
+    session: Session<'a>,
+    id: String,
 ) -> Result<(), Short>
+    requires { is_idle session ≡ true }
     ensures { OnOk result
-        (Joins name.now seat (state_before (get_by_text clients.old name.now))
+        (Joins name.now seat (string_bytes id) session.entry (state_before (get_by_text clients.old name.now))
         (get_by_text clients.old) (get_by_text clients.new)) }
 {
     if let Some(peer) = clients.get_mut(name) {
-        return peer.join(seat);
+        peer.session = session;
+        return peer.join(seat, id);
     }
     let key = String::from_str(alloc, name)?;
     let client = Client::new(alloc);
-    let mut peer = Peer { client, seat: None };
-    peer.join(seat)?;
+    let mut peer = Peer {
+        client,
+        seat: None,
+        session,
+    };
+    peer.join(seat, id)?;
     clients.insert(key, peer)?;
     Ok(())
 }
 
 /// The connection of a client is gone.
-pub(crate) fn unseat(clients: &mut BTreeMap<String, Peer>, name: &str)
+pub(crate) fn unseat(clients: &mut BTreeMap<String, Peer<'_>>, name: &str)
     ensures { (p : AnyPeer) → get_by_text clients.old name.now ≡ Some p
         → Unseats name.now p (get_by_text clients.old) (get_by_text clients.new) }
 {
@@ -58,7 +72,7 @@ pub(crate) fn unseat(clients: &mut BTreeMap<String, Peer>, name: &str)
 }
 
 /// The connections to a node are gone.
-pub(crate) fn unseat_all(clients: &mut BTreeMap<String, Peer>, node: u8)
+pub(crate) fn unseat_all(clients: &mut BTreeMap<String, Peer<'_>>, node: u8)
     ensures { (y : List ℕ)
         → LeavesNode node (get_by_text clients.old y) (get_by_text clients.new y) }
 {
@@ -71,7 +85,7 @@ pub(crate) fn unseat_all(clients: &mut BTreeMap<String, Peer>, node: u8)
 /// A client takes a text.
 pub(crate) fn hear(
     alloc: Global,
-    clients: &mut BTreeMap<String, Peer>,
+    clients: &mut BTreeMap<String, Peer<'_>>,
     name: &str,
     text: &str,
 ) -> Result<Vec<AppEvent>, Short>
@@ -88,8 +102,9 @@ pub(crate) fn hear(
     }
 }
 
-impl Peer {
-    ghost use Rattle.std.specs.Prelude.{◌≡◌, IfOk, OnOk, OnErr, None, Some, string_bytes};
+impl Peer<'_> {
+    ghost use Rattle.std.specs.Prelude.{◌≡◌, IfOk, OnOk, OnErr, None, Some, string_bytes, true};
+    ghost use Rattle.cf_session.specs.Standing.{is_idle};
     ghost use Rattle.cf_protocol.specs.Written.{command_text};
     ghost use Rattle.cf_client.specs.ClientCalls.{RefusedBy, connected, reconnected};
     ghost use Rattle.cf_client.specs.ClientView.{state_of};
@@ -98,10 +113,12 @@ impl Peer {
     ghost use Rattle.cf_world.specs.ClientTie.{AsksFrom, LeavesAs, request_by, send_fault};
     ghost use Rattle.cf_world.specs.ClientTie.{sent_state};
     ghost use Rattle.cf_world.specs.Exchange.{sent_by};
+    ghost use Rattle.cf_world.specs.Serving.{Meets};
 
     fn break_off(&mut self)
         ensures state { state_of self.new.client ≡ reconnected (state_of self.old.client) }
         ensures seat { self.new.seat ≡ None }
+        ensures session { self.new.session ≡ self.old.session }
     {
         self.client.reconnect();
         self.seat = None;
@@ -117,18 +134,24 @@ impl Peer {
         }
     }
 
-    fn join(&mut self, seat: Seat) -> Result<(), Short>
+    // The client connects here, and its session, which is new, hears the text and is attached under this id. The reply is no news
+    // to the client.
+    fn join(&mut self, seat: Seat, id: String) -> Result<(), Short>
+        requires { is_idle self.old.session ≡ true }
         ensures state { OnOk result (state_of self.new.client
             ≡ connected (state_of self.old.client)) }
         ensures seat { OnOk result (self.new.seat ≡ Some seat) }
+        ensures session { OnOk result (Meets (string_bytes id) self.old.session self.new.session) }
     {
-        match self.client.connect("") {
-            Ok(_text) => {
-                self.seat = Some(seat);
-                Ok(())
-            }
-            Err(_) => Err(Short),
-        }
+        commands_read_back();
+        let Ok(text) = self.client.connect("") else {
+            return Err(Short);
+        };
+        let Some(_reply) = greet(&mut self.session, text.as_str(), id)? else {
+            return Err(Short);
+        };
+        self.seat = Some(seat);
+        Ok(())
     }
 
     /// What a client sends. It can't where the channel isn't idle, or is, or its ids are used up.
@@ -141,6 +164,7 @@ impl Peer {
         ensures refused { RefusedBy (send_fault command.now (state_of self.old.client)) result }
         ensures err { OnErr result (state_of self.new.client ≡ state_of self.old.client) }
         ensures seat { self.new.seat ≡ self.old.seat }
+        ensures session { self.new.session ≡ self.old.session }
         ensures apart { AreApart (state_of self.old.client).client }
         ensures since { AsksFrom (request_by command.now (state_of self.old.client).client) }
     {

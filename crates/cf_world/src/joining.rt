@@ -1,5 +1,7 @@
 //! Connections that come, and that go.
-ghost use Rattle.std.specs.Prelude.{OnOk};
+ghost use Rattle.std.specs.Prelude.{◌≡◌, ℕ, List, IfOk, OnOk, Some, string_bytes};
+ghost use Rattle.cf_hub.specs.Hub.{attached_at};
+ghost use Rattle.cf_world.specs.NodesTie.{name_of};
 ghost use Rattle.cf_machine.specs.Event as said;
 ghost use Rattle.cf_world.specs.Tie.{GoesOn};
 
@@ -9,8 +11,10 @@ use crate::short::Short;
 use crate::world::World;
 use cf_hub::laws::{calls_are_alike, sessions_are_counted};
 use cf_hub::{Hub, HubRefusal};
+use cf_session::Session;
+use std::alloc::Global;
 
-impl World {
+impl World<'_> {
     /// A client connects to a node, unless it is connected, there is no such node, or the node has no room.
     pub fn connect(&mut self, name: &str, node: u8) -> Result<(), Short>
         ensures { OnOk result (GoesOn (said.Connect name.now node) self.old self.new) }
@@ -25,7 +29,12 @@ impl World {
         };
         hub.invariant();
         match hub.attach(String::new(self.alloc), NOW) {
-            Ok(session) => join(self.alloc, &mut self.clients, name, Seat { node, session }),
+            Ok(session) => {
+                let id = id_at(hub, self.alloc, session)?;
+                let seat = Seat { node, session };
+                let waits = Session::without_tokens(self.alloc, self.namespaces);
+                join(self.alloc, &mut self.clients, name, seat, waits, id)
+            }
             Err(HubRefusal::TooMany) => Ok(()),
             Err(_) => Err(Short),
         }
@@ -57,5 +66,16 @@ impl World {
         *hub = Hub::new(self.alloc, node, boot);
         unseat_all(&mut self.clients, node);
         Ok(())
+    }
+}
+
+// The client id of a session.
+fn id_at(hub: &Hub, alloc: Global, session: u32) -> Result<String, Short>
+    ensures { IfOk result (λ id. (client : List ℕ)
+        → name_of (attached_at hub.now session) ≡ Some client → string_bytes id ≡ client) }
+{
+    match hub.client_id(session) {
+        Some(id) => Ok(String::from_str(alloc, id)?),
+        None => Ok(String::new(alloc)),
     }
 }

@@ -23,25 +23,24 @@ const FIRST_BOOT: u64 = 1;
 
 /// The broker, nodes and clients, and all that lies between them.
 #[derive(Drop)]
-pub struct World {
-    pub(crate) namespaces: Namespaces,
+pub struct World<'a> {
+    pub(crate) namespaces: &'a Namespaces,
     pub(crate) broker: Broker,
     pub(crate) hubs: Vec<Hub>,
-    pub(crate) clients: BTreeMap<String, Peer>,
+    pub(crate) clients: BTreeMap<String, Peer<'a>>,
     pub(crate) alloc: Global,
 }
 
-impl World {
+impl<'a> World<'a> {
     /// A world in which nothing has happened, with so many nodes.
-    pub fn new(alloc: Global, nodes: u8, namespaces: &Namespaces) -> Result<World, Short>
+    pub fn new(alloc: Global, nodes: u8, namespaces: &'a Namespaces) -> Result<World<'a>, Short>
         ensures { IfOk result
             (λ w. Tied (record { nodes = nodes; namespaces = namespaces.now }) w start) }
     {
         let hubs = new_hubs(alloc, nodes)?;
-        let namespaces_kept = namespaces.copied()?;
         let broker = Broker::new(alloc, namespaces)?;
         Ok(World {
-            namespaces: namespaces_kept,
+            namespaces,
             broker,
             hubs,
             clients: BTreeMap::new(alloc),

@@ -11,6 +11,8 @@ pub returns : goal.returns
 returns c = λ cfg past t.
     let w : World = run cfg start past in
     let old : Code = c.args.self.now.broker in
-    let new : Code = record old { streams = c.forget.new.self } in
-    forget-goes t new c.what_is_said_stays.ensures.grows c.args.channel.now
-    (forget_shows cfg.namespaces old new w.broker c.args.channel.now t.broker (ap (λ (k : StreamMap). k.namespaces) c.forget.ensures.forgotten) refl refl c.forget.ensures.lists)
+    let new : Code = record old { streams = c.forget.new.self } in (
+      forget-goes t.0 new c.what_is_said_stays.ensures.grows c.args.channel.now
+          (forget_shows cfg.namespaces old new w.broker c.args.channel.now t.0.broker (ap (λ (k : StreamMap). k.namespaces) c.forget.ensures.forgotten) refl refl c.forget.ensures.lists),
+      t.1,
+    )

@@ -13,6 +13,8 @@ pub returns : goal.returns
 returns c = λ cfg past t.
     let w : World = run cfg start past in
     let old : Code = c.args.self.now.broker in
-    let new : Code = record old { streams = c.forget_all.new.self } in
-    broker-goes t new c.what_is_said_stays.ensures.grows (forget_all w.broker) (grown-refl w.broker.lists)
-    (restart_shows cfg.namespaces old new w.broker t.broker (ap (λ (k : StreamMap). k.namespaces) c.forget_all.ensures.forgotten) refl refl c.forget_all.ensures.lists)
+    let new : Code = record old { streams = c.forget_all.new.self } in (
+      broker-goes t.0 new c.what_is_said_stays.ensures.grows (forget_all w.broker) (grown-refl w.broker.lists)
+          (restart_shows cfg.namespaces old new w.broker t.0.broker (ap (λ (k : StreamMap). k.namespaces) c.forget_all.ensures.forgotten) refl refl c.forget_all.ensures.lists),
+      t.1,
+    )

@@ -11,6 +11,8 @@ pub returns : goal.returns
 returns c = λ cfg past t.
     let w : World = run cfg start past in
     let old : Code = c.args.self.now.broker in
-    let new : Code = record old { streams = c.trim.new.self } in
-    trim-goes t new c.what_is_said_stays.ensures.grows c.args.channel.now c.args.count
-    (trim_shows cfg.namespaces old new w.broker c.args.channel.now c.args.count t.broker (ap (λ (k : StreamMap). k.namespaces) c.trim.ensures.trimmed) refl refl c.trim.ensures.lists)
+    let new : Code = record old { streams = c.trim.new.self } in (
+      trim-goes t.0 new c.what_is_said_stays.ensures.grows c.args.channel.now c.args.count
+          (trim_shows cfg.namespaces old new w.broker c.args.channel.now c.args.count t.0.broker (ap (λ (k : StreamMap). k.namespaces) c.trim.ensures.trimmed) refl refl c.trim.ensures.lists),
+      t.1,
+    )

@@ -9,7 +9,7 @@ use Rattle.cf_world.specs.ClientTie.{request_by}
 use Rattle.cf_world.specs.declared.client_command.ClientCommand.{ClientCommand}
 use Rattle.cf_world.specs.declared.clients.Peer.{Peer}
 use Rattle.cf_world.proofs.Passing.{list-lacks, passes-by-id, put-lacks}
-use Rattle.cf_world.proofs.granted.lacks_epoch.Goals as goal
+use Rattle.cf_world.proofs.sending.lacks_epoch.Goals as goal
 
 pub returns-in_ok-from_str-in-Put-3 : goal.returns-in_ok-from_str-in-Put-3
 returns-in_ok-from_str-in-Put-3 c =
