@@ -11,8 +11,8 @@ use Rattle.websocket.specs.declared.protocol.frame.coding.CloseCode.{CloseCode}
 use Rattle.cf_queue.specs.declared.queue.Out.{Out}
 use Rattle.cf_queue.specs.declared.queue.Out.TheVariants.{Text, Close}
 use Rattle.cf_wire.specs.CloseFrame.{frame_of}
-use Rattle.cf_wire.specs.Stages.{WireState, is_open, is_over, waits_by, end_by, after, close_in, settled, Halts, Stops}
-use Rattle.cf_wire.specs.Turn.{Event, heard, passed, ended, rejected, failed, none, sent, refused, flushed, tried, reads, moves, bytes, bytes_before, is_stop, most_reads, most_bytes, IsEmptied, Rests, IsUsedUp, EndFits, Mark, going, emptied, over, Fits, is_bad, is_signal, code_in, bad_message, Puts, Fails, Settles, FlushLeaves, Place, place, DeskDoes, WireDoes, Did, Part, Turns, mark_of, read_in}
+use Rattle.cf_wire.specs.Stages.{WireState, is_open, is_over, waits_by, end_by, after, close_in, code_of_fault, settled, Halts, Stops}
+use Rattle.cf_wire.specs.Turn.{Event, heard, passed, ended, rejected, failed, none, sent, refused, flushed, tried, reads, moves, bytes, bytes_before, is_stop, most_reads, most_bytes, IsEmptied, Rests, IsUsedUp, EndFits, Mark, going, emptied, over, Fits, is_bad, is_signal, code_in, bad_message, Puts, Fails, Settles, Tells, TellsIf, FlushLeaves, Place, place, DeskDoes, WireDoes, Did, Part, Turns, mark_of, read_in}
 use Rattle.cf_wire.specs.declared.end.Stage.{Stage}
 use Rattle.cf_wire.specs.declared.end.Stage.TheVariants.{Open, Unflushed, Over}
 use Rattle.cf_wire.specs.declared.end.WireEnd.{WireEnd}
@@ -242,6 +242,16 @@ module _ {S : Type 0} where
   settles_close contents old mid new code f stage (Err e) is puts empty fault io memory same ok err =
       settles contents old mid new (Close code) stage (Err e) puts empty (rw is at fault, (λ (h : IsIo e). rw is at (io h)), (λ (h : Some code ≡ None). absurd (cc h)), memory) same ok err
 
+  pub tells_close : (contents : S → Option (List ℕ)) (old new : Socket S) (code : ℕ) (f : Option (CloseCode × List ℕ)) (answer : Result (Unit {0}) Error)
+      → f ≡ frame_of code
+      → OnOk answer (Writes contents old new (close_step old.conn f)) → OnOk answer (new.output ≡ [])
+      → IfErr answer (WriteFails (close_step old.conn f)) → IfErr answer (λ e. IsIo e → Writes contents old new (close_step old.conn f))
+      → IfErr answer (λ e. e ≡ OutOfMemory → new ≡ old)
+      → Tells contents old code new
+  tells_close contents old new code f (Ok u) is puts empty fault io memory = inl (rw is at puts, empty)
+  tells_close contents old new code f (Err e) is puts empty fault io memory =
+      inr (e, (rw is at fault, (λ (h : IsIo e). rw is at (io h)), (λ (h : Some code ≡ None). absurd (cc h)), memory))
+
 -- a close's code and reason
 abbrev pub framed : CloseCode → List ℕ → Option (CloseCode × List ℕ)
 framed code reason = Some (code, reason)
@@ -432,10 +442,9 @@ module _ {D S : Type 0} (hears : D → List ℕ → D → Type 0) (gives : D →
       (close_here d u (record { socket = mid; stage = Unflushed (Some code) }) w code r left rest free room stay (stage_at u v same is, refl, (m, read, says)) f leaves opened stops)
 
   pub fail_turns : (d : D) (u v w : WireState S) (mid : Socket S) (e : Error) (end : TurnEnd) (left rest : ℕ) → u ≡ v → v.stage ≡ Open
-      → ready d ≡ true → 0 < left → rest ≡ left → Reads remaining u.socket mid (Err e) → w.socket ≡ mid → w.stage ≡ after e Open → Halts end w.stage
+      → ready d ≡ true → 0 < left → rest ≡ left → Reads remaining u.socket mid (Err e) → TellsIf contents mid (code_of_fault e) w.socket → w.stage ≡ after e Open → Halts end w.stage
       → Part hears gives ready remaining contents 0 1 left rest (over end) (place d v) (place d w)
-  fail_turns d u v w mid e end left rest same is free room stay read stays left_at halts =
-      let P : Socket S → Type 0 = λ x. Reads remaining u.socket x (Err e) in
+  fail_turns d u v w mid e end left rest same is free room stay read tells left_at halts =
       turns_at _ _ _ _ _ d u v _ same
-      (turns_one (failed e) 0 1 left rest (over end) _ _ (free, refl) (stage_at u v same is, subst P (sym stays) read, left_at)
+      (turns_one (failed e) 0 1 left rest (over end) _ _ (free, refl) (stage_at u v same is, (mid, read, tells), left_at)
       (omega arith) (omega arith) (omega (arith, stay)) (inl (omega arith)) (fits_stop end w.stage (failed e) [] (ready d) halts refl))

@@ -4,6 +4,8 @@ use Rattle.std.specs.IoError.{error_kind}
 use Rattle.std.specs.declared.io.ErrorKind.{ErrorKind}
 use Rattle.std.specs.declared.io.ErrorKind.TheVariants as kind
 use Rattle.tungstenite.specs.Socket.{Socket}
+use Rattle.websocket.specs.declared.error.ProtocolError.{ProtocolError}
+use Rattle.websocket.specs.declared.error.ProtocolError.TheVariants.{ResetWithoutClosingHandshake}
 use Rattle.tungstenite.specs.declared.error.Error.{Error}
 use Rattle.tungstenite.specs.declared.error.Error.TheVariants as error
 use Rattle.cf_queue.specs.declared.queue.Out.{Out}
@@ -57,6 +59,18 @@ end_by other = wire.StreamFault
 -- where an error of the socket leaves a wire that waits at this stage if the stream would block
 abbrev pub after : Error → Stage → Stage
 after e waiting = if waits_by e then waiting else Over (end_by e)
+
+-- The code of the close that a peer is told after a read with this error: 1002 where it sent what is no frame, or one
+-- that may not come there, and 1007 where a text or the reason of a close is not UTF-8. (RFC 6455, sections 7.1.7, 7.4.1
+-- and 8.1.) None where the stream ended or failed, or memory was refused.
+abbrev pub code_of_cause : ProtocolError → Option ℕ
+code_of_cause ResetWithoutClosingHandshake = None
+code_of_cause other = Some 1002
+
+abbrev pub code_of_fault : Error → Option ℕ
+code_of_fault error.Utf8 = Some 1007
+code_of_fault (error.Protocol cause) = code_of_cause cause
+code_of_fault other = None
 
 -- the code of what goes out, where it is a close
 abbrev pub close_in : Out → Option ℕ

@@ -18,7 +18,7 @@ use Rattle.cf_protocol.specs.declared.codes.CloseCode.TheVariants.{BadRequest}
 use Rattle.cf_queue.specs.declared.queue.Out.{Out}
 use Rattle.cf_queue.specs.declared.queue.Out.TheVariants.{Text, Close}
 use Rattle.cf_wire.specs.CloseFrame.{frame_of}
-use Rattle.cf_wire.specs.Stages.{WireState, after, close_in, settled}
+use Rattle.cf_wire.specs.Stages.{WireState, after, close_in, code_of_fault, settled}
 use Rattle.cf_wire.specs.declared.end.Stage.{Stage}
 use Rattle.cf_wire.specs.declared.end.Stage.TheVariants.{Open, Unflushed}
 use Rattle.cf_wire.specs.declared.end.TurnEnd.{TurnEnd}
@@ -33,7 +33,7 @@ pub data Event : Type 0 where
   ended : (code : ℕ) → Event
   -- what came is no text, or too long to be read: the wire closes
   rejected : Event
-  -- a read gave this error and no message
+  -- a read gave this error and no message, and the peer was told where it made the error
   failed : (error : Error) → Event
   -- the desk had nothing
   none : Event
@@ -193,6 +193,16 @@ module _ {S : Type 0} where
       ((new.output ≡ []) × (stage ≡ settled close))
       ⊎ ((e : Error) × IsIo e × (stage ≡ after e (Unflushed close)))
 
+  -- a close of this code was asked of the socket: its frame is on the stream, or the socket answered an error
+  abbrev pub Tells : (S → Option (List ℕ)) → Socket S → ℕ → Socket S → Type 0
+  Tells contents old code new =
+      (Puts contents old (Close code) new × (new.output ≡ [])) ⊎ ((e : Error) × Fails contents old (Close code) new e)
+
+  -- the same where there is a code
+  abbrev pub TellsIf : (S → Option (List ℕ)) → Socket S → Option ℕ → Socket S → Type 0
+  TellsIf contents old None new = new ≡ old
+  TellsIf contents old (Some code) new = Tells contents old code new
+
 -- a desk and a wire
 pub record Place (D S : Type 0) : Type 0 where
   pub desk : D
@@ -233,7 +243,10 @@ module _ {D S : Type 0} where
         × ((r : Result Message Error) × (mid : Socket S) × is_bad r × Reads remaining v.socket mid r
         × Settles contents mid (Close bad_message) w.socket w.stage)
     WireDoes (failed e) v w =
-        (v.stage ≡ Open) × Reads remaining v.socket w.socket (Err e) × (w.stage ≡ after e Open)
+        (v.stage ≡ Open)
+        × ((mid : Socket S) × Reads remaining v.socket mid (Err e)
+        × TellsIf contents mid (code_of_fault e) w.socket)
+        × (w.stage ≡ after e Open)
     WireDoes none v w = (v.stage ≡ Open) × (w ≡ v)
     WireDoes (sent o) v w = (v.stage ≡ Open) × Lands contents v.socket o w.socket w.stage
     WireDoes (refused o e) v w = (v.stage ≡ Open) × Refuses contents v.socket o w.socket e w.stage

@@ -3,8 +3,9 @@ ghost use Rattle.std.specs.Prelude.{◌≡◌, ◌<◌, true, false, None, Some,
 ghost use Rattle.tungstenite.specs.Content.{close};
 ghost use Rattle.tungstenite.specs.Socket.{Flushed, Reads, Socket, close_of};
 ghost use Rattle.cf_queue.specs.declared.queue.Out.TheVariants as out;
-ghost use Rattle.cf_wire.specs.Stages.{is_unflushed, is_over, waits_by, end_by, after, settled, told, Agrees, Halts, Stops};
-ghost use Rattle.cf_wire.specs.Turn.{Part, Turns, Settles, FlushLeaves, place, read_in, mark_of, mark_emptied, code_in};
+ghost use Rattle.cf_wire.specs.CloseFrame.{frame_of};
+ghost use Rattle.cf_wire.specs.Stages.{is_unflushed, is_over, waits_by, end_by, after, settled, told, code_of_cause, code_of_fault, Agrees, Halts, Stops};
+ghost use Rattle.cf_wire.specs.Turn.{Part, Turns, Settles, Tells, TellsIf, FlushLeaves, place, read_in, mark_of, mark_emptied, code_in};
 
 use crate::desk::Desk;
 use crate::end::{Stage, TurnEnd, WireEnd};
@@ -15,6 +16,7 @@ use std::marker::Model;
 use tungstenite::{
     CloseCode as FrameCode, CloseFrame, Error, Message, NoMask, Utf8Bytes, WebSocket,
 };
+use websocket::error::ProtocolError;
 
 /// The most messages that a turn reads.
 const MOST_READS: usize = 64;
@@ -24,6 +26,10 @@ const MOST_BYTES: usize = 65_536;
 const MOST_SENDS: usize = 1_024;
 /// The code of a close frame that has none.
 const NO_CODE: u16 = 1_005;
+/// The close code of a peer that sent what is no frame, or one that may not come there.
+const PROTOCOL_ERROR: u16 = 1_002;
+/// The close code of a peer whose text is not UTF-8.
+const NOT_UTF8: u16 = 1_007;
 
 /// The WebSocket of one client, on any stream. At most one message waits for the stream, and then nothing is read and nothing
 /// taken from the desk.
@@ -77,6 +83,37 @@ fn would_block(error: &Error) -> bool
     }
 }
 
+/// The code of the close that a peer is told which broke the protocol so. `None`: its stream ended.
+fn code_of_cause(cause: &ProtocolError) -> Option<u16>
+    ensures { result ≡ code_of_cause cause.now }
+{
+    match cause {
+        ProtocolError::ResetWithoutClosingHandshake => None,
+        _ => Some(PROTOCOL_ERROR),
+    }
+}
+
+/// The code of the close that a peer is told after a read with this error, where it made the error.
+fn code_of_fault(error: &Error) -> Option<u16>
+    ensures { result ≡ code_of_fault error.now }
+{
+    match error {
+        Error::Utf8 => Some(NOT_UTF8),
+        Error::Protocol(cause) => code_of_cause(cause),
+        _ => None,
+    }
+}
+
+/// The close frame of a code.
+fn frame_of(code: u16) -> CloseFrame
+    ensures { close_of (Some result) ≡ frame_of code }
+{
+    CloseFrame {
+        code: FrameCode::from(code),
+        reason: Utf8Bytes::from_static(close_reason(code)),
+    }
+}
+
 /// The code of the peer's close.
 fn code_of(frame: &Option<CloseFrame>) -> u16
     ensures { code_in (close (close_of frame.now)) ≡ Some result }
@@ -90,7 +127,8 @@ fn code_of(frame: &Option<CloseFrame>) -> u16
 impl<S: Read + Write + Drop> Wire<S> {
     /// Reads what the peer sent, at most 64 messages and none once 65,536 bytes of text were heard, and sends what the desk
     /// gives: before the first, after each, and at the end. While the desk isn't ready nothing is read. A text is heard by the desk, a ping or pong is passed over, and a binary message, or one of more than 131,072
-    /// bytes, closes with 3501. Of a spent wire each turn ends as the one did by which it was.
+    /// bytes, closes with 3501. Where what came is no frame, or no UTF-8, the turn ends as `StreamFault`, and the peer is told 1002 or 1007.
+    /// Of a spent wire each turn ends as the one did by which it was.
     pub fn turn<D: Desk>(&mut self, desk: &mut D) -> TurnEnd
         ensures turns { is_over self.old.stage ≡ false →
             Turns D.hears D.gives D.ready S.remaining S.contents result
@@ -204,7 +242,7 @@ impl<S: Read + Write + Drop> Wire<S> {
                 acted
             }
             Err(Error::Capacity(_)) => self.shut(CloseCode::BadRequest.code()),
-            Err(error) => Err(self.pause(error, Stage::Open)),
+            Err(error) => Err(self.fail(error)),
         }
     }
 
@@ -272,12 +310,37 @@ impl<S: Read + Write + Drop> Wire<S> {
         ensures open { OnOk result (self.new.stage ≡ Stage.Open) }
         ensures ends { IfErr result (λ end. Stops end self.new.stage) }
     {
-        let frame = CloseFrame {
-            code: FrameCode::from(code),
-            reason: Utf8Bytes::from_static(close_reason(code)),
-        };
-        let answer = self.socket.close(Some(frame));
+        let answer = self.socket.close(Some(frame_of(code)));
         self.settle(answer, Some(code))
+    }
+
+    /// A read failed. The peer is told where it made the error, as far as its socket takes it.
+    fn fail(&mut self, error: Error) -> TurnEnd
+        ensures told { TellsIf S.contents self.old.socket (code_of_fault error) self.new.socket }
+        ensures left { self.new.stage ≡ after error Stage.Open }
+        ensures halts { Halts result self.new.stage }
+    {
+        self.tell_fault(&error);
+        self.pause(error, Stage::Open)
+    }
+
+    /// Tells the peer of an error of a read that it made. What the socket answers changes nothing.
+    fn tell_fault(&mut self, error: &Error)
+        ensures told { TellsIf S.contents self.old.socket (code_of_fault error.now)
+            self.new.socket }
+    {
+        match code_of_fault(error) {
+            Some(code) => self.tell(code),
+            None => {}
+        }
+    }
+
+    /// Asks the socket for a close, whatever it answers.
+    fn tell(&mut self, code: u16)
+        ensures { Tells S.contents self.old.socket code self.new.socket }
+    {
+        let answer = self.socket.close(Some(frame_of(code)));
+        drop(answer);
     }
 
     /// What waits goes to the stream. Ok: the wire is open again.

@@ -15,5 +15,5 @@ returns-in-Err-Capacity-clause-turns g c =
 
 pub returns-in-Err-clause-turns : goal.returns-in-Err-clause-turns
 returns-in-Err-clause-turns g c =
-    fail_turns _ _ _ _ _ _ _ _ _ _ c.in-Err.error c.pause.result _ _ c.self.view_is c.requires.«open» c.requires.ready c.requires.room refl c.in-Err.ensures
-    c.pause.ensures.same c.pause.ensures.left c.pause.ensures.halts
+    fail_turns _ _ _ _ _ _ _ _ _ _ c.in-Err.error c.fail.result _ _ c.self.view_is c.requires.«open» c.requires.ready c.requires.room refl c.in-Err.ensures
+    c.fail.ensures.told c.fail.ensures.left c.fail.ensures.halts
