@@ -8,7 +8,8 @@ use Rattle.cf_queue.specs.declared.queue.Out.{Out}
 use Rattle.cf_hub.specs.Hub.{Node, One, attached_at, moves, waits_in}
 use Rattle.cf_hub.specs.Session.{Attached}
 use Rattle.cf_model.specs.SessionState.{takes_front}
-use Rattle.cf_dispatch.specs.Outlet.{Takes, bytes_in, left_with, waits_at}
+use Rattle.std.specs.VecDeque.{deque_capacity}
+use Rattle.cf_dispatch.specs.Outlet.{Outs, Takes, bytes_in, left_with, waits_at}
 
 left_all : (x : Option Attached) → x ≡ option_map (left_with (waits_in x)) x
 left_all None = refl
@@ -81,8 +82,9 @@ takes_all k h m n xs ys t front one turns =
       after,
     )
 
--- so many were taken by now, and their texts have at least so many bytes
-pub record TakesSoFar (k count bytes : ℕ) (old new : Node) (had has : List Out) : Type 0 where
-  pub takes : Takes k old new had has
-  pub counted : length had + count ≤ length has
-  pub heavy : sum_by bytes_in had + bytes ≤ sum_by bytes_in has
+-- so many were taken by now, their texts have at least so many bytes, and the room isn't less
+pub record TakesSoFar (k count bytes : ℕ) (old new : Node) (had has : Outs) : Type 0 where
+  pub takes : Takes k old new had.items has.items
+  pub counted : length had.items + count ≤ length has.items
+  pub heavy : sum_by bytes_in had.items + bytes ≤ sum_by bytes_in has.items
+  pub room : deque_capacity had ≤ deque_capacity has

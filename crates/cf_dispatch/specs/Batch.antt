@@ -2,11 +2,10 @@
 use Rattle.std.specs.Prelude.{◌≡◌, ◌↔◌, ◌≤◌, ◌<◌, ◌==◌, ◌⊎◌, ℕ, ◌+◌, Bool, IsFalse, Some, None, Option, List, [], ◌∷◌}
 use Rattle.std.specs.Prelude.{length}
 use Rattle.std.specs.List.{count_by}
-use Rattle.cf_queue.specs.declared.queue.Out.{Out}
 use Rattle.cf_hub.specs.Hub.{IsNextTurn, Node, attached_at}
-use Rattle.cf_dispatch.specs.Outlet.{IsAtLimit, Takes, leaves_more, waits_at}
+use Rattle.cf_dispatch.specs.Outlet.{IsAtLimit, IsFull, KeepsRoom, Outs, Takes, leaves_more, waits_at}
 use Rattle.cf_dispatch.specs.declared.outlet.Taken.{Taken}
-use Rattle.cf_dispatch.specs.declared.outlet.Taken.TheVariants.{All, Blocked, Limit}
+use Rattle.cf_dispatch.specs.declared.outlet.Taken.TheVariants.{All, Blocked, Limit, Memory}
 
 -- for so many sessions at most
 abbrev pub most_at_once : ℕ
@@ -21,23 +20,25 @@ pub record Names (k : Option ℕ) (old new : Node) : Type 0 where
   pub turn : IsNextTurn (attached_at old) old.turns new.turns k
   pub same : new ≡ record old { turns = new.turns }
 
-module _ {S : Type 0} (frees : S → ℕ → Bool → Type 0) (lends : S → ℕ → List Out → S → Type 0)
-    (gets : S → ℕ → List Out → Bool → S → Type 0) where
-  -- session k has its turn: what waits for its client is taken, unless its wire isn't free, and it gets that, and
-  -- hears whether more may wait
+module _ {S : Type 0} (frees : S → ℕ → Bool → Type 0) (lends : S → ℕ → Outs → S → Type 0)
+    (gets : S → ℕ → Outs → Bool → S → Type 0) where
+  -- session k has its turn: what waits for its client is taken, unless its wire isn't free or what was lent for it is
+  -- full, and it gets that, and hears whether more may wait
   pub record TakesAt (k : ℕ) (old new : Node) (p q : S) : Type 0 where
     pub is_free : Bool
     pub why : Taken
-    pub had : List Out
-    pub has : List Out
+    pub had : Outs
+    pub has : Outs
     pub lent : S
     pub freeing : frees p k is_free
     pub lending : lends p k had lent
-    pub taking : Takes k old new had has
-    pub nothing : IsFalse is_free → (new ≡ old) × (has ≡ had)
+    pub taking : Takes k old new had.items has.items
+    pub nothing : IsFalse is_free → (new ≡ old) × (has.items ≡ had.items)
     pub blocked : (why ≡ Blocked) ↔ IsFalse is_free
     pub all : why ≡ All → waits_at new k ≡ []
-    pub limit : why ≡ Limit → IsAtLimit had has
+    pub limit : why ≡ Limit → IsAtLimit had.items has.items
+    pub memory : why ≡ Memory → IsFull has
+    pub room : KeepsRoom had has
     pub getting : gets lent k has (leaves_more why) q
 
   -- these had their turns as the hub named them, the last first

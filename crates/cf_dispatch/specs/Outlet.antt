@@ -1,6 +1,9 @@
 -- What is taken from a node's hub for a client. (This project's own profile.)
 use Rattle.std.specs.Prelude.{◌≡◌, ◌≤◌, ◌+◌, ◌⊎◌, ℕ, Bool, true, false, ◌++◌, List, length, map, option_map}
 use Rattle.std.specs.Prelude.{sum_by}
+use Rattle.std.specs.Global.{Global}
+use Rattle.std.specs.VecDeque.{deque_capacity, deque_len}
+use Rattle.std.specs.declared.collections.VecDeque.{VecDeque}
 use Rattle.cf_queue.specs.Meaning.{meaning}
 use Rattle.cf_queue.specs.OutQueue.{Item}
 use Rattle.cf_queue.specs.declared.queue.Out.{Out}
@@ -41,6 +44,18 @@ most_taken = 65536
 abbrev pub IsAtLimit : List Out → List Out → Type 0
 IsAtLimit had has =
     (sum_by bytes_in had + most_taken ≤ sum_by bytes_in has) ⊎ (length had + most_taken ≤ length has)
+
+-- what was taken for a client and isn't sent yet, with the room that there is for it
+abbrev pub Outs : Type 0
+Outs = VecDeque Out Global
+
+-- there is no room for one more
+abbrev pub IsFull : Outs → Type 0
+IsFull has = deque_capacity has ≤ deque_len has
+
+-- the room isn't less
+abbrev pub KeepsRoom : Outs → Outs → Type 0
+KeepsRoom had has = deque_capacity had ≤ deque_capacity has
 
 -- more may wait where a taking ended so
 abbrev pub leaves_more : Taken → Bool

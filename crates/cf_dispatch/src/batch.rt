@@ -11,17 +11,17 @@ pub const SESSIONS_AT_ONCE: usize = 64;
 
 /// Where the clients of a hub's sessions sit. What each call does it states itself.
 pub trait Outlets {
-    ghost use Rattle.std.specs.Prelude.{ℕ, Bool, List};
-    ghost use Rattle.cf_queue.specs.declared.queue.Out.{Out};
+    ghost use Rattle.std.specs.Prelude.{ℕ, Bool};
+    ghost use Rattle.cf_dispatch.specs.Outlet.{Outs};
 
     /// The wire of a session's client takes more at once, or not.
     ghost frees: { Self → ℕ → Bool → Type 0 };
 
     /// What was taken for a session's client, and isn't sent yet, is lent.
-    ghost lends: { Self → ℕ → List Out → Self → Type 0 };
+    ghost lends: { Self → ℕ → Outs → Self → Type 0 };
 
     /// A session's client gets what was taken for it by now, and more may wait for it, or not.
-    ghost gets: { Self → ℕ → List Out → Bool → Self → Type 0 };
+    ghost gets: { Self → ℕ → Outs → Bool → Self → Type 0 };
 
     /// Whether the wire of a session's client takes more at once.
     fn is_free(&self, session: u32) -> bool
@@ -29,11 +29,11 @@ pub trait Outlets {
 
     /// Lends what was taken for a session's client and isn't sent yet.
     fn lend(&mut self, session: u32) -> VecDeque<Out>
-        ensures { lends self.old session result.items self.new };
+        ensures { lends self.old session result self.new };
 
     /// Gives a session's client what was taken for it by now, and notes whether more may wait for it.
     fn give(&mut self, session: u32, taken: VecDeque<Out>, more: bool)
-        ensures { gets self.old session taken.items more self.new };
+        ensures { gets self.old session taken more self.new };
 }
 
 /// Takes what waits for up to 64 sessions, in the order in which the hub names them: the first first, behind what was taken

@@ -1,7 +1,7 @@
 //! What is taken from the hub for a client whose wire takes more.
 ghost use Rattle.std.specs.Prelude.{◌≡◌, ◌≤◌, ◌<◌, ◌↔◌, [], IsFalse, IsTrue};
 ghost use Rattle.std.specs.VecDeque.{deque_capacity, deque_len};
-ghost use Rattle.cf_dispatch.specs.Outlet.{IsAtLimit, Takes, bytes_in, leaves_more, waits_at};
+ghost use Rattle.cf_dispatch.specs.Outlet.{IsAtLimit, IsFull, KeepsRoom, Takes, bytes_in, leaves_more, waits_at};
 
 use cf_hub::Hub;
 use cf_queue::Out;
@@ -17,7 +17,7 @@ pub enum Taken {
     All,
     /// So much was taken as is taken at once. More may wait.
     Limit,
-    /// There was no memory for one item more. More may wait.
+    /// There was no memory for one item more than there was room for. More may wait.
     Memory,
     /// Its wire isn't free, so that nothing was taken.
     Blocked,
@@ -43,7 +43,8 @@ pub fn take_for(hub: &mut Hub, session: u32, is_free: bool, taken: &mut VecDeque
     ensures blocked { (result ≡ Taken.Blocked) ↔ IsFalse is_free }
     ensures all { result ≡ Taken.All → waits_at hub.new session ≡ [] }
     ensures limit { result ≡ Taken.Limit → IsAtLimit taken.old.items taken.new.items }
-    ensures memory { result ≡ Taken.Memory → deque_capacity taken.new ≤ deque_len taken.new }
+    ensures memory { result ≡ Taken.Memory → IsFull taken.new }
+    ensures room { KeepsRoom taken.old taken.new }
 {
     if !is_free {
         return Taken::Blocked;
@@ -69,6 +70,7 @@ pub fn take_for(hub: &mut Hub, session: u32, is_free: bool, taken: &mut VecDeque
 // Whether there is room for one item more, where need be after memory was asked for.
 fn has_room(taken: &mut VecDeque<Out>) -> bool
     ensures same { taken.new.items ≡ taken.old.items }
+    ensures keeps { deque_capacity taken.old ≤ deque_capacity taken.new }
     ensures room { IsTrue result ↔ (deque_len taken.new < deque_capacity taken.new) }
 {
     let _ = if taken.capacity() == 0 {

@@ -1,5 +1,5 @@
 //! One node's sessions and rows.
-ghost use Rattle.std.specs.Prelude.{◌≡◌, ◌==◌, ◌≤◌, None, length, not, slice_get, option_map, option_and_then};
+ghost use Rattle.std.specs.Prelude.{◌≡◌, ◌==◌, ◌≤◌, None, length, not, is_some, slice_get, option_map, option_and_then};
 ghost use Rattle.cf_subscribers.specs.Follows.{AreFollows, channels_of, sessions_of};
 ghost use Rattle.cf_queue.specs.Meaning.{meaning};
 ghost use Rattle.cf_queue.specs.OutQueue.{Close};
@@ -132,8 +132,7 @@ impl Hub {
         ensures turns { EachGetsTurn channel.now self.old self.new }
         ensures agrees { Agrees (attached_at self.new) self.new.rows }
     {
-        let written = push_text(self.alloc, channel, publication);
-        self.note(written.is_none());
+        let written = self.push_for_all(channel, publication);
         let counts = self.bring_to_all(channel, epoch, publication, &written);
         drop(written);
         counts
@@ -200,6 +199,17 @@ impl Hub {
         ensures { self.new ≡ met_refusal refused self.old }
     {
         self.refused = count_more(self.refused, refused);
+    }
+
+    // The push of a publication, written once for all. Where memory is refused for it that is noted, and each session gets one of
+    // its own.
+    fn push_for_all(&mut self, channel: &str, publication: &Publication) -> Option<ByteStr>
+        ensures written { IsWritten result channel.now publication.now }
+        ensures noted { self.new ≡ met_refusal (not (is_some result)) self.old }
+    {
+        let written = push_text(self.alloc, channel, publication);
+        self.note(written.is_none());
+        written
     }
 
     fn bring_to_all(

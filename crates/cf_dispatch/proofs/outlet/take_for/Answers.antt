@@ -31,6 +31,7 @@ loop-count-preserved c =
           (gains had c.has_room.new.taken.items has out c.has_room.ensures.same c.push_back_reserved.ensures.items);
       counted = omega (arith, longer had c.has_room.new.taken.items has out c.has_room.ensures.same c.push_back_reserved.ensures.items, before.counted);
       heavy = omega (arith, heavier had c.has_room.new.taken.items has out c.has_room.ensures.same c.push_back_reserved.ensures.items, before.heavy, c.length_of.ensures, c.saturating_add-bytes.ensures);
+      room = omega (arith, before.room, c.has_room.ensures.keeps, c.push_back_reserved.ensures.capacity);
     }
 
 pub returns-then-bytes-ge-MOST_TAKEN-clause-takes : goal.returns-then-bytes-ge-MOST_TAKEN-clause-takes
