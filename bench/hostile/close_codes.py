@@ -14,7 +14,7 @@ from peers import Server, connected, frame, handshake, run, text_of
 
 TOKENS = ("--tokens", "right=user")
 BEHIND = (2, 3, 20, 200, 1000)
-SMALL = '{"ping":{}}'
+SMALL = '{"id":2,"ping":{}}'
 
 
 def sends(kind, payload, mask=True, size=None):
