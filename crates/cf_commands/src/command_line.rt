@@ -41,6 +41,9 @@ streams are still those that they know.
 What comes faster than a node takes it waits on the node's link. What a full link has no room for is lost on the way to that
 node; its clients are told to subscribe again, and get it by recovery. --link 1 shows that, and a larger link makes it rare.
 
+A connection that never sends a connect command stays for ever, and takes one of a node's 16,384 places; with --stale 25 it is dropped
+25 seconds after its handshake.
+
 It ends at the end of standard input (Ctrl-D at a terminal): each client is closed with 3001. To keep it running without
 a terminal, give it an input that does not end:
   sleep infinity | cf_server serve --boot 7 --port 8000
@@ -149,14 +152,15 @@ pub struct SpeakOptions<'a> {
 }
 
 /// What `serve` runs with: the number of this start, how many nodes, the port of the first (0: any that is free), how many
-/// publications wait at most on the link to a node, whether nothing is said of what goes wrong, and the texts of namespaces and
-/// tokens.
+/// publications wait at most on the link to a node, after how many seconds without a connect command a connection is dropped (0: never),
+/// whether nothing is said of what goes wrong, and the texts of namespaces and tokens.
 #[derive(Clone, Copy)]
 pub struct ServeOptions<'a> {
     pub boot: u64,
     pub nodes: u8,
     pub port: u16,
     pub link: u32,
+    pub stale: u32,
     pub is_quiet: bool,
     pub namespaces: &'a str,
     pub tokens: &'a str,
@@ -249,6 +253,16 @@ const LINK: Known = Known {
     help: "How many publications wait at most on the link to a node, 1 to 65536",
 };
 
+const STALE: Known = Known {
+    name: "stale",
+    value: Some(Value {
+        word: "SECONDS",
+        parser: ValueParser::Signed(0, 86_400),
+        default: Some("0"),
+    }),
+    help: "A connection without a connect command is dropped after so many seconds; 0: never",
+};
+
 const EXPLAIN: Known = Known {
     name: "explain",
     value: None,
@@ -316,7 +330,7 @@ fn command_at<'a>(alloc: Global, number: u8) -> Result<Command<'a>, AllocError> 
             &[NAMESPACES, TOKENS, EPOCHS],
         ),
         _ => {
-            let options = [BOOT, NODES, PORT, LINK, NAMESPACES, TOKENS, QUIET];
+            let options = [BOOT, NODES, PORT, LINK, STALE, NAMESPACES, TOKENS, QUIET];
             command(alloc, "serve", SERVE, SERVE_NOTES, &options)
         }
     }
@@ -355,6 +369,7 @@ fn job_of<'a>(matches: &ArgMatches<'a>) -> Job<'a> {
             nodes,
             port: found.get_one::<u16>("port").unwrap_or(0),
             link: found.get_one::<u32>("link").unwrap_or(DEFAULT_LINK),
+            stale: found.get_one::<u32>("stale").unwrap_or(0),
             is_quiet: found.get_flag("quiet"),
             namespaces,
             tokens,

@@ -4,6 +4,7 @@
 mod command_line;
 mod fault;
 mod program;
+mod readiness;
 mod report;
 mod running;
 mod serving;

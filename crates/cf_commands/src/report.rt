@@ -1,12 +1,16 @@
 //! What an operator sees on standard error while nodes serve: at most one line a second of each kind.
+use crate::readiness::Readiness;
 use crate::running::Running;
 use cf_broker::Broker;
 use cf_shard::Naming;
 use cf_stream::Epochs;
+use mio::Interest;
+use std::net::Net;
+use std::os::fd::RawFd;
 use std::sync::Wait;
 use std::sync::atomic::{AtomicU64, Ordering};
-use std::thread;
 use std::time::{Clock, Duration};
+use std::{io, thread};
 
 /// So many times in a second it is looked whether the program ends.
 const LOOKS: u32 = 10;
@@ -14,13 +18,30 @@ const LOOKS: u32 = 10;
 /// How many milliseconds lie between two looks.
 const BETWEEN: u64 = 100;
 
-// Tells how often it has gone wrong since that was told last, and how often in all, where there is something new.
-fn tell<R: Eprint>(rt: &R, what: &str, told: &mut u64, all: u64) {
-    let more = all.saturating_sub(*told);
-    if more > 0 {
-        let _ = eprintln!(rt; "{what}: {more} more, {all} in all");
+const STANDARD_ERROR: RawFd = 2;
+
+/// What tells on standard error what goes wrong.
+#[derive(Drop)]
+pub(crate) struct Teller {
+    output: Readiness,
+}
+
+impl Teller {
+    /// A teller at standard error.
+    pub(crate) fn open<R: Net + AllocGlobal>(rt: &R) -> io::Result<Teller> {
+        let output = Readiness::open(rt, STANDARD_ERROR, Interest::WRITABLE)?;
+        Ok(Teller { output })
     }
-    *told = all;
+
+    // Tells how often it has gone wrong since that was told last, and how often in all, where there is something new. A line
+    // that nobody would read is dropped: who waited for that couldn't end.
+    fn tell<R: Eprint>(&mut self, rt: &R, what: &str, told: &mut u64, all: u64) {
+        let more = all.saturating_sub(*told);
+        if more > 0 && self.output.is_ready(Duration::ZERO).unwrap_or(false) {
+            let _ = eprintln!(rt; "{what}: {more} more, {all} in all");
+            *told = all;
+        }
+    }
 }
 
 // How many publications the nodes lost, since their links had no room for them.
@@ -44,7 +65,13 @@ fn sees_stop<R: Clock>(rt: &R, stop: &AtomicU64) -> bool {
 }
 
 /// Tells each second what has gone wrong since the last one, until `stop` isn't 0; where the program is to be quiet, nothing.
-pub(crate) fn report<R, N, E>(rt: &R, broker: &Broker<N, E>, running: &Running, stop: &AtomicU64)
+pub(crate) fn report<R, N, E>(
+    rt: &R,
+    teller: &mut Teller,
+    broker: &Broker<N, E>,
+    running: &Running,
+    stop: &AtomicU64,
+)
 where
     R: Eprint + Wait + Clock,
     N: Naming,
@@ -58,14 +85,10 @@ where
     for _ in rt.forever() {
         let is_over = sees_stop(rt, stop);
         let lack = "connections refused for want of descriptors or memory";
-        tell(rt, lack, &mut refused, counts.refused());
-        tell(
-            rt,
-            "publications lost on full links",
-            &mut lost,
-            lost_of(broker),
-        );
-        tell(rt, "sessions closed for slowness", &mut slow, counts.slow());
+        teller.tell(rt, lack, &mut refused, counts.refused());
+        let full = "publications lost on full links";
+        teller.tell(rt, full, &mut lost, lost_of(broker));
+        teller.tell(rt, "sessions closed for slowness", &mut slow, counts.slow());
         if is_over {
             break;
         }

@@ -4,10 +4,10 @@ ghost use Rattle.std.specs.Io.KnownBytes.{IsAtEnd};
 ghost use Rattle.cf_commands.specs.Status.{IsOutside};
 
 use crate::fault::Fault;
+use crate::readiness::Readiness;
 use crate::sizes::{Line, Listener};
 use cf_node::{FaultCounts, Gate};
-use mio::unix::SourceFd;
-use mio::{Events, Interest, Poll, Token};
+use mio::Interest;
 use std::io::{ErrorKind, Read};
 use std::net::Net;
 use std::os::fd::RawFd;
@@ -112,82 +112,42 @@ pub(crate) fn wait_for_workers<R: Clock>(
     Err(Fault::InputOutput)
 }
 
-// Tells when standard input has something to read.
+/// What hears standard input: it tells when there is something to read, and keeps what a line has so far.
 #[derive(Drop)]
-struct Ear {
-    poll: Poll,
-    events: Events,
-    // A file can't be waited for, and is always ready.
-    can_wait: bool,
+pub(crate) struct Ear {
+    input: Readiness,
+    line: Line,
 }
 
 impl Ear {
-    fn open<R: Net + AllocGlobal>(rt: &R) -> io::Result<Ear> {
-        let poll = Poll::new(rt)?;
-        let events = Events::with_capacity(rt.alloc(), 1)?;
-        let descriptor = STANDARD_INPUT;
-        let mut input = SourceFd(&descriptor);
-        let registered = poll
-            .registry()
-            .register(&mut input, Token(0), Interest::READABLE);
-        let can_wait = registered.is_ok();
+    /// An ear at standard input.
+    pub(crate) fn open<R: Net + AllocGlobal>(rt: &R) -> io::Result<Ear> {
         Ok(Ear {
-            poll,
-            events,
-            can_wait,
+            input: Readiness::open(rt, STANDARD_INPUT, Interest::READABLE)?,
+            line: Line::new(rt.alloc())?,
         })
     }
 
-    // Waits for a while, and says whether a read would find something, or the end.
-    fn hears(&mut self) -> io::Result<bool> {
-        if !self.can_wait {
-            return Ok(true);
-        }
-        // What an earlier read left is told again.
-        let descriptor = STANDARD_INPUT;
-        let mut input = SourceFd(&descriptor);
-        self.poll
-            .registry()
-            .reregister(&mut input, Token(0), Interest::READABLE)?;
-        let patience = Duration::from_millis(PATIENCE);
-        match self.poll.poll(&mut self.events, Some(patience)) {
-            Ok(()) => Ok(!self.events.is_empty()),
-            Err(error) if error.kind() == ErrorKind::Interrupted => Ok(false),
-            Err(error) => Err(error),
-        }
-    }
-
-    // Has the lines of this reader heard up to its end, unless the loop of a node ends before.
-    fn hear_all<R: Read, L: Listener>(
+    /// Waits until this reader, which is standard input, ends. Its whole lines are heard, but for those that aren't UTF-8.
+    ///
+    /// # Errors
+    ///
+    /// `Ended` where the loop of a node has ended; `InputOutput` where the input can't be read, or has no end.
+    pub(crate) fn hear_all<R: Read, L: Listener>(
         &mut self,
         reader: &mut R,
-        line: &mut Line,
         running: &Running,
         listener: &mut L,
     ) -> Result<(), Fault> {
         for _ in 0..MOST_TURNS {
             running.goes_on()?;
-            if self.hears()? && reads_to_end(reader, line, listener)? {
+            let hears = self.input.is_ready(Duration::from_millis(PATIENCE))?;
+            if hears && reads_to_end(reader, &mut self.line, listener)? {
                 return Ok(());
             }
         }
         Err(Fault::InputOutput)
     }
-}
-
-/// Waits until standard input ends. Its whole lines are heard, but for those that aren't UTF-8.
-///
-/// # Errors
-///
-/// `Ended` where the loop of a node has ended; `InputOutput` where the input can't be read, or has no end; `Memory`.
-pub(crate) fn hear<R: Input + Net + AllocGlobal, L: Listener>(
-    rt: &R,
-    running: &Running,
-    listener: &mut L,
-) -> Result<(), Fault> {
-    let mut ear = Ear::open(rt)?;
-    let mut line = Line::new(rt.alloc())?;
-    ear.hear_all(&mut rt.reader(), &mut line, running, listener)
 }
 
 /// Reads on, and has the lines heard that end by that. Says whether the reader is at its end.

@@ -5,8 +5,8 @@ ghost use denote.Param.Send.{IsSend, IsSync};
 
 use crate::command_line::ServeOptions;
 use crate::fault::{Fault, Setting};
-use crate::report::report;
-use crate::running::{Running, hear, wait_for_workers};
+use crate::report::{Teller, report};
+use crate::running::{Ear, Running, wait_for_workers};
 use crate::settings::usable;
 use crate::sizes::{Listener, Sizes};
 use cf_broker::{Broker, Passes, Words};
@@ -16,6 +16,7 @@ use cf_node::{FaultCounts, Node, Setup};
 use cf_protocol::{Namespaces, Tokens, read_namespaces, read_tokens};
 use cf_shard::{Delivery, Naming};
 use mio::net::TcpListener;
+use std::fs::{Files, OpenOptions};
 use std::io::{BufWriter, ErrorKind, Write};
 use std::marker::Brand;
 use std::net::{Ipv4Addr, Net, SocketAddr};
@@ -27,6 +28,8 @@ use std::{io, thread};
 
 // The bytes of a buffer that is freed before clients come: glibc keeps up to twice as many that are freed from then on.
 const LARGE_BUFFER: usize = 16_777_216;
+
+const NULL_DEVICE: &str = "/dev/null";
 
 // The nodes, the broker's ends of their links, and where they listen.
 #[derive(Drop)]
@@ -46,6 +49,13 @@ struct Joined<'a, N: Naming> {
     addresses: Vec<SocketAddr>,
 }
 
+// What hears standard input, and what tells on standard error.
+#[derive(Drop)]
+struct Senses {
+    ear: Ear,
+    teller: Teller,
+}
+
 /// Serves clients until standard input ends. Each node's address is printed as `node I 127.0.0.1:PORT` once all nodes serve.
 ///
 /// # Errors
@@ -54,14 +64,27 @@ struct Joined<'a, N: Naming> {
 /// started, `Ended` one whose loop has ended; `InputOutput` where standard input or output fails; `Memory`.
 pub fn serve<R>(rt: &R, options: ServeOptions<'_>) -> Result<(), Fault>
 where
-    R: Input + Print + Eprint + AllocGlobal + Threads + Wait + Clock + Net + Sync,
+    R: Input + Print + Eprint + AllocGlobal + Files + Threads + Wait + Clock + Net + Sync,
 {
+    let _standing = null_devices(rt);
     let alloc = rt.alloc();
     let namespaces = read_namespaces(alloc, options.namespaces);
     let namespaces = usable(Setting::Namespaces, namespaces)?;
     let tokens = usable(Setting::Tokens, read_tokens(alloc, options.tokens))?;
     let boot = boot_of(options)?;
     serve_on::<Brand, R>(rt, options, boot, Words::new(alloc)?, &namespaces, &tokens)
+}
+
+// The null device as often as there are standard streams: it takes the numbers of those that are closed, which sockets would take
+// else, and then get what is written to them. Where there is no such device, nothing.
+fn null_devices<R: Files>(rt: &R) -> [Option<R::File>; 3] {
+    let mut options = OpenOptions::new();
+    let options = options.read(true).write(true);
+    [
+        options.open(rt, NULL_DEVICE).ok(),
+        options.open(rt, NULL_DEVICE).ok(),
+        options.open(rt, NULL_DEVICE).ok(),
+    ]
 }
 
 // The number of this start, where there are ports for all nodes.
@@ -118,7 +141,19 @@ where
         passes,
         namespaces,
     };
-    run_nodes(rt, &running, nodes, addresses.as_slice(), &mut sizes)
+    // All that a start needs is there before the first client is accepted.
+    let senses = Senses {
+        ear: Ear::open(rt)?,
+        teller: Teller::open(rt)?,
+    };
+    run_nodes(
+        rt,
+        &running,
+        nodes,
+        addresses.as_slice(),
+        &mut sizes,
+        senses,
+    )
 }
 
 // Opens the nodes, and the broker that sends to them.
@@ -166,7 +201,9 @@ fn open_nodes<'a, N: Naming, R: Net + AllocGlobal>(
         addresses: Vec::new(rt.alloc()),
     };
     for number in 0..options.nodes {
-        let setup = Setup::new(number, options.boot, namespaces, tokens).counted(counts);
+        let setup = Setup::new(number, options.boot, namespaces, tokens)
+            .counted(counts)
+            .stale(u64::from(options.stale));
         add_node(rt, options, setup, &mut opened)?;
     }
     Ok(opened)
@@ -265,12 +302,17 @@ fn run_nodes<N, R>(
     nodes: Vec<Node<'_, N>>,
     addresses: &[SocketAddr],
     sizes: &mut Sizes<'_, R, N, BootEpochs>,
+    senses: Senses,
 ) -> Result<(), Fault>
 where
     N: Naming + Send + Sync,
     R: Input + Print + Eprint + AllocGlobal + Threads + Wait + Clock + Net + Sync,
 {
     let broker = sizes.broker;
+    let Senses {
+        mut ear,
+        mut teller,
+    } = senses;
     let stop = AtomicU64::new(0);
     let stop = &stop;
     thread::scope(
@@ -292,8 +334,8 @@ where
             ) {
                 Ok(()) => {
                     // Where nobody can tell what goes wrong, the nodes serve all the same.
-                    let _ = scope.spawn(move || report(rt, broker, running, stop));
-                    watch(rt, running, addresses, sizes)
+                    let _ = scope.spawn(move || report(rt, &mut teller, broker, running, stop));
+                    watch(rt, running, addresses, sizes, &mut ear)
                 }
                 Err(fault) => Err(fault),
             };
@@ -319,12 +361,13 @@ fn watch<R, L>(
     running: &Running,
     addresses: &[SocketAddr],
     listener: &mut L,
+    ear: &mut Ear,
 ) -> Result<(), Fault>
 where
-    R: Input + Print + AllocGlobal + Clock + Net,
+    R: Input + Print + AllocGlobal + Clock,
     L: Listener,
 {
     wait_for_workers(rt, running, addresses.len())?;
     say_addresses(rt, addresses)?;
-    hear(rt, running, listener)
+    ear.hear_all(&mut rt.reader(), running, listener)
 }

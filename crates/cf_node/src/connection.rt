@@ -1,7 +1,7 @@
 //! One connection: a socket whose head is collected, and then a wire and its session.
 use crate::backend::Backend;
 use crate::desk::SessionDesk;
-use crate::refusing::Refusing;
+use crate::leaving::Leaving;
 use crate::socket::Socket;
 use cf_dispatch::is_head_over;
 use cf_queue::Out;
@@ -20,8 +20,8 @@ pub(crate) enum Connection<'a, B: Backend> {
     /// The head has not come whole.
     Head(Head),
     Open(Box<Open<'a, B>>),
-    /// It gets no WebSocket, and was told so.
-    Refusing(Refusing),
+    /// The last was said to it.
+    Leaving(Leaving),
 }
 
 /// A socket that keeps what came of its head, to read it once more.
@@ -84,13 +84,15 @@ impl Head {
 }
 
 impl<'a, B: Backend> Connection<'a, B> {
-    /// What a second brings: whether the connection still stands.
-    pub(crate) fn refresh(&mut self, now: u64) -> bool {
+    /// What a second brings: whether the connection still stands. One that has sent no connect command
+    /// for `stale` seconds doesn't, where that isn't 0.
+    pub(crate) fn refresh(&mut self, now: u64, stale: u64) -> bool {
         match self {
             Connection::Empty => true,
             Connection::Head(head) => !is_head_over(head.accepted, now),
+            Connection::Open(open) if open.is_stale(now, stale) => false,
             Connection::Open(open) => open.desk.handler.refresh(now),
-            Connection::Refusing(refusing) => !is_head_over(refusing.answered, now),
+            Connection::Leaving(leaving) => !leaving.is_over(now),
         }
     }
 }
@@ -102,10 +104,20 @@ pub(crate) enum Turned {
     Idle,
     /// It has more to do at once.
     More,
+    /// Its last is written: its client is to read it.
+    Leaves,
     Over,
 }
 
 impl<'a, B: Backend> Open<'a, B> {
+    // Whether it has no session, so many seconds after it was opened.
+    fn is_stale(&self, now: u64, stale: u64) -> bool {
+        let client = &self.desk.handler.client;
+        stale != 0
+            && client.standing.number().is_none()
+            && now.saturating_sub(client.refreshed) >= stale
+    }
+
     /// Takes a turn: sends what waits while the socket takes it, and where it is to hear, carries on
     /// what is on its way and reads what came, up to the bounds of one turn.
     pub(crate) fn turn(&mut self, buffer: &mut Vec<u8>, now: u64, hears: bool) -> Turned {
@@ -131,14 +143,18 @@ impl<'a, B: Backend> Open<'a, B> {
             TurnEnd::Idle if self.has_more() => Turned::More,
             TurnEnd::Idle => Turned::Idle,
             TurnEnd::More => Turned::More,
-            // What was gathered for the client, the close too, still waits for the socket.
-            TurnEnd::Closed(_) if !self.wire.stream().is_drained() => {
-                self.desk.handler.stop();
-                Turned::Idle
-            }
-            TurnEnd::Closed(_) => Turned::Over,
-            TurnEnd::StreamFault | TurnEnd::Memory => Turned::Over,
+            TurnEnd::Closed(_) | TurnEnd::StreamFault => self.leaves(),
+            TurnEnd::Memory => Turned::Over,
         }
+    }
+
+    // The wire is spent. What was gathered for the client, its close too, may still wait for the socket.
+    fn leaves(&mut self) -> Turned {
+        if self.wire.stream().is_drained() {
+            return Turned::Leaves;
+        }
+        self.desk.handler.stop();
+        Turned::Idle
     }
 
     // Whether there is more to do at once.

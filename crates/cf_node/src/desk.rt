@@ -1,7 +1,8 @@
 //! What stands between a wire and its session: texts are heard, and what the hub has for the client
 //! is handed out.
 ghost use Rattle.std.specs.Prelude.{◌≡◌, true, false};
-ghost use Rattle.cf_session.specs.Standing.{is_idle, progress_of, tables_of};
+ghost use Rattle.cf_session.specs.SessionMachine.{HearsText};
+ghost use Rattle.cf_session.specs.Standing.{is_idle, is_short, progress_of, tables_of};
 ghost use Rattle.cf_session.specs.Played.{AskStreams};
 ghost use Rattle.cf_node.specs.Ready.{AskStreams-prop, is_out};
 
@@ -19,6 +20,21 @@ const UNITS: usize = 96;
 
 /// The same where some node is behind with what was published: one call.
 const FEW_UNITS: usize = 4;
+
+/// The units of one part of that: a call of the node, or a few texts that are only said.
+const PART: usize = 4;
+
+/// What a part takes of a turn's units that spends its own: a call, and the text before it.
+const PART_COST: usize = 5;
+
+/// So many parts a turn has at most.
+const MOST_PARTS: usize = 96;
+
+/// Once so many bytes came up for the client in a turn, no further part is carried out in it.
+const MOST_SAID: usize = 65_536;
+
+/// So many times at most what waits in the hub is taken for a part: each takes 65,536 bytes, or all.
+const MOST_TAKES: usize = 32;
 
 /// A client's session between two turns.
 #[derive(Drop)]
@@ -41,22 +57,25 @@ impl<'a, B: Backend> Talk<'a, B> {
         }
     }
 
-    // Hears a text, and carries out what it asks for, as far as the budget lasts.
-    fn hear(&mut self, handler: &mut CommandHandler<'a, B>, budget: &mut Budget, text: &str)
+    // Hears a text: what it asks for is on its way then.
+    fn hear(&mut self, text: &str)
         requires { is_idle self.old.session ≡ true }
-        ensures { Hears (λ h. h.client.standing.is_over) self.old.session handler.old text.now
-            self.new.session handler.new }
+        ensures { is_short self.new.session ≡ false →
+            HearsText (tables_of self.old.session) (progress_of self.old.session) text.now
+            (progress_of self.new.session) }
     {
         hear_text(&mut self.session, text);
-        carry_on(&mut self.session, handler, budget);
     }
 
-    // Carries on what is on its way, as far as the budget lasts.
-    fn go_on(&mut self, handler: &mut CommandHandler<'a, B>, budget: &mut Budget)
-        ensures { CarriesOn (λ h. h.client.standing.is_over) self.old.session handler.old
+    // Carries on what is on its way, by one part. What that takes of a turn's units.
+    fn go_on(&mut self, handler: &mut CommandHandler<'a, B>) -> usize
+        ensures goes { CarriesOn (λ h. h.client.standing.is_over) self.old.session handler.old
             self.new.session handler.new }
+        ensures short { is_short self.old.session ≡ true → is_short self.new.session ≡ true }
     {
-        carry_on(&mut self.session, handler, budget);
+        let mut budget = Budget::new(PART);
+        carry_on(&mut self.session, handler, &mut budget);
+        if budget.is_spent() { PART_COST } else { 1 }
     }
 }
 
@@ -73,15 +92,15 @@ pub(crate) struct SessionDesk<'a, B: Backend> {
     hears: bool,
     // Something was heard in it, or carried on.
     has_heard: bool,
-    budget: Budget,
+    // How many units of work are left in it.
+    left: usize,
 }
 
 impl<'a, B: Backend> Desk for SessionDesk<'a, B> {
     ghost use Rattle.cf_node.specs.Desk.{Hears, is_ready};
-    ghost use Rattle.cf_session.specs.Turn.{units_left};
 
     ghost ready = { λ d.
-        is_ready d.hears (units_left d.budget) d.handler.client.standing.is_over d.talk.session };
+        is_ready d.hears d.left d.handler.client.standing.is_over d.talk.session };
 
     ghost hears = { λ old text new.
         Hears (λ h. h.client.standing.is_over) old.talk.session old.handler text new.talk.session
@@ -91,14 +110,12 @@ impl<'a, B: Backend> Desk for SessionDesk<'a, B> {
     ghost gives = { λ _ _ _. Unit {0} };
 
     fn is_ready(&self) -> bool {
-        self.hears
-            && !self.budget.is_spent()
-            && !self.handler.is_closed()
-            && self.talk.session.is_idle()
+        self.hears && self.left != 0 && !self.handler.is_closed() && self.talk.session.is_idle()
     }
 
     fn heard(&mut self, text: &str) {
-        self.talk.hear(&mut self.handler, &mut self.budget, text);
+        self.talk.hear(text);
+        self.go_on();
         self.owed = true;
         self.has_heard = true;
     }
@@ -115,6 +132,8 @@ impl<'a, B: Backend> Desk for SessionDesk<'a, B> {
 }
 
 impl<'a, B: Backend> SessionDesk<'a, B> {
+    ghost use Rattle.cf_node.specs.Desk.{CarriesOn};
+
     pub(crate) fn new(backend: &'a B, now: u64) -> SessionDesk<'a, B> {
         let alloc = backend.alloc();
         SessionDesk {
@@ -130,7 +149,7 @@ impl<'a, B: Backend> SessionDesk<'a, B> {
             owed: false,
             hears: false,
             has_heard: false,
-            budget: Budget::new(0),
+            left: 0,
         }
     }
 
@@ -142,10 +161,11 @@ impl<'a, B: Backend> SessionDesk<'a, B> {
         self.has_heard = false;
         if hears {
             let is_slowed = self.handler.is_held || self.handler.backend.is_crowded();
-            self.budget = Budget::new(if is_slowed { FEW_UNITS } else { UNITS });
+            self.left = if is_slowed { FEW_UNITS } else { UNITS };
             self.handler.is_held = false;
-            if !self.talk.session.is_idle() {
-                self.talk.go_on(&mut self.handler, &mut self.budget);
+            // What was taken for the client goes out before.
+            if !self.talk.session.is_idle() && self.taken.is_empty() {
+                self.go_on();
                 self.owed = true;
                 self.has_heard = true;
             }
@@ -154,15 +174,43 @@ impl<'a, B: Backend> SessionDesk<'a, B> {
 
     /// Whether a turn in which texts were heard left something to do at once.
     pub(crate) fn goes_on(&self) -> bool {
-        self.hears
-            && !self.handler.is_closed()
-            && (self.budget.is_spent() || !self.talk.session.is_idle())
+        self.hears && !self.handler.is_closed() && (self.left == 0 || !self.talk.session.is_idle())
     }
 
     /// Whether a turn in which texts were heard spent the bounds of one, where it left off before all
     /// was heard.
     pub(crate) fn is_spent(&self, left_off: bool) -> bool {
         self.goes_on() || left_off && self.has_heard
+    }
+
+    // Carries on what is on its way, part by part, until the turn's units are spent, or much came up
+    // for the client. What waits for it is taken over before each part, so that a reply finds its
+    // session's queue empty.
+    fn go_on(&mut self)
+        ensures goes { CarriesOn (λ h. h.client.standing.is_over) self.old.talk.session
+            self.old.handler self.new.talk.session self.new.handler }
+        ensures short { is_short self.old.talk.session ≡ true
+            → is_short self.new.talk.session ≡ true }
+    {
+        let mut said: usize = 0;
+        for part in 0..MOST_PARTS {
+            if self.left == 0 || self.handler.is_closed() || self.talk.session.is_idle() {
+                return;
+            }
+            let came = take_over(&self.handler, &mut self.taken);
+            // What waited before the first part isn't what this text brings.
+            said = if part == 0 {
+                0
+            } else {
+                said.saturating_add(came)
+            };
+            if said >= MOST_SAID {
+                self.left = 0;
+                return;
+            }
+            let cost = self.talk.go_on(&mut self.handler);
+            self.left = self.left.saturating_sub(cost);
+        }
     }
 
     // What goes out next.
@@ -181,4 +229,26 @@ impl<'a, B: Backend> SessionDesk<'a, B> {
         }
         self.taken.pop_front()
     }
+}
+
+// Takes what waits in the hub for a client. How many bytes of text that is.
+fn take_over<B: Backend>(handler: &CommandHandler<'_, B>, taken: &mut VecDeque<Out>) -> usize {
+    let known = taken.len();
+    for _ in 0..MOST_TAKES {
+        if !handler.take(taken) {
+            break;
+        }
+    }
+    bytes_behind(taken, known)
+}
+
+// The bytes of the texts behind the first so many.
+fn bytes_behind(taken: &VecDeque<Out>, known: usize) -> usize {
+    let mut bytes: usize = 0;
+    for out in taken.iter().skip(known) {
+        if let Out::Text(text) = out {
+            bytes = bytes.saturating_add(text.len());
+        }
+    }
+    bytes
 }

@@ -7,7 +7,7 @@ use crate::connection::{Connection, Head, HeadStage, Open, Turned, takes_more};
 use crate::desk::SessionDesk;
 use crate::fault_counts::Fault;
 use crate::gate::{Gate, IO_LOOP};
-use crate::refusing::Refusing;
+use crate::leaving::Leaving;
 use crate::socket::Socket;
 use cf_dispatch::{Agenda, Outlets, SESSIONS_AT_ONCE, Seconds, take_batch};
 use cf_protocol::CloseCode;
@@ -28,6 +28,12 @@ use std::{io, mem, thread};
 /// The most connections accepted at one turn.
 const MOST_ACCEPTED: usize = 64;
 
+/// So many connections a node has at most, those without a session among them.
+const MOST_PLACES: usize = 16_384;
+
+/// A loop that took no turn for more seconds than these was held up, and so may the dispatcher have been: it has as long to turn.
+const SECONDS_HELD_UP: u64 = 2;
+
 /// So many bytes are gathered before they are written within a turn.
 const GATHERED: usize = 65_536;
 
@@ -39,6 +45,12 @@ const HEARD_AT_ONCE: usize = 16;
 
 /// The most turns by which a connection that has spent a turn's bounds waits for what is to be sent.
 const MOST_WAITED: u32 = 16;
+
+/// So many times it is looked at most, while the node ends, whether who was told so has read it.
+const MOST_LOOKS: usize = 200;
+
+/// So many milliseconds lie between two looks at most.
+const BETWEEN_LOOKS: u64 = 10;
 
 /// So many sockets are told of at one wait.
 const MOST_EVENTS: usize = 512;
@@ -95,6 +107,10 @@ struct IoLoop<'a, B: Backend> {
     seconds: Seconds,
     // The moment of this turn.
     now: u64,
+    // When it went on after it was held up.
+    resumed: u64,
+    // After so many seconds without a connect command a connection is dropped; 0: never.
+    stale: u64,
 }
 
 /// Serves until `stop` isn't 0, and then closes all sessions with 3001.
@@ -103,6 +119,7 @@ pub(crate) fn serve<R: Wait + Clock, B: Backend, G: Gate>(
     node: u8,
     backend: &B,
     acceptor: Acceptor,
+    stale: u64,
     gate: &G,
     stop: &AtomicU64,
 ) -> io::Result<()> {
@@ -123,6 +140,8 @@ pub(crate) fn serve<R: Wait + Clock, B: Backend, G: Gate>(
         accepts: Accepts::All,
         seconds: Seconds::new(),
         now: 0,
+        resumed: 0,
+        stale,
     };
     io_loop.run(rt, node, gate, stop)
 }
@@ -132,6 +151,7 @@ pub(crate) fn serve<R: Wait + Clock, B: Backend, G: Gate>(
 fn opened<'a, B: Backend>(
     backend: &'a B,
     connection: Connection<'a, B>,
+    is_well: bool,
     now: u64,
 ) -> Connection<'a, B> {
     let head = match connection {
@@ -154,8 +174,8 @@ fn opened<'a, B: Backend>(
                 Err(_) => Connection::Empty,
             }
         }
-        Err(refused) => match Refusing::new(refused, backend.shared().is_well(now), now) {
-            Some(refusing) => Connection::Refusing(refusing),
+        Err(refused) => match Leaving::refused(refused, is_well, now) {
+            Some(leaving) => Connection::Leaving(leaving),
             None => Connection::Empty,
         },
     }
@@ -186,7 +206,7 @@ impl<'a, B: Backend> IoLoop<'a, B> {
                 thread::yield_now();
             }
         }
-        self.shut_down();
+        self.shut_down(&mut events);
         Ok(())
     }
 
@@ -210,6 +230,9 @@ impl<'a, B: Backend> IoLoop<'a, B> {
 
     // One turn: what is ready is noted, who has a turn to come has it, and then comes a new second.
     fn turn(&mut self, events: &Events, now: u64) {
+        if now.saturating_sub(self.now) > SECONDS_HELD_UP {
+            self.resumed = now;
+        }
         self.now = now;
         self.backend.shared().look();
         let mut count: usize = 0;
@@ -236,7 +259,7 @@ impl<'a, B: Backend> IoLoop<'a, B> {
         self.backend.hub().tick(self.seconds.done());
         for place in 0..self.places.len() {
             if let Some(connection) = self.places.get_mut(place) {
-                if !connection.refresh(self.seconds.done()) {
+                if !connection.refresh(self.seconds.done(), self.stale) {
                     self.end(place);
                 }
             }
@@ -261,8 +284,8 @@ impl<'a, B: Backend> IoLoop<'a, B> {
                 Some(Connection::Open(open)) => {
                     open.wire.stream_mut().stream_mut().notice(readable, ended);
                 }
-                Some(Connection::Refusing(refusing)) => {
-                    refusing.stream.stream_mut().notice(readable, ended);
+                Some(Connection::Leaving(leaving)) => {
+                    leaving.stream.stream_mut().notice(readable, ended);
                 }
                 Some(Connection::Empty) | None => return,
             }
@@ -304,7 +327,10 @@ impl<'a, B: Backend> IoLoop<'a, B> {
                     ErrorKind::ConnectionAborted => Accepts::More,
                     ErrorKind::WouldBlock => Accepts::All,
                     _ => {
-                        self.backend.count(Fault::Refused);
+                        // One that waits, and is tried again, was counted.
+                        if self.accepts != Accepts::Failed {
+                            self.backend.count(Fault::Refused);
+                        }
                         Accepts::Failed
                     }
                 },
@@ -318,6 +344,9 @@ impl<'a, B: Backend> IoLoop<'a, B> {
     // Gives a new connection its place. Where that fails, which is answered by `false`, the
     // connection is dropped.
     fn put(&mut self, mut stream: TcpStream) -> bool {
+        if self.places.len().saturating_sub(self.free.len()) >= MOST_PLACES {
+            return false;
+        }
         let Ok(place) = self.empty_place() else {
             return false;
         };
@@ -402,7 +431,10 @@ impl<'a, B: Backend> IoLoop<'a, B> {
             return;
         };
         let head = mem::replace(connection, Connection::Empty);
-        drop(mem::replace(connection, opened(self.backend, head, self.now)));
+        let is_well = self.backend.shared().is_well(self.now)
+            || self.now.saturating_sub(self.resumed) <= SECONDS_HELD_UP;
+        let answered = opened(self.backend, head, is_well, self.now);
+        drop(mem::replace(connection, answered));
         if matches!(connection, Connection::Empty) {
             self.vacate(place);
         } else {
@@ -427,15 +459,34 @@ impl<'a, B: Backend> IoLoop<'a, B> {
                 }
                 turned
             }
-            Connection::Refusing(refusing) => refusing.turn(),
+            Connection::Leaving(leaving) => leaving.turn(),
             // One whose head has not come whole has nothing to do.
             Connection::Empty | Connection::Head(_) => Turned::Idle,
         };
         match turned {
             Turned::Idle => {}
             Turned::More => self.owe(place),
+            Turned::Leaves => self.see_off(place),
             Turned::Over => self.end(place),
         }
+    }
+
+    // The last is written to the connection at a place: its client's session goes, and the socket
+    // stays until its client has read that.
+    fn see_off(&mut self, place: usize) {
+        let Some(connection) = self.places.get_mut(place) else {
+            return;
+        };
+        match mem::replace(connection, Connection::Empty) {
+            Connection::Open(open) => {
+                let Open { wire, mut desk, .. } = Box::into_inner(open);
+                let leaving = Leaving::new(wire.into_stream(), self.now);
+                drop(mem::replace(connection, Connection::Leaving(leaving)));
+                desk.handler.give_up();
+            }
+            other => drop(mem::replace(connection, other)),
+        }
+        self.owe(place);
     }
 
     // The connection at a place is over: its socket is closed, and then its client's session goes.
@@ -498,8 +549,40 @@ impl<'a, B: Backend> IoLoop<'a, B> {
         self.batch.clear();
     }
 
-    // All sessions are closed with 3001, and told so as far as their sockets take it.
-    fn shut_down(&mut self) {
+    // All sessions are closed with 3001, and told so as far as their sockets take it. Who was told has
+    // two seconds at most to read that.
+    fn shut_down(&mut self, events: &mut Events) {
+        self.close_all();
+        for _ in 0..MOST_LOOKS {
+            let waits = self
+                .acceptor
+                .wait(events, Duration::from_millis(BETWEEN_LOOKS));
+            if waits.is_err() || !self.sees_off_all(events) {
+                break;
+            }
+        }
+        for place in 0..self.places.len() {
+            self.end(place);
+        }
+    }
+
+    // Each connection that is let go has a turn, where its socket is ready. Whether some still is.
+    fn sees_off_all(&mut self, events: &Events) -> bool {
+        for event in events {
+            self.notice(event);
+        }
+        let mut is_some = false;
+        for place in 0..self.places.len() {
+            if let Some(Connection::Leaving(_)) = self.places.get(place) {
+                self.serve(place, false);
+                is_some = true;
+            }
+        }
+        is_some
+    }
+
+    // All sessions are closed with 3001.
+    fn close_all(&mut self) {
         for place in 0..self.places.len() {
             if let Some(Connection::Open(open)) = self.places.get_mut(place) {
                 // Its close is still to be told.
@@ -509,7 +592,6 @@ impl<'a, B: Backend> IoLoop<'a, B> {
                 }
             }
             self.serve(place, false);
-            self.end(place);
         }
     }
 }

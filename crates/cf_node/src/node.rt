@@ -31,6 +31,7 @@ pub struct Setup<'a, N: Naming> {
     pub(crate) namespaces: &'a Namespaces,
     pub(crate) tokens: &'a Tokens,
     pub(crate) counts: Option<&'a FaultCounts>,
+    stale: u64,
     of: PhantomData<N>,
     ghost named: { namespaces.now ≡ N.namespaces },
 }
@@ -47,6 +48,7 @@ impl<'a, N: Naming> Setup<'a, N> {
             namespaces,
             tokens,
             counts: None,
+            stale: 0,
             of: PhantomData,
         }
     }
@@ -56,6 +58,15 @@ impl<'a, N: Naming> Setup<'a, N> {
         ensures { result.node ≡ self.entry.node }
     {
         self.counts = Some(counts);
+        self
+    }
+
+    /// The same, where a connection is dropped that has sent no connect command for so many seconds; 0:
+    /// it stays for ever, as where nothing is said.
+    pub fn stale(mut self, seconds: u64) -> Setup<'a, N>
+        ensures { result.node ≡ self.entry.node }
+    {
+        self.stale = seconds;
         self
     }
 
@@ -120,6 +131,7 @@ impl<'a, N: Naming> Node<'a, N> {
             shared,
         } = self;
         let node = setup.node;
+        let stale = setup.stale;
         let shared = &shared;
         let backend = LiveBackend {
             rt,
@@ -136,7 +148,7 @@ impl<'a, N: Naming> Node<'a, N> {
                 dispatch(rt, node, &mut mailbox, gate, stop);
             };
             let served = match scope.spawn(brings) {
-                Ok(_) => serve(rt, node, backend, acceptor, gate, stop),
+                Ok(_) => serve(rt, node, backend, acceptor, stale, gate, stop),
                 Err(refused) => Err(io::Error::from(refused)),
             };
             stop.store(1, Ordering::SeqCst);

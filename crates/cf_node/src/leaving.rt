@@ -1,5 +1,6 @@
-//! A connection that gets no WebSocket: it is answered, and then kept until its client has read that.
-//! A socket that is closed while its client still sends is reset, and the answer may be lost by it.
+//! A connection that is let go: what is left to be written goes out, its client is told that nothing more comes, and then it is
+//! kept until its client has read that. A socket that is closed while its client still sends is reset, and what was written last, a
+//! close frame or an answer, may be lost by it.
 use crate::connection::Turned;
 use crate::socket::Socket;
 use cf_handshake::health_answer;
@@ -10,24 +11,36 @@ use std::io::{ErrorKind, Read, Write};
 /// The most reads of one turn.
 const MOST_READS: usize = 16;
 
-/// A socket that is answered, and what is left to be written to it.
+/// So many seconds a client has to read what it is told.
+const SECONDS_TO_READ: u64 = 5;
+
+/// A socket on which the last was said, and what is left of that to be written.
 #[derive(Drop)]
-pub(crate) struct Refusing {
+pub(crate) struct Leaving {
     pub(crate) stream: Gather<Socket>,
-    /// When it was answered, in seconds: its client has as long to read that as one has for a head.
-    pub(crate) answered: u64,
+    // Since when, in seconds.
+    since: u64,
     // Its client was told that nothing more is written.
     is_shut: bool,
 }
 
-impl Refusing {
-    /// What is refused at this moment, with the answer to who asks whether the node lives. `None` where
+impl Leaving {
+    /// A connection that is over at this moment, with what is left to be written.
+    pub(crate) fn new(stream: Gather<Socket>, now: u64) -> Leaving {
+        Leaving {
+            stream,
+            since: now,
+            is_shut: false,
+        }
+    }
+
+    /// One that gets no WebSocket, with the answer to who asks whether the node lives. `None` where
     /// there is nothing to be read: the socket failed, or memory was refused, or the head was too long.
-    pub(crate) fn new(
+    pub(crate) fn refused(
         refused: Refused<Gather<Socket>>,
         is_well: bool,
         now: u64,
-    ) -> Option<Refusing> {
+    ) -> Option<Leaving> {
         let Refused {
             fault,
             mut stream,
@@ -40,11 +53,12 @@ impl Refusing {
         if !answers {
             return None;
         }
-        Some(Refusing {
-            stream,
-            answered: now,
-            is_shut: false,
-        })
+        Some(Leaving::new(stream, now))
+    }
+
+    /// Whether its client's time to read is over at this moment.
+    pub(crate) fn is_over(&self, now: u64) -> bool {
+        now.saturating_sub(self.since) >= SECONDS_TO_READ
     }
 
     /// Takes a turn: writes on, and once all is written reads what the client still sends, up to its
@@ -63,7 +77,7 @@ impl Refusing {
             return Turned::Over;
         }
         self.is_shut = true;
-        let mut chunk = [0u8; 1024];
+        let mut chunk = [0u8; 4096];
         for _ in 0..MOST_READS {
             match self.stream.read(&mut chunk) {
                 Ok(0) => return Turned::Over,

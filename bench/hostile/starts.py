@@ -1,0 +1,134 @@
+#!/usr/bin/env python3
+"""A start into waiting clients, and a start without its standard streams.
+
+More clients than `serve` has descriptors (64) are there before it has said where it listens, since its standard output takes nothing
+yet: it goes on all the same, two times; a connection that waits is counted once, and not once a second. Standard error is a pipe that
+is full and that nobody reads, and one whose reader is gone: it ends at the end of its input all the same. It starts with standard
+error closed, and with standard output a pipe and standard input closed: no socket takes their numbers (an end of the input then ends
+it with status 0). It is held up for four seconds, as by a debugger: its health is `ok` as soon as it goes on.
+"""
+import contextlib
+import fcntl
+import os
+import resource
+import signal
+import socket
+import subprocess
+import time
+
+from peers import BOOTS, Fails, Server, connected, run
+
+DESCRIPTORS, CLIENTS = 64, 90
+FULL = 4096   # bytes that a pipe of one page takes
+
+
+def free_port():
+    with socket.socket() as one:
+        one.bind(("127.0.0.1", 0))
+        return one.getsockname()[1]
+
+
+def clients_at(port):
+    """So many clients, once somebody listens."""
+    until = time.monotonic() + 20
+    while time.monotonic() < until:
+        with contextlib.suppress(OSError):
+            return [connected(port) for _ in range(CLIENTS)]
+        time.sleep(0.01)
+    raise Fails("nobody listened within 20 seconds")
+
+
+def crowded(program):
+    """Starts into more clients than there are descriptors, while standard output takes nothing: what is wrong, and what was said on
+    standard error."""
+    port, (reads, writes) = free_port(), full_pipe()
+    command = [program, "serve", "--boot", str(next(BOOTS)), "--port", str(port)]
+    process = subprocess.Popen(command, stdin=subprocess.PIPE, stdout=writes, stderr=subprocess.PIPE, text=True,
+                               preexec_fn=lambda: resource.setrlimit(resource.RLIMIT_NOFILE, (DESCRIPTORS, DESCRIPTORS)))
+    os.close(writes)
+    sockets = clients_at(port)
+    time.sleep(0.5)
+    line = os.read(reads, FULL + 100)[FULL:] or os.read(reads, 100)
+    time.sleep(2.2)
+    status = process.poll()
+    for made in sockets:
+        made.close()
+    said = process.communicate(timeout=20)[1]
+    os.close(reads)
+    if not line.startswith(b"node 0") or status is not None:
+        return f"ended with status {process.returncode}: {said[-80:]!r}", said
+    return "", said
+
+
+def full_pipe():
+    """The end of a pipe that has something to read and takes nothing more, and the other."""
+    reads, writes = os.pipe()
+    os.write(writes, b"x" * fcntl.fcntl(writes, fcntl.F_SETPIPE_SZ, FULL))
+    return reads, writes
+
+
+def ends(program, words, **streams):
+    """What `serve` ends with at the end of its input, with 90 clients at 64 descriptors; None where it doesn't."""
+    command = [program, "serve", "--boot", str(next(BOOTS))]
+    process = subprocess.Popen(["sh", "-c", f'exec "$@" {words}', "sh", *command], stdout=subprocess.PIPE, text=True,
+                               preexec_fn=lambda: resource.setrlimit(resource.RLIMIT_NOFILE, (DESCRIPTORS, DESCRIPTORS)), **streams)
+    line = process.stdout.readline()
+    sockets = []
+    if line.startswith("node 0"):
+        port = int(line.rsplit(":", 1)[1])
+        sockets = [connected(port) for _ in range(CLIENTS)]
+        time.sleep(1.5)
+    if process.stdin:
+        process.stdin.close()
+    try:
+        return process.wait(8)
+    except subprocess.TimeoutExpired:
+        process.kill()
+        process.wait()
+        return None
+    finally:
+        for made in sockets:
+            made.close()
+
+
+def health(port):
+    with connected(port) as asks:
+        asks.sendall(b"GET /health HTTP/1.0\r\n\r\n")
+        return asks.recv(4096)[9:12].decode()
+
+
+def check(program, seconds):
+    faults = []
+    for _ in range(2):
+        fault, said = crowded(program)
+        faults += [f"a start into {CLIENTS} clients {fault}"] if fault else []
+    counted = said.count(" more, ")
+    if counted > 1:
+        faults.append(f"what waits was counted {counted} times")
+    reads, writes = full_pipe()
+    for words, end, pipe in [("full", reads, writes), ("without a reader", *os.pipe())]:
+        if words == "without a reader":
+            os.close(end)
+        status = ends(program, "", stdin=subprocess.PIPE, stderr=pipe)
+        if status != 0:
+            faults.append(f"standard error {words}: status {status}")
+        os.close(pipe)
+    for words, streams in [("2>&-", {"stdin": subprocess.PIPE}), ("<&-", {"stderr": subprocess.DEVNULL})]:
+        status = ends(program, words, **streams)
+        if status not in (0, 2):
+            faults.append(f"started with {words}: status {status}")
+    with Server(program) as server:
+        time.sleep(0.5)
+        os.kill(server.process.pid, signal.SIGSTOP)
+        time.sleep(4)
+        asks = connected(server.port)
+        asks.sendall(b"GET /health HTTP/1.0\r\n\r\n")
+        os.kill(server.process.pid, signal.SIGCONT)
+        found = asks.recv(4096)[9:12].decode()
+        if found != "200" or health(server.port) != "200":
+            faults.append(f"the health after a pause: {found}")
+    return not faults, "; ".join(faults) or f"2 of 2 starts into {CLIENTS} waiting clients, what waits is counted once; ends with standard error full, and closed; well after a pause"
+
+
+if __name__ == "__main__":
+    run(check, 0)

@@ -1,0 +1,17 @@
+use Rattle.std.proofs.Common.{◌≡◌, true, false}
+use Rattle.cf_session.specs.Standing.{is_short}
+use Rattle.cf_node.proofs.Carrying.{still_long}
+use Rattle.cf_node.proofs.desk.SessionDesk.go_on.Goals as goal
+
+pub loop-part-init : goal.loop-part-init
+loop-part-init g c = record { goes = λ long m end rest. rest; short = λ s. s }
+
+pub loop-part-preserved : goal.loop-part-preserved
+loop-part-preserved g c =
+    let before = c.loop-part.invariant in
+    record {
+      goes = λ long m end rest.
+          before.goes (still_long (is_short c.loop-part.self.talk.session) (is_short c.go_on.new.self.session) c.go_on.ensures.short long) m end
+          (c.go_on.ensures.goes long m end rest);
+      short = λ s. c.go_on.ensures.short (before.short s);
+    }
