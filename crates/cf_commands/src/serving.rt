@@ -12,7 +12,7 @@ use crate::sizes::{Listener, Sizes};
 use cf_broker::{Broker, Passes, Words};
 use cf_epochs::{Boot, BootEpochs};
 use cf_link::{Receiver, Sender, pair};
-use cf_node::{FaultCounts, Node, Setup};
+use cf_node::{Node, Reach, Setup};
 use cf_protocol::{Namespaces, Tokens, read_namespaces, read_tokens};
 use cf_shard::{Delivery, Naming};
 use mio::net::TcpListener;
@@ -104,14 +104,14 @@ where
     requires words { words ≡ names N.words 16 }
     requires namespaces { namespaces.now ≡ N.namespaces }
 {
-    let running = Running::new(rt, options.is_quiet)?;
-    let counts = &running.counts;
+    let reach = Reach::new(rt.alloc(), options.nodes)?;
+    let running = Running::new(rt, reach, options.is_quiet)?;
     let Joined {
         broker,
         passes,
         nodes,
         addresses,
-    } = join::<N, R>(rt, options, boot, words, counts, namespaces, tokens)?;
+    } = join::<N, R>(rt, options, boot, words, &running, namespaces, tokens)?;
     let mut sizes = Sizes {
         rt,
         broker: &*broker,
@@ -127,7 +127,7 @@ fn join<'a, N: Naming, R: Net + AllocGlobal>(
     options: ServeOptions<'_>,
     boot: Boot,
     words: Words,
-    counts: &'a FaultCounts,
+    running: &'a Running,
     namespaces: &'a Namespaces,
     tokens: &'a Tokens,
 ) -> Result<Joined<'a, N>, Fault>
@@ -139,7 +139,7 @@ fn join<'a, N: Naming, R: Net + AllocGlobal>(
         senders,
         nodes,
         addresses,
-    } = open_nodes::<N, R>(rt, options, counts, namespaces, tokens)?;
+    } = open_nodes::<N, R>(rt, options, running, namespaces, tokens)?;
     let epochs = BootEpochs::of_shards(boot);
     let (broker, passes) = Broker::<N, BootEpochs>::new(alloc, words, namespaces, epochs, senders)?;
     Ok(Joined {
@@ -154,7 +154,7 @@ fn join<'a, N: Naming, R: Net + AllocGlobal>(
 fn open_nodes<'a, N: Naming, R: Net + AllocGlobal>(
     rt: &R,
     options: ServeOptions<'_>,
-    counts: &'a FaultCounts,
+    running: &'a Running,
     namespaces: &'a Namespaces,
     tokens: &'a Tokens,
 ) -> Result<Opened<'a, N>, Fault>
@@ -166,7 +166,9 @@ fn open_nodes<'a, N: Naming, R: Net + AllocGlobal>(
         addresses: Vec::new(rt.alloc()),
     };
     for number in 0..options.nodes {
-        let setup = Setup::new(number, options.boot, namespaces, tokens).counted(counts);
+        let setup = Setup::new(number, options.boot, namespaces, tokens)
+            .counted(&running.counts)
+            .reaching(&running.reach);
         add_node(rt, options, setup, &mut opened)?;
     }
     Ok(opened)

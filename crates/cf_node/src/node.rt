@@ -2,6 +2,7 @@
 ghost use Rattle.std.specs.Prelude.{◌≡◌};
 
 use crate::acceptor::Acceptor;
+use crate::costs::Reach;
 use crate::dispatcher::{NodeMailbox, dispatch};
 use crate::fault_counts::FaultCounts;
 use crate::gate::Gate;
@@ -31,6 +32,7 @@ pub struct Setup<'a, N: Naming> {
     pub(crate) namespaces: &'a Namespaces,
     pub(crate) tokens: &'a Tokens,
     pub(crate) counts: Option<&'a FaultCounts>,
+    pub(crate) reach: Option<&'a Reach>,
     of: PhantomData<N>,
     ghost named: { namespaces.now ≡ N.namespaces },
 }
@@ -47,6 +49,7 @@ impl<'a, N: Naming> Setup<'a, N> {
             namespaces,
             tokens,
             counts: None,
+            reach: None,
             of: PhantomData,
         }
     }
@@ -56,6 +59,15 @@ impl<'a, N: Naming> Setup<'a, N> {
         ensures { result.node ≡ self.entry.node }
     {
         self.counts = Some(counts);
+        self
+    }
+
+    /// The same, where what publications reach is noted here, for all nodes that share it. Without
+    /// that a turn's cost doesn't tell who gets what is published in it.
+    pub fn reaching(mut self, reach: &'a Reach) -> Setup<'a, N>
+        ensures { result.node ≡ self.entry.node }
+    {
+        self.reach = Some(reach);
         self
     }
 
@@ -120,6 +132,7 @@ impl<'a, N: Naming> Node<'a, N> {
             shared,
         } = self;
         let node = setup.node;
+        let reach = setup.reach;
         let shared = &shared;
         let backend = LiveBackend {
             rt,
@@ -132,7 +145,7 @@ impl<'a, N: Naming> Node<'a, N> {
         let backend = &backend;
         thread::scope(thread::scope_env(), rt, |scope| {
             let brings = move || {
-                let mut mailbox = NodeMailbox::new(rt, gate, receiver, shared);
+                let mut mailbox = NodeMailbox::new(rt, gate, receiver, shared).noting(node, reach);
                 dispatch(rt, node, &mut mailbox, gate, stop);
             };
             let served = match scope.spawn(brings) {
