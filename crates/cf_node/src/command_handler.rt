@@ -235,9 +235,8 @@ impl<'a, B: Backend> CommandHandler<'a, B> {
     }
 
     /// Whether the session is over, as the hub has it now. Where it is, its client is present
-    /// nowhere from now on. It is asked before each call, so that what a call costs is counted here.
-    pub(crate) fn sees_end(&mut self) -> bool {
-        self.cost = self.cost.saturating_add(CALL);
+    /// nowhere from now on.
+    pub(crate) fn looks_for_end(&mut self) -> bool {
         if self.is_closed() {
             return true;
         }
@@ -247,6 +246,12 @@ impl<'a, B: Backend> CommandHandler<'a, B> {
         }
         self.end();
         true
+    }
+
+    // The same before a call, which is counted.
+    fn sees_end(&mut self) -> bool {
+        self.cost = self.cost.saturating_add(CALL);
+        self.looks_for_end()
     }
 
     /// The close goes out to the client.

@@ -562,7 +562,7 @@ impl<'a, B: Backend> IoLoop<'a, B> {
                 Some(named) if named.is_free => self.serve(named.place, false),
                 Some(named) => {
                     if let Some(Connection::Open(open)) = self.places.get_mut(named.place) {
-                        open.desk.handler.sees_end();
+                        open.desk.handler.looks_for_end();
                     }
                 }
                 None => {}

@@ -15,7 +15,7 @@ impl<'a, B: Backend> CommandHandler<'a, B> {
     /// is checked, and it is present again in each channel that it still has.
     pub(crate) fn refresh(&mut self, now: u64) -> bool {
         self.now = now;
-        if self.sees_end() {
+        if self.looks_for_end() {
             // Its socket may take what waits for it for a while.
             let is_over = is_close_over(self.client.ended, now);
             if is_over {
