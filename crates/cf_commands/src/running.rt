@@ -6,7 +6,7 @@ ghost use Rattle.cf_commands.specs.Status.{IsOutside};
 use crate::fault::Fault;
 use crate::readiness::Readiness;
 use crate::sizes::{Line, Listener};
-use cf_node::{FaultCounts, Gate};
+use cf_node::{FaultCounts, Gate, Reach};
 use mio::Interest;
 use std::io::{ErrorKind, Read};
 use std::net::Net;
@@ -45,18 +45,21 @@ pub(crate) struct Running {
     failed: AtomicU64,
     /// What goes wrong at the nodes.
     pub(crate) counts: FaultCounts,
+    /// What publications reach, at all nodes.
+    pub(crate) reach: Reach,
     /// Whether nothing is said of that.
     pub(crate) is_quiet: bool,
 }
 
 impl Running {
     /// No node serves yet. An error where there is no clock.
-    pub(crate) fn new<R: Clock>(rt: &R, is_quiet: bool) -> io::Result<Running> {
+    pub(crate) fn new<R: Clock>(rt: &R, reach: Reach, is_quiet: bool) -> io::Result<Running> {
         Ok(Running {
             start: Instant::now(rt)?,
             begun: AtomicU64::new(0),
             failed: AtomicU64::new(NONE),
             counts: FaultCounts::new(),
+            reach,
             is_quiet,
         })
     }

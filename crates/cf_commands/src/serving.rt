@@ -12,7 +12,7 @@ use crate::sizes::{Listener, Sizes};
 use cf_broker::{Broker, Passes, Words};
 use cf_epochs::{Boot, BootEpochs};
 use cf_link::{Receiver, Sender, pair};
-use cf_node::{FaultCounts, Node, Setup};
+use cf_node::{Node, Reach, Setup};
 use cf_protocol::{Namespaces, Tokens, read_namespaces, read_tokens};
 use cf_shard::{Delivery, Naming};
 use mio::net::TcpListener;
@@ -127,14 +127,14 @@ where
     requires words { words ≡ names N.words 16 }
     requires namespaces { namespaces.now ≡ N.namespaces }
 {
-    let running = Running::new(rt, options.is_quiet)?;
-    let counts = &running.counts;
+    let reach = Reach::new(rt.alloc(), options.nodes)?;
+    let running = Running::new(rt, reach, options.is_quiet)?;
     let Joined {
         broker,
         passes,
         nodes,
         addresses,
-    } = join::<N, R>(rt, options, boot, words, counts, namespaces, tokens)?;
+    } = join::<N, R>(rt, options, boot, words, &running, namespaces, tokens)?;
     let mut sizes = Sizes {
         rt,
         broker: &*broker,
@@ -162,7 +162,7 @@ fn join<'a, N: Naming, R: Net + AllocGlobal>(
     options: ServeOptions<'_>,
     boot: Boot,
     words: Words,
-    counts: &'a FaultCounts,
+    running: &'a Running,
     namespaces: &'a Namespaces,
     tokens: &'a Tokens,
 ) -> Result<Joined<'a, N>, Fault>
@@ -174,7 +174,7 @@ fn join<'a, N: Naming, R: Net + AllocGlobal>(
         senders,
         nodes,
         addresses,
-    } = open_nodes::<N, R>(rt, options, counts, namespaces, tokens)?;
+    } = open_nodes::<N, R>(rt, options, running, namespaces, tokens)?;
     let epochs = BootEpochs::of_shards(boot);
     let (broker, passes) = Broker::<N, BootEpochs>::new(alloc, words, namespaces, epochs, senders)?;
     Ok(Joined {
@@ -189,7 +189,7 @@ fn join<'a, N: Naming, R: Net + AllocGlobal>(
 fn open_nodes<'a, N: Naming, R: Net + AllocGlobal>(
     rt: &R,
     options: ServeOptions<'_>,
-    counts: &'a FaultCounts,
+    running: &'a Running,
     namespaces: &'a Namespaces,
     tokens: &'a Tokens,
 ) -> Result<Opened<'a, N>, Fault>
@@ -202,8 +202,9 @@ fn open_nodes<'a, N: Naming, R: Net + AllocGlobal>(
     };
     for number in 0..options.nodes {
         let setup = Setup::new(number, options.boot, namespaces, tokens)
-            .counted(counts)
-            .stale(u64::from(options.stale));
+            .counted(&running.counts)
+            .stale(u64::from(options.stale))
+            .reaching(&running.reach);
         add_node(rt, options, setup, &mut opened)?;
     }
     Ok(opened)

@@ -1,4 +1,3 @@
-pub mod Agendas
 pub mod Batches
 pub mod Taking
 pub mod Waits

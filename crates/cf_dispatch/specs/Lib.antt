@@ -1,8 +1,8 @@
-pub mod Agenda
 pub mod Answers
 pub mod Batch
 pub mod Dispatch
 pub mod Life
 pub mod Outlet
+pub mod Pongs
 pub mod Seconds
 pub mod Standing

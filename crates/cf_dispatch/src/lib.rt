@@ -1,23 +1,23 @@
 //! What a node's two workers decide, over what is lent to them: a publication that comes is brought to the hub, what waits in the hub
-//! for its clients is taken for them, and the connections have their turns in the order in which they became ready.
+//! for its clients is taken for them, and who gets nowhere, or doesn't answer, is told apart from who wasn't heard.
 //!
 //! That workers take turns is this project's own; Centrifugo's documents say what a client gets, not by whom.
 #![tactic(auto)]
 
-mod agenda;
 mod answers;
 mod batch;
 mod life;
 mod mailbox;
 mod outlet;
+mod pongs;
 mod seconds;
 mod standing;
 
-pub use agenda::{Agenda, turns_are_fair};
 pub use answers::{broker_error, goes_on, keeps_presence, mark_after};
 pub use batch::{Outlets, SESSIONS_AT_ONCE, take_batch};
 pub use life::{SECONDS_FOR_CLOSE, SECONDS_FOR_HEAD, is_close_over, is_head_over};
 pub use mailbox::{Mailbox, pass_on};
 pub use outlet::{Taken, take_for};
+pub use pongs::{PongWatch, SECONDS_TO_PING, SECONDS_TO_PONG};
 pub use seconds::{MOST_LATE, Seconds};
 pub use standing::Standing;

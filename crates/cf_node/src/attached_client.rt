@@ -1,5 +1,5 @@
 //! What the node keeps of a client, and what is done in the hub for it, while the hub is lent.
-use cf_dispatch::Standing;
+use cf_dispatch::{PongWatch, Standing};
 use cf_hub::Hub;
 use cf_protocol::{ErrorCode, Position};
 use cf_session::hub_error;
@@ -20,6 +20,10 @@ pub(crate) struct Present {
 pub(crate) struct AttachedClient {
     /// The number of its session in the hub, once it is attached, and whether it is over.
     pub(crate) standing: Standing,
+    /// Whether it answers its pings in time.
+    pub(crate) pongs: PongWatch,
+    /// Nothing more comes of it: it is present nowhere any more.
+    pub(crate) is_gone: bool,
     /// When its session was seen to be over, in seconds.
     pub(crate) ended: u64,
     /// It was counted as too slow.
@@ -39,6 +43,8 @@ impl AttachedClient {
     pub(crate) fn new(alloc: Global, now: u64) -> AttachedClient {
         AttachedClient {
             standing: Standing::nobody(),
+            pongs: PongWatch::new(now),
+            is_gone: false,
             ended: now,
             is_slow: false,
             user: String::new(alloc),
@@ -80,6 +86,7 @@ impl AttachedClient {
             Err(refusal) => return Err(hub_error(&refusal)),
         };
         self.standing.attach(number);
+        self.pongs = PongWatch::new(now);
         match String::from_str(alloc, hub.client_id(number).unwrap_or("")) {
             Ok(id) => self.id = id,
             Err(_) => return Err(ErrorCode::Internal),

@@ -40,6 +40,10 @@ pub(crate) trait Backend {
     /// Whether some node is behind with what was published, so that who publishes is to wait.
     fn is_crowded(&self) -> bool;
 
+    /// To how many clients of all nodes what is published in a channel goes, as far as the last
+    /// publication there told.
+    fn receivers(&self, channel: &str) -> u64;
+
     /// Wakes the workers that bring on what was published, on every node.
     fn ring(&self);
 

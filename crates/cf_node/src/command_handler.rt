@@ -1,6 +1,7 @@
 //! What a session asks for, done on hub and broker.
 use crate::attached_client::AttachedClient;
 use crate::backend::Backend;
+use crate::costs::{CALL, LOOP_BUDGET, TEXT, cost_of};
 use crate::fault_counts::Fault;
 use cf_dispatch::{broker_error, take_for};
 use cf_hub::Queued;
@@ -10,6 +11,12 @@ use cf_queue::Out;
 use cf_session::Node;
 use cf_stream::History;
 use std::collections::{BTreeMap, VecDeque};
+
+/// A client that wasn't heard for more seconds than these was idle.
+const SECONDS_IDLE: u64 = 2;
+
+/// After so many turns it is known what those of a client cost.
+const TURNS_TO_KNOW: u32 = 8;
 
 /// Who carries out what one session asks for: it knows the client, and goes to hub and broker.
 #[derive(Drop)]
@@ -22,6 +29,12 @@ pub(crate) struct CommandHandler<'a, B> {
     pub(crate) has_published: bool,
     /// It published while some node was behind: it goes on once none is.
     pub(crate) is_held: bool,
+    /// What the turn costs so far in which its client was heard last.
+    pub(crate) cost: u64,
+    /// In how many turns it was heard since it came or was idle.
+    pub(crate) turns: u32,
+    /// When it was heard last, in seconds.
+    pub(crate) heard: u64,
 }
 
 impl<'a, B: Backend> Node for CommandHandler<'a, B> {
@@ -107,6 +120,8 @@ impl<'a, B: Backend> Node for CommandHandler<'a, B> {
         if self.sees_end() {
             return Err(ErrorCode::Internal);
         }
+        let cost = cost_of(body.len(), self.backend.receivers(channel.as_str()));
+        self.cost = self.cost.saturating_add(cost);
         let answer = self
             .backend
             .publish(channel.as_str(), body, key, info, self.now);
@@ -158,6 +173,8 @@ impl<'a, B: Backend> Node for CommandHandler<'a, B> {
         let Some(number) = self.client.standing.number() else {
             return;
         };
+        let bytes = TEXT.saturating_add(text.len() as u64);
+        self.cost = self.cost.saturating_add(bytes);
         let said = self.backend.hub().say(number, text);
         if said != Queued::Kept {
             self.stop();
@@ -165,6 +182,7 @@ impl<'a, B: Backend> Node for CommandHandler<'a, B> {
     }
 
     fn pong(&mut self) {
+        self.client.pongs.pong();
         if let Some(number) = self.client.standing.number() {
             self.backend.hub().pong(number);
         }
@@ -182,6 +200,23 @@ impl<'a, B: Backend> Node for CommandHandler<'a, B> {
 }
 
 impl<'a, B: Backend> CommandHandler<'a, B> {
+    /// Its client is heard in a turn at this moment, in seconds, whose cost is counted from now on.
+    pub(crate) fn begin_turn(&mut self, now: u64) {
+        if now.saturating_sub(self.heard) > SECONDS_IDLE {
+            self.turns = 0;
+        }
+        self.turns = self.turns.saturating_add(1);
+        self.heard = now;
+        self.cost = CALL;
+    }
+
+    /// Whether what its client does next may cost much more than its last turn: it has shown little so
+    /// far, or was idle, and what it showed was cheap.
+    pub(crate) fn is_fresh(&self, now: u64) -> bool {
+        let is_idle = now.saturating_sub(self.heard) > SECONDS_IDLE;
+        (self.turns < TURNS_TO_KNOW || is_idle) && self.cost < LOOP_BUDGET / 64
+    }
+
     /// Takes what waits for the client, and puts it behind what was taken for it before. Whether
     /// more may wait.
     pub(crate) fn take(&self, taken: &mut VecDeque<Out>) -> bool {
@@ -201,7 +236,7 @@ impl<'a, B: Backend> CommandHandler<'a, B> {
 
     /// Whether the session is over, as the hub has it now. Where it is, its client is present
     /// nowhere from now on.
-    pub(crate) fn sees_end(&mut self) -> bool {
+    pub(crate) fn looks_for_end(&mut self) -> bool {
         if self.is_closed() {
             return true;
         }
@@ -211,6 +246,12 @@ impl<'a, B: Backend> CommandHandler<'a, B> {
         }
         self.end();
         true
+    }
+
+    // The same before a call, which is counted.
+    fn sees_end(&mut self) -> bool {
+        self.cost = self.cost.saturating_add(CALL);
+        self.looks_for_end()
     }
 
     /// The close goes out to the client.
@@ -243,9 +284,12 @@ impl<'a, B: Backend> CommandHandler<'a, B> {
         self.leave_all();
     }
 
-    /// The client is present in the channel from this moment on. Where memory is refused, it enters
-    /// with the next round.
+    /// The client is present in the channel from this moment on, unless nothing more comes of it.
+    /// Where memory is refused, it enters with the next round.
     pub(crate) fn enter(&self, channel: &str) {
+        if self.client.is_gone {
+            return;
+        }
         self.backend.enter(
             channel,
             self.client.id.as_str(),

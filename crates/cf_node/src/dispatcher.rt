@@ -2,6 +2,7 @@
 ghost use Rattle.std.specs.Prelude.{◌≡◌};
 ghost use Rattle.cf_dispatch.specs.Dispatch.{Dispatches};
 
+use crate::costs::Reach;
 use crate::gate::{DISPATCHER, Gate};
 use crate::shared::{MANY, Shared};
 use cf_dispatch::{Mailbox, pass_on};
@@ -28,6 +29,9 @@ pub(crate) struct NodeMailbox<'a, R, G, N: Naming> {
     hub: Option<MutexGuard<'a, Hub>>,
     // How many publications were brought under this lock, and sessions met them.
     met: u32,
+    node: u8,
+    // Where it is noted how many clients a channel's publications go to.
+    reach: Option<&'a Reach>,
 }
 
 impl<'a, R: Wait, G, N: Naming> NodeMailbox<'a, R, G, N> {
@@ -45,7 +49,16 @@ impl<'a, R: Wait, G, N: Naming> NodeMailbox<'a, R, G, N> {
             shared,
             hub: None,
             met: 0,
+            node: 0,
+            reach: None,
         }
+    }
+
+    /// The same of the node of this number, which notes there how many clients publications reach.
+    pub(crate) fn noting(mut self, node: u8, reach: Option<&'a Reach>) -> NodeMailbox<'a, R, G> {
+        self.node = node;
+        self.reach = reach;
+        self
     }
 
     // Whether the next publication is brought under the same lock.
@@ -92,6 +105,9 @@ impl<'a, R: Wait + Clock, G: Gate, N: Naming> Mailbox for NodeMailbox<'a, R, G, 
         let bytes = delivery.publication().body.len();
         let delivered = hub.deliver(delivery.channel(), delivery.epoch(), delivery.publication());
         self.shared.note_brought(delivered.passed, bytes);
+        if let Some(reach) = self.reach {
+            reach.note(self.node, delivery.channel(), delivered.passed);
+        }
         if self.goes_on(&delivered) {
             self.hub = Some(hub);
         }

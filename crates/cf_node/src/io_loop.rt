@@ -1,15 +1,17 @@
 //! The worker that serves the sockets: it turns a connection that has something to read or
-//! something to send, and no other, in the order of an agenda. A connection that has spent what one
-//! turn carries out goes on behind all others, and once what it brought them is sent.
+//! something to send, and no other, in the order of a queue that is fair by what turns cost. A turn of
+//! the loop gives turns until they cost a certain sum, and not so many.
 use crate::acceptor::{Acceptor, LISTENER, WAKER};
 use crate::backend::Backend;
 use crate::connection::{Connection, Head, HeadStage, Open, Turned, takes_more};
+use crate::costs::{CALL, LOOP_BUDGET};
 use crate::desk::SessionDesk;
 use crate::fault_counts::Fault;
 use crate::gate::{Gate, IO_LOOP};
 use crate::leaving::Leaving;
 use crate::socket::Socket;
-use cf_dispatch::{Agenda, Outlets, SESSIONS_AT_ONCE, Seconds, take_batch};
+use cf_dispatch::{Outlets, SESSIONS_AT_ONCE, Seconds, take_batch};
+use cf_fair::FairQueue;
 use cf_protocol::CloseCode;
 use cf_queue::Out;
 use cf_session::Wire;
@@ -42,9 +44,6 @@ const MOST_BATCHES: usize = 4;
 
 /// So many connections are heard before those are served that got something by it.
 const HEARD_AT_ONCE: usize = 16;
-
-/// The most turns by which a connection that has spent a turn's bounds waits for what is to be sent.
-const MOST_WAITED: u32 = 16;
 
 /// So many times it is looked at most, while the node ends, whether who was told so has read it.
 const MOST_LOOKS: usize = 200;
@@ -89,14 +88,16 @@ struct IoLoop<'a, B: Backend> {
     free: Vec<usize>,
     // At which place each session of the hub is.
     owners: Vec<usize>,
-    // The places that have a turn to come.
-    agenda: Agenda,
-    // Those of them that have spent the bounds of their last one.
-    spenders: Agenda,
-    // For how many turns these have waited for what is to be sent.
-    waited: u32,
-    // Those that published while some node was behind.
-    held: Agenda,
+    // The places that have a turn to come. Those are held that published while some node was behind,
+    // or more than one turn of the loop sends.
+    queue: FairQueue,
+    // The same of those of whom it isn't known what they cost: each turn of the loop gives turns to
+    // some of either.
+    fresh: FairQueue,
+    // What the turns cost that this turn of the loop has given so far.
+    spent: u64,
+    // The same of those whose publications may not be sent yet.
+    debt: u64,
     // The hub may have something for sessions that it wasn't asked for.
     is_behind: bool,
     // The places whose sessions the hub has just named.
@@ -130,10 +131,10 @@ pub(crate) fn serve<R: Wait + Clock, B: Backend, G: Gate>(
         places: Vec::new(alloc),
         free: Vec::new(alloc),
         owners: Vec::new(alloc),
-        agenda: Agenda::new(alloc),
-        spenders: Agenda::new(alloc),
-        waited: 0,
-        held: Agenda::new(alloc),
+        queue: FairQueue::new(alloc, LOOP_BUDGET),
+        fresh: FairQueue::new(alloc, LOOP_BUDGET),
+        spent: 0,
+        debt: 0,
         is_behind: false,
         batch: Vec::new(alloc),
         buffer: Vec::new(alloc),
@@ -212,20 +213,26 @@ impl<'a, B: Backend> IoLoop<'a, B> {
 
     // Waits for readiness, where nothing is left to do.
     fn wait(&mut self, events: &mut Events) -> io::Result<()> {
-        let is_done = self.agenda.is_empty()
-            && self.spenders.is_empty()
-            && (self.held.is_empty() || self.backend.is_crowded())
+        let is_idle = self.queue.is_empty() || self.queue.is_light_empty() && self.holds();
+        let is_done = is_idle
+            && self.fresh.is_empty()
             && !self.is_behind
             && self.accepts != Accepts::More
             && !self.seconds.is_late();
         let patience = if !is_done {
             0
-        } else if self.held.is_empty() {
+        } else if self.queue.is_empty() {
             PATIENCE
         } else {
             SHORT_PATIENCE
         };
         self.acceptor.wait(events, Duration::from_millis(patience))
+    }
+
+    // Whether who is held waits on: some node is behind with what was published, or this one with
+    // what was published in a turn and is still to be sent.
+    fn holds(&self) -> bool {
+        self.is_behind && self.debt >= LOOP_BUDGET || self.backend.is_crowded()
     }
 
     // One turn: what is ready is noted, who has a turn to come has it, and then comes a new second.
@@ -244,8 +251,8 @@ impl<'a, B: Backend> IoLoop<'a, B> {
             self.accept_some();
         }
         self.serve_named();
-        self.serve_agenda();
-        self.serve_waiting();
+        self.serve_queue();
+        self.serve_fresh();
         if !self.is_behind {
             self.backend.shared().catch_up();
         }
@@ -256,6 +263,7 @@ impl<'a, B: Backend> IoLoop<'a, B> {
 
     // What comes with each new second: pings, rounds, and at node 0 the broker's time.
     fn on_second(&mut self) {
+        self.look_for_pongs();
         self.backend.hub().tick(self.seconds.done());
         for place in 0..self.places.len() {
             if let Some(connection) = self.places.get_mut(place) {
@@ -271,7 +279,19 @@ impl<'a, B: Backend> IoLoop<'a, B> {
         self.serve_named();
     }
 
-    // A socket is ready.
+    // Looks who answers its pings. Who waits for its turn may have answered.
+    fn look_for_pongs(&mut self) {
+        for place in 0..self.places.len() {
+            let is_unheard = self.waits(place);
+            if let Some(Connection::Open(open)) = self.places.get_mut(place) {
+                let handler = &mut open.desk.handler;
+                handler.looks_for_pong(self.seconds.done(), is_unheard);
+            }
+        }
+    }
+
+    // A socket is ready. What is seen of it without reading counts at once: a client that sends nothing
+    // more is present nowhere, and where its connection failed while it was held, that is over.
     fn notice(&mut self, event: &Event) {
         let token = event.token();
         if token == LISTENER {
@@ -283,6 +303,12 @@ impl<'a, B: Backend> IoLoop<'a, B> {
                 Some(Connection::Head(head)) => head.socket.notice(readable, ended),
                 Some(Connection::Open(open)) => {
                     open.wire.stream_mut().stream_mut().notice(readable, ended);
+                    if ended {
+                        open.desk.handler.note_gone();
+                    }
+                    if event.is_error() && open.desk.handler.is_held {
+                        return self.end(token.0);
+                    }
                 }
                 Some(Connection::Leaving(leaving)) => {
                     leaving.stream.stream_mut().notice(readable, ended);
@@ -293,23 +319,43 @@ impl<'a, B: Backend> IoLoop<'a, B> {
         }
     }
 
-    // A turn of the connection at a place is to come: held back, where it published while some node
-    // was behind; behind all others, where it has spent the bounds of its last turn.
+    // A turn of the connection at a place is to come: held, where it published while some node was
+    // behind, or has spent the bounds of its last turn on more than the loop sends in one.
     fn owe(&mut self, place: usize) {
-        let (is_held, is_spent) = match self.places.get(place) {
-            Some(Connection::Open(open)) => (open.desk.handler.is_held, open.is_spent),
+        if self.waits(place) {
+            return;
+        }
+        let (is_held, is_fresh) = match self.places.get(place) {
+            Some(Connection::Open(open)) => {
+                let handler = &open.desk.handler;
+                let is_dear = open.is_spent && handler.cost >= LOOP_BUDGET;
+                let is_fresh = handler.is_fresh(self.seconds.done());
+                (handler.is_held || is_dear, is_fresh)
+            }
             _ => (false, false),
         };
-        let added = if is_held {
-            self.held.add(place)
-        } else if is_spent {
-            self.spenders.add(place)
+        let added = if is_fresh && !is_held {
+            self.fresh.add(place, false)
         } else {
-            self.agenda.add(place)
+            self.queue.add(place, is_held)
         };
         if added.is_err() {
             self.end(place);
         }
+    }
+
+    // Whether a place waits for its turn.
+    fn waits(&self, place: usize) -> bool {
+        self.queue.waits(place) || self.fresh.waits(place)
+    }
+
+    // What a turn cost counts for its connection, and for this turn of the loop: no further turn is
+    // given in it behind one that has spent its bounds.
+    fn charge(&mut self, place: usize, cost: u64, is_spent: bool) {
+        self.queue.charge(place, cost);
+        let spent = if is_spent { LOOP_BUDGET } else { cost };
+        self.spent = self.spent.saturating_add(spent);
+        self.debt = self.debt.saturating_add(cost);
     }
 
     // Accepts some of what waits to be.
@@ -358,13 +404,15 @@ impl<'a, B: Backend> IoLoop<'a, B> {
                     accepted: self.seconds.done(),
                 });
                 drop(mem::replace(connection, head));
-                true
             }
             _ => {
                 let _ = self.free.push(place);
-                false
+                return false;
             }
         }
+        // Its head may have come, and from then on what its turns cost is noted.
+        self.owe(place);
+        true
     }
 
     // A place that stands empty: a free one, or one more, with room for the owner of one session
@@ -380,35 +428,50 @@ impl<'a, B: Backend> IoLoop<'a, B> {
         Ok(place)
     }
 
-    // Each that has a turn to come has one, in their order, and who got something by it is served.
-    fn serve_agenda(&mut self) {
-        for heard in 0..self.agenda.len() {
-            if let Some(place) = self.agenda.next() {
-                self.hear(place);
-                if heard % HEARD_AT_ONCE == 0 {
-                    self.serve_named();
-                }
+    // Who has a turn to come has it, the one that is due first, until these turns cost what one of the
+    // loop may; and who got something by it is served.
+    fn serve_queue(&mut self) {
+        self.spent = 0;
+        // What is sent is owed no more.
+        self.debt = if self.is_behind {
+            self.debt.saturating_sub(LOOP_BUDGET)
+        } else {
+            0
+        };
+        for heard in 0..self.queue.len() {
+            let next = if self.holds() {
+                self.queue.next_light()
+            } else {
+                self.queue.next()
+            };
+            let Some(place) = next else {
+                return;
+            };
+            self.hear(place);
+            if heard % HEARD_AT_ONCE == 0 {
+                self.serve_named();
+            }
+            if self.spent >= LOOP_BUDGET {
+                return;
             }
         }
     }
 
-    // Two that have waited go on: one that has spent the bounds of its last turn, where nothing is
-    // left to be sent, or it has waited for that for long; and then one that published while some
-    // node was behind, where none is any more.
-    fn serve_waiting(&mut self) {
-        if self.is_behind && self.waited < MOST_WAITED && !self.spenders.is_empty() {
-            self.waited += 1;
-        } else if let Some(place) = self.spenders.next() {
-            self.waited = 0;
+    // The same of those of whom it isn't known what they cost, in the order in which they came: so
+    // many whose turns prove dear keep nobody else waiting for more than one of them.
+    fn serve_fresh(&mut self) {
+        self.spent = 0;
+        for heard in 0..self.fresh.len() {
+            let Some(place) = self.fresh.next() else {
+                return;
+            };
             self.hear(place);
-            self.serve_named();
-        }
-        if self.held.is_empty() || self.backend.is_crowded() {
-            return;
-        }
-        if let Some(place) = self.held.next() {
-            self.hear(place);
-            self.serve_named();
+            if heard % HEARD_AT_ONCE == 0 {
+                self.serve_named();
+            }
+            if self.spent >= LOOP_BUDGET {
+                return;
+            }
         }
     }
 
@@ -416,7 +479,7 @@ impl<'a, B: Backend> IoLoop<'a, B> {
     fn hear(&mut self, place: usize) {
         if let Some(Connection::Head(head)) = self.places.get_mut(place) {
             match head.read_on() {
-                HeadStage::Partial => {}
+                HeadStage::Partial => self.charge(place, CALL, false),
                 HeadStage::Whole => self.open(place),
                 HeadStage::Lost => self.end(place),
             }
@@ -443,14 +506,22 @@ impl<'a, B: Backend> IoLoop<'a, B> {
     }
 
     // Turns the connection at a place, where its client is heard or only served, and wakes who brings
-    // on what was published in the turn. The place is its session's from then on.
+    // on what was published in the turn. The place is its session's from then on. A turn in which it is
+    // heard is charged before another is owed.
     fn serve(&mut self, place: usize, hears: bool) {
         let Some(connection) = self.places.get_mut(place) else {
             return;
         };
+        let mut cost = CALL;
+        let mut is_spent = false;
         let turned = match connection {
             Connection::Open(open) => {
+                if hears {
+                    open.desk.handler.begin_turn(self.seconds.done());
+                }
                 let turned = open.turn(&mut self.buffer, self.seconds.done(), hears);
+                cost = open.desk.handler.cost;
+                is_spent = open.is_spent;
                 open.desk.handler.ring();
                 if let Some(number) = open.desk.handler.client.standing.number() {
                     if let Some(owner) = self.owners.get_mut(number as usize) {
@@ -463,6 +534,9 @@ impl<'a, B: Backend> IoLoop<'a, B> {
             // One whose head has not come whole has nothing to do.
             Connection::Empty | Connection::Head(_) => Turned::Idle,
         };
+        if hears {
+            self.charge(place, cost, is_spent);
+        }
         match turned {
             Turned::Idle => {}
             Turned::More => self.owe(place),
@@ -508,9 +582,8 @@ impl<'a, B: Backend> IoLoop<'a, B> {
 
     // A place stands empty again.
     fn vacate(&mut self, place: usize) {
-        self.agenda.remove(place);
-        self.spenders.remove(place);
-        self.held.remove(place);
+        self.queue.remove(place);
+        self.fresh.remove(place);
         let _ = self.free.push(place);
     }
 
@@ -540,7 +613,7 @@ impl<'a, B: Backend> IoLoop<'a, B> {
                 Some(named) if named.is_free => self.serve(named.place, false),
                 Some(named) => {
                     if let Some(Connection::Open(open)) = self.places.get_mut(named.place) {
-                        open.desk.handler.sees_end();
+                        open.desk.handler.looks_for_end();
                     }
                 }
                 None => {}

@@ -11,6 +11,7 @@ mod attached_client;
 mod backend;
 mod command_handler;
 mod connection;
+mod costs;
 mod desk;
 mod dispatcher;
 mod fault_counts;
@@ -23,6 +24,7 @@ mod rounds;
 mod shared;
 mod socket;
 
+pub use costs::Reach;
 pub use fault_counts::FaultCounts;
 pub use gate::{DISPATCHER, Gate, IO_LOOP};
 pub use node::{Node, Setup};

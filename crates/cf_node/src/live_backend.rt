@@ -78,6 +78,13 @@ impl<'a, R: Wait, N: Naming, E: Epochs + Drop> Backend for LiveBackend<'a, R, N,
         self.broker.is_crowded(self.rt)
     }
 
+    fn receivers(&self, channel: &str) -> u64 {
+        match self.setup.reach {
+            Some(reach) => reach.clients(channel),
+            None => 0,
+        }
+    }
+
     fn ring(&self) {
         self.broker.ring(self.rt);
     }

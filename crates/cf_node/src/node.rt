@@ -2,6 +2,7 @@
 ghost use Rattle.std.specs.Prelude.{◌≡◌};
 
 use crate::acceptor::Acceptor;
+use crate::costs::Reach;
 use crate::dispatcher::{NodeMailbox, dispatch};
 use crate::fault_counts::FaultCounts;
 use crate::gate::Gate;
@@ -32,6 +33,7 @@ pub struct Setup<'a, N: Naming> {
     pub(crate) tokens: &'a Tokens,
     pub(crate) counts: Option<&'a FaultCounts>,
     stale: u64,
+    pub(crate) reach: Option<&'a Reach>,
     of: PhantomData<N>,
     ghost named: { namespaces.now ≡ N.namespaces },
 }
@@ -49,6 +51,7 @@ impl<'a, N: Naming> Setup<'a, N> {
             tokens,
             counts: None,
             stale: 0,
+            reach: None,
             of: PhantomData,
         }
     }
@@ -67,6 +70,15 @@ impl<'a, N: Naming> Setup<'a, N> {
         ensures { result.node ≡ self.entry.node }
     {
         self.stale = seconds;
+        self
+    }
+
+    /// The same, where what publications reach is noted here, for all nodes that share it. Without
+    /// that a turn's cost doesn't tell who gets what is published in it.
+    pub fn reaching(mut self, reach: &'a Reach) -> Setup<'a, N>
+        ensures { result.node ≡ self.entry.node }
+    {
+        self.reach = Some(reach);
         self
     }
 
@@ -132,6 +144,7 @@ impl<'a, N: Naming> Node<'a, N> {
         } = self;
         let node = setup.node;
         let stale = setup.stale;
+        let reach = setup.reach;
         let shared = &shared;
         let backend = LiveBackend {
             rt,
@@ -144,7 +157,7 @@ impl<'a, N: Naming> Node<'a, N> {
         let backend = &backend;
         thread::scope(thread::scope_env(), rt, |scope| {
             let brings = move || {
-                let mut mailbox = NodeMailbox::new(rt, gate, receiver, shared);
+                let mut mailbox = NodeMailbox::new(rt, gate, receiver, shared).noting(node, reach);
                 dispatch(rt, node, &mut mailbox, gate, stop);
             };
             let served = match scope.spawn(brings) {

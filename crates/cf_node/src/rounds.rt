@@ -4,6 +4,7 @@ use crate::attached_client::Present;
 use crate::backend::Backend;
 use crate::command_handler::CommandHandler;
 use cf_dispatch::{goes_on, is_close_over, mark_after};
+use cf_protocol::CloseCode;
 
 /// How many seconds lie between two rounds of a client.
 const ROUND: u64 = 25;
@@ -14,7 +15,7 @@ impl<'a, B: Backend> CommandHandler<'a, B> {
     /// is checked, and it is present again in each channel that it still has.
     pub(crate) fn refresh(&mut self, now: u64) -> bool {
         self.now = now;
-        if self.sees_end() {
+        if self.looks_for_end() {
             // Its socket may take what waits for it for a while.
             let is_over = is_close_over(self.client.ended, now);
             if is_over {
@@ -29,6 +30,21 @@ impl<'a, B: Backend> CommandHandler<'a, B> {
             }
         }
         true
+    }
+
+    /// What a second brings before the hub's pings: who waits for its turn isn't late with an answer,
+    /// which may lie in its socket, and the hub forgets that it owes one; who had 8 seconds since then
+    /// is closed with 3012.
+    pub(crate) fn looks_for_pong(&mut self, now: u64, is_unheard: bool) {
+        let Some(number) = self.client.standing.number() else {
+            return;
+        };
+        if is_unheard && self.client.pongs.owes() {
+            self.backend.hub().pong(number);
+        }
+        if self.client.pongs.second_comes(now, is_unheard) {
+            self.backend.hub().close(number, CloseCode::NoPong.code());
+        }
     }
 
     // A round of the client.
@@ -65,6 +81,13 @@ impl<'a, B: Backend> CommandHandler<'a, B> {
         if let Some(number) = self.client.standing.number() {
             self.backend.hub().detach(number);
         }
+        self.leave_all();
+    }
+
+    /// Nothing more comes of the client: it is present nowhere from now on, whatever of what it sent
+    /// before is still to be carried out.
+    pub(crate) fn note_gone(&mut self) {
+        self.client.is_gone = true;
         self.leave_all();
     }
 

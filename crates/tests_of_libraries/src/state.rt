@@ -1,5 +1,6 @@
 //! What a node or a client knows.
 mod client;
+mod fair;
 mod presence;
 mod queue;
 mod recovery;

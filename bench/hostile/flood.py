@@ -1,0 +1,114 @@
+#!/usr/bin/env python3
+"""Many publishers whose texts go to many: what each of them costs is theirs to wait for, and nobody else's.
+
+1,500 clients on two nodes (`--publishers`) keep 16 publishes in flight each, first of 20,000 bytes to 300 readers who keep up, then of
+1,000 bytes to 1,000 readers, half of the seconds each (`--kind 1` or `2`: one of both alone). Beside them 40 healthy clients publish 60 bytes
+every 50 ms, one at a time, each to itself. None of these is closed, and none waits over 2 seconds for a reply. All answer their pings, so
+none is closed with 3012, the publishers neither. Then the publishers go, all at once and without a word: a second and a half later none of
+them is present any more. (`--bytes`, `--readers`, `--healthy` and `--gap` are for a slower program, as one that is built without proof.)
+
+The clients are of C (crowd.c, which `cc` makes into a folder of its own), since those of Python are closed as slow before a flood is one.
+The server has two processors, 0 and 1 (`--processors`), the clients all.
+"""
+import contextlib
+import os
+import subprocess
+import tempfile
+import time
+
+from peers import Closed, Fails, Peer, Server, run
+
+KINDS = {1: (20_000, 300), 2: (1_000, 1_000)}   # bytes of a text, and how many read it
+IN_FLIGHT = 16
+HEALTHY, SMALL, GAP = 40, 60, 50                # clients, bytes of a text, milliseconds
+NO_PONG = "3012"
+LONGEST = 2000                                  # milliseconds for which a healthy client may wait
+WITHIN = 1.5                                    # seconds within which who left is no longer present
+
+
+class Crowd:
+    """A crowd of crowd.c, connected."""
+
+    def __init__(self, program, kind, ports, channel, count, size=0, in_flight=0, gap=GAP):
+        words = [program, kind, ",".join(map(str, ports)), channel, str(count), str(size), str(in_flight), str(gap)]
+        self.process = subprocess.Popen(words, stdin=subprocess.PIPE, stdout=subprocess.PIPE, text=True)
+        if self.process.stdout.readline() != "ready\n":
+            raise Fails(f"{count} clients that {kind[:-1]} didn't connect")
+
+    def begin(self):
+        self.process.stdin.write("\n")
+        self.process.stdin.flush()
+
+    def end(self):
+        """Replies, the longest wait, connections that ended, their codes, texts, errors; its sockets are closed then."""
+        said, _ = self.process.communicate(timeout=60)
+        replies, longest, ended, codes, texts, errors = said.split()
+        return int(replies), int(longest), int(ended), codes, int(texts), int(errors)
+
+    def kill(self):
+        self.process.kill()
+        self.process.wait()
+
+
+def left_after(asker):
+    """The seconds until nobody is present among the publishers, or None."""
+    began = time.monotonic()
+    with contextlib.suppress(Closed, Fails):
+        while time.monotonic() < began + 30:
+            if asker.ask({"presence_stats": {"channel": "flooders"}}, 30)["presence_stats"].get("num_clients", 0) == 0:
+                return time.monotonic() - began
+            time.sleep(0.05)
+    return None
+
+
+def flood(program, crowd, size, reading, seconds, publishers, processors, asking, gap):
+    """One flood. Whether it holds, and what it came to, in words."""
+    mine = os.sched_getaffinity(0)
+    os.sched_setaffinity(0, set(sorted(mine)[:processors]))
+    with Server(program, nodes=2) as server, contextlib.ExitStack() as stack:
+        os.sched_setaffinity(0, mine)
+
+        def start(*words):
+            made = Crowd(crowd, *words)
+            stack.callback(made.kill)
+            return made
+
+        readers = start("reads", server.ports, "crowd", reading)
+        healthy = start("asks", server.ports, "healthy", asking, SMALL, 1, gap)
+        floods = start("floods", server.ports, "crowd", publishers, size, IN_FLIGHT)
+        asker = Peer(server.port)
+        healthy.begin()
+        time.sleep(1)
+        began = server.seconds()
+        floods.begin()
+        time.sleep(seconds)
+        busy = (server.seconds() - began) / seconds
+        replies, longest, ended, codes, _, errors = healthy.end()
+        _, _, out, out_codes, _, _ = floods.end()
+        gone = left_after(asker)
+        _, _, lost, lost_codes, texts, _ = readers.end()
+        is_heard = NO_PONG not in codes + out_codes
+        holds = not ended and not errors and longest <= LONGEST and is_heard and gone is not None and gone <= WITHIN
+        said = (f"{size} bytes to {reading}: of {asking} healthy {ended} closed {codes if ended else ''}, {replies} replies, {errors} errors, "
+                f"longest wait {longest} ms; {lost} readers closed {lost_codes if lost else ''}, {out} publishers {out_codes if out else ''}; "
+                f"{texts} pushes in {seconds:.0f} s, {busy:.1f} processors; publishers gone from presence "
+                + (f"{gone:.2f} s later" if gone is not None else "not within 30 s"))
+        server.end = server.process.kill    # what still waits for readers is nobody's any more
+        return holds, said
+
+
+def check(program, seconds, kind, publishers, processors, bytes, readers, healthy, gap):
+    with tempfile.TemporaryDirectory() as folder:
+        crowd = f"{folder}/crowd"
+        source = os.path.join(os.path.dirname(os.path.abspath(__file__)), "crowd.c")
+        subprocess.run(["cc", "-O2", "-o", crowd, source], check=True)
+        kinds = [kind] if kind else list(KINDS)
+        found = []
+        for one in kinds:
+            size, reading = bytes or KINDS[one][0], readers or KINDS[one][1]
+            found.append(flood(program, crowd, size, reading, seconds / len(kinds), publishers, processors, healthy, gap))
+    return all(holds for holds, _ in found), "; and ".join(said for _, said in found)
+
+
+if __name__ == "__main__":
+    run(check, 120, kind=0, publishers=1500, processors=2, bytes=0, readers=0, healthy=HEALTHY, gap=GAP)
