@@ -146,7 +146,7 @@ once_on : (step : Step) (old new : Fair) → IsOnce old → Steps step old new �
 once_on (Adds k h) old new o s = once_comes (waits k old) k h old new refl o s
 once_on (Turns k) old new o s = once_leaves s.ticket old new o s.leaves
 once_on (LightTurns k) old new o s = once_leaves s.ticket old new o s.leaves
-once_on (Charges k c) old new o s = once_moved old new o s.1.light s.1.held
+once_on (Charges k c n) old new o s = once_moved old new o s.1.light s.1.held
 once_on (Ends k) old new o s = once_goes k old new o s
 
 pub nobody_twice : NobodyWaitsTwice
@@ -270,7 +270,7 @@ timed_on (Adds k h) old new o a s = timed_comes (waits k old) k h old new refl a
     timed_comes false k h old new w a s = timed_joins k h old new w a s
 timed_on (Turns k) old new o a s = timed_leaves s.ticket old new a s.leaves
 timed_on (LightTurns k) old new o a s = timed_leaves s.ticket old new a s.leaves
-timed_on (Charges k c) old new o a s =
+timed_on (Charges k c n) old new o a s =
     timed_moves old new s.1.light s.1.held (λ j e. unmoved k j (up (time_at old k) c, expected old k c) old new (s.1.accounts j) (other_waits j k old s.0 e)) a
 timed_on (Ends k) old new o a s = timed_goes k old new o a s
 
@@ -443,8 +443,8 @@ run_light_turn b p q k t before old mid new r m e s d =
       bound = omega (arith, c);
     }
 
-charged_low : (q k c sum told : ℕ) (mid new : Fair) → Pays k c mid new → up told sum ≤ time_at mid q → up told ((if k == q then c else 0) + sum) ≤ time_at new q
-charged_low q k c sum told mid new s l = by_value (k == q) refl
+charged_low : (q k c m sum told : ℕ) (mid new : Fair) → Pays k c m mid new → up told sum ≤ time_at mid q → up told ((if k == q then c else 0) + sum) ≤ time_at new q
+charged_low q k c m sum told mid new s l = by_value (k == q) refl
   where
     by_value : (b : Bool) → (k == q) ≡ b → up told ((if b then c else 0) + sum) ≤ time_at new q
     by_value true e =
@@ -455,14 +455,14 @@ charged_low q k c sum told mid new s l = by_value (k == q) refl
         let t = ap time_of (unmoved k q (up (time_at mid k) c, expected mid k c) mid new (s.accounts q) e) in
         omega (arith, t, l)
 
-run_charged : (b : Bool) (p q k c : ℕ) (before : List Step) (old mid new : Fair) → Run b p q before old mid → waits k mid ≡ false → Pays k c mid new → Run b p q (Charges k c ∷ before) old new
-run_charged b p q k c before old mid new r w s =
+run_charged : (b : Bool) (p q k c n : ℕ) (before : List Step) (old mid new : Fair) → Run b p q before old mid → waits k mid ≡ false → Pays k c n mid new → Run b p q (Charges k c n ∷ before) old new
+run_charged b p q k c n before old mid new r w s =
     record {
       once = once_moved mid new r.once s.light s.held;
       timed = timed_moves mid new s.light s.held (λ j e. unmoved k j (up (time_at mid k) c, expected mid k c) mid new (s.accounts j) (other_waits j k mid w e)) r.timed;
       there = serves_moved b p mid new s.light s.held r.there;
       account = unmoved k p (up (time_at mid k) c, expected mid k c) mid new (s.accounts p) (other_waits p k mid w (serves_waits b p mid r.there)) ∙ r.account;
-      low = charged_low q k c (spent q before) (time_at old q) mid new s r.low;
+      low = charged_low q k c n (spent q before) (time_at old q) mid new s r.low;
       bound = omega (arith, r.bound);
     }
 
@@ -500,7 +500,7 @@ run_on b p q (Turns k) before old mid new r m t e f l s =
 run_on b p q (LightTurns k) before old mid new r m t e f l s =
     let d = light_passed b p k s.ticket mid new (λ g. let x : true ≡ false = l g in absurd (cc)) r.timed s.leaves (not_that s.ticket k p s.place t) s.first r.there in
     run_light_turn b p q k s.ticket before old mid new r m s.place s.leaves d
-run_on b p q (Charges k c) before old mid new r m t e f l s = run_charged b p q k c before old mid new r s.0 s.1
+run_on b p q (Charges k c n) before old mid new r m t e f l s = run_charged b p q k c n before old mid new r s.0 s.1
 run_on b p q (Ends k) before old mid new r m t e f l s = run_ended b p q k before old mid new r e f s
 
 run_through : (b : Bool) (p q : ℕ) (during : List Step) (old new : Fair) → IsOnce old → IsTimed old → serves b p old ≡ true → due_at old p < most

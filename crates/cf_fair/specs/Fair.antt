@@ -97,9 +97,9 @@ pub record HasLightTurn (k : ℕ) (old new : Fair) : Type 0 where
   pub is_light : old.light ≡ ticket ∷ new.light
   pub first : IsFirst ticket new.light
 
--- what a turn's cost is for each, of those that wait and the one that had it
-abbrev pub share : ℕ → Fair → ℕ
-share cost f = cost / (length f.light + length f.held + 1)
+-- what a turn's cost is for each, of those that wait, here and elsewhere, and the one that had it
+abbrev pub share : ℕ → ℕ → Fair → ℕ
+share cost others f = cost / up (up (length f.light + length f.held) others) 1
 
 -- what the next turn of place k is expected to cost, behind one that cost so much: no less, and no less than half of
 -- what this one was expected to
@@ -107,19 +107,19 @@ abbrev pub expected : Fair → ℕ → ℕ → ℕ
 expected f k cost = max cost (cost_at f k / 2)
 
 -- what a turn of place k cost: the clock goes on by each one's share
-pub record Pays (k cost : ℕ) (old new : Fair) : Type 0 where
+pub record Pays (k cost others : ℕ) (old new : Fair) : Type 0 where
   pub light : new.light ≡ old.light
   pub held : new.held ≡ old.held
   pub accounts : (j : ℕ) → account_at new j
       ≡ (if k == j then (up (time_at old k) cost, expected old k cost) else account_at old j)
-  pub clock : new.clock ≡ up old.clock (share cost old)
+  pub clock : new.clock ≡ up old.clock (share cost others old)
   pub budget : new.budget ≡ old.budget
   pub number : new.number ≡ old.number
 
 -- a place that never came has nothing to pay
-abbrev pub PaysIf : Bool → ℕ → ℕ → Fair → Fair → Type 0
-PaysIf true k cost old new = Pays k cost old new
-PaysIf false k cost old new = IsSame old new
+abbrev pub PaysIf : Bool → ℕ → ℕ → ℕ → Fair → Fair → Type 0
+PaysIf true k cost others old new = Pays k cost others old new
+PaysIf false k cost others old new = IsSame old new
 
 -- whether a place came once
 abbrev pub is_known : ℕ → Fair → Bool
@@ -150,7 +150,7 @@ pub data Step : Type 0 where
   Adds : (place : ℕ) → (is_held : Bool) → Step
   Turns : (place : ℕ) → Step
   LightTurns : (place : ℕ) → Step
-  Charges : (place cost : ℕ) → Step
+  Charges : (place cost others : ℕ) → Step
   Ends : (place : ℕ) → Step
 
 -- one step, as `FairQueue`'s calls have it; who had its turn is charged before it comes again
@@ -158,7 +158,7 @@ abbrev pub Steps : Step → Fair → Fair → Type 0
 Steps (Adds k h) old new = Comes (waits k old) k h old new
 Steps (Turns k) old new = HasTurn k old new
 Steps (LightTurns k) old new = HasLightTurn k old new
-Steps (Charges k c) old new = (waits k old ≡ false) × Pays k c old new
+Steps (Charges k c n) old new = (waits k old ≡ false) × Pays k c n old new
 Steps (Ends k) old new = Goes k old new
 
 -- steps one after another, the newest first
@@ -170,21 +170,21 @@ abbrev pub is_end : ℕ → Step → Bool
 is_end k (Adds j h) = false
 is_end k (Turns j) = false
 is_end k (LightTurns j) = false
-is_end k (Charges j c) = false
+is_end k (Charges j c n) = false
 is_end k (Ends j) = j == k
 
 abbrev pub is_turn : ℕ → Step → Bool
 is_turn k (Adds j h) = false
 is_turn k (Turns j) = j == k
 is_turn k (LightTurns j) = j == k
-is_turn k (Charges j c) = false
+is_turn k (Charges j c n) = false
 is_turn k (Ends j) = false
 
 abbrev pub cost_of : ℕ → Step → ℕ
 cost_of k (Adds j h) = 0
 cost_of k (Turns j) = 0
 cost_of k (LightTurns j) = 0
-cost_of k (Charges j c) = if j == k then c else 0
+cost_of k (Charges j c n) = if j == k then c else 0
 cost_of k (Ends j) = 0
 
 -- whether place k's connection ended; whether it had a turn
@@ -200,7 +200,7 @@ abbrev pub is_light_turn : Step → Bool
 is_light_turn (Adds j h) = false
 is_light_turn (Turns j) = false
 is_light_turn (LightTurns j) = true
-is_light_turn (Charges j c) = false
+is_light_turn (Charges j c n) = false
 is_light_turn (Ends j) = false
 
 abbrev pub has_light_turn : List Step → Bool

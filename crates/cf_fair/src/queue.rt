@@ -129,15 +129,17 @@ impl FairQueue {
     }
 
     /// What a place's turn cost, all at once, is added to its virtual time. A place that never came has
-    /// none.
-    pub fn charge(&mut self, place: usize, cost: u64)
-        ensures { PaysIf (is_known place self.old) place cost self.old self.new }
+    /// none. The clock goes on by its share for each of those that wait, of so many others that wait
+    /// elsewhere, and for itself.
+    pub fn charge(&mut self, place: usize, cost: u64, others: u64)
+        ensures { PaysIf (is_known place self.old) place cost others self.old self.new }
     {
         if place < self.accounts.len() {
             let time = self.accounts[place].0.saturating_add(cost);
             let expected = max(cost, self.accounts[place].1 / 2);
             self.accounts[place] = (time, expected);
-            let share = cost / (self.len() as u64 + 1);
+            let waiting = (self.len() as u64).saturating_add(others);
+            let share = cost / waiting.saturating_add(1);
             self.clock = self.clock.saturating_add(share);
         }
     }

@@ -352,7 +352,7 @@ impl<'a, B: Backend> IoLoop<'a, B> {
     // What a turn cost counts for its connection, and for this turn of the loop: no further turn is
     // given in it behind one that has spent its bounds.
     fn charge(&mut self, place: usize, cost: u64, is_spent: bool) {
-        self.queue.charge(place, cost);
+        self.queue.charge(place, cost, self.fresh.len() as u64);
         let spent = if is_spent { LOOP_BUDGET } else { cost };
         self.spent = self.spent.saturating_add(spent);
         self.debt = self.debt.saturating_add(cost);

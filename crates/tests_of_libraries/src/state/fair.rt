@@ -24,10 +24,10 @@ fn light_one_waits_for_one_turn(rt: HostRuntime) {
             if heard > 1 {
                 most = max(most, waited);
             }
-            queue.charge(place, 300);
+            queue.charge(place, 300, 0);
         } else {
             waited = waited.saturating_add(1);
-            queue.charge(place, 6_000_000);
+            queue.charge(place, 6_000_000, 0);
             queue.add(place, false).expect(&rt, "there is memory");
         }
     }
@@ -44,7 +44,7 @@ fn light_one_goes_before_a_burst(rt: HostRuntime) {
     }
     for place in 0..301 {
         assert_eq!(rt; queue.next(), Some(place));
-        queue.charge(place, if place == 300 { 300 } else { 6_000_000 });
+        queue.charge(place, if place == 300 { 300 } else { 6_000_000 }, 0);
     }
     for place in 0..301 {
         queue.add(place, false).expect(&rt, "there is memory");
@@ -64,7 +64,7 @@ fn held_ones_wait_for_next(rt: HostRuntime) {
     queue.add(5, false).expect(&rt, "there is memory");
     assert_eq!(rt; queue.len(), 3);
     assert_eq!(rt; queue.next_light(), Some(2));
-    queue.charge(2, 10);
+    queue.charge(2, 10, 0);
     queue.add(2, false).expect(&rt, "there is memory");
     queue.remove(5);
     assert_eq!(rt; queue.next(), Some(2));
