@@ -48,7 +48,7 @@ returns-in_ok-id-in-Ok c = on_ok_weaker c.join.result (λ joins. λ cfg past t.
     lends c.args.self.now.hubs c.args.node h g (c.in-Some-get_mut.ensures.variant.0 refl) c.in-Some-get_mut.ensures.value in
     let k : ℕ = c.in-Ok.session in
     let name : string_bytes c.in_ok-id-in-Ok.id ≡ client_id h.node h.boot (h.used + 1) = c.in_ok-id-in-Ok.ensures (client_id h.node h.boot (h.used + 1)) (ap name_of c.in-Ok.ensures.opens.here) in
-    let met = joins.meets c.without_tokens.ensures.progress in (
+    let met = joins.meets c.without_tokens-waits.ensures.progress in (
       connect-goes t.0 c.args.name.now c.args.node c.sessions_are_counted.ensures none (c.calls_are_alike.ensures w.broker.lists) (slice_get (slice_set c.args.self.now.hubs.items c.args.node g)) c.in-Ok.session (
         h,
         v.was,
@@ -69,7 +69,7 @@ returns-in_ok-id-in-Ok c = on_ok_weaker c.join.result (λ joins. λ cfg past t.
           (get_by_text c.join.new.clients) joins,
       served-joined t.0 t.1 c.args.name.now (record { node = c.args.node; session = k }) v c.in-Ok.ensures.opens.others c.in-Ok.ensures.number.free (record { client = joins.client; seat = Some (record { node = c.args.node; session = k }); session = joins.session }) refl joins.now
           (fresh-served cfg.namespaces (attached_at g k) (client_id h.node h.boot (h.used + 1)) (string_bytes c.new.result) 0 joins.session c.in-Ok.ensures.opens.here
-          (ap (λ (z : Tables). z.namespaces) (met.0 ∙ c.without_tokens.ensures.tables) ∙ t.0.namespaces) met.1
+          (ap (λ (z : Tables). z.namespaces) (met.0 ∙ c.without_tokens-waits.ensures.tables) ∙ t.0.namespaces) met.1
           (met.2 ∙ ap (λ (n : List ℕ). Todo (Served (Some (record { user = []; client = n })))) name)),
     ))
     c.join.ensures
