@@ -1,5 +1,6 @@
 //! The calls that are promised to take no memory. The name of each is printed once it has been made, and a full stop once what it
 //! needs stands ready. What the C library is asked for between a name and the line before it is counted by `.ci/no-memory`.
+mod broker;
 mod hub;
 mod report;
 mod rows;
@@ -24,5 +25,6 @@ pub(crate) fn calls(rt: &HostRuntime) -> bool {
     hub::calls(&report);
     session::calls(&report);
     word::calls(&report);
+    broker::calls(&report);
     report.is_whole()
 }
