@@ -239,12 +239,12 @@ out 1 81 05 'close 88 09 0b c4 'no 20 'pong => written
 # a text that isn't masked: 1 81 01 'a
 turn => StreamFault 0
 turn => StreamFault 0
-out 1 88 02 03 ea
+out 1 88 02 03 ea => written
 
 # a text that isn't UTF-8: 1 81 81 00 00 00 00 ff
 turn => StreamFault 0
 turn => StreamFault 0
-out 1 88 02 03 ef
+out 1 88 02 03 ef => written
 
 # a character in two frames: 1 01 81 00 00 00 00 c3 80 81 00 00 00 00 a9
 turn => Idle 2
@@ -253,32 +253,32 @@ out 1 81 02 c3 a9 => written
 # a character without its second byte: 1 01 81 00 00 00 00 c3 80 81 00 00 00 00 'a
 turn => StreamFault 0
 turn => StreamFault 0
-out 1 88 02 03 ef
+out 1 88 02 03 ef => written
 
 # a character without its end: 1 81 82 00 00 00 00 'a c3
 turn => StreamFault 0
 turn => StreamFault 0
-out 1 88 02 03 ef
+out 1 88 02 03 ef => written
 
 # a second byte alone: 1 01 81 00 00 00 00 'a 80 81 00 00 00 00 a9
 turn => StreamFault 0
 turn => StreamFault 0
-out 1 88 02 03 ef
+out 1 88 02 03 ef => written
 
-a ping in two frames: 1 09 80 00 00 00 00
+# a ping in two frames: 1 09 80 00 00 00 00
 turn => StreamFault 0
 turn => StreamFault 0
-out 1 88 02 03 ea
+out 1 88 02 03 ea => written
 
-a close of one byte: 1 88 81 00 00 00 00 03
+# a close of one byte: 1 88 81 00 00 00 00 03
 turn => StreamFault 0
 turn => StreamFault 0
-out 1 88 02 03 ea
+out 1 88 02 03 ea => written
 
-a text, and then what is no frame: 1 81 81 00 00 00 00 'a 83 80 00 00 00 00
+# a text, and then what is no frame: 1 81 81 00 00 00 00 'a 83 80 00 00 00 00
 turn => StreamFault 1
 turn => StreamFault 1
-out 1 81 01 'a 88 02 03 ea";
+out 1 81 01 'a 88 02 03 ea => written";
 
 /// While a message waits for the stream nothing is read, and nothing while the desk isn't ready. A turn hears 64 texts at most.
 const WAITING: &str = "\

@@ -53,6 +53,7 @@ fn light_one_goes_before_a_burst(rt: HostRuntime) {
     assert_eq!(rt; queue.next(), Some(0));
 }
 
+/// A held one has no light turn, however early it is due, and the next turn of all once it is due first.
 #[test]
 fn held_ones_wait_for_next(rt: HostRuntime) {
     let mut queue = FairQueue::new(rt.alloc(), 6_000_000);
@@ -67,7 +68,7 @@ fn held_ones_wait_for_next(rt: HostRuntime) {
     queue.charge(2, 10, 0);
     queue.add(2, false).expect(&rt, "there is memory");
     queue.remove(5);
-    assert_eq!(rt; queue.next(), Some(2));
     assert_eq!(rt; queue.next(), Some(7));
+    assert_eq!(rt; queue.next(), Some(2));
     assert_eq!(rt; queue.next(), None);
 }
