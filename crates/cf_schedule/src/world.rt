@@ -28,10 +28,11 @@ impl<'a> Model for World<'a> {
     ghost use Rattle.cf_schedule.specs.Running.{Running};
     ghost use Rattle.cf_world.specs.contracts.world.World as world;
     ghost use Rattle.std.specs.Coded.{codes};
+    ghost use denote.Signature.{static_lft};
 
     ghost Value = { Running };
 
-    ghost coded = { Prim.hlevel (codes, world.the_row.coded) };
+    ghost coded = { Prim.hlevel (codes, (world.the_row static_lft).coded) };
 
     ghost view = { λ w. record { parts = w.parts; count = w.count; is_short = w.is_short } };
 }
