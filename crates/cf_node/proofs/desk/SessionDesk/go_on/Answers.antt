@@ -11,7 +11,7 @@ loop-part-preserved g c =
     let before = c.loop-part.invariant in
     record {
       goes = λ long m end rest.
-          before.goes (still_long (is_short c.loop-part.self.talk.session) (is_short c.go_on.new.self.session) c.go_on.ensures.short long) m end
-          (c.go_on.ensures.goes long m end rest);
-      short = λ s. c.go_on.ensures.short (before.short s);
+          before.goes (still_long (is_short c.loop-part.self.talk.session) (is_short c.go_on-cost.new.self.session) c.go_on-cost.ensures.short long) m end
+          (c.go_on-cost.ensures.goes long m end rest);
+      short = λ s. c.go_on-cost.ensures.short (before.short s);
     }
