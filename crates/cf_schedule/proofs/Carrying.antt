@@ -18,6 +18,10 @@ use Rattle.cf_world.specs.declared.world.World.{World as Parts}
 pub goes-so : {e f : Event} (old new : Parts) → f ≡ e → GoesOn e old new → GoesOn f old new
 goes-so {e} {f} old new same h = subst (λ (x : Event). GoesOn x old new) (sym same) h
 
+-- the same of a call that answers something
+pub goes-ok : {e f : Event} {A E : Type 0} (old new : Parts) (r : Result A E) → f ≡ e → OnOk r (GoesOn e old new) → OnOk r (GoesOn f old new)
+goes-ok old new r same h = subst (λ (x : Event). OnOk r (GoesOn x old new)) (sym same) h
+
 -- the same where the event was carried out, if it is such a one
 pub goes-where : {e f : Event} {E : Type 0} (D : Type 0) (old new : Parts) (r : Result Unit E) → f ≡ e → OnOk r (GoesOn e old new) → OnOk r (D → GoesOn f old new)
 goes-where D old new (Ok u) same h = λ d. goes-so old new same h
