@@ -3,4 +3,4 @@ use Rattle.measure_calls.proofs.no_memory.broker.calls.Given as goal
 
 -- the words that were just made, and the namespaces that were read
 abbrev pub ghosts-quiet_call : goal.ghosts-quiet_call
-ghosts-quiet_call g a = record { words = by_number a.words; namespaces = a.namespaces.now }
+ghosts-quiet_call a = record { words = by_number a.words; namespaces = a.namespaces.now }
