@@ -55,11 +55,7 @@ impl<'a, R: Wait, G, N: Naming> NodeMailbox<'a, R, G, N> {
     }
 
     /// The same of the node of this number, which notes there how many clients publications reach.
-    pub(crate) fn noting(
-        mut self,
-        node: u8,
-        reach: Option<&'a Reach>,
-    ) -> NodeMailbox<'a, R, G, N> {
+    pub(crate) fn noting(mut self, node: u8, reach: Option<&'a Reach>) -> NodeMailbox<'a, R, G, N> {
         self.node = node;
         self.reach = reach;
         self

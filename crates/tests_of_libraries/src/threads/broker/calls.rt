@@ -265,8 +265,11 @@ pub(super) fn tell_brought<N: Naming>(told: &mut Told, delivery: Option<Delivery
     let Some(delivery) = delivery else {
         return;
     };
-    let (channel, epoch, publication) =
-        (delivery.channel(), delivery.epoch(), delivery.publication());
+    let (channel, epoch, publication) = (
+        delivery.channel(),
+        delivery.epoch(),
+        delivery.publication(),
+    );
     let (offset, body) = (publication.offset, publication.body.as_str());
     told.tell(format_args!("{channel} {epoch} {offset} {body}"));
     if let Some(Info { user, client }) = &publication.info {
