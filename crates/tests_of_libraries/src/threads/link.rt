@@ -65,10 +65,20 @@ fn one_place(rt: HostRuntime) {
         }
     }
     table.ends(&rt);
+}
+
+/// What is left at the end was sent and not received: nothing, where all was received.
+#[test]
+fn settled_with_nothing_left(rt: HostRuntime) {
+    let (mut sender, mut receiver) = pair(rt.alloc(), 1).expect(&rt, "memory");
+    assert!(rt; sender.send(&rt, 7u32) == Ok(()));
+    assert!(rt; sender.send(&rt, 8) == Err(8));
+    assert!(rt; receiver.receive(&rt) == Some(7));
+    assert!(rt; receiver.receive(&rt).is_none());
     assert!(rt; settle(&rt, sender, receiver) == 0);
 }
 
-/// What is left at the end was sent and not received: one, where a further send came before it.
+/// The same: one, where a further send came before it.
 #[test]
 fn settled_behind_a_send(rt: HostRuntime) {
     let (mut sender, mut receiver) = pair(rt.alloc(), 1).expect(&rt, "memory");

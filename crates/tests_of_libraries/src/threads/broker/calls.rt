@@ -29,7 +29,8 @@ fn tell_published(told: &mut Told, answer: Result<Published, Refused>) {
 /// Tells how many publications there are, and the last one.
 fn tell_publications(told: &mut Told, publications: &[Publication]) {
     told.tell(publications.len());
-    if let Some(Publication { offset, body, .. }) = publications.last() {
+    if let Some(last) = publications.last() {
+        let (offset, body) = (last.offset, last.body.as_str());
         told.tell(format_args!(", the last {offset} {body}"));
     }
 }
