@@ -6,7 +6,6 @@ use crate::serving::serve;
 use crate::settings::config_of;
 use crate::speaking::{setup_of, speak};
 use cf_simulate::simulate;
-use std::fs::Files;
 use std::io::{BufReader, BufWriter, Write};
 use std::net::Net;
 use std::process::ExitCode;
@@ -49,7 +48,7 @@ fn words<R: Env + AllocGlobal>(rt: &R) -> Result<Vec<String>, Fault> {
 
 fn program<R>(rt: &R) -> Result<ExitCode, Fault>
 where
-    R: Input + Print + Eprint + Env + AllocGlobal + Files + Threads + Wait + Clock + Net + Sync,
+    R: Input + Print + Eprint + Env + AllocGlobal + Threads + Wait + Clock + Net + Sync,
 {
     let words = words(rt)?;
     let done = match command_line::read_words(rt.alloc(), words.as_slice()) {
@@ -67,7 +66,7 @@ where
 /// the fault's, which is said on standard error.
 pub fn run<R>(rt: &R) -> ExitCode
 where
-    R: Input + Print + Eprint + Env + AllocGlobal + Files + Threads + Wait + Clock + Net + Sync,
+    R: Input + Print + Eprint + Env + AllocGlobal + Threads + Wait + Clock + Net + Sync,
 {
     match program(rt) {
         Ok(code) => code,

@@ -16,7 +16,6 @@ use cf_node::{Node, Reach, Setup};
 use cf_protocol::{Namespaces, Tokens, read_namespaces, read_tokens};
 use cf_shard::{Delivery, Naming};
 use mio::net::TcpListener;
-use std::fs::{Files, OpenOptions};
 use std::io::{BufWriter, ErrorKind, Write};
 use std::marker::Brand;
 use std::net::{Ipv4Addr, Net, SocketAddr};
@@ -28,8 +27,6 @@ use std::{io, thread};
 
 // The bytes of a buffer that is freed before clients come: glibc keeps up to twice as many that are freed from then on.
 const LARGE_BUFFER: usize = 16_777_216;
-
-const NULL_DEVICE: &str = "/dev/null";
 
 // The nodes, the broker's ends of their links, and where they listen.
 #[derive(Drop)]
@@ -64,27 +61,14 @@ struct Senses {
 /// started, `Ended` one whose loop has ended; `InputOutput` where standard input or output fails; `Memory`.
 pub fn serve<R>(rt: &R, options: ServeOptions<'_>) -> Result<(), Fault>
 where
-    R: Input + Print + Eprint + AllocGlobal + Files + Threads + Wait + Clock + Net + Sync,
+    R: Input + Print + Eprint + AllocGlobal + Threads + Wait + Clock + Net + Sync,
 {
-    let _standing = null_devices(rt);
     let alloc = rt.alloc();
     let namespaces = read_namespaces(alloc, options.namespaces);
     let namespaces = usable(Setting::Namespaces, namespaces)?;
     let tokens = usable(Setting::Tokens, read_tokens(alloc, options.tokens))?;
     let boot = boot_of(options)?;
     serve_on::<Brand, R>(rt, options, boot, Words::new(alloc)?, &namespaces, &tokens)
-}
-
-// The null device as often as there are standard streams: it takes the numbers of those that are closed, which sockets would take
-// else, and then get what is written to them. Where there is no such device, nothing.
-fn null_devices<R: Files>(rt: &R) -> [Option<R::File>; 3] {
-    let mut options = OpenOptions::new();
-    let options = options.read(true).write(true);
-    [
-        options.open(rt, NULL_DEVICE).ok(),
-        options.open(rt, NULL_DEVICE).ok(),
-        options.open(rt, NULL_DEVICE).ok(),
-    ]
 }
 
 // The number of this start, where there are ports for all nodes.
