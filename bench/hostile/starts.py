@@ -1,11 +1,9 @@
 #!/usr/bin/env python3
-"""A start into waiting clients, and a start without its standard streams.
+"""A start into waiting clients, and standard error that nobody reads.
 
 More clients than `serve` has descriptors (64) are there before it has said where it listens, since its standard output takes nothing
 yet: it goes on all the same, two times; a connection that waits is counted once, and not once a second. Standard error is a pipe that
-is full and that nobody reads, and one whose reader is gone: it ends at the end of its input all the same. It starts with standard
-error closed, and with standard output a pipe and standard input closed: no socket takes their numbers (an end of the input then ends
-it with status 0). It is held up for four seconds, as by a debugger: its health is `ok` as soon as it goes on.
+is full and that nobody reads, and one whose reader is gone: it ends at the end of its input all the same. It is held up for four seconds, as by a debugger: its health is `ok` as soon as it goes on.
 """
 import contextlib
 import fcntl
@@ -113,10 +111,6 @@ def check(program, seconds):
         if status != 0:
             faults.append(f"standard error {words}: status {status}")
         os.close(pipe)
-    for words, streams in [("2>&-", {"stdin": subprocess.PIPE}), ("<&-", {"stderr": subprocess.DEVNULL})]:
-        status = ends(program, words, **streams)
-        if status not in (0, 2):
-            faults.append(f"started with {words}: status {status}")
     with Server(program) as server:
         time.sleep(0.5)
         os.kill(server.process.pid, signal.SIGSTOP)
