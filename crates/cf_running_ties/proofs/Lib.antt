@@ -1,12 +1,7 @@
-pub mod Among
-pub mod AmongGrows
-pub mod Closing
 pub mod Gained
 pub mod Growing
 pub mod Handling
 pub mod Heard
-pub mod Holding
-pub mod HubAsides
 pub mod Links
 pub mod Numbered
 pub mod OneSession

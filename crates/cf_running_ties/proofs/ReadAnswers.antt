@@ -6,7 +6,6 @@ use Rattle.std.proofs.lemmas.List.Elements.{All-drop, All-from_recursion, All-ta
 use Rattle.cf_protocol.specs.Datum.{Datum, Placed, numbered}
 use Rattle.cf_protocol.specs.Fields.{max_u64}
 use Rattle.cf_protocol.specs.LogEntry.{Entry}
-use Rattle.cf_protocol.specs.LogEntry.Entry.{Open}
 use Rattle.cf_protocol.specs.Note.{Lists, Reading, placed_from}
 use Rattle.cf_protocol.specs.Outgoing.{Answer, Past}
 use Rattle.cf_protocol.specs.Position.{Position}
@@ -19,16 +18,14 @@ use Rattle.cf_model.specs.Life.{Life}
 use Rattle.cf_model.specs.StreamAnswer.{Listing, allowed_by, listed_above, read_of}
 use Rattle.cf_hub.specs.InNotes.{AreMissed, Grown}
 use Rattle.cf_hub.proofs.InNotes.{read_stays}
-use Rattle.cf_machine.proofs.Names.{itself}
 use Rattle.cf_shard.specs.LogAnswer.{IsHistoryAnswer, IsReadAnswer}
 use Rattle.cf_running.specs.Server.{Server, Section, Site, after, life_of, lists_of, log_of, ran, start}
-use Rattle.cf_running.proofs.Gaining.{life-more}
 use Rattle.cf_running.proofs.Steps.{stands_beside}
+use Rattle.cf_hub_moves.specs.Readings.{answered}
+use Rattle.cf_hub_moves.proofs.Readings.{epoch-is, life-opened, low-below, reading-is, top-is}
 use Rattle.cf_running_ties.specs.Reads.{AllReadBack, IsDatum, IsListing, IsReading, SectionHas}
-use Rattle.cf_running_ties.specs.ShardCalls.{answered}
 use Rattle.cf_running_ties.proofs.Growing.{all-listed, grows}
 use Rattle.cf_running_ties.proofs.Links.{life-listed}
-use Rattle.cf_running_ties.proofs.ShardReads.{epoch-is, low-below, reading-is, top-is}
 
 pub starts : (site : Site) → AllReadBack site start
 starts site = record { each = λ c e. tt }
@@ -47,15 +44,6 @@ from-regular ds low count h k m =
     placed-regular low (take count (drop low ds))
     (recursion_from_All IsDatum (take count (drop low ds)) (All-take IsDatum count (drop low ds) (All-drop IsDatum low ds (All-from_recursion IsDatum ds h))))
     (let a = length-take count (drop low ds) in let b = length-drop low ds in omega (arith, a, b))
-
--- ---- the stream that a call found or opened
-
-life-opened : (sizes : NamespaceTable) (log : List Entry) (c e : List ℕ) → life_in sizes (log ++ opening (life_in sizes log c) c e []) c ≡ Some (life_or (life_in sizes log c) e)
-life-opened sizes log c e = by_life (life_in sizes log c) refl
-  where
-    by_life : (o : Option Life) → life_in sizes log c ≡ o → life_in sizes (log ++ opening o c e []) c ≡ Some (life_or o e)
-    by_life None h = life-more sizes log (Open c e) c ∙ ap (λ b. cond b (Some (opened e)) (life_in sizes log c)) (itself c)
-    by_life (Some l) h = ap (λ (z : List Entry). life_in sizes z c) (append-nil log) ∙ h
 
 module _
     (read : (lists : Lists) (c : List ℕ) (r : Reading) (missed : List Placed) → r.top ≤ length (lists c r.epoch)

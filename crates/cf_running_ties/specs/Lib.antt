@@ -1,6 +1,4 @@
 pub mod Heard
-pub mod Held
-pub mod HubAsides
 pub mod InHand
 pub mod Links
 pub mod Nodes
