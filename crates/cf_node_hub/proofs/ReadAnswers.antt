@@ -17,7 +17,7 @@ use Rattle.cf_model.specs.StreamAnswer.{read_of}
 use Rattle.cf_shard.specs.LogAnswer.{IsReadAnswer}
 use Rattle.cf_shard.proofs.Standing.{of-life}
 use Rattle.cf_hub_moves.specs.Readings.{answered}
-use Rattle.cf_hub_moves.proofs.Readings.{epoch-is, life-opened, reading-is, top-is}
+use Rattle.cf_hub_moves.proofs.Readings.{epoch-is, life-opened, low-below, reading-is, top-is}
 use Rattle.cf_node_hub.specs.Seen.{IsSound, listed_in, log_at, seen_lists}
 use Rattle.cf_node_hub.proofs.Seen.{listed-on}
 
@@ -39,10 +39,12 @@ missed_of law t seen before after c since p recovered items sound begins h =
     let epoch : x.epoch ≡ l.epoch = epoch-is since (state_of l) in
     let once : l.list ≡ listed_in after c l.epoch = sym of.1 ∙ sound.once c l.epoch after begins of.0 in
     let on = listed-on c l.epoch after (log_at seen c) begins in
+    let below : x.low ≤ length l.list = low-below since (state_of l) in
+    let within : x.low ≤ length (list_in after c) = subst (λ (ds : List Datum). x.low ≤ length ds) (sym of.1) below in
     let alone : Lists = λ d f. l.list in
     let there : AreMissed alone c x items =
     law alone c x items (omega (arith, top)) (h.answered.run ∙ ap (λ (n : ℕ). placed_from l.list x.low (n - x.low)) (sym top))
-    (subst (ArePlaced IsBody) (sym h.answered.run) (subst (λ (ds : List Datum). ArePlaced IsBody (placed_from ds x.low (length l.list - x.low))) of.1 (sound.placed c l.epoch after x.low (length l.list - x.low) begins of.0)))
+    (subst (ArePlaced IsBody) (sym h.answered.run) (subst (λ (ds : List Datum). ArePlaced IsBody (placed_from ds x.low (length l.list - x.low))) of.1 (sound.placed c l.epoch after x.low (length l.list - x.low) begins of.0 within)))
     (subst IsPosition (λ i. record { epoch = sym epoch i; offset = (ap (λ (ds : List Datum). length ds) of.1 ∙ sym top) i }) (sound.positions c l.epoch after begins of.0)) in
     let here : AreMissed (seen_lists seen) c x items = record {
       listed = λ later g.

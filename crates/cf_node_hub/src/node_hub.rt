@@ -134,15 +134,16 @@ impl<N: Naming> NodeHub<N> {
     {
         moves_are_among();
         let pass = lent_of(&mut self.seen, words, shard_of(channel.as_str()));
-        match self.hub.begin(session, channel.as_str(), id, since) {
+        let begun = Begun {
+            session,
+            channel,
+            since,
+            pass,
+            of: PhantomData,
+        };
+        match self.hub.begin(session, begun.channel(), id, begun.since()) {
             Err(refusal) => Err(refusal),
-            Ok(()) => Ok(Begun {
-                session,
-                channel,
-                since,
-                pass,
-                of: PhantomData,
-            }),
+            Ok(()) => Ok(begun),
         }
     }
 

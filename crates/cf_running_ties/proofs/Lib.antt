@@ -7,6 +7,7 @@ pub mod Numbered
 pub mod OneSession
 pub mod Passing
 pub mod ReadAnswers
+pub mod Seen
 pub mod ShardCalls
 pub mod ShardLife
 pub mod ShardReads

@@ -39,7 +39,7 @@ placed-regular : (o : ℕ) (ds : List Datum) → AllByRecursion IsDatum ds → o
 placed-regular o [] h k = tt
 placed-regular o (d ∷ ds) h k = (record { body = h.0.0; info = h.0.1; offset = omega arith }, placed-regular (o + 1) ds h.1 (omega arith))
 
-from-regular : (ds : List Datum) (low count : ℕ) → AllByRecursion IsDatum ds → low ≤ length ds → length ds ≤ max_u64 → ArePlaced IsBody (placed_from ds low count)
+pub from-regular : (ds : List Datum) (low count : ℕ) → AllByRecursion IsDatum ds → low ≤ length ds → length ds ≤ max_u64 → ArePlaced IsBody (placed_from ds low count)
 from-regular ds low count h k m =
     placed-regular low (take count (drop low ds))
     (recursion_from_All IsDatum (take count (drop low ds)) (All-take IsDatum count (drop low ds) (All-drop IsDatum low ds (All-from_recursion IsDatum ds h))))

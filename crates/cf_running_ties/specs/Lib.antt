@@ -5,4 +5,5 @@ pub mod Nodes
 pub mod Passing
 pub mod Reads
 pub mod ShardCalls
+pub mod Seen
 pub mod ShardLife
