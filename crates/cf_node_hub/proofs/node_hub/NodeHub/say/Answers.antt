@@ -1,5 +1,5 @@
 use Rattle.cf_node_hub.proofs.Calls.{say_kept}
-use Rattle.cf_node_hub.proofs.telling.NodeHub.say.Goals as goal
+use Rattle.cf_node_hub.proofs.node_hub.NodeHub.say.Goals as goal
 
 pub invariant_of-self : goal.invariant_of-self
 invariant_of-self g c =

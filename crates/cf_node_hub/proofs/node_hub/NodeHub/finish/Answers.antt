@@ -1,7 +1,7 @@
 use Rattle.cf_hub_moves.specs.Asides.{SaysAside}
 use Rattle.cf_node_hub.specs.Seen.{seen_lists}
 use Rattle.cf_node_hub.proofs.Speaking.{finishes-says}
-use Rattle.cf_node_hub.proofs.telling.NodeHub.finish.Goals as goal
+use Rattle.cf_node_hub.proofs.node_hub.NodeHub.finish.Goals as goal
 
 pub invariant_of-self : goal.invariant_of-self
 invariant_of-self g c = λ sound.

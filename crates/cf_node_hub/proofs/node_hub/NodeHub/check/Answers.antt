@@ -3,7 +3,7 @@ use Rattle.cf_model.specs.SessionState.{checks}
 use Rattle.cf_hub_moves.specs.Asides.{SaysAside}
 use Rattle.cf_node_hub.specs.Seen.{seen_lists}
 use Rattle.cf_node_hub.proofs.Speaking.{checks-keep, meets-says}
-use Rattle.cf_node_hub.proofs.telling.NodeHub.check.Goals as goal
+use Rattle.cf_node_hub.proofs.node_hub.NodeHub.check.Goals as goal
 
 pub invariant_of-self : goal.invariant_of-self
 invariant_of-self g c =
