@@ -67,11 +67,11 @@ listed-said c e (Size name n ∷ es) t h k = listed-said c e es t h.1 k
 -- each epoch in which a channel opened is one
 opened-said : (c : List ℕ) (es : List Entry) → AllByRecursion CanBeSaid es → AllByRecursion IsEpoch (epochs_in es c)
 opened-said c [] h = tt
-opened-said c (Open q e ∷ es) h = by_bool (bytes_eq q c)
+opened-said c (Open q e ∷ es) h = by_bool (bytes_eq q c) (opened-said c es h.1)
   where
-    by_bool : (b : Bool) → AllByRecursion IsEpoch (cons_option (if b then Some e else None) (epochs_in es c))
-    by_bool true = (h.0, opened-said c es h.1)
-    by_bool false = opened-said c es h.1
+    by_bool : (b : Bool) → AllByRecursion IsEpoch (epochs_in es c) → AllByRecursion IsEpoch (cons_option (if b then Some e else None) (epochs_in es c))
+    by_bool true k = (h.0, k)
+    by_bool false k = k
 opened-said c (Publish q key d ∷ es) h = opened-said c es h.1
 opened-said c (Trim q n ∷ es) h = opened-said c es h.1
 opened-said c (Forget q ∷ es) h = opened-said c es h.1
@@ -79,11 +79,11 @@ opened-said c (Size name n ∷ es) h = opened-said c es h.1
 
 among-said : (e : List ℕ) (es : List (List ℕ)) → AllByRecursion IsEpoch es → is_among e es ≡ true → IsEpoch e
 among-said e [] h k = absurd (cc)
-among-said e (x ∷ es) h k = by_bool (bytes_eq x e) refl k
+among-said e (x ∷ es) h k = by_bool (bytes_eq x e) refl k (among-said e es h.1)
   where
-    by_bool : (b : Bool) → bytes_eq x e ≡ b → (b || is_among e es) ≡ true → IsEpoch e
-    by_bool true is k = subst IsEpoch ((bytes_eq-Decides x e).0 is) h.0
-    by_bool false is k = among-said e es h.1 k
+    by_bool : (b : Bool) → bytes_eq x e ≡ b → (b || is_among e es) ≡ true → (is_among e es ≡ true → IsEpoch e) → IsEpoch e
+    by_bool true is k rest = subst IsEpoch ((bytes_eq-Decides x e).0 is) h.0
+    by_bool false is k rest = rest k
 
 -- a publication of a list is one of its data
 got : (ds : List Datum) (o : ℕ) (d : Datum) → AllByRecursion IsDatum ds → slice_get ds o ≡ Some d → IsDatum d × (suc o ≤ length ds)
@@ -108,12 +108,11 @@ placed-said ds (suc o) p h fits k = by_datum (slice_get ds o) refl k
 -- in an epoch in which the channel doesn't open, nothing is listed more
 never : (c y : List ℕ) (es : List Entry) (t : Turn) → t.stands ≡ false → t.list ≡ [] → is_among y (epochs_in es c) ≡ false → (fold (turn_after c y) t es).list ≡ []
 never c y [] t s l h = l
-never c y (Open q e ∷ es) t s l h = by_bool (bytes_eq q c) h
+never c y (Open q e ∷ es) t s l h = never c y es (turn_after c y t (Open q e)) (by_bool (bytes_eq q c) h).0 l (by_bool (bytes_eq q c) h).1
   where
-    by_bool : (b : Bool) → is_among y (cons_option (if b then Some e else None) (epochs_in es c)) ≡ false
-        → (fold (turn_after c y) (record t { stands = if b then bytes_eq e y else t.stands }) es).list ≡ []
-    by_bool true h = never c y es _ (either-first (bytes_eq e y) (is_among y (epochs_in es c)) h) l (either-second (bytes_eq e y) (is_among y (epochs_in es c)) h)
-    by_bool false h = never c y es t s l h
+    by_bool : (b : Bool) → is_among y (cons_option (if b then Some e else None) (epochs_in es c)) ≡ false → ((if b then bytes_eq e y else t.stands) ≡ false) × (is_among y (epochs_in es c) ≡ false)
+    by_bool true k = (either-first (bytes_eq e y) (is_among y (epochs_in es c)) k, either-second (bytes_eq e y) (is_among y (epochs_in es c)) k)
+    by_bool false k = (s, k)
 never c y (Publish q key d ∷ es) t s l h = never c y es (turn_after c y t (Publish q key d)) s (by_bool (bytes_eq q c) t.stands s) h
   where
     by_bool : (a b : Bool) → b ≡ false → (if a && b then t.list ++ d ∷ [] else t.list) ≡ []
@@ -150,10 +149,10 @@ module _ (cfg : Config) where
 
   module _ (c e : List ℕ) (before log : List Entry) (h : IsGood cfg log) (begins : IsPrefix before log) (opened : epoch_in before c ≡ Some e) where
     gained : MayAll cfg [] before
-    gained = front before begins.0 [] (subst (MayAll cfg []) begins.1 h.gained)
+    gained = front before begins.0 [] (subst (MayAll cfg []) (sym begins.1) h.gained)
 
     said : AllByRecursion CanBeSaid before
-    said = all-front CanBeSaid before begins.0 (subst (AllByRecursion CanBeSaid) begins.1 h.said)
+    said = all-front CanBeSaid before begins.0 (subst (AllByRecursion CanBeSaid) (sym begins.1) h.said)
 
     once : list_in before c ≡ listed_in before c e
     once = once_of c e before log (opens-fresh c log h.gained) begins opened
@@ -161,7 +160,7 @@ module _ (cfg : Config) where
     all : AllByRecursion IsDatum (list_in before c)
     all = subst (AllByRecursion IsDatum) (sym once) (listed-said c e before no_turn said tt)
 
-    life : Life
+    abbrev life : Life
     life = record { epoch = e; list = list_in before c; keys = keys_in before c; held = (holding_in cfg.namespaces before c).held }
 
     lives : life_in cfg.namespaces before c ≡ Some life
