@@ -1,5 +1,5 @@
 -- What a read and a history answer by their contracts stands in the server's lists.
-use Rattle.std.proofs.Common.{◌≡◌, ◌≤◌, ℕ, ◌+◌, ◌-◌, min, max, Bool, false, cond, Option, Some, None, List, [], ◌∷◌, ◌++◌, length, take, drop, append-nil, refl, sym, ap, ◌∙◌, subst, arith, length-drop, length-take}
+use Rattle.std.proofs.Common.{◌≡◌, ◌≤◌, ℕ, ◌+◌, ◌-◌, min, max, Bool, false, Option, Some, None, List, [], ◌∷◌, ◌++◌, length, take, drop, sym, ap, ◌∙◌, subst, arith, length-drop, length-take}
 use Rattle.std.specs.Prelude.{ℤ}
 use Rattle.std.specs.List.{AllByRecursion}
 use Rattle.std.proofs.lemmas.List.Elements.{All-drop, All-from_recursion, All-take, recursion_from_All}
@@ -10,10 +10,9 @@ use Rattle.cf_protocol.specs.Note.{Lists, Reading, placed_from}
 use Rattle.cf_protocol.specs.Outgoing.{Answer, Past}
 use Rattle.cf_protocol.specs.Position.{Position}
 use Rattle.cf_protocol.specs.Regular.{ArePlaced, IsBody, IsPosition}
-use Rattle.cf_protocol.specs.Settings.{NamespaceTable}
 use Rattle.cf_stream.specs.ChannelLists.{life_or}
 use Rattle.cf_stream.specs.LogState.{life_in, opening}
-use Rattle.cf_stream.specs.PublicationList.{IsListed, IsRead, opened, state_of}
+use Rattle.cf_stream.specs.PublicationList.{IsListed, IsRead, state_of}
 use Rattle.cf_model.specs.Life.{Life}
 use Rattle.cf_model.specs.StreamAnswer.{Listing, allowed_by, listed_above, read_of}
 use Rattle.cf_hub.specs.InNotes.{AreMissed, Grown}

@@ -1,5 +1,5 @@
 -- What is seen of a log that was gained entry by entry is sound.
-use Rattle.std.proofs.Common.{◌≡◌, ◌≤◌, ◌<◌, ℕ, zero, suc, ◌&&◌, ◌||◌, not, Bool, true, false, cond, if◌then◌else◌, Option, Some, None, List, [], ◌∷◌, ◌++◌, length, slice_get, append-nil, append_assoc, refl, sym, ap, ◌∙◌, subst, arith}
+use Rattle.std.proofs.Common.{◌≡◌, ◌≤◌, ℕ, zero, suc, ◌&&◌, ◌||◌, not, Bool, true, false, if◌then◌else◌, Option, Some, None, List, [], ◌∷◌, ◌++◌, length, slice_get, append-nil, append_assoc, refl, sym, ap, subst, arith}
 use Rattle.std.specs.Prelude.{IfSome, fold, option_map}
 use Rattle.std.specs.List.{AllByRecursion, cons_option}
 use Rattle.std.specs.Str.{bytes_eq}
@@ -13,14 +13,12 @@ use Rattle.cf_protocol.specs.LogEntry.{Entry}
 use Rattle.cf_protocol.specs.LogEntry.Entry.{Open, Publish, Trim, Forget, Size}
 use Rattle.cf_protocol.specs.Names.{is_among}
 use Rattle.cf_protocol.specs.Note.{placed_at}
-use Rattle.cf_protocol.specs.Position.{Position}
 use Rattle.cf_protocol.specs.Regular.{IsBody, IsPlaced, IsPosition}
 use Rattle.cf_model.specs.Life.{Life}
 use Rattle.cf_model.specs.StreamState.{last_offset}
 use Rattle.cf_stream.specs.LogState.{epoch_in, holding_in, keys_in, life_in, list_in}
 use Rattle.cf_machine.specs.Config.{Config}
 use Rattle.cf_order.specs.Passes.{PassState}
-use Rattle.cf_shard.specs.Standing.{StandsIn}
 use Rattle.cf_running.specs.Server.{may_gain}
 use Rattle.cf_running.specs.ShardLogs.{epochs_in}
 use Rattle.cf_running.proofs.Gaining.{WasOpened, was_opened}

@@ -1,6 +1,6 @@
 -- The entries of a call of a lent shard, as its contract has them, may be gained one after another.
 -- (This project's own profile.)
-use Rattle.std.specs.Prelude.{◌≡◌, ◌≢◌, ℕ, Bool, true, false, Option, None, List, [], ◌∷◌, ◌++◌}
+use Rattle.std.specs.Prelude.{◌≡◌, ◌≢◌, ℕ, true, false, Option, None, List, [], ◌∷◌, ◌++◌}
 use Rattle.cf_protocol.specs.LogEntry.{Entry}
 use Rattle.cf_protocol.specs.Names.{is_among}
 use Rattle.cf_stream.specs.Stream.{IsAtLast, Shown}
