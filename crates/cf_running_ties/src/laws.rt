@@ -23,11 +23,12 @@ ghost use Rattle.cf_shard.specs.LogAnswer.{IsHistoryAnswer, IsReadAnswer};
 ghost use Rattle.cf_shard.specs.Shard.{DrawsFor, Lent};
 ghost use Rattle.cf_shard.specs.ShardLog.{entries_of_forget, entries_of_publish, entries_of_size, entries_of_tick, entries_of_trim, entries_of_use};
 ghost use Rattle.cf_machine.specs.Config.{Config};
+ghost use Rattle.cf_machine.specs.ReadBack.{IsDatum};
 ghost use Rattle.cf_running.specs.Server.{Delivers, Offers, Publishes, Section, Server, Site, after, at_number, log_of, ran, start};
 ghost use Rattle.cf_running_ties.specs.Heard.{AreHeard, SayTheirNotes};
 ghost use Rattle.cf_running_ties.specs.HubAsides.{MovesAmong};
 ghost use Rattle.cf_running_ties.specs.Links.{AddsNothing, IsAnswered, IsFirst, IsNumbered, Lines, OffersCopies, Waits, is_at_link};
-ghost use Rattle.cf_running_ties.specs.Reads.{AllReadBack, IsDatum, IsListing, IsReading, SectionHas};
+ghost use Rattle.cf_running_ties.specs.Reads.{AllReadBack, IsListing, IsReading, SectionHas};
 ghost use Rattle.cf_running_ties.specs.ShardCalls.{IsDrawn, IsGained, IsNotLast, MayAll, answered};
 ghost use Rattle.cf_running_ties.specs.ShardLife.{AreMade, Call};
 
