@@ -1,7 +1,6 @@
 -- What is said of a channel to the client of a connection: each answer on its way to it, and each ask that may lead to one. Whatever
 -- holds of all asks of the channel (Q), and so of all answers to them (P), goes on holding, whatever happens at the connection.
-use Rattle.std.proofs.Common.{◌≡◌, inl, inr, ℕ, suc, zero, ◌+◌, nat_le, sum_by, ◌==◌, ◌&&◌, ◌||◌, not, Bool, true, false, if◌then◌else◌, is_some, Option, Some, None, List, [], ◌∷◌, ◌++◌, take, drop, refl, sym, ap, subst, ◌∙◌}
-use Rattle.std.specs.Str.{bytes_eq}
+use Rattle.std.proofs.Common.{◌≡◌, inl, inr, ℕ, suc, zero, ◌+◌, nat_le, sum_by, ◌==◌, ◌||◌, not, Bool, true, false, if◌then◌else◌, is_some, Option, Some, None, List, [], ◌∷◌, ◌++◌, take, drop, refl, sym, ap, subst, ◌∙◌}
 use Rattle.cf_protocol.specs.Position.{Position}
 use Rattle.cf_protocol.specs.Datum.{Who}
 use Rattle.cf_protocol.specs.Note.{Lists, Reading, Note, Reply, Pub, End, Fails, Put, Left, Listed, PingDue, Close}
@@ -22,8 +21,7 @@ use Rattle.cf_machine.specs.Weights.{wording}
 use Rattle.cf_machine.proofs.Names.{text_tells, by_test}
 use Rattle.cf_running.specs.Server as server
 use Rattle.cf_running.specs.Server.{Site, Server, Connection, Work, Free, Began, HasRead, ToFinish, ToGiveUp, ToPublish, ToList, ToSay, Lookup, life_of, lists_of, words_of}
-use Rattle.cf_running.proofs.Beside.{IsAskedFrom}
-use Rattle.cf_running.proofs.Hasten.{hasten, map_subs, hastened, IsMove, push-move, closes-move, takes-move, comes-move, checks-move}
+use Rattle.cf_running.proofs.Hasten.{hasten, map_subs, hastened, IsMove, push-move, closes-move, comes-move, checks-move}
 
 abbrev pub Asks : Type 1
 Asks = ℕ → Option Position → Type 0

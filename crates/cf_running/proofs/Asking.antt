@@ -1,32 +1,22 @@
 -- THE INVARIANT OF AN ASK: wherever a reading is on its way to a client that waits for the answer to its ask, it was read for that ask,
 -- after it, of the stream as the channel's shard had it then. Of each prefix of a list of sections.
-use Rattle.std.proofs.Common.{◌≡◌, ◌≢◌, ◌⊎◌, inl, inr, ◌<◌, ◌≤◌, ℕ, zero, suc, ◌+◌, ◌==◌, nat_lt, nat_le, ◌&&◌, not, Bool, true, false, if◌then◌else◌, is_some, Option, Some, None, List, [], ◌∷◌, ◌++◌, length, slice_get, take, refl, sym, ap, subst, ◌∙◌, arith}
+use Rattle.std.proofs.Common.{◌≡◌, ◌⊎◌, inl, inr, ◌<◌, ◌≤◌, ℕ, zero, suc, ◌==◌, nat_lt, ◌&&◌, Bool, true, false, if◌then◌else◌, is_some, Option, Some, None, List, [], ◌∷◌, ◌++◌, length, slice_get, take, refl, sym, ap, subst, ◌∙◌, arith}
 use Rattle.std.proofs.lemmas.Bool.Decides.{nat_tests}
-use Rattle.std.proofs.lemmas.Bool.{and_parts}
 use Rattle.std.specs.Str.{bytes_eq}
-use Rattle.cf_protocol.specs.Names.{with}
 use Rattle.cf_protocol.specs.LogEntry.{Entry}
 use Rattle.cf_protocol.specs.LogEntry.Entry.{Open, Publish, Trim, Forget, Size}
 use Rattle.cf_protocol.specs.Position.{Position}
 use Rattle.cf_protocol.specs.Note.{Reading, Note, Reply, Pub, End, Fails, Put, Left, Listed, PingDue, Close}
-use Rattle.cf_model.specs.ClientState.{Client, Mode, Idle, Asking, Live, idle, last_of, read_to, takes, hears, reconnects}
-use Rattle.cf_model.specs.Life.{Life}
-use Rattle.cf_model.specs.Limits.{last_id}
+use Rattle.cf_model.specs.ClientState.{Mode, Idle, Asking, Live, takes}
 use Rattle.cf_model.specs.SessionState.{Asked}
 use Rattle.cf_model.specs.SessionState as session
-use Rattle.cf_model.specs.StreamAnswer.{read_of}
-use Rattle.cf_stream.specs.PublicationList.{state_of}
-use Rattle.cf_machine.specs.ClientLink.{client_sends, finishes_over}
-use Rattle.cf_machine.specs.ClientRequest.{ClientRequest, SentCommand, Subscribe, Unsubscribe, Publish as PublishRequest, History}
-use Rattle.cf_machine.specs.Session.{Sub, Session}
-use Rattle.cf_machine.proofs.Names.{text_tells, by_test, with-same, with-other}
+use Rattle.cf_machine.specs.ClientLink.{finishes_over}
+use Rattle.cf_machine.proofs.Names.{by_test}
 use Rattle.cf_running.specs.Server as server
 use Rattle.cf_running.specs.Server.{Server, Site, Connection, Work, Free, Began, HasRead, ToFinish, ToGiveUp, ToPublish, ToList, ToSay, Lookup, ClientCommand, Section, at_number, change, nowhere, life_of, lists_of, words_of, request_by, may_send, after, start, Gains, Sizes, Publishes, Offers, AsksShard, LooksUp, IsRefused, Begins, Leaves, Calls, Refuses, ReadDone, Finishes, FinishesOver, FinishesAmid, GivesUp, Drops, Says, Errs, Takes, Detaches, Delivers, Checks, Pings, Closes, Attaches, Wanders, Strays, Sends, Receives, Breaks}
-use Rattle.cf_running.specs.WasRead.{after_first, mode_after, IsOut}
 use Rattle.cf_running.proofs.Answering as answering
 use Rattle.cf_running.proofs.Answering.{Asks, Answered, Answers, RequestIs, UpsAre, NotesAre, more, notes-append, ups-append, AreRightFor}
-use Rattle.cf_running.proofs.Beside.{IsAskedFrom, Linked, BesideClient, Beside, number_tells, at-same, at-other}
-use Rattle.cf_running.proofs.Steps.{stands_beside}
+use Rattle.cf_running.proofs.Beside.{number_tells}
 
 -- ---- what fits the ask that is out
 
@@ -221,7 +211,7 @@ module _ (site : Site) (s : Server) where
     keeps-checks None a = a
     keeps-checks (Some z) a = at z.connection (server.at_session (session.checks (words_of site s) z.channel z.top)) (λ b. answering.checked Q P c (lists_of site s) z.channel z.top (s.connections z.connection) b) a
 
-    -- `has` says that it is so of the client's own connection, which a stray command never reaches
+    -- the connection is a client's own, so that no stray command reaches it
     pub keeps : (x : Section) → IsAside x → (server.is_seat j (s.seats (s.connections j).client) ≡ true)
         → (x ≡ AsksShard j → AreRightFor Q P c site s (s.connections j).session (s.connections j).work) → Has s → Has (after site x s)
     keeps (Gains (Publish d key x)) h o r a = a

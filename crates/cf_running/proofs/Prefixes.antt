@@ -1,14 +1,12 @@
 -- What is on its way to a client that waits for an answer, after each prefix of a list of sections.
-use Rattle.std.proofs.Common.{◌≡◌, ◌≢◌, ◌⊎◌, inl, inr, ◌<◌, ◌≤◌, ℕ, zero, suc, ◌+◌, ◌==◌, nat_lt, nat_le, ◌&&◌, Bool, true, false, if◌then◌else◌, is_some, Option, Some, None, List, [], ◌∷◌, ◌++◌, length, slice_get, take, refl, sym, ap, subst, ◌∙◌, arith}
+use Rattle.std.proofs.Common.{◌≡◌, ◌≢◌, inl, inr, ◌<◌, ◌≤◌, ℕ, zero, suc, ◌+◌, ◌==◌, nat_lt, nat_le, ◌&&◌, Bool, true, false, if◌then◌else◌, is_some, Option, Some, None, List, [], ◌∷◌, ◌++◌, length, slice_get, take, refl, sym, ap, subst, ◌∙◌, arith}
 use Rattle.std.proofs.Math.Nat.{le_refl}
-use Rattle.std.proofs.lemmas.Bool.{and_parts}
 use Rattle.cf_protocol.specs.Names.{with}
 use Rattle.cf_protocol.specs.Position.{Position}
 use Rattle.cf_protocol.specs.Note.{Reading, Note, Reply, Pub, End, Fails, Put, Left, Listed, PingDue, Close}
-use Rattle.cf_model.specs.ClientState.{Client, Mode, Idle, Asking, Live, takes, hears, reconnects, last_of}
+use Rattle.cf_model.specs.ClientState.{Client, Mode, Idle, Asking, Live, hears, reconnects, last_of}
 use Rattle.cf_model.specs.Life.{Life}
 use Rattle.cf_model.specs.Limits.{last_id}
-use Rattle.cf_model.specs.SessionState.{Asked}
 use Rattle.cf_model.specs.StreamAnswer.{read_of}
 use Rattle.cf_stream.specs.PublicationList.{state_of}
 use Rattle.cf_machine.specs.ClientLink.{client_sends}
@@ -20,7 +18,7 @@ use Rattle.std.specs.Str.{bytes_eq}
 use Rattle.cf_running.specs.Server as server
 use Rattle.cf_running.specs.Server.{Server, Site, Connection, Work, Free, Began, HasRead, ToFinish, ToGiveUp, ToPublish, ToList, ToSay, ClientCommand, Section, at_number, change, nowhere, life_of, request_by, may_send, after, AsksShard, Attaches, Sends, Receives, Breaks, Gains, Sizes, Publishes, Offers, LooksUp, IsRefused, Begins, Leaves, Calls, Refuses, ReadDone, Finishes, FinishesOver, FinishesAmid, GivesUp, Drops, Says, Errs, Takes, Detaches, Delivers, Checks, Pings, Closes, Wanders, Strays}
 use Rattle.cf_running.specs.WasRead.{after_first, mode_after, IsOut}
-use Rattle.cf_running.proofs.Answering.{Asks, Answered, Answers, RequestIs, UpsAre, NotesAre, more, ups-append, AreRightFor}
+use Rattle.cf_running.proofs.Answering.{Asks, Answered, Answers, RequestIs, NotesAre, more, ups-append, AreRightFor}
 use Rattle.cf_running.proofs.Asking.{SinceFits, ReplyFits, IsNoAsk, GoesTo, since-to, reply-to, takes-to, up_to, prefix-next, its_section, IsAside, stays, changed, keeps}
 use Rattle.cf_running.proofs.Beside.{IsRight, IsAskedFrom, Linked, BesideClient, Beside, number_tells}
 use Rattle.cf_running.proofs.Steps.{stands_beside}

@@ -1,21 +1,20 @@
 -- WHAT IS TOLD OF A SUBSCRIPTION IS WHAT WAS READ.
-use Rattle.std.proofs.Common.{◌≡◌, ◌⊎◌, inl, inr, ◌<◌, ◌≤◌, ◌-◌, ◌↔◌, IsTrue, min, ℕ, zero, suc, ◌+◌, ◌==◌, nat_le, ◌&&◌, Bool, true, false, if◌then◌else◌, is_some, Option, Some, None, List, [], ◌∷◌, ◌++◌, length, slice_get, take, refl, sym, ap, subst, ◌∙◌, arith}
+use Rattle.std.proofs.Common.{◌≡◌, ◌⊎◌, inl, inr, ◌<◌, ◌≤◌, ◌-◌, ◌↔◌, IsTrue, min, ℕ, zero, suc, ◌+◌, ◌==◌, Bool, true, false, if◌then◌else◌, is_some, Option, Some, None, List, [], ◌∷◌, ◌++◌, length, slice_get, take, refl, sym, ap, subst, ◌∙◌, arith}
 use Rattle.std.proofs.lemmas.Bool.Decides.{nat_tests}
-use Rattle.std.specs.Str.{bytes_eq}
 use Rattle.cf_protocol.specs.Position.{Position}
 use Rattle.cf_protocol.specs.Note.{Lists, Reading, Note, Reply, Pub, End, Fails, Put, Left, Listed as ListedNote, PingDue, Close}
-use Rattle.cf_model.specs.ClientState.{Client, Mode, Idle, Asking, Live, read_to, is_out}
+use Rattle.cf_model.specs.ClientState.{Client, Mode, Idle, Asking, Live, read_to}
 use Rattle.cf_model.specs.Life.{Life}
 use Rattle.cf_model.specs.StreamAnswer.{read_of, still_held, most_in_reply}
 use Rattle.cf_model.specs.StreamState.{StreamState, position_of}
 use Rattle.cf_model.specs.Verdict.{next}
 use Rattle.cf_stream.specs.PublicationList.{state_of}
 use Rattle.cf_machine.specs.ClientLink.{ClientLink}
-use Rattle.cf_machine.specs.LooseRun.{Happening, loose_run}
-use Rattle.cf_machine.specs.PublicationList.{StandsOver, tops}
+use Rattle.cf_machine.specs.LooseRun.{loose_run}
+use Rattle.cf_machine.specs.PublicationList.{tops}
 use Rattle.cf_machine.specs.StreamSafety.{StillHeld}
-use Rattle.cf_machine.specs.Told.{run_items, reading_items, reply_items, pub_items, end_items, asks_under, error_items, listing_items, items, first_items}
-use Rattle.cf_machine.specs.Trace.{Item, Subscribed, Published, Resubscribing, Refused, Listed, Closed}
+use Rattle.cf_machine.specs.Told.{run_items, reading_items, reply_items, pub_items, end_items, first_items}
+use Rattle.cf_machine.specs.Trace.{Item, Subscribed, Refused, Listed}
 use Rattle.cf_machine.specs.World.{World}
 use Rattle.cf_machine.specs.World as machine
 use Rattle.cf_machine.proofs.Automaton.{nothing_seen}
@@ -23,15 +22,14 @@ use Rattle.cf_machine.proofs.Names.{text_tells, by_test}
 use Rattle.cf_machine.proofs.Standing.{Below}
 use Rattle.cf_machine.proofs.Headline.{streams_stand}
 use Rattle.cf_machine.proofs.Steps.{fine-run, fine-start}
-use Rattle.cf_machine.proofs.Stepping.{IsFine}
-use Rattle.cf_machine.proofs.Within.{LastWithin, ModeWithin, HasTop}
+use Rattle.cf_machine.proofs.Within.{ModeWithin, HasTop}
 use Rattle.cf_running.specs.Server.{Server, Site, Section, Told, telling, tells, told, ran, start, life_of, lists_of, Gains, Sizes, Publishes, Offers, AsksShard, LooksUp, IsRefused, Begins, Leaves, Calls, Refuses, ReadDone, Finishes, FinishesOver, FinishesAmid, GivesUp, Drops, Says, Errs, Takes, Detaches, Delivers, Checks, Pings, Closes, Attaches, Wanders, Strays, Sends, Receives, Breaks}
 use Rattle.cf_running.specs.Server as server
 use Rattle.cf_running.specs.WasRead.{after_first, mode_after, IsOut, missed, IsWhatWasRead}
 use Rattle.cf_running.proofs.Answering.{NotesAre}
-use Rattle.cf_running.proofs.Beside.{linked, away, Linked, BesideClient, Beside, number_tells}
+use Rattle.cf_running.proofs.Beside.{BesideClient, Beside, number_tells}
 use Rattle.cf_running.proofs.Asking.{ReplyFits}
-use Rattle.cf_running.proofs.Prefixes.{SentAsk, WasReadFor, HasAsked, AnsweredOf, Waits, waits}
+use Rattle.cf_running.proofs.Prefixes.{SentAsk, WasReadFor, HasAsked, AnsweredOf, waits}
 use Rattle.cf_running.proofs.Steps.{beside_run}
 use Rattle.cf_running.proofs.Ties.{stream_of}
 
