@@ -351,7 +351,7 @@ epochs-more log x q = filter_map-append (opening_of q) log (x ∷ [])
 pub not_before : (log : List Entry) (x : Entry) (q e : List ℕ) → is_among e (epochs_in (log ++ x ∷ []) q) ≡ false → is_among e (epochs_in log q) ≡ false
 not_before log x q e h = or-none (is_among e (epochs_in log q)) (is_among e (filter_map (opening_of q) (x ∷ []))) (sym (among-append e (epochs_in log q) (filter_map (opening_of q) (x ∷ []))) ∙ ap (λ es. is_among e es) (sym (epochs-more log x q)) ∙ h)
 
-abbrev WasOpened : List Entry → List ℕ → Option Life → Type 0
+abbrev pub WasOpened : List Entry → List ℕ → Option Life → Type 0
 WasOpened log q None = Unit {0}
 WasOpened log q (Some l) = is_among l.epoch (epochs_in log q) ≡ true
 

@@ -3,13 +3,12 @@ use Rattle.std.proofs.Common.{◌≡◌, ◌≤◌, ℕ, zero, suc, ◌+◌, ◌
 use Rattle.std.specs.List.{AllByRecursion, fold}
 use Rattle.std.specs.Str.{bytes_eq}
 use Rattle.std.proofs.lemmas.List.Sums.{fold-append}
-use Rattle.cf_protocol.specs.Datum.{Datum, Placed}
+use Rattle.cf_protocol.specs.Datum.{Datum}
 use Rattle.cf_protocol.specs.LogEntry.{Entry}
 use Rattle.cf_protocol.specs.LogEntry.Entry.{Open, Publish, Trim, Forget, Size}
-use Rattle.cf_protocol.specs.Note.{Lists, Note, Close}
+use Rattle.cf_protocol.specs.Note.{Note, Close}
 use Rattle.cf_model.specs.Limits.{last_id}
-use Rattle.cf_hub.specs.InNotes.{Grown, IsListed}
-use Rattle.cf_hub.proofs.InNotes.{grown_then}
+use Rattle.cf_hub.specs.InNotes.{Grown}
 use Rattle.cf_machine.specs.PublicationList.{Place}
 use Rattle.cf_machine.proofs.Names.{by_test}
 use Rattle.cf_running.specs.Server as server
@@ -105,10 +104,6 @@ at_least n = omega arith
 
 one_above : (n : ℕ) → n ≤ n + 1
 one_above n = omega arith
-
--- what is listed stays so
-pub listed-later : (old new : Lists) (c e : List ℕ) (p : Placed) → Grown old new → IsListed old c e p → IsListed new c e p
-listed-later old new c e p g h = record { regular = h.regular; stands = λ later k. h.stands later (grown_then g k) }
 
 -- ---- a number stays that of its place
 

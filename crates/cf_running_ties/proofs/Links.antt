@@ -37,7 +37,8 @@ use Rattle.cf_running.proofs.Beside.{Beside, at-same, number_tells}
 use Rattle.cf_running.proofs.Gaining.{life-more}
 use Rattle.cf_running.proofs.Steps.{stands_beside}
 use Rattle.cf_running_ties.specs.Links.{AddsNothing, IsAnswered, IsFirst, IsNumbered, IsSentOrLost, Lines, OffersCopies, OffersNext, Waits, is_at_link, place}
-use Rattle.cf_running_ties.proofs.Growing.{Any, any-section, grown-lists, grows, links-stay, listed-later, place-more}
+use Rattle.cf_hub_moves.proofs.Later.{listed-later}
+use Rattle.cf_running_ties.proofs.Growing.{Any, any-section, grown-lists, grows, links-stay, place-more}
 
 -- ---- each link is offered it once
 

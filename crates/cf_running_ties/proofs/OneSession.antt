@@ -10,9 +10,9 @@ use Rattle.cf_running.specs.Server as server
 use Rattle.cf_running.specs.Server.{Attaches, Closes, Connection, Detaches, Section, Server, Site, Wanders, after, at_number, at_session, change, lists_of, nowhere, start}
 use Rattle.cf_protocol.specs.Names.{with}
 use Rattle.cf_running.proofs.Beside.{at-other, at-same, number_tells}
-use Rattle.cf_running_ties.specs.HubAsides.{KeepSaying, MovesAmong, MovesOrCloses}
+use Rattle.cf_hub_moves.specs.HubAsides.{KeepSaying, MovesAmong, MovesOrCloses}
 use Rattle.cf_running_ties.specs.Nodes.{ConnectedBy, IsConnected, IsHubOf, IsUntouched, Moves, MovesBehindClose, Says}
-use Rattle.cf_running_ties.proofs.AmongGrows.{among-grows}
+use Rattle.cf_hub_moves.proofs.AmongGrows.{among-grows}
 use Rattle.cf_running_ties.proofs.Growing.{Any, Grows, any-section, grown-lists, grows}
 
 some_is : (j k : ℕ) → ◌≡◌ {A = Option ℕ} (Some j) (Some k) → j ≡ k

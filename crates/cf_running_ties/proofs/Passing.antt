@@ -15,8 +15,9 @@ use Rattle.cf_client.specs.AppItem as item
 use Rattle.cf_client.specs.AppItem.{AppItem}
 use Rattle.cf_client.specs.ClientCalls.{Call, PassesOver, State, Takes, TakesAll, answered, channel_under}
 use Rattle.cf_model.specs.ClientState.{is_out, without}
-use Rattle.cf_running_ties.specs.HubAsides.{IsAside, SaysSome}
-use Rattle.cf_running_ties.specs.Passing.{AllPassed, AreEnough, IsAsideAnswer, IsPassedOver, IsUnasked, SaysAside, TakesItems, TakesText}
+use Rattle.cf_hub_moves.specs.HubAsides.{IsAside, SaysSome}
+use Rattle.cf_hub_moves.specs.Asides.{IsAsideAnswer, IsPassedOver, SaysAside}
+use Rattle.cf_running_ties.specs.Passing.{AllPassed, AreEnough, IsUnasked, TakesItems, TakesText}
 
 by_answer : (id : ℕ) (r : Outcome) → IsAsideAnswer r → (old new : State) (told : List AppItem) → Takes (Answer id r) old new told → PassesOver old new told
 by_answer id (Connected client) p old new told h = h

@@ -5,7 +5,6 @@ use Rattle.std.specs.List.{AllByRecursion}
 use Rattle.std.proofs.lemmas.List.Elements.{All-from_recursion}
 use Rattle.cf_protocol.specs.Datum.{Placed}
 use Rattle.cf_protocol.specs.LogEntry.{Entry}
-use Rattle.cf_protocol.specs.LogEntry.Entry.{Open}
 use Rattle.cf_protocol.specs.Note.{Lists, Reading, placed_from}
 use Rattle.cf_protocol.specs.Outgoing.{Answer, Past}
 use Rattle.cf_protocol.specs.Position.{Position}
@@ -23,13 +22,12 @@ use Rattle.cf_machine.proofs.Names.{itself}
 use Rattle.cf_machine.proofs.Readings.{epoch-is, low-below, regular-placed, top-is}
 use Rattle.cf_shard.specs.LogAnswer.{IsHistoryAnswer, IsReadAnswer}
 use Rattle.cf_running.specs.Server.{Server, Section, Site, after, life_of, lists_of, log_of, ran, start}
-use Rattle.cf_running.proofs.Gaining.{life-more}
 use Rattle.cf_running.proofs.Steps.{stands_beside}
+use Rattle.cf_hub_moves.specs.Readings.{answered}
+use Rattle.cf_hub_moves.proofs.Readings.{life-opened, reading-is}
 use Rattle.cf_running_ties.specs.Reads.{AllReadBack, IsListing, IsReading, SectionHas}
-use Rattle.cf_running_ties.specs.ShardCalls.{answered}
 use Rattle.cf_running_ties.proofs.Growing.{all-listed, grows}
 use Rattle.cf_running_ties.proofs.Links.{life-listed}
-use Rattle.cf_running_ties.proofs.ShardReads.{reading-is}
 
 pub starts : (site : Site) → AllReadBack site start
 starts site = record { each = λ c e. tt }
@@ -37,14 +35,6 @@ starts site = record { each = λ c e. tt }
 pub stays : (site : Site) (s : Server) (x : Section) → SectionHas IsDatum s x → AllReadBack site s → AllReadBack site (after site x s)
 stays site s x has h = record { each = all-listed IsDatum site s (after site x s) (grows IsDatum site s x has) h.each }
 
--- ---- the stream that a call found or opened
-
-life-opened : (sizes : NamespaceTable) (log : List Entry) (c e : List ℕ) → life_in sizes (log ++ opening (life_in sizes log c) c e []) c ≡ Some (life_or (life_in sizes log c) e)
-life-opened sizes log c e = by_life (life_in sizes log c) refl
-  where
-    by_life : (o : Option Life) → life_in sizes log c ≡ o → life_in sizes (log ++ opening o c e []) c ≡ Some (life_or o e)
-    by_life None h = life-more sizes log (Open c e) c ∙ ap (λ b. cond b (Some (opened e)) (life_in sizes log c)) (itself c)
-    by_life (Some l) h = ap (λ (z : List Entry). life_in sizes z c) (append-nil log) ∙ h
 
 module _
     (read : (lists : Lists) (c : List ℕ) (r : Reading) (missed : List Placed) → r.top ≤ length (lists c r.epoch)

@@ -1,5 +1,5 @@
 -- What a read of a lent shard answers is, in positions, what the stream answers that the log then has.
-use Rattle.std.proofs.Common.{◌≡◌, ℕ, Bool, Option, Some, None, List, [], ◌++◌, append-nil, refl, sym, ap, ◌∙◌, subst}
+use Rattle.std.proofs.Common.{◌≡◌, Bool, Option, Some, None, List, [], ◌++◌, append-nil, sym, ap, ◌∙◌, subst}
 use Rattle.cf_protocol.specs.Datum.{Placed}
 use Rattle.cf_protocol.specs.LogEntry.{Entry}
 use Rattle.cf_protocol.specs.Position.{Position}
@@ -11,15 +11,10 @@ use Rattle.cf_stream.specs.Stream.{Shown}
 use Rattle.cf_model.specs.StreamAnswer.{read_of}
 use Rattle.cf_stream.specs.Streams.{StreamMap, size_at, stream_of}
 use Rattle.cf_machine.specs.Config.{Config}
-use Rattle.cf_machine.proofs.Readings.{reading-is as answer-is}
 use Rattle.cf_shard.specs.ShardLog.{entries_of_use}
-use Rattle.cf_running_ties.specs.ShardCalls.{answered}
+use Rattle.cf_hub_moves.specs.Readings.{answered}
+use Rattle.cf_hub_moves.proofs.Readings.{reading-is}
 use Rattle.cf_running_ties.proofs.ShardCalls.{none-life, opened-life, shows}
-
--- the answer of the code is the stream's reading
-pub reading-is : (l : Life) (since : Option Position) (p : Position) (recovered : Bool) (items : List Placed) → IsRead l since p recovered items
-    → answered p recovered items ≡ read_of since (state_of l)
-reading-is l since p recovered items r = answer-is since (state_of l) l.list p recovered items refl r.at r.exact r.run
 
 abbrev of_some : Life → Option Life → Life
 of_some d None = d

@@ -22,7 +22,7 @@ use Rattle.cf_shard.specs.Delivery.{Carried}
 use Rattle.cf_running.specs.Server as server
 use Rattle.cf_running.specs.Server.{Closes, Connection, Delivers, Pings, Section, Server, Site, after, at_number, at_session, comes_by, lists_of, ran, words_of}
 use Rattle.cf_running.proofs.Beside.{at-other, at-same, number_tells}
-use Rattle.cf_running_ties.specs.HubAsides.{MovesAmong}
+use Rattle.cf_hub_moves.specs.HubAsides.{MovesAmong}
 use Rattle.cf_running_ties.specs.Links.{IsFirst, place}
 use Rattle.cf_running_ties.proofs.Growing.{all-append}
 use Rattle.cf_running_ties.specs.Nodes.{ClosesAnd, ClosesAndPings, ConnectedBy, IsClose, IsCloseOrPing, IsHubOf, Says}

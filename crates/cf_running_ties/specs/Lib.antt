@@ -1,10 +1,9 @@
 pub mod Heard
-pub mod Held
-pub mod HubAsides
 pub mod InHand
 pub mod Links
 pub mod Nodes
 pub mod Passing
 pub mod Reads
 pub mod ShardCalls
+pub mod Seen
 pub mod ShardLife

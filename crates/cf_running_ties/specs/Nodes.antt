@@ -6,7 +6,7 @@ use Rattle.cf_hub.specs.AlikeMoves.{Notes, Texts}
 use Rattle.cf_hub.specs.Hub.{Node, attached_at}
 use Rattle.cf_hub.specs.Session.{Attached}
 use Rattle.cf_running.specs.Server.{Closes, Connection, Pings, Section, Server, Site, change, lists_of, ran}
-use Rattle.cf_running_ties.specs.HubAsides.{SaysAmong}
+use Rattle.cf_hub_moves.specs.HubAsides.{SaysAmong}
 
 -- what a session of texts says among such asides are the notes of the other
 abbrev pub Says : (List ℕ → Bool) → Lists → Texts → Notes → Type 0

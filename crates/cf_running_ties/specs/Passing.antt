@@ -4,43 +4,17 @@ use Rattle.std.specs.Prelude.{◌≡◌, ⊤, ℕ, false, None, List, [], ◌∷
 use Rattle.std.specs.List.{AllZip}
 use Rattle.cf_protocol.specs.Frame.{IsReplies}
 use Rattle.cf_protocol.specs.Note.{Lists, Note}
-use Rattle.cf_protocol.specs.Outgoing.{Outcome, Connected, Subscribed, Unsubscribed, Published, Present, Counted}
-use Rattle.cf_protocol.specs.Outgoing.{Past, Pinged, Failed, Outgoing, Ping, Answer, Push}
-use Rattle.cf_protocol.specs.Regular.{IsRegular}
-use Rattle.cf_protocol.specs.Written.{outgoing_text}
+use Rattle.cf_protocol.specs.Outgoing.{Outgoing}
 use Rattle.cf_queue.specs.OutQueue.{Item, Text, Close}
 use Rattle.cf_hub.specs.InNotes.{SaysNote}
 use Rattle.cf_client.specs.AppItem.{AppItem}
 use Rattle.cf_client.specs.ClientCalls.{NoAsk, PassesOver, State, TakesAll, channel_under, reconnected}
 use Rattle.cf_model.specs.ClientState.{is_out}
-
--- the reply to a connect, the answers about presence, and that to a ping
-abbrev pub IsAsideAnswer : Outcome → Type 0
-IsAsideAnswer (Connected client) = ⊤
-IsAsideAnswer (Present users) = ⊤
-IsAsideAnswer (Counted clients users) = ⊤
-IsAsideAnswer Pinged = ⊤
-IsAsideAnswer (Subscribed at publications recovered was) = ⊥
-IsAsideAnswer Unsubscribed = ⊥
-IsAsideAnswer Published = ⊥
-IsAsideAnswer (Past at publications) = ⊥
-IsAsideAnswer (Failed code) = ⊥
-
-abbrev pub IsPassedOver : Outgoing → Type 0
-IsPassedOver Ping = ⊥
-IsPassedOver (Answer id result) = IsAsideAnswer result
-IsPassedOver (Push channel push) = ⊥
+use Rattle.cf_hub_moves.specs.Asides.{IsPassedOver}
 
 abbrev pub AllPassed : List Outgoing → Type 0
 AllPassed [] = ⊤
 AllPassed (o ∷ os) = IsPassedOver o × AllPassed os
-
--- the text is that of one of them
-pub record SaysAside (t : List ℕ) : Type 0 where
-  pub said : Outgoing
-  pub passed : IsPassedOver said
-  pub regular : IsRegular said
-  pub text : t ≡ outgoing_text said
 
 -- no ask and no call of the client has this id
 pub record IsUnasked (id : ℕ) (s : State) : Type 0 where

@@ -12,7 +12,7 @@ use Rattle.cf_model.specs.StreamAnswer.{listed_above, read_of}
 use Rattle.cf_hub.specs.InNotes.{AreMissed, Grown}
 use Rattle.cf_machine.specs.ReadBack.{IsDatum}
 use Rattle.cf_running.specs.Server.{Publishes, Section, Server, Site, ToPublish, Work, life_of, lists_of}
-use Rattle.cf_running_ties.specs.ShardCalls.{answered}
+use Rattle.cf_hub_moves.specs.Readings.{answered}
 
 -- what a worker, or a section, is to publish has this
 abbrev pub WorkHas : (Datum → Type 0) → Work → Type 0

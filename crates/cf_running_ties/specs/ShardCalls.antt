@@ -1,11 +1,8 @@
 -- The entries of a call of a lent shard, as its contract has them, may be gained one after another.
 -- (This project's own profile.)
-use Rattle.std.specs.Prelude.{◌≡◌, ◌≢◌, ◌-◌, ℕ, Bool, true, false, Option, None, List, [], ◌∷◌, ◌++◌, length}
-use Rattle.cf_protocol.specs.Datum.{Placed}
+use Rattle.std.specs.Prelude.{◌≡◌, ◌≢◌, ℕ, Bool, true, false, Option, None, List, [], ◌∷◌, ◌++◌}
 use Rattle.cf_protocol.specs.LogEntry.{Entry}
 use Rattle.cf_protocol.specs.Names.{is_among}
-use Rattle.cf_protocol.specs.Note.{Reading}
-use Rattle.cf_protocol.specs.Position.{Position}
 use Rattle.cf_stream.specs.Stream.{IsAtLast, Shown}
 use Rattle.cf_machine.specs.Config.{Config}
 use Rattle.cf_running.specs.Server.{may_gain}
@@ -26,12 +23,3 @@ IsDrawn stream log c e = stream ≡ None → (e ≢ []) × (is_among e (epochs_i
 -- a publish with this key isn't refused at the last offset
 abbrev pub IsNotLast : Option Shown → (key : List ℕ) → Type 0
 IsNotLast stream key = IsAtLast stream key → ⊥
-
--- what a read answers, in positions, as it reaches the hub
-abbrev pub answered : Position → Bool → List Placed → Reading
-answered p recovered items = record {
-  epoch = p.epoch;
-  low = p.offset - length items;
-  top = p.offset;
-  recovered = recovered;
-}

@@ -5,8 +5,9 @@ ghost use Rattle.cf_protocol.specs.Outgoing.{Answer, Failed, Outgoing};
 ghost use Rattle.cf_queue.specs.OutQueue.{Item};
 ghost use Rattle.cf_client.specs.AppItem.{AppItem};
 ghost use Rattle.cf_client.specs.ClientCalls.{PassesOver, State, Takes, TakesAll};
-ghost use Rattle.cf_running_ties.specs.HubAsides.{SaysSome};
-ghost use Rattle.cf_running_ties.specs.Passing.{AllPassed, AreEnough, IsPassedOver, IsUnasked, SaysAside, TakesItems, TakesText};
+ghost use Rattle.cf_hub_moves.specs.HubAsides.{SaysSome};
+ghost use Rattle.cf_hub_moves.specs.Asides.{IsPassedOver, SaysAside};
+ghost use Rattle.cf_running_ties.specs.Passing.{AllPassed, AreEnough, IsUnasked, TakesItems, TakesText};
 
 use cf_protocol::laws::replies_read_back;
 

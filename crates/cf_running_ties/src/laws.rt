@@ -18,6 +18,7 @@ ghost use Rattle.cf_stream.specs.Streams.{StreamMap, stream_of};
 ghost use Rattle.cf_hub.specs.Hub.{client_id};
 ghost use Rattle.cf_epochs.specs.Source.{IsSource, Source, draws_next};
 ghost use Rattle.cf_link.specs.Link.{AreLeft};
+ghost use Rattle.cf_order.specs.Passes.{PassState};
 ghost use Rattle.cf_shard.specs.Delivery.{AreLeft as AreHandedOut, Carried, Left, carried};
 ghost use Rattle.cf_shard.specs.LogAnswer.{IsHistoryAnswer, IsReadAnswer};
 ghost use Rattle.cf_shard.specs.Shard.{DrawsFor, Lent};
@@ -25,11 +26,14 @@ ghost use Rattle.cf_shard.specs.ShardLog.{entries_of_forget, entries_of_publish,
 ghost use Rattle.cf_machine.specs.Config.{Config};
 ghost use Rattle.cf_machine.specs.ReadBack.{IsDatum};
 ghost use Rattle.cf_running.specs.Server.{Delivers, Offers, Publishes, Section, Server, Site, after, at_number, log_of, ran, start};
+ghost use Rattle.cf_hub_moves.specs.HubAsides.{MovesAmong};
+ghost use Rattle.cf_hub_moves.specs.Readings.{answered};
 ghost use Rattle.cf_running_ties.specs.Heard.{AreHeard, SayTheirNotes};
-ghost use Rattle.cf_running_ties.specs.HubAsides.{MovesAmong};
 ghost use Rattle.cf_running_ties.specs.Links.{AddsNothing, IsAnswered, IsFirst, IsNumbered, Lines, OffersCopies, Waits, is_at_link};
 ghost use Rattle.cf_running_ties.specs.Reads.{AllReadBack, IsListing, IsReading, SectionHas};
-ghost use Rattle.cf_running_ties.specs.ShardCalls.{IsDrawn, IsGained, IsNotLast, MayAll, answered};
+ghost use Rattle.cf_node_hub.specs.Seen.{IsSound, log_at};
+ghost use Rattle.cf_running_ties.specs.Seen.{IsGood};
+ghost use Rattle.cf_running_ties.specs.ShardCalls.{IsDrawn, IsGained, IsNotLast, MayAll};
 ghost use Rattle.cf_running_ties.specs.ShardLife.{AreMade, Call};
 
 use cf_epochs::laws::told_apart;
@@ -171,6 +175,15 @@ pub fn what_is_read_is_listed()
 {
     what_is_said_stays();
 }
+
+/// What a node has seen of the shards' logs is sound, if each is gained entry by entry and what it has can be said: a stream of an
+/// epoch has all that was ever published to its channel in that epoch, and that can be read back. So what the type of a node's
+/// hub keeps, that each session says only what stands in what was seen, holds without a premise for such logs, as
+/// `drawn_epochs_are_new` has them.
+pub fn what_is_seen_is_sound()
+    ensures { (config : Config) (seen : List PassState)
+        → ((channel : List ℕ) → IsGood config (log_at seen channel)) → IsSound seen }
+{}
 
 /// What a session makes of a text can be said again: each command that is answered has an id, the data of a
 /// publish can be read back, and so can the name that a hub gives a client; and the replies that bring

@@ -7,7 +7,7 @@ ghost use Rattle.cf_hub.specs.WantOfMemory.{OrCloses};
 ghost use Rattle.cf_hub.specs.Wordings.{plain};
 ghost use Rattle.cf_shard.specs.Delivery.{Carried};
 ghost use Rattle.cf_running.specs.Server.{Attaches, Connection, Delivers, Detaches, Section, Server, Site, Wanders, after, at_number, change, lists_of, start};
-ghost use Rattle.cf_running_ties.specs.HubAsides.{KeepSaying, MovesOrCloses};
+ghost use Rattle.cf_hub_moves.specs.HubAsides.{KeepSaying, MovesOrCloses};
 ghost use Rattle.cf_running_ties.specs.Links.{IsFirst};
 ghost use Rattle.cf_running_ties.specs.Nodes.{ClosesAnd, ClosesAndPings, IsHubOf, IsUntouched, Moves, MovesBehindClose, Says};
 

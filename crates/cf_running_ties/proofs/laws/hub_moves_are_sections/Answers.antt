@@ -1,5 +1,5 @@
 use Rattle.std.proofs.Common.{◌≡◌, true}
-use Rattle.cf_running_ties.proofs.HubAsides.{moves_among}
+use Rattle.cf_hub_moves.proofs.HubAsides.{moves_among}
 use Rattle.cf_running_ties.proofs.laws.hub_moves_are_sections.Goals as goal
 
 pub returns : goal.returns

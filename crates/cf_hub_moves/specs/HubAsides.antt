@@ -18,7 +18,7 @@ use Rattle.cf_model.specs.Spoken.{spoken}
 use Rattle.cf_hub.specs.WantOfMemory.{OrCloses, Serves}
 use Rattle.cf_hub.specs.Wordings.{at_offset, delivering, plain, reading}
 use Rattle.cf_machine.specs.ClientLink.{finishes_over, finishes_amid}
-use Rattle.cf_running_ties.specs.Held.{IsHeld}
+use Rattle.cf_hub_moves.specs.Held.{IsHeld}
 
 -- a text that says no note: which those are is for the caller to say
 abbrev pub IsAside : (List ℕ → Type 0) → Item → Type 0

@@ -22,11 +22,11 @@ use Rattle.cf_hub.specs.WantOfMemory.{ClosesWith, OrCloses, Serves, without_buff
 use Rattle.cf_hub.specs.Wordings.{Held, at_offset, delivering, end_text, held, no_publication, plain, push_text, reading, releasing, reply_text}
 use Rattle.cf_hub.proofs.InNotes.{all_said, falls, many, says_end, says_place, says_reply}
 use Rattle.cf_machine.specs.ClientLink.{amid_at, finishes_amid, finishes_over, over_at}
-use Rattle.cf_running_ties.specs.HubAsides.{FinishesAmong, MovesAmong, MovesOrCloses, SaysAmong}
-use Rattle.cf_running_ties.specs.Held.{IsHeld}
-use Rattle.cf_running_ties.proofs.Among.{IsCut, IsSlow, aside_among, closes_among, closes_now_among, push_among, put_among, says_among, takes_among}
-use Rattle.cf_running_ties.proofs.Closing.{by_open, closed_alike, no_items, was_open, zip_first}
-use Rattle.cf_running_ties.proofs.Holding.{holds_nothing, holds_one, holds_read, holds_up}
+use Rattle.cf_hub_moves.specs.HubAsides.{FinishesAmong, MovesAmong, MovesOrCloses, SaysAmong}
+use Rattle.cf_hub_moves.specs.Held.{IsHeld}
+use Rattle.cf_hub_moves.proofs.Among.{IsCut, IsSlow, aside_among, closes_among, closes_now_among, push_among, put_among, says_among, takes_among}
+use Rattle.cf_hub_moves.proofs.Closing.{by_open, closed_alike, no_items, was_open, zip_first}
+use Rattle.cf_hub_moves.proofs.Holding.{holds_nothing, holds_one, holds_read, holds_up}
 
 module _
     (within : (a : Arrival) (k : ArrivalBuffer) → IsWithin k → IsWithin (with_arrival a k))

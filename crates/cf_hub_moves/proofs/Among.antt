@@ -17,8 +17,8 @@ use Rattle.cf_model.specs.SessionState.{Subscription, Wording, closes, closes_no
 use Rattle.cf_model.specs.Spoken.{spoken}
 use Rattle.cf_hub.specs.Wordings.{Held, item_weight, texts}
 use Rattle.cf_hub.proofs.InNotes.{weighs}
-use Rattle.cf_running_ties.specs.Held.{IsHeld}
-use Rattle.cf_running_ties.specs.HubAsides.{IsAside, SaysAmong, SaysSome}
+use Rattle.cf_hub_moves.specs.Held.{IsHeld}
+use Rattle.cf_hub_moves.specs.HubAsides.{IsAside, SaysAmong, SaysSome}
 
 module _ (A : List ℕ → Type 0) (lists : Lists) where
   abbrev pub Says : Texts → Notes → Type 0

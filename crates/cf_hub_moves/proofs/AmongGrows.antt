@@ -11,9 +11,9 @@ use Rattle.cf_hub.specs.InNotes.{Grown, IsListed, MissedBy, SaysNote, placed_of}
 use Rattle.cf_model.specs.SessionState.{Subscription, Off, Asked, Ready, On}
 use Rattle.cf_hub.specs.Wordings.{Held}
 use Rattle.cf_hub.proofs.InNotes.{grown_then}
-use Rattle.cf_running_ties.specs.Held.{IsHeld}
-use Rattle.cf_running_ties.specs.HubAsides.{SaysAmong, SaysSome}
-use Rattle.cf_running_ties.proofs.Growing.{listed-later}
+use Rattle.cf_hub_moves.specs.Held.{IsHeld}
+use Rattle.cf_hub_moves.specs.HubAsides.{SaysAmong, SaysSome}
+use Rattle.cf_hub_moves.proofs.Later.{listed-later}
 
 module _ (A : List ℕ → Type 0) (lists more : Lists) (g : Grown lists more) where
   said-grows : (i : Item) (n : Note) → SaysNote lists i n → SaysNote more i n

@@ -11,7 +11,7 @@ use Rattle.cf_recovery.specs.ArrivalBuffer.{Arrival, IsWithin, ArrivalBuffer, St
 use Rattle.cf_model.specs.Release.{falls_short, run_length}
 use Rattle.cf_hub.specs.InNotes.{AreMissed, IsListed, placed_of}
 use Rattle.cf_hub.specs.Wordings.{Held, at_offset, held}
-use Rattle.cf_running_ties.specs.Held.{IsHeld}
+use Rattle.cf_hub_moves.specs.Held.{IsHeld}
 
 pub holds_nothing : (lists : Lists) (c : List ℕ) (id : ℕ) → IsCode id → IsHeld lists c id None (held nothing_kept []) []
 holds_nothing lists c id code = record {

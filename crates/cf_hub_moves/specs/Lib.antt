@@ -1,0 +1,4 @@
+pub mod Asides
+pub mod Held
+pub mod HubAsides
+pub mod Readings

@@ -1,0 +1,6 @@
+pub mod Seen
+pub mod Lending
+pub mod ReadAnswers
+pub mod Sound
+pub mod Speaking
+pub mod Calls
