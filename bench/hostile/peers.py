@@ -15,7 +15,10 @@ import subprocess
 import sys
 import time
 
-PROGRAM = os.path.join(os.path.dirname(os.path.abspath(__file__)), "..", "..", "crates", "cf_server", "out", "cf_server")
+sys.path.append(os.path.join(os.path.dirname(os.path.abspath(__file__)), "..", "..", "tools"))
+
+from program import program_at  # noqa: E402
+
 FRAME = 65_536      # bytes of one frame at most
 QUEUE = 1_048_576   # bytes that may wait for a client
 LARGE = 60_000      # bytes of a publication that is called large
@@ -34,15 +37,15 @@ class Closed(Exception):
 
 
 class Server:
-    """`serve` on its own ports. Used in `with`, behind which it is gone."""
+    """`serve` on its own ports. What it says on standard error goes to `said`. Used in `with`, behind which it is gone."""
 
-    def __init__(self, program, nodes=1, words=(), descriptors=None):
+    def __init__(self, program, nodes=1, words=(), descriptors=None, said=subprocess.DEVNULL):
         def limit():
             if descriptors:
                 resource.setrlimit(resource.RLIMIT_NOFILE, (descriptors, descriptors))
 
         command = [program, "serve", "--boot", str(next(BOOTS)), "--nodes", str(nodes), *words]
-        self.process = subprocess.Popen(command, stdin=subprocess.PIPE, stdout=subprocess.PIPE, stderr=subprocess.DEVNULL, text=True,
+        self.process = subprocess.Popen(command, stdin=subprocess.PIPE, stdout=subprocess.PIPE, stderr=said, text=True,
                                         preexec_fn=limit)
         self.ports = [self.port_of(self.process.stdout.readline()) for _ in range(nodes)]
         self.port = self.ports[0]
@@ -476,11 +479,14 @@ def run(check, seconds, **more):
     are further numbers that the check takes, with what they are where nothing is said."""
     name = os.path.splitext(os.path.basename(sys.argv[0]))[0]
     words = argparse.ArgumentParser(description=sys.modules["__main__"].__doc__, formatter_class=argparse.RawDescriptionHelpFormatter)
-    words.add_argument("program", nargs="?", default=PROGRAM, help="the program, if not crates/cf_server/out/cf_server")
+    words.add_argument("program", nargs="?", help="the program, if not crates/cf_server/out/cf_server")
+    words.add_argument("--program", dest="named", metavar="FILE", help="the same")
     words.add_argument("--seconds", type=float, default=seconds, help=f"how long it measures ({seconds})")
     for word, number in more.items():
         words.add_argument(f"--{word}", type=int, default=number, help=f"({number})")
     given = vars(words.parse_args())
+    named = given.pop("named")
+    given["program"] = program_at(given["program"] or named)
     resource.setrlimit(resource.RLIMIT_NOFILE, (resource.getrlimit(resource.RLIMIT_NOFILE)[1],) * 2)
     try:
         with bounded(120 + 4 * given["seconds"]):
