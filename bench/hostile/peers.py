@@ -33,7 +33,7 @@ class Fails(Exception):
 
 
 class Closed(Exception):
-    """A connection is over: with the code of its close, or 0 where none came."""
+    """A connection is over: with the code of its close, or 0 if none came."""
 
 
 class Server:
@@ -134,7 +134,7 @@ class Peer:
         self.socket = connected(port, room)
         self.bytes, self.shaken = bytearray(), False
         self.messages = collections.deque()  # that have come, and that nobody has looked at
-        self.code = None                     # of its close; 0 where the connection ended without one
+        self.code = None                     # of its close; 0 if the connection ended without one
         self.last_id, self.client = 0, None
         self.write(handshake())
         if waits:
@@ -228,7 +228,7 @@ class Peer:
             self.messages.append(json.loads(payload))
 
     def next(self, timeout=10):
-        """The next message, or None where none comes in time; `Closed` where the connection is over."""
+        """The next message, or None if none comes in time; `Closed` if the connection is over."""
         until = time.monotonic() + timeout
         while not self.messages:
             if self.code is not None:
@@ -267,7 +267,7 @@ class Peer:
         self.ask({"publish": {"channel": channel, "data": data}})
 
     def until_closed(self, timeout):
-        """Reads on to the end of the connection, and gives its code; None where it goes on."""
+        """Reads on to the end of the connection, and gives its code; None if it goes on."""
         until = time.monotonic() + timeout
         while self.code is None and time.monotonic() < until:
             self.read(until - time.monotonic())
@@ -460,7 +460,7 @@ def faults_in_words(faults):
 
 @contextlib.contextmanager
 def bounded(seconds):
-    """Fails where what is inside has not ended after so many seconds, or is told to end."""
+    """Fails if what is inside has not ended after so many seconds, or is told to end."""
     def late(number, _):
         signal.signal(signal.SIGTERM, signal.SIG_IGN)
         raise Fails(f"not done within {seconds:.0f} seconds" if number == signal.SIGALRM else "told to end")
@@ -475,8 +475,8 @@ def bounded(seconds):
 
 
 def run(check, seconds, **more):
-    """Runs the check of a script on the words of its command line, prints what it says, and ends with 1 where it fails. `more`
-    are further numbers that the check takes, with what they are where nothing is said."""
+    """Runs the check of a script on the words of its command line, prints what it says, and ends with 1 if it fails. `more`
+    are further numbers that the check takes, with what they are if nothing is said."""
     name = os.path.splitext(os.path.basename(sys.argv[0]))[0]
     words = argparse.ArgumentParser(description=sys.modules["__main__"].__doc__, formatter_class=argparse.RawDescriptionHelpFormatter)
     words.add_argument("program", nargs="?", help="the program, if not crates/cf_server/out/cf_server")
