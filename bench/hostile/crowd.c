@@ -7,7 +7,7 @@
  *   floods  each publishes SIZE bytes to CHANNEL as fast as it is answered, IN_FLIGHT at a time, and follows the channel `flooders`
  *   asks    each follows a channel of its own and publishes SIZE bytes there each GAP milliseconds, one at a time
  * All answer each ping. It prints `ready` once all are connected, begins once a line comes on standard input, and at the end of that prints
- * one line: replies, the longest wait for one in milliseconds, connections that ended, their codes (0 where none came), texts that were
+ * one line: replies, the longest wait for one in milliseconds, connections that ended, their codes (0 if none came), texts that were
  * read, errors among the replies. What still waits for a reply then counts by how long it has waited. */
 #define _GNU_SOURCE
 #include <arpa/inet.h>

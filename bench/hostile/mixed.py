@@ -2,7 +2,7 @@
 """Each script's hostile client at once, beside 50 healthy ones who publish and follow.
 
 None of the healthy is closed, nothing is lost or out of order; the longest wait from a publish to its push is said, and that of a
-ping command. Two nodes; the hostile clients are spread over both, and each comes back where it is closed.
+ping command. Two nodes; the hostile clients are spread over both, and each comes back when it is closed.
 """
 import time
 
@@ -23,7 +23,7 @@ HOSTILE = [burst_own_node, closed_goes_on, fast_sender, half_reader, late_pong, 
 
 
 def again(ready, attack, port, seconds):
-    """An attack that begins anew where its client is closed. How often it began."""
+    """An attack that begins anew when its client is closed. How often it began."""
     until, times = time.monotonic() + seconds, 0
     said = []
 

@@ -19,7 +19,7 @@ def asks(channels, epochs):
 
 
 def brought_back(port, commands, pause=0):
-    """What is wrong with the replies to these commands, sent in one frame; nothing where all is well."""
+    """What is wrong with the replies to these commands, sent in one frame; nothing if all is well."""
     peer = Peer(port, 65_536 if pause else None)
     peer.write(frame("".join(text_of(command) for command in commands)))
     try:

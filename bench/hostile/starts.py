@@ -66,7 +66,7 @@ def full_pipe():
 
 
 def ends(program, words, **streams):
-    """What `serve` ends with at the end of its input, with 90 clients at 64 descriptors; None where it doesn't."""
+    """What `serve` ends with at the end of its input, with 90 clients at 64 descriptors; None if it doesn't."""
     command = [program, "serve", "--boot", str(next(BOOTS))]
     process = subprocess.Popen(["sh", "-c", f'exec "$@" {words}', "sh", *command], stdout=subprocess.PIPE, text=True,
                                preexec_fn=lambda: resource.setrlimit(resource.RLIMIT_NOFILE, (DESCRIPTORS, DESCRIPTORS)), **streams)

@@ -2,6 +2,8 @@
 #![tactic(auto)]
 
 mod command_line;
+mod entries;
+mod explaining;
 mod fault;
 mod program;
 mod readiness;
@@ -13,7 +15,9 @@ mod sizes;
 mod speaking;
 
 pub use cf_simulate::simulate;
+pub use cf_explain::LineFault;
 pub use command_line::{Options, ServeOptions, SpeakOptions};
+pub use explaining::explain;
 pub use fault::{Fault, Setting};
 pub use program::run;
 pub use serving::serve;
