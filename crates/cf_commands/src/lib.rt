@@ -13,6 +13,7 @@ mod serving;
 mod settings;
 mod sizes;
 mod speaking;
+mod stand_ins;
 
 pub use cf_simulate::simulate;
 pub use cf_explain::LineFault;

@@ -10,7 +10,7 @@ use cf_simulate::simulate;
 use std::io::{BufReader, BufWriter, IsTerminal, Write};
 use std::net::Net;
 use std::process::ExitCode;
-use std::rt::Env;
+use std::rt::{Env, Files};
 use std::sync::Wait;
 use std::thread::Threads;
 use std::time::Clock;
@@ -72,7 +72,7 @@ fn words<R: Env + AllocGlobal>(rt: &R) -> Result<Vec<String>, Fault> {
 
 fn program<R>(rt: &R) -> Result<ExitCode, Fault>
 where
-    R: Input + Print + Eprint + Env + AllocGlobal + Threads + Wait + Clock + Net + Sync,
+    R: Input + Print + Eprint + Env + AllocGlobal + Files + Threads + Wait + Clock + Net + Sync,
     R::Reader: IsTerminal,
 {
     let words = words(rt)?;
@@ -91,7 +91,7 @@ where
 /// the fault's, which is said on standard error.
 pub fn run<R>(rt: &R) -> ExitCode
 where
-    R: Input + Print + Eprint + Env + AllocGlobal + Threads + Wait + Clock + Net + Sync,
+    R: Input + Print + Eprint + Env + AllocGlobal + Files + Threads + Wait + Clock + Net + Sync,
     R::Reader: IsTerminal,
 {
     match program(rt) {
