@@ -96,7 +96,7 @@ class Client:
         self.live.add(channel)
 
     def recovers(self, channel, asked, found, recovered, publications):
-        """`recovered` exactly where everything since the position was held, and then exactly that."""
+        """`recovered` exactly if everything since the position was held, and then exactly that."""
         (since, offset), (epoch, top) = asked, found
         namespace = channel.partition(":")[0] if ":" in channel else ""
         most = min(self.judged.sizes[namespace], MOST_IN_A_REPLY)

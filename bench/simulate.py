@@ -67,7 +67,7 @@ def opening():
 
 
 def many(count, chance=lambda _: False):
-    """Where a chance is not taken, all goes well."""
+    """If a chance is not taken, all goes well."""
     lines = opening()
     number = 0
     while len(lines) < count:

@@ -135,7 +135,7 @@ class Source:
         return path
 
     def absolute(self, path):
-        """A path that begins with the crate, where it is one of these sources."""
+        """A path that begins with the crate, if it is one of these sources."""
         ways = [f"{self.crate}::{self.module}::{path}", f"{self.crate}::{path}", path]
         return next(filter(self.sources.has, ways), path)
 

@@ -4,10 +4,11 @@
  *
  * PORTS are joined by commas, and the clients spread over them. KIND is
  *   reads   each follows CHANNEL and reads what comes
- *   floods  each publishes SIZE bytes to CHANNEL as fast as it is answered, IN_FLIGHT at a time, and follows the channel `flooders`
+ *   floods  each publishes SIZE bytes to CHANNEL as fast as it is answered, IN_FLIGHT at a time, and follows the channel `flooders`; at the
+ *           end its connection is reset
  *   asks    each follows a channel of its own and publishes SIZE bytes there each GAP milliseconds, one at a time
  * All answer each ping. It prints `ready` once all are connected, begins once a line comes on standard input, and at the end of that prints
- * one line: replies, the longest wait for one in milliseconds, connections that ended, their codes (0 where none came), texts that were
+ * one line: replies, the longest wait for one in milliseconds, connections that ended, their codes (0 if none came), texts that were
  * read, errors among the replies. What still waits for a reply then counts by how long it has waited. */
 #define _GNU_SOURCE
 #include <arpa/inet.h>
@@ -162,10 +163,12 @@ static void join(struct client *it, int port) {
     static const char request[] = "GET / HTTP/1.1\r\nHost: localhost\r\nUpgrade: websocket\r\nConnection: Upgrade\r\n"
                                   "Sec-WebSocket-Key: dGhlIHNhbXBsZSBub25jZQ==\r\nSec-WebSocket-Version: 13\r\n\r\n";
     struct sockaddr_in where = {.sin_family = AF_INET, .sin_port = htons(port), .sin_addr.s_addr = htonl(INADDR_LOOPBACK)};
+    struct linger resets = {.l_onoff = 1, .l_linger = 0};
     int one = 1;
     it->socket = socket(AF_INET, SOCK_STREAM, 0);
     if (it->socket < 0 || connect(it->socket, (struct sockaddr *)&where, sizeof where)) fail("connect");
     setsockopt(it->socket, IPPROTO_TCP, TCP_NODELAY, &one, sizeof one);
+    if (is_flooding) setsockopt(it->socket, SOL_SOCKET, SO_LINGER, &resets, sizeof resets);
     fcntl(it->socket, F_SETFL, O_NONBLOCK);
     if (send(it->socket, request, sizeof request - 1, 0) < 0) fail("send");
     struct epoll_event event = {.events = EPOLLIN, .data.ptr = it};

@@ -4,8 +4,8 @@
 1,500 clients on two nodes (`--publishers`) keep 16 publishes in flight each, first of 20,000 bytes to 300 readers who keep up, then of
 1,000 bytes to 1,000 readers, half of the seconds each (`--kind 1` or `2`: one of both alone). Beside them 40 healthy clients publish 60 bytes
 every 50 ms, one at a time, each to itself. None of these is closed, and none waits over 2 seconds for a reply. All answer their pings, so
-none is closed with 3012, the publishers neither. Then the publishers go, all at once and without a word: a second and a half later none of
-them is present any more. (`--bytes`, `--readers`, `--healthy` and `--gap` are for a slower program, as one that is built without proof.)
+none is closed with 3012, the publishers neither. Then the publishers go, all at once and without a word, by a reset, which comes to the
+node also while it hasn't read what they sent before: a second and a half later none of them is present any more. (`--bytes`, `--readers`, `--healthy` and `--gap` are for a slower program, as one that is built without proof.)
 
 The clients are of C (crowd.c, which `cc` makes into a folder of its own), since those of Python are closed as slow before a flood is one.
 The server has two processors, 0 and 1 (`--processors`), the clients all.
@@ -76,7 +76,6 @@ def flood(program, crowd, size, reading, seconds, publishers, processors, asking
         readers = start("reads", server.ports, "crowd", reading)
         healthy = start("asks", server.ports, "healthy", asking, SMALL, 1, gap)
         floods = start("floods", server.ports, "crowd", publishers, size, IN_FLIGHT)
-        asker = Peer(server.port)
         healthy.begin()
         time.sleep(1)
         began = server.seconds()
@@ -84,6 +83,7 @@ def flood(program, crowd, size, reading, seconds, publishers, processors, asking
         time.sleep(seconds)
         busy = (server.seconds() - began) / seconds
         replies, longest, ended, codes, _, errors = healthy.end()
+        asker = Peer(server.port)
         _, _, out, out_codes, _, _ = floods.end()
         gone = left_after(asker)
         _, _, lost, lost_codes, texts, _ = readers.end()

@@ -15,7 +15,10 @@ import subprocess
 import sys
 import time
 
-PROGRAM = os.path.join(os.path.dirname(os.path.abspath(__file__)), "..", "..", "crates", "cf_server", "out", "cf_server")
+sys.path.append(os.path.join(os.path.dirname(os.path.abspath(__file__)), "..", "..", "tools"))
+
+from program import program_at  # noqa: E402
+
 FRAME = 65_536      # bytes of one frame at most
 QUEUE = 1_048_576   # bytes that may wait for a client
 LARGE = 60_000      # bytes of a publication that is called large
@@ -30,19 +33,19 @@ class Fails(Exception):
 
 
 class Closed(Exception):
-    """A connection is over: with the code of its close, or 0 where none came."""
+    """A connection is over: with the code of its close, or 0 if none came."""
 
 
 class Server:
-    """`serve` on its own ports. Used in `with`, behind which it is gone."""
+    """`serve` on its own ports. What it says on standard error goes to `said`. Used in `with`, behind which it is gone."""
 
-    def __init__(self, program, nodes=1, words=(), descriptors=None):
+    def __init__(self, program, nodes=1, words=(), descriptors=None, said=subprocess.DEVNULL):
         def limit():
             if descriptors:
                 resource.setrlimit(resource.RLIMIT_NOFILE, (descriptors, descriptors))
 
         command = [program, "serve", "--boot", str(next(BOOTS)), "--nodes", str(nodes), *words]
-        self.process = subprocess.Popen(command, stdin=subprocess.PIPE, stdout=subprocess.PIPE, stderr=subprocess.DEVNULL, text=True,
+        self.process = subprocess.Popen(command, stdin=subprocess.PIPE, stdout=subprocess.PIPE, stderr=said, text=True,
                                         preexec_fn=limit)
         self.ports = [self.port_of(self.process.stdout.readline()) for _ in range(nodes)]
         self.port = self.ports[0]
@@ -78,6 +81,10 @@ class Server:
         with open(f"/proc/{self.process.pid}/stat") as file:
             fields = file.read().rsplit(")", 1)[1].split()
         return (int(fields[11]) + int(fields[12])) / os.sysconf("SC_CLK_TCK")
+
+    def descriptors(self):
+        """How many descriptors it has open."""
+        return len(os.listdir(f"/proc/{self.process.pid}/fd"))
 
     def bytes(self):
         """The memory that it holds."""
@@ -131,7 +138,7 @@ class Peer:
         self.socket = connected(port, room)
         self.bytes, self.shaken = bytearray(), False
         self.messages = collections.deque()  # that have come, and that nobody has looked at
-        self.code = None                     # of its close; 0 where the connection ended without one
+        self.code = None                     # of its close; 0 if the connection ended without one
         self.last_id, self.client = 0, None
         self.write(handshake())
         if waits:
@@ -225,7 +232,7 @@ class Peer:
             self.messages.append(json.loads(payload))
 
     def next(self, timeout=10):
-        """The next message, or None where none comes in time; `Closed` where the connection is over."""
+        """The next message, or None if none comes in time; `Closed` if the connection is over."""
         until = time.monotonic() + timeout
         while not self.messages:
             if self.code is not None:
@@ -264,7 +271,7 @@ class Peer:
         self.ask({"publish": {"channel": channel, "data": data}})
 
     def until_closed(self, timeout):
-        """Reads on to the end of the connection, and gives its code; None where it goes on."""
+        """Reads on to the end of the connection, and gives its code; None if it goes on."""
         until = time.monotonic() + timeout
         while self.code is None and time.monotonic() < until:
             self.read(until - time.monotonic())
@@ -457,7 +464,7 @@ def faults_in_words(faults):
 
 @contextlib.contextmanager
 def bounded(seconds):
-    """Fails where what is inside has not ended after so many seconds, or is told to end."""
+    """Fails if what is inside has not ended after so many seconds, or is told to end."""
     def late(number, _):
         signal.signal(signal.SIGTERM, signal.SIG_IGN)
         raise Fails(f"not done within {seconds:.0f} seconds" if number == signal.SIGALRM else "told to end")
@@ -472,15 +479,18 @@ def bounded(seconds):
 
 
 def run(check, seconds, **more):
-    """Runs the check of a script on the words of its command line, prints what it says, and ends with 1 where it fails. `more`
-    are further numbers that the check takes, with what they are where nothing is said."""
+    """Runs the check of a script on the words of its command line, prints what it says, and ends with 1 if it fails. `more`
+    are further numbers that the check takes, with what they are if nothing is said."""
     name = os.path.splitext(os.path.basename(sys.argv[0]))[0]
     words = argparse.ArgumentParser(description=sys.modules["__main__"].__doc__, formatter_class=argparse.RawDescriptionHelpFormatter)
-    words.add_argument("program", nargs="?", default=PROGRAM, help="the program, if not crates/cf_server/out/cf_server")
+    words.add_argument("program", nargs="?", help="the program, if not crates/cf_server/out/cf_server")
+    words.add_argument("--program", dest="named", metavar="FILE", help="the same")
     words.add_argument("--seconds", type=float, default=seconds, help=f"how long it measures ({seconds})")
     for word, number in more.items():
         words.add_argument(f"--{word}", type=int, default=number, help=f"({number})")
     given = vars(words.parse_args())
+    named = given.pop("named")
+    given["program"] = program_at(given["program"] or named)
     resource.setrlimit(resource.RLIMIT_NOFILE, (resource.getrlimit(resource.RLIMIT_NOFILE)[1],) * 2)
     try:
         with bounded(120 + 4 * given["seconds"]):

@@ -2,7 +2,7 @@
 """What is published is pushed at once, on every node.
 
 A client publishes every 60 milliseconds, to a channel that one client follows on its own node and one on another. A dispatcher sleeps
-until it is rung for, or for half a second: where nobody rings, half of the pushes come a quarter of a second late.
+until it is rung for, or for half a second: if nobody rings, half of the pushes come a quarter of a second late.
 """
 import time
 

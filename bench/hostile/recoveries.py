@@ -19,7 +19,7 @@ def asks(channels, epochs):
 
 
 def brought_back(port, commands, pause=0):
-    """What is wrong with the replies to these commands, sent in one frame; nothing where all is well."""
+    """What is wrong with the replies to these commands, sent in one frame; nothing if all is well."""
     peer = Peer(port, 65_536 if pause else None)
     peer.write(frame("".join(text_of(command) for command in commands)))
     try:
@@ -52,6 +52,16 @@ def fill(port, channels):
     epochs = {channel: peer.subscribe(channel)["epoch"] for channel in channels}
     peer.drop()
     return epochs
+
+
+def attack(ready, port, seconds):
+    """Comes back to four channels in one frame, again and again."""
+    channels = [f"news{at}" for at in range(CHANNELS)]
+    epochs = fill(port, channels)
+    ready()
+    until = time.monotonic() + seconds
+    while time.monotonic() < until:
+        brought_back(port, asks(channels, epochs))
 
 
 def check(program, seconds):

@@ -2,7 +2,7 @@
 """Connections that say nothing keep nobody out.
 
 The server has 1,024 descriptors, and 1,100 connections are opened that say nothing. A new client gets in within 15 seconds: a
-head that isn't whole 10 seconds after its accept is dropped, also where a byte of it comes each second. A client that is whole
+head that isn't whole 10 seconds after its accept is dropped, also if a byte of it comes each second. A client that is whole
 by then stays.
 """
 import threading
@@ -47,7 +47,7 @@ def new_client(port):
 
 
 def attack(ready, port, seconds):
-    """200 connections that say nothing, opened again where they are dropped."""
+    """200 connections that say nothing, opened again when they are dropped."""
     ready()
     until = time.monotonic() + seconds
     while time.monotonic() < until:

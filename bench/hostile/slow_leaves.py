@@ -1,5 +1,5 @@
 #!/usr/bin/env python3
-"""A session that the hub closed leaves presence at once, also where its socket is full.
+"""A session that the hub closed leaves presence at once, also if its socket is full.
 
 A subscriber doesn't read while 200 publications of 60,000 bytes go to its channel, so that its queue overflows and it is closed
 with 3008; its socket stays full. One second after the last publication it is no longer present, while those who read are.

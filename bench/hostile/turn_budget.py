@@ -3,7 +3,7 @@
 
 The worst frames of 65,536 bytes that were found, one kind after another: publishes to a channel of thousands, recoveries of 300,
 presence and its numbers in a channel of thousands, histories of 300, subscriptions to new channels and away again, pongs, and
-one publish nested deep. Their sender reads its replies, and comes back where it is closed. Meanwhile another client of its node
+one publish nested deep. Their sender reads its replies, and comes back when it is closed. Meanwhile another client of its node
 asks for the answer to a ping again and again. Other work on the machine only makes a wait longer, so a kind that passes 50 ms is
 tried up to three times, and the best try counts.
 """

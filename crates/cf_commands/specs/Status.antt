@@ -12,6 +12,8 @@ abbrev pub status_of : Fault → ℕ
 status_of (fault.Simulation cause) = simulation_status cause
 status_of fault.NotUtf8 = 2
 status_of (fault.Setting setting) = 2
+status_of (fault.Entry option number entry rule) = 2
+status_of (fault.Unreadable line why) = 2
 status_of fault.Memory = 3
 status_of fault.InputOutput = 4
 status_of (fault.Listen node address) = 4

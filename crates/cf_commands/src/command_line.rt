@@ -47,14 +47,15 @@ A connection that never sends a connect command stays for ever, and takes one of
 It ends at the end of standard input (Ctrl-D at a terminal): each client is closed with 3001. To keep it running without
 a terminal, give it an input that does not end:
   sleep infinity | cf_server serve --boot 7 --port 8000
-Where a node can't serve, or its loop ends, all nodes end, and the status is 4. `input or output failed` then stands on standard
+If a node can't serve, or its loop ends, all nodes end, and the status is 4. `input or output failed` then stands on standard
 error, and above it the node and what failed there: its port is taken by another program (another --port), it may not listen there,
 or its thread can't be started. Alone it says that standard input or output failed, as a pipe whose reader is gone.
 
 A line `size NAME=K` of standard input sets how many publications the streams of a namespace hold from then on, 1 to 10,000;
-`size =K` is for the channels without a `:`. Other lines are passed over. By a fifo that is held open (examples/run-serve makes one):
+`size =K` is for the channels without a `:`. By a fifo that is held open (examples/run-serve makes one):
   mkfifo input; cf_server serve --boot 7 --port 8000 < input & exec 9> input; echo \"size =200\" >&9
-Where a shard of the broker can't take it, it keeps its size, and `size NAME refused` stands on standard error.
+The answer stands on standard error: `size =200: set`, or why it was passed over, or that a shard of the broker refused it and
+keeps its size. Lines that don't begin with `size` are passed over, and not answered.
 
 On standard error it says, at most once a second of each kind, how many connections were refused for want of descriptors or
 memory, how many publications were lost on full links, and how many sessions were closed for slowness; --quiet for none.";
@@ -63,7 +64,7 @@ const SPEAK: &str = "Speaks with one client: each line of standard input is one 
 
 const SPEAK_NOTES: &str =
     "A line is what a client of Centrifugo sends in one message: one or more commands in JSON. What the client gets is printed,
-a line for each message, and `close CODE REASON` where the server would close the connection; then it ends.
+a line for each message, and `close CODE REASON` when the server would close the connection; then it ends.
 
 For example, with these lines as input (cf_server speak, and then paste them):
   {\"id\":1,\"connect\":{}}
@@ -79,9 +80,14 @@ it prints:
   {\"history\":{\"epoch\":\"aaaa\",\"offset\":1,\"publications\":[{\"data\":\"hello\",\"info\":{\"client\":\"0-1-1\"},\"offset\":1}]},\"id\":4}
   close 3501 bad request
 
-Each new stream takes the next of the epochs; where none is left, a command that would open a stream fails with error 100.";
+Each new stream takes the next of the epochs; if none is left, a command that would open a stream fails with error 100.";
 
 const PROGRAM_NOTES: &str = "With no command it is `simulate`.
+
+Each command reads standard input to its end. `serve` serves until then: Ctrl-D at a terminal ends it. What keeps it from ending
+without a terminal is an input that does not end:
+  sleep infinity | cf_server serve --boot 7 --port 8000
+`cf_server serve --help` tells more. --version says the number of the program, and not of which sources it was built.
 
 Exit status: 0 done, 2 unusable words or input, 3 out of memory, 4 input or output failed.";
 
@@ -105,12 +111,12 @@ const SCHEDULE_NOTES: &str =
   leave X C       X sends the unsubscribe command
   put X C DATA    X publishes JSON data to C
   list X C LIMIT  X asks for what C's stream holds, at most LIMIT publications
-  publishkey C KEY DATA  as publish, under a key: where it is among the last 100 keys of C, nothing is published
+  publishkey C KEY DATA  as publish, under a key: if it is among the last 100 keys of C, nothing is published
   putkey X C KEY DATA    as put, under a key
   size NAME=K            a stream of namespace NAME holds the newest K publications and no more, from now on
 A line that is empty or begins with # is passed over. An event that can't happen changes nothing; --explain says why.
-Where a line is none of these, nothing of the schedule is run, and `line N: unreadable` says which. What is commonly behind it: lines
-that end in CR LF, two spaces or a space at the end, a byte order mark before the first line, DATA that is no JSON.
+If a line is none of these, nothing of the schedule is run, and `line N: unreadable` says which; with --explain a line behind it says
+why. Commonly it is a line that ends in CR LF, two spaces or a space at the end, a byte order mark, or DATA that is no JSON.
 
 What is printed, each by the `take` that brings it:
   X C sub E O fresh      X is subscribed to C, from offset O of epoch E
@@ -174,7 +180,7 @@ struct Known {
     help: &'static str,
 }
 
-/// The value of an option: what help calls it, what it has to be, and what it is unless another is given; where there is nothing, one
+/// The value of an option: what help calls it, what it has to be, and what it is unless another is given; if there is nothing, one
 /// has to be given.
 #[derive(Clone, Copy)]
 struct Value {

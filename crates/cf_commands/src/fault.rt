@@ -1,7 +1,8 @@
-//! How a command of the program ends where it doesn't succeed.
+//! How a command of the program ends if it doesn't succeed.
 ghost use Rattle.std.specs.Prelude.{◌≡◌};
 ghost use Rattle.cf_commands.specs.Status.{status_of, fault_of_text};
 
+use cf_explain::LineFault;
 use cf_protocol::ReadFault;
 use cf_simulate::SimulateFault;
 use std::alloc::{AllocError, AllocFailed};
@@ -40,12 +41,23 @@ pub enum Fault {
     /// A setting is of another form than it should be.
     #[error("unusable setting: {setting}")]
     Setting { setting: Setting },
+    /// An entry of an option breaks a rule. Entries are numbered from 1.
+    #[error("unusable setting: {option}: entry {number}, `{entry}`: {rule}")]
+    Entry {
+        option: &'static str,
+        number: usize,
+        entry: String,
+        rule: &'static str,
+    },
+    /// A line of a schedule is unreadable, and why, which is said if the schedule is explained.
+    #[error("line {line}: unreadable\nline {line}: {why}")]
+    Unreadable { line: usize, why: LineFault },
     #[error("out of memory")]
     Memory,
     /// A read or a write failed, or gave no end.
     #[error("input or output failed")]
     InputOutput,
-    /// A node can't listen at its address, as where another program has the port.
+    /// A node can't listen at its address, as when another program has the port.
     #[error("node {node}: can't listen at {address}\ninput or output failed")]
     Listen { node: u8, address: SocketAddr },
     /// A node's thread can't be started.
@@ -57,13 +69,16 @@ pub enum Fault {
 }
 
 impl Fault {
-    /// The program's exit status: 2 for its words and its input, 3 for want of memory, 4 where input or output failed.
+    /// The program's exit status: 2 for its words and its input, 3 for want of memory, 4 if input or output failed.
     pub fn status(&self) -> u8
         ensures { result ≡ status_of self.now }
     {
         match self {
             Fault::Simulation { fault } => fault.status(),
-            Fault::NotUtf8 | Fault::Setting { .. } => 2,
+            Fault::NotUtf8
+            | Fault::Setting { .. }
+            | Fault::Entry { .. }
+            | Fault::Unreadable { .. } => 2,
             Fault::Memory => 3,
             Fault::InputOutput
             | Fault::Listen { .. }

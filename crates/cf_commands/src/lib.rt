@@ -2,6 +2,8 @@
 #![tactic(auto)]
 
 mod command_line;
+mod entries;
+mod explaining;
 mod fault;
 mod program;
 mod readiness;
@@ -11,9 +13,12 @@ mod serving;
 mod settings;
 mod sizes;
 mod speaking;
+mod stand_ins;
 
 pub use cf_simulate::simulate;
+pub use cf_explain::LineFault;
 pub use command_line::{Options, ServeOptions, SpeakOptions};
+pub use explaining::explain;
 pub use fault::{Fault, Setting};
 pub use program::run;
 pub use serving::serve;

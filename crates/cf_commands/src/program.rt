@@ -1,40 +1,64 @@
 //! A run of the program: its words, and the command that they ask for.
 
 use crate::command_line::{self, Job, Options, SpeakOptions, VERSION};
+use crate::explaining::explain;
 use crate::fault::Fault;
 use crate::serving::serve;
 use crate::settings::config_of;
 use crate::speaking::{setup_of, speak};
 use cf_simulate::simulate;
-use std::io::{BufReader, BufWriter, Write};
+use std::io::{BufReader, BufWriter, IsTerminal, Write};
 use std::net::Net;
 use std::process::ExitCode;
-use std::rt::Env;
+use std::rt::{Env, Files};
 use std::sync::Wait;
 use std::thread::Threads;
 use std::time::Clock;
 use std::{env, io};
 
-fn simulate_standard<R: Input + Print + AllocGlobal>(
-    rt: &R,
-    options: Options<'_>,
-) -> Result<(), Fault> {
+const WAITS_FOR_SCHEDULE: &str = "simulate waits for a schedule on standard input, a line for each event, and runs it at the end of the
+input (Ctrl-D). `cf_server --help` tells what else there is, `cf_server simulate --help` what a line may say.";
+
+const WAITS_FOR_MESSAGES: &str = "speak waits for a client's messages on standard input, a line for each, until the end of the input
+(Ctrl-D). `cf_server speak --help` has some to paste.";
+
+// Says on standard error what a command waits for, if its reader is a terminal, at which somebody sits.
+fn say_wait<R: Eprint, T: IsTerminal>(rt: &R, reader: &T, what: &str) {
+    if reader.is_terminal() {
+        let _ = rt.eprintln(what);
+    }
+}
+
+fn simulate_standard<R>(rt: &R, options: Options<'_>) -> Result<(), Fault>
+where
+    R: Input + Print + Eprint + AllocGlobal,
+    R::Reader: IsTerminal,
+{
     let alloc = rt.alloc();
     let explains = options.explains;
     let config = config_of(alloc, options)?;
     let mut reader = rt.reader();
+    say_wait(rt, &reader, WAITS_FOR_SCHEDULE);
     let mut writer = BufWriter::new(alloc, io::writer(rt))?;
-    simulate(alloc, &mut reader, &mut writer, &config, explains).map_err(Fault::from)
+    if explains {
+        explain(alloc, &mut reader, &mut writer, &config)
+    } else {
+        simulate(alloc, &mut reader, &mut writer, &config, false).map_err(Fault::from)
+    }
 }
 
-fn speak_standard<R: Input + Print + AllocGlobal>(
-    rt: &R,
-    options: SpeakOptions<'_>,
-) -> Result<(), Fault> {
+fn speak_standard<R>(rt: &R, options: SpeakOptions<'_>) -> Result<(), Fault>
+where
+    R: Input + Print + Eprint + AllocGlobal,
+    R::Reader: IsTerminal,
+{
     let alloc = rt.alloc();
-    let mut reader = BufReader::new(alloc, rt.reader())?;
+    let setup = setup_of(alloc, options)?;
+    let reader = rt.reader();
+    say_wait(rt, &reader, WAITS_FOR_MESSAGES);
+    let mut reader = BufReader::new(alloc, reader)?;
     let mut writer = BufWriter::new(alloc, io::writer(rt))?;
-    speak(alloc, &mut reader, &mut writer, setup_of(alloc, options)?)
+    speak(alloc, &mut reader, &mut writer, setup)
 }
 
 // The program's words. One that isn't UTF-8 is unusable.
@@ -48,7 +72,8 @@ fn words<R: Env + AllocGlobal>(rt: &R) -> Result<Vec<String>, Fault> {
 
 fn program<R>(rt: &R) -> Result<ExitCode, Fault>
 where
-    R: Input + Print + Eprint + Env + AllocGlobal + Threads + Wait + Clock + Net + Sync,
+    R: Input + Print + Eprint + Env + AllocGlobal + Files + Threads + Wait + Clock + Net + Sync,
+    R::Reader: IsTerminal,
 {
     let words = words(rt)?;
     let done = match command_line::read_words(rt.alloc(), words.as_slice()) {
@@ -62,11 +87,12 @@ where
     Ok(ExitCode::SUCCESS)
 }
 
-/// Does what the program's words ask for, over its standard input and output, and gives its exit status: 0 where that is done, else
+/// Does what the program's words ask for, over its standard input and output, and gives its exit status: 0 if that is done, else
 /// the fault's, which is said on standard error.
 pub fn run<R>(rt: &R) -> ExitCode
 where
-    R: Input + Print + Eprint + Env + AllocGlobal + Threads + Wait + Clock + Net + Sync,
+    R: Input + Print + Eprint + Env + AllocGlobal + Files + Threads + Wait + Clock + Net + Sync,
+    R::Reader: IsTerminal,
 {
     match program(rt) {
         Ok(code) => code,

@@ -5,6 +5,7 @@ use cf_broker::Broker;
 use cf_shard::Naming;
 use cf_stream::Epochs;
 use mio::Interest;
+use std::fmt::Display;
 use std::net::Net;
 use std::os::fd::RawFd;
 use std::sync::Wait;
@@ -20,7 +21,7 @@ const BETWEEN: u64 = 100;
 
 const STANDARD_ERROR: RawFd = 2;
 
-/// What tells on standard error what goes wrong.
+/// What tells on standard error what goes wrong, and answers lines of standard input.
 #[derive(Drop)]
 pub(crate) struct Teller {
     output: Readiness,
@@ -33,11 +34,22 @@ impl Teller {
         Ok(Teller { output })
     }
 
-    // Tells how often it has gone wrong since that was told last, and how often in all, where there is something new. A line
-    // that nobody would read is dropped: who waited for that couldn't end.
+    // Whether a line would be taken at once. One that nobody would read is dropped: who waited for that couldn't end.
+    fn is_heard(&mut self) -> bool {
+        self.output.is_ready(Duration::ZERO).unwrap_or(false)
+    }
+
+    /// Says a line, unless nobody would read it.
+    pub(crate) fn say<R: Eprint, T: Display>(&mut self, rt: &R, line: &T) {
+        if self.is_heard() {
+            let _ = rt.eprintln(line);
+        }
+    }
+
+    // Tells how often it has gone wrong since that was told last, and how often in all, if there is something new.
     fn tell<R: Eprint>(&mut self, rt: &R, what: &str, told: &mut u64, all: u64) {
         let more = all.saturating_sub(*told);
-        if more > 0 && self.output.is_ready(Duration::ZERO).unwrap_or(false) {
+        if more > 0 && self.is_heard() {
             let _ = eprintln!(rt; "{what}: {more} more, {all} in all");
             *told = all;
         }
@@ -64,7 +76,7 @@ fn sees_stop<R: Clock>(rt: &R, stop: &AtomicU64) -> bool {
     false
 }
 
-/// Tells each second what has gone wrong since the last one, until `stop` isn't 0; where the program is to be quiet, nothing.
+/// Tells each second what has gone wrong since the last one, until `stop` isn't 0; if the program is to be quiet, nothing.
 pub(crate) fn report<R, N, E>(
     rt: &R,
     teller: &mut Teller,

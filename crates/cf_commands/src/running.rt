@@ -52,7 +52,7 @@ pub(crate) struct Running {
 }
 
 impl Running {
-    /// No node serves yet. An error where there is no clock.
+    /// No node serves yet. An error if there is no clock.
     pub(crate) fn new<R: Clock>(rt: &R, reach: Reach, is_quiet: bool) -> io::Result<Running> {
         Ok(Running {
             start: Instant::now(rt)?,
@@ -69,7 +69,7 @@ impl Running {
         self.failed.store(u64::from(node), Ordering::SeqCst);
     }
 
-    /// An error where the loop of a node has ended.
+    /// An error if the loop of a node has ended.
     pub(crate) fn goes_on(&self) -> Result<(), Fault> {
         match u8::try_from(self.failed.load(Ordering::SeqCst)) {
             Ok(node) => Err(Fault::Ended { node }),
@@ -98,7 +98,7 @@ impl Gate for Running {
 ///
 /// # Errors
 ///
-/// `Ended` where the loop of a node has ended; `InputOutput` where they don't begin.
+/// `Ended` if the loop of a node has ended; `InputOutput` if they don't begin.
 pub(crate) fn wait_for_workers<R: Clock>(
     rt: &R,
     running: &Running,
@@ -135,7 +135,7 @@ impl Ear {
     ///
     /// # Errors
     ///
-    /// `Ended` where the loop of a node has ended; `InputOutput` where the input can't be read, or has no end.
+    /// `Ended` if the loop of a node has ended; `InputOutput` if the input can't be read, or has no end.
     pub(crate) fn hear_all<R: Read, L: Listener>(
         &mut self,
         reader: &mut R,
@@ -157,7 +157,7 @@ impl Ear {
 ///
 /// # Errors
 ///
-/// `InputOutput` where the read fails; `Memory`.
+/// `InputOutput` if the read fails; `Memory`.
 pub(crate) fn reads_to_end<R: Read, L: Listener>(
     reader: &mut R,
     line: &mut Line,

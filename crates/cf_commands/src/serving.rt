@@ -4,21 +4,23 @@ ghost use Rattle.cf_broker.specs.Shards.{names};
 ghost use denote.Param.Send.{IsSend, IsSync};
 
 use crate::command_line::ServeOptions;
+use crate::entries::{namespaces_of, tokens_of};
 use crate::fault::{Fault, Setting};
 use crate::report::{Teller, report};
 use crate::running::{Ear, Running, wait_for_workers};
-use crate::settings::usable;
 use crate::sizes::{Listener, Sizes};
+use crate::stand_ins::stand_ins;
 use cf_broker::{Broker, Passes, Words};
 use cf_epochs::{Boot, BootEpochs};
 use cf_link::{Receiver, Sender, pair};
 use cf_node::{Node, Reach, Setup};
-use cf_protocol::{Namespaces, Tokens, read_namespaces, read_tokens};
+use cf_protocol::{Namespaces, Tokens};
 use cf_shard::{Delivery, Naming};
 use mio::net::TcpListener;
 use std::io::{BufWriter, ErrorKind, Write};
 use std::marker::Brand;
 use std::net::{Ipv4Addr, Net, SocketAddr};
+use std::rt::Files;
 use std::sync::Wait;
 use std::sync::atomic::{AtomicU64, Ordering};
 use std::thread::{Scope, Threads};
@@ -57,21 +59,22 @@ struct Senses {
 ///
 /// # Errors
 ///
-/// `Setting` names the option that can't be used; `Listen` a node that can't listen, `NotStarted` one whose thread can't be
-/// started, `Ended` one whose loop has ended; `InputOutput` where standard input or output fails; `Memory`.
+/// `Setting` and `Entry` name the option that can't be used; `Listen` a node that can't listen, `NotStarted` one whose thread can't be
+/// started, `Ended` one whose loop has ended; `InputOutput` if standard input or output fails; `Memory`.
 pub fn serve<R>(rt: &R, options: ServeOptions<'_>) -> Result<(), Fault>
 where
-    R: Input + Print + Eprint + AllocGlobal + Threads + Wait + Clock + Net + Sync,
+    R: Input + Print + Eprint + AllocGlobal + Files + Threads + Wait + Clock + Net + Sync,
 {
+    // Before anything else is opened, which would take the numbers of those that are closed.
+    let _stand_ins = stand_ins(rt)?;
     let alloc = rt.alloc();
-    let namespaces = read_namespaces(alloc, options.namespaces);
-    let namespaces = usable(Setting::Namespaces, namespaces)?;
-    let tokens = usable(Setting::Tokens, read_tokens(alloc, options.tokens))?;
+    let namespaces = namespaces_of(alloc, options.namespaces)?;
+    let tokens = tokens_of(alloc, options.tokens)?;
     let boot = boot_of(options)?;
     serve_on::<Brand, R>(rt, options, boot, Words::new(alloc)?, &namespaces, &tokens)
 }
 
-// The number of this start, where there are ports for all nodes.
+// The number of this start, if there are ports for all nodes.
 fn boot_of(options: ServeOptions<'_>) -> Result<Boot, Fault> {
     if u32::from(options.port) + u32::from(options.nodes) > 65_536 {
         return Err(Fault::Setting {
@@ -124,6 +127,7 @@ where
         broker: &*broker,
         passes,
         namespaces,
+        teller: Teller::open(rt)?,
     };
     // All that a start needs is there before the first client is accepted.
     let senses = Senses {
@@ -303,7 +307,7 @@ where
     thread::scope(
         thread::scope_env(),
         rt,
-        // What it calls requires these of `N`, which isn't read off its body.
+        // What it calls requires these of `N`, which the prover doesn't take from its body.
         |scope|
             requires send { IsSend N.row }
             requires sync { IsSync N.row }
@@ -318,7 +322,7 @@ where
                 stop,
             ) {
                 Ok(()) => {
-                    // Where nobody can tell what goes wrong, the nodes serve all the same.
+                    // If nobody can tell what goes wrong, the nodes serve all the same.
                     let _ = scope.spawn(move || report(rt, &mut teller, broker, running, stop));
                     watch(rt, running, addresses, sizes, &mut ear)
                 }
@@ -331,7 +335,7 @@ where
 }
 
 // Says where the nodes listen, by way of a large buffer that is freed behind it: so glibc keeps what is freed later for what is
-// asked for next, where it would else give it back to the system, and ask for it again, with each large publication.
+// asked for next; else it would give it back to the system, and ask for it again, with each large publication.
 fn say_addresses<R: Print + AllocGlobal>(rt: &R, addresses: &[SocketAddr]) -> io::Result<()> {
     let mut writer = BufWriter::with_capacity(rt.alloc(), LARGE_BUFFER, io::writer(rt))?;
     for (node, address) in addresses.iter().enumerate() {

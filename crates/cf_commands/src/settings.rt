@@ -1,8 +1,9 @@
 //! The settings that the program's words name.
 
 use crate::command_line::Options;
+use crate::entries::namespaces_of;
 use crate::fault::{Fault, Setting};
-use cf_protocol::{ReadFault, read_namespaces};
+use cf_protocol::ReadFault;
 use cf_schedule::Config;
 use std::alloc::Global;
 
@@ -14,8 +15,11 @@ pub(crate) fn usable<T>(setting: Setting, read: Result<T, ReadFault>) -> Result<
     }
 }
 
-/// The settings that the options of `simulate` name. A text that sets up no namespaces, and a number of nodes other than 1 to 8, is
-/// an unusable setting.
+/// The settings that the options of `simulate` name.
+///
+/// # Errors
+///
+/// `Setting` if the number of nodes is not 1 to 8; `Entry` names the first entry of the namespaces that can't be used; `Memory`.
 pub fn config_of(alloc: Global, options: Options<'_>) -> Result<Config, Fault> {
     let nodes = options.nodes;
     if nodes < 1 || nodes > 8 {
@@ -23,9 +27,8 @@ pub fn config_of(alloc: Global, options: Options<'_>) -> Result<Config, Fault> {
             setting: Setting::Nodes,
         });
     }
-    let namespaces = read_namespaces(alloc, options.namespaces);
     Ok(Config {
         nodes,
-        namespaces: usable(Setting::Namespaces, namespaces)?,
+        namespaces: namespaces_of(alloc, options.namespaces)?,
     })
 }

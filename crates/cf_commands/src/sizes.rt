@@ -5,14 +5,15 @@ ghost use Rattle.cf_protocol.specs.Settings.{entry_at};
 ghost use Rattle.cf_shard.specs.LogAnswer.{IsSized};
 ghost use Rattle.cf_shard.specs.Shards.{pass_at};
 
+use crate::report::Teller;
 use cf_broker::{Broker, Passes, SHARDS};
 use cf_protocol::Namespaces;
 use cf_schedule::{Event, EventFault};
 use cf_shard::Naming;
 use cf_stream::{Epochs, LARGEST_SIZE};
 use std::alloc::{AllocError, Global};
-use std::str;
 use std::sync::Wait;
+use std::{fmt, str};
 
 /// So many bytes of a line are kept. A line that sets a size has 43 at most: a longer one is none, and neither are its first 44 bytes.
 const KEPT: usize = 44;
@@ -53,15 +54,48 @@ impl Line {
     }
 }
 
-/// Sets the sizes of namespaces in the broker's shards, as lines say. All other lines are passed over.
+/// Sets the sizes of namespaces in the broker's shards, as lines say, and answers each such line on standard error. Lines that don't
+/// begin with `size` are passed over, with no answer.
 #[derive(Drop)]
 pub(crate) struct Sizes<'a, R, N: Naming, E: Epochs + Drop> {
     pub(crate) rt: &'a R,
     pub(crate) broker: &'a Broker<N, E>,
     pub(crate) passes: Passes<N>,
     pub(crate) namespaces: &'a Namespaces,
+    pub(crate) teller: Teller,
     ghost named: { namespaces.now ≡ N.namespaces },
 }
+
+// What became of a line that begins with `size`.
+#[derive(Clone, Copy)]
+enum Answer<'a> {
+    Set { name: &'a str, size: usize },
+    NotSetUp { name: &'a str, size: usize },
+    Refused { name: &'a str, size: usize },
+    NoSize,
+    NoMemory,
+}
+
+impl<'a> fmt::Display for Answer<'a> {
+    fn fmt<W: fmt::Write>(&self, f: &mut fmt::Formatter<W>) -> fmt::Result {
+        match self {
+            Answer::Set { name, size } => write!(f, "size {name}={size}: set"),
+            Answer::NotSetUp { name, size } => {
+                write!(f, "size {name}={size}: passed over, since --ns sets up no such namespace")
+            }
+            Answer::Refused { name, size } => {
+                write!(f, "size {name}={size}: refused by a shard, which keeps its size")
+            }
+            Answer::NoSize => f.write_str(NO_SIZE),
+            Answer::NoMemory => f.write_str(NO_MEMORY),
+        }
+    }
+}
+
+const NO_SIZE: &str =
+    "a line of standard input was passed over: it begins with `size`, and is not `size NAME=K` with K of 1 to 10000";
+
+const NO_MEMORY: &str = "a line of standard input was not read: out of memory";
 
 impl<'a, R, N, E> Listener for Sizes<'a, R, N, E>
 where
@@ -70,30 +104,34 @@ where
     E: Epochs + Drop,
 {
     fn hear_line(&mut self, line: &str) {
-        let read = Event::read(self.rt.alloc(), line, 1);
-        match &read {
-            Ok(Some(Event::SetSize { namespace, size })) => {
-                self.set(namespace.as_str(), size.count());
-            }
-            Err(EventFault::Memory) => {
-                let _ = eprintln!(self.rt; "a line of standard input was not read: out of memory");
-            }
-            _ => {}
+        if !line.starts_with("size") {
+            return;
         }
+        let read = Event::read(self.rt.alloc(), line, 1);
+        let answer = match &read {
+            Ok(Some(Event::SetSize { namespace, size })) => {
+                self.set(namespace.as_str(), size.count())
+            }
+            Err(EventFault::Memory) => Answer::NoMemory,
+            _ => Answer::NoSize,
+        };
+        self.teller.say(self.rt, &answer);
         drop(read);
     }
 }
 
-impl<'a, R: Wait + Eprint, N: Naming, E: Epochs + Drop> Sizes<'a, R, N, E> {
-    // Sets a size where a namespace of this name is set up. Where a shard refuses, that is said.
-    fn set(&mut self, name: &str, size: usize)
+impl<'a, R: Wait, N: Naming, E: Epochs + Drop> Sizes<'a, R, N, E> {
+    // Sets a size if a namespace of this name is set up, and says what became of it.
+    fn set<'b>(&mut self, name: &'b str, size: usize) -> Answer<'b>
         requires { (1 ≤ size) × (size ≤ 10000) }
     {
         if !self.namespaces.contains(name) {
-            return;
+            return Answer::NotSetUp { name, size };
         }
-        if !set_size_in_all(self.rt, self.broker, &mut self.passes, name, size) {
-            let _ = eprintln!(self.rt; "size {name} refused");
+        if set_size_in_all(self.rt, self.broker, &mut self.passes, name, size) {
+            Answer::Set { name, size }
+        } else {
+            Answer::Refused { name, size }
         }
     }
 }

@@ -3,9 +3,9 @@ ghost use Rattle.std.specs.Prelude.{OnOk, IfSome, IsErrOf};
 ghost use Rattle.cf_speak.specs.Conversation.{BreaksOff, Speaks};
 
 use crate::command_line::SpeakOptions;
+use crate::entries::{namespaces_of, tokens_of};
 use crate::fault::{Fault, Setting};
 use crate::settings::usable;
-use cf_protocol::{read_namespaces, read_tokens};
 use cf_speak::{GivenEpochs, Setup, SpeakFault, converse};
 use std::alloc::Global;
 use std::io::{BufRead, Write};
@@ -34,11 +34,14 @@ pub fn speak<R: BufRead, W: Write>(
     }
 }
 
-/// The settings that the options name. A text of another form is an unusable setting.
+/// The settings that the options name.
+///
+/// # Errors
+///
+/// `Entry` names the first entry of the namespaces or the tokens that can't be used; `Setting` if the epochs can't be; `Memory`.
 pub fn setup_of(alloc: Global, options: SpeakOptions<'_>) -> Result<Setup, Fault> {
-    let namespaces = read_namespaces(alloc, options.namespaces);
-    let namespaces = usable(Setting::Namespaces, namespaces)?;
-    let tokens = usable(Setting::Tokens, read_tokens(alloc, options.tokens))?;
+    let namespaces = namespaces_of(alloc, options.namespaces)?;
+    let tokens = tokens_of(alloc, options.tokens)?;
     let epochs = usable(Setting::Epochs, GivenEpochs::read(alloc, options.epochs))?;
     Ok(Setup {
         namespaces,

@@ -38,7 +38,7 @@ pub(crate) fn channel_of(event: &Event) -> Option<&str> {
     }
 }
 
-/// The key of an event: the empty one, which is none, where it has no key.
+/// The key of an event: the empty one, which is none, if it has no key.
 pub(crate) fn key_of(event: &Event) -> &str {
     match event {
         Event::Publish { key, .. } => key_text(key),

@@ -48,7 +48,7 @@ impl Remarks {
         Ok(remarks)
     }
 
-    /// Adds others behind these. An error where there is no memory, or was none for one of the others.
+    /// Adds others behind these. An error if there is no memory, or was none for one of the others.
     pub(crate) fn append(&mut self, others: &Remarks) -> Result<(), AllocError>
         ensures { OnOk result (self.new ≡ self.old ++ others.now) }
     {
@@ -80,7 +80,7 @@ impl Remarks {
         }
     }
 
-    // Adds a line. Where it has a line feed none is added.
+    // Adds a line. If it has a line feed none is added.
     fn add_line(&mut self, line: &str) -> Result<(), AllocError>
         ensures { OnOk result (IsOneLine line.now → self.new ≡ self.old ++ remark line.now) }
     {

@@ -37,8 +37,12 @@ pub(crate) trait Backend {
     /// What is shared with the worker that brings publications.
     fn shared(&self) -> &Shared;
 
-    /// Whether some node is behind with what was published, so that who publishes is to wait.
+    /// Whether some node is behind with what was published, with some of what this node published last too, so that who publishes is
+    /// to wait.
     fn is_crowded(&self) -> bool;
+
+    /// A publication was accepted that costs so much.
+    fn note_accepted(&self, cost: u64);
 
     /// To how many clients of all nodes what is published in a channel goes, as far as the last
     /// publication there told.

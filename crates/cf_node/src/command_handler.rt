@@ -9,7 +9,7 @@ use cf_presence::Stats;
 use cf_protocol::{CloseCode, ErrorCode, Info, Position};
 use cf_queue::Out;
 use cf_session::Node;
-use cf_stream::History;
+use cf_stream::{History, Published};
 use std::collections::{BTreeMap, VecDeque};
 
 /// A client that wasn't heard for more seconds than these was idle.
@@ -126,6 +126,15 @@ impl<'a, B: Backend> Node for CommandHandler<'a, B> {
             .backend
             .publish(channel.as_str(), body, key, info, self.now);
         self.has_published = true;
+        if matches!(
+            answer,
+            Ok(Published {
+                repeated: false,
+                ..
+            })
+        ) {
+            self.backend.note_accepted(cost);
+        }
         self.is_held = self.is_held || self.backend.is_crowded();
         match answer {
             Ok(_) => Ok(()),

@@ -25,24 +25,44 @@ pub(crate) fn cost_of(bytes: usize, clients: u64) -> u64 {
 
 /// To how many clients the publications of a channel go, at all nodes of a program: as many as the
 /// last one met at each node. It is an estimate, by which publishers are told apart that cost much.
+/// And how far each node is with what was published.
 #[derive(Drop)]
 pub struct Reach {
     // By node and slot.
     counts: Vec<AtomicU64>,
+    // How many publications the broker has accepted, and, by node, how many were brought to its hub.
+    accepted: AtomicU64,
+    brought: Vec<AtomicU64>,
 }
 
 impl Reach {
     /// Nothing is known yet of channels at so many nodes. An error where memory is refused.
     pub fn new(alloc: Global, nodes: u8) -> Result<Reach, AllocError> {
-        let mut counts = Vec::new(alloc);
-        for _ in 0..SLOTS.saturating_mul(usize::from(nodes)) {
-            counts.push(AtomicU64::new(0))?;
-        }
-        Ok(Reach { counts })
+        Ok(Reach {
+            counts: zeros(alloc, SLOTS.saturating_mul(usize::from(nodes)))?,
+            accepted: AtomicU64::new(0),
+            brought: zeros(alloc, usize::from(nodes))?,
+        })
     }
 
-    /// A publication in a channel went to so many clients of a node.
+    /// The broker has accepted a publication. How many it has accepted with that.
+    pub(crate) fn note_accepted(&self) -> u64 {
+        self.accepted.fetch_add(1, Ordering::SeqCst).wrapping_add(1)
+    }
+
+    /// How many publications were brought to a node's hub.
+    pub(crate) fn brought(&self, node: usize) -> u64 {
+        match self.brought.get(node) {
+            Some(count) => count.load(Ordering::SeqCst),
+            None => 0,
+        }
+    }
+
+    /// A publication in a channel was brought to a node's hub, and went to so many of its clients.
     pub(crate) fn note(&self, node: u8, channel: &str, clients: u32) {
+        if let Some(count) = self.brought.get(usize::from(node)) {
+            count.fetch_add(1, Ordering::SeqCst);
+        }
         let at = usize::from(node).saturating_mul(SLOTS);
         if let Some(count) = self.counts.get(at.saturating_add(slot_of(channel))) {
             count.store(clients as u64, Ordering::Relaxed);
@@ -60,6 +80,15 @@ impl Reach {
         }
         clients
     }
+}
+
+// So many counts that stand at 0.
+fn zeros(alloc: Global, count: usize) -> Result<Vec<AtomicU64>, AllocError> {
+    let mut counts = Vec::new(alloc);
+    for _ in 0..count {
+        counts.push(AtomicU64::new(0))?;
+    }
+    Ok(counts)
 }
 
 // The slot on which a channel's name falls (FNV-1a).

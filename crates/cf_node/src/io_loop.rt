@@ -12,6 +12,7 @@ use crate::leaving::Leaving;
 use crate::socket::Socket;
 use cf_dispatch::{Outlets, SESSIONS_AT_ONCE, Seconds, take_batch};
 use cf_fair::FairQueue;
+use cf_health::health_ask;
 use cf_protocol::CloseCode;
 use cf_queue::Out;
 use cf_session::Wire;
@@ -162,7 +163,12 @@ fn opened<'a, B: Backend>(
             return Connection::Empty;
         }
     };
+    // Those who ask by `GET` are answered as who wants a WebSocket.
+    let asks = health_ask(head.socket.early.as_slice());
     let gather = Gather::new(backend.alloc(), head.socket, GATHERED);
+    if let Some(ask) = asks {
+        return leaves(Leaving::told(gather, ask.answer(is_well), now));
+    }
     match Wire::accept(backend.alloc(), gather) {
         Ok(wire) => {
             let open = Open {
@@ -175,10 +181,15 @@ fn opened<'a, B: Backend>(
                 Err(_) => Connection::Empty,
             }
         }
-        Err(refused) => match Leaving::refused(refused, is_well, now) {
-            Some(leaving) => Connection::Leaving(leaving),
-            None => Connection::Empty,
-        },
+        Err(refused) => leaves(Leaving::refused(refused, is_well, now)),
+    }
+}
+
+// A connection that is let go, if there is somebody to read what it is told.
+fn leaves<'a, B: Backend>(leaving: Option<Leaving>) -> Connection<'a, B> {
+    match leaving {
+        Some(leaving) => Connection::Leaving(leaving),
+        None => Connection::Empty,
     }
 }
 
@@ -279,11 +290,13 @@ impl<'a, B: Backend> IoLoop<'a, B> {
         self.serve_named();
     }
 
-    // Looks who answers its pings. Who waits for its turn may have answered.
+    // Looks who answers its pings. Who waits for its turn may have answered, and so may who was just heard and had sent much: its
+    // answer may have had no room in the socket.
     fn look_for_pongs(&mut self) {
         for place in 0..self.places.len() {
-            let is_unheard = self.waits(place);
+            let waits = self.waits(place);
             if let Some(Connection::Open(open)) = self.places.get_mut(place) {
+                let is_unheard = open.desk.heard_much() || waits;
                 let handler = &mut open.desk.handler;
                 handler.looks_for_pong(self.seconds.done(), is_unheard);
             }

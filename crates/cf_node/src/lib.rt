@@ -23,6 +23,7 @@ mod node;
 mod rounds;
 mod shared;
 mod socket;
+mod window;
 
 pub use costs::Reach;
 pub use fault_counts::FaultCounts;

@@ -6,6 +6,7 @@ use crate::backend::Backend;
 use crate::fault_counts::Fault;
 use crate::node::Setup;
 use crate::shared::Shared;
+use crate::window::Window;
 use cf_broker::{Broker, Passes, SHARDS, shard_of};
 use cf_dispatch::keeps_presence;
 use cf_hub::Hub;
@@ -30,6 +31,23 @@ pub(crate) struct LiveBackend<'a, R, N: Naming, E: Epochs + Drop> {
     pub(crate) broker: &'a Broker<N, E>,
     /// What the node knows of the logs of the broker's shards.
     pub(crate) passes: RefCell<Passes<N>>,
+    /// What the node published last.
+    pub(crate) window: RefCell<Window>,
+}
+
+impl<'a, R, N: Naming, E: Epochs + Drop> LiveBackend<'a, R, N, E> {
+    // Whether all nodes were brought the older part of what this node published last.
+    fn is_brought(&self) -> bool {
+        let (Some(reach), Ok(window)) = (self.setup.reach, self.window.try_borrow()) else {
+            return false;
+        };
+        for node in 0..self.broker.nodes() {
+            if !window.is_brought(node, reach.brought(node)) {
+                return false;
+            }
+        }
+        true
+    }
 }
 
 // The node's pass of a shard.
@@ -75,7 +93,23 @@ impl<'a, R: Wait, N: Naming, E: Epochs + Drop> Backend for LiveBackend<'a, R, N,
     }
 
     fn is_crowded(&self) -> bool {
-        self.broker.is_crowded(self.rt)
+        self.broker.is_crowded(self.rt) && !self.is_brought()
+    }
+
+    fn note_accepted(&self, cost: u64) {
+        let Some(reach) = self.setup.reach else {
+            return;
+        };
+        let accepted = reach.note_accepted();
+        let Ok(mut window) = self.window.try_borrow_mut() else {
+            return;
+        };
+        if window.adds(cost) {
+            window.turn_over();
+            for node in 0..self.broker.nodes() {
+                window.ends_at(node, accepted.saturating_sub(self.broker.lost(node)));
+            }
+        }
     }
 
     fn receivers(&self, channel: &str) -> u64 {

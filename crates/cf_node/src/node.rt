@@ -9,6 +9,7 @@ use crate::gate::Gate;
 use crate::io_loop::serve;
 use crate::live_backend::LiveBackend;
 use crate::shared::Shared;
+use crate::window::Window;
 use cf_broker::{Broker, Passes};
 use cf_link::Receiver;
 use cf_protocol::{Namespaces, Tokens};
@@ -146,6 +147,7 @@ impl<'a, N: Naming> Node<'a, N> {
         let stale = setup.stale;
         let reach = setup.reach;
         let shared = &shared;
+        let window = Window::new(rt.alloc(), broker.nodes())?;
         let backend = LiveBackend {
             rt,
             alloc: rt.alloc(),
@@ -153,6 +155,7 @@ impl<'a, N: Naming> Node<'a, N> {
             shared,
             broker,
             passes: RefCell::new(passes),
+            window: RefCell::new(window),
         };
         let backend = &backend;
         thread::scope(thread::scope_env(), rt, |scope| {

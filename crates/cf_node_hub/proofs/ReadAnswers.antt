@@ -17,7 +17,8 @@ use Rattle.cf_model.specs.StreamAnswer.{read_of}
 use Rattle.cf_shard.specs.LogAnswer.{IsReadAnswer}
 use Rattle.cf_shard.proofs.Standing.{of-life}
 use Rattle.cf_hub_moves.specs.Readings.{answered}
-use Rattle.cf_hub_moves.proofs.Readings.{epoch-is, life-opened, low-below, reading-is, top-is}
+use Rattle.cf_machine.proofs.Readings.{epoch-is, low-below, top-is}
+use Rattle.cf_hub_moves.proofs.Readings.{life-opened, reading-is}
 use Rattle.cf_node_hub.specs.Seen.{IsSound, listed_in, log_at, seen_lists}
 use Rattle.cf_node_hub.proofs.Seen.{listed-on}
 

@@ -18,8 +18,8 @@ ghost use Rattle.cf_node_hub.specs.Told.{SaysNoData};
 
 use crate::begun::Begun;
 use crate::node_hub::NodeHub;
-use cf_hub::{Asked, Checked, Hub, Queued};
 use cf_hub::laws::what_is_said_stays;
+use cf_hub::{Asked, Checked, Hub, Queued};
 use cf_hub_moves::laws::moves_are_among;
 use cf_order::Pass;
 use cf_protocol::Position;

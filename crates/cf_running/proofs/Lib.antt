@@ -1,3 +1,5 @@
+pub mod Answering
+pub mod Asking
 pub mod Beside
 pub mod Clients
 pub mod Computed
@@ -5,7 +7,9 @@ pub mod Entries
 pub mod Gaining
 pub mod Hasten
 pub mod Hearing
+pub mod Prefixes
 pub mod Steps
+pub mod Subscribing
 pub mod Ties
 pub mod Turns
 pub mod Working

@@ -331,10 +331,10 @@ takes_first (n ∷ ns) x = record x { session = takes_front x.session; way = x.w
 abbrev pub takes : Connection → Connection
 takes x = if x.attached then takes_first x.session.notes x else x
 
--- a connection whose worker is free is detached; what then happens at it counts for nothing
+-- A connection is detached, wherever its worker is: its session is closed, what the worker has in hand is dropped, and
+-- what then happens at it counts for nothing.
 abbrev pub detaches : ℕ → Connection → Connection
-detaches code x =
-    if is_free x.work then record x { session = closes_now (Close code) x.session; attached = false } else x
+detaches code x = record x { session = closes_now (Close code) x.session; work = Free; attached = false }
 
 -- what came over a link is delivered to all sessions of the node
 abbrev pub comes_by : Words → ℕ → Option Place → (ℕ → Connection) → ℕ → Connection

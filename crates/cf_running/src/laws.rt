@@ -17,6 +17,7 @@ ghost use Rattle.cf_machine.specs.Trace.{Closed, Published, Subscribed};
 ghost use Rattle.cf_running.specs.Examples.{ann_gets, at, broken_off, comes_back, comes_between, sent_twice, shown, shrunk};
 ghost use Rattle.cf_running.specs.Running.{IsInLogs, IsLooseRun};
 ghost use Rattle.cf_running.specs.Server.{Section, Site, Told, lists_of, ran, repeats, start as server_start, told};
+ghost use Rattle.cf_running.specs.WasRead.{IsWhatWasRead};
 ghost use Rattle.cf_running.specs.ShardLogs.{Goes, IsApart, IsIn, IsTied, ListsAs, MayGain, ReadsAs, after};
 
 /// A shard's log stands beside the machine's broker: at the start, and after each entry that the log may
@@ -80,6 +81,17 @@ pub fn told_is_in_the_logs()
     ensures { (site : Site) (sections : List Section) (i : ℕ) (entry : Told)
         → slice_get (told site server_start sections) i ≡ Some entry
         → IsInLogs (lists_of site (ran site server_start sections)) entry }
+{}
+
+/// Whatever an application is told of its subscription is what was read of the stream for its ask: the
+/// position at which the stream then stood, and `recovered` exactly if it was in the client's epoch and
+/// held all that followed the client's position, 300 publications at most. Of sections alone.
+pub fn told_is_what_was_read()
+    ensures { (site : Site) (sections : List Section) (i : ℕ) (x c : List ℕ)
+        (was_recovering recovered : Bool) (at : Position)
+        → slice_get (told site server_start sections) i
+        ≡ Some (record { client = x; item = Subscribed c was_recovering recovered at })
+        → IsWhatWasRead site sections i x c was_recovering recovered at }
 {}
 
 /// Runs in which sections fall between one another, and what is told in them.

@@ -246,9 +246,9 @@ module _ (is_aside : List ℕ → Bool) (site : Site) (s : Server) (n : ℕ) (nu
 
   -- ---- one goes
 
-  pub detaches : (new : Node) (j k code : ℕ) → numbers j ≡ Some k → attached_at new j ≡ None → OthersStay j old new → server.is_free (s.connections k).work ≡ true
+  pub detaches : (new : Node) (j k code : ℕ) → numbers j ≡ Some k → attached_at new j ≡ None → OthersStay j old new
       → IsHubOf is_aside site (after site (Detaches k code) s) n (at_number numbers j None) new
-  detaches new j k code at none others free = record {
+  detaches new j k code at none others = record {
     each = λ i. elim (number_tells i j) [
       | inl e ↦
           subst (λ z. ConnectedBy is_aside site t n (attached_at new z) (at_number numbers j None z)) (sym e.1)
@@ -264,8 +264,7 @@ module _ (is_aside : List ℕ → Bool) (site : Site) (s : Server) (n : ℕ) (nu
     all = λ m e g. elim (number_tells m k) [
       | inl same ↦ absurd (
           let gone : (t.connections m).attached ≡ false =
-          ap (λ z. (t.connections z).attached) same.1 ∙ ap (λ (y : Connection). y.attached) (at-same s.connections k (server.detaches code (s.connections k)))
-          ∙ ap (λ (b : Bool). (if b then record (s.connections k) { session = closes_now (note.Close code) (s.connections k).session; attached = false } else s.connections k).attached) free in
+          ap (λ z. (t.connections z).attached) same.1 ∙ ap (λ (y : Connection). y.attached) (at-same s.connections k (server.detaches code (s.connections k))) in
           let no : true ≡ false = sym g ∙ gone in cc)
       | inr other ↦
           let there : at_number s.connections k (server.detaches code (s.connections k)) m ≡ s.connections m = at-other s.connections k (server.detaches code (s.connections k)) m other.1 in

@@ -1,10 +1,9 @@
 -- What a read and a history answer by their contracts stands in the server's lists.
-use Rattle.std.proofs.Common.{◌≡◌, ◌≤◌, ℕ, ◌+◌, ◌-◌, min, max, Bool, false, Option, Some, None, List, [], ◌∷◌, ◌++◌, length, take, drop, sym, ap, ◌∙◌, subst, arith, length-drop, length-take}
+use Rattle.std.proofs.Common.{◌≡◌, ◌≤◌, ℕ, ◌+◌, ◌-◌, min, max, Bool, false, Option, Some, None, List, [], ◌∷◌, ◌++◌, length, sym, ap, ◌∙◌, subst, arith}
 use Rattle.std.specs.Prelude.{ℤ}
 use Rattle.std.specs.List.{AllByRecursion}
-use Rattle.std.proofs.lemmas.List.Elements.{All-drop, All-from_recursion, All-take, recursion_from_All}
-use Rattle.cf_protocol.specs.Datum.{Datum, Placed, numbered}
-use Rattle.cf_protocol.specs.Fields.{max_u64}
+use Rattle.std.proofs.lemmas.List.Elements.{All-from_recursion}
+use Rattle.cf_protocol.specs.Datum.{Placed}
 use Rattle.cf_protocol.specs.LogEntry.{Entry}
 use Rattle.cf_protocol.specs.Note.{Lists, Reading, placed_from}
 use Rattle.cf_protocol.specs.Outgoing.{Answer, Past}
@@ -17,12 +16,14 @@ use Rattle.cf_model.specs.Life.{Life}
 use Rattle.cf_model.specs.StreamAnswer.{Listing, allowed_by, listed_above, read_of}
 use Rattle.cf_hub.specs.InNotes.{AreMissed, Grown}
 use Rattle.cf_hub.proofs.InNotes.{read_stays}
+use Rattle.cf_machine.specs.ReadBack.{IsDatum}
+use Rattle.cf_machine.proofs.Readings.{epoch-is, low-below, regular-placed, top-is}
 use Rattle.cf_shard.specs.LogAnswer.{IsHistoryAnswer, IsReadAnswer}
 use Rattle.cf_running.specs.Server.{Server, Section, Site, after, life_of, lists_of, log_of, ran, start}
 use Rattle.cf_running.proofs.Steps.{stands_beside}
 use Rattle.cf_hub_moves.specs.Readings.{answered}
-use Rattle.cf_hub_moves.proofs.Readings.{epoch-is, life-opened, low-below, reading-is, top-is}
-use Rattle.cf_running_ties.specs.Reads.{AllReadBack, IsDatum, IsListing, IsReading, SectionHas}
+use Rattle.cf_hub_moves.proofs.Readings.{life-opened, reading-is}
+use Rattle.cf_running_ties.specs.Reads.{AllReadBack, IsListing, IsReading, SectionHas}
 use Rattle.cf_running_ties.proofs.Growing.{all-listed, grows}
 use Rattle.cf_running_ties.proofs.Links.{life-listed}
 
@@ -31,18 +32,6 @@ starts site = record { each = λ c e. tt }
 
 pub stays : (site : Site) (s : Server) (x : Section) → SectionHas IsDatum s x → AllReadBack site s → AllReadBack site (after site x s)
 stays site s x has h = record { each = all-listed IsDatum site s (after site x s) (grows IsDatum site s x has) h.each }
-
--- ---- publications of regular data
-
-placed-regular : (o : ℕ) (ds : List Datum) → AllByRecursion IsDatum ds → o + length ds ≤ max_u64 → ArePlaced IsBody (numbered o ds)
-placed-regular o [] h k = tt
-placed-regular o (d ∷ ds) h k = (record { body = h.0.0; info = h.0.1; offset = omega arith }, placed-regular (o + 1) ds h.1 (omega arith))
-
-pub from-regular : (ds : List Datum) (low count : ℕ) → AllByRecursion IsDatum ds → low ≤ length ds → length ds ≤ max_u64 → ArePlaced IsBody (placed_from ds low count)
-from-regular ds low count h k m =
-    placed-regular low (take count (drop low ds))
-    (recursion_from_All IsDatum (take count (drop low ds)) (All-take IsDatum count (drop low ds) (All-drop IsDatum low ds (All-from_recursion IsDatum ds h))))
-    (let a = length-take count (drop low ds) in let b = length-drop low ds in omega (arith, a, b))
 
 module _
     (read : (lists : Lists) (c : List ℕ) (r : Reading) (missed : List Placed) → r.top ≤ length (lists c r.epoch)
@@ -76,7 +65,7 @@ module _
       (read lists c x items
       (let e = ap length listed in omega (arith, e, top))
       (r.run ∙ (λ i. placed_from (sym listed i) x.low (sym top i - x.low)))
-      (subst (ArePlaced IsBody) (sym r.run) (from-regular l.list x.low (length l.list - x.low) regular below at.offset))
+      (subst (ArePlaced IsBody) (sym r.run) (regular-placed l.list x.low (length l.list - x.low) below at.offset (All-from_recursion IsDatum l.list regular)))
       (subst IsPosition (λ i. record { epoch = sym (epoch-is since (state_of l)) i; offset = sym top i }) at))
 
   pub reads : (c : List ℕ) (since : Option Position) (p : Position) (recovered : Bool) (items : List Placed) (seen : List Entry) → AllReadBack site s → IsPosition p
@@ -125,8 +114,8 @@ module _
           (
             position,
             subst (ArePlaced IsBody) (sym run)
-                (from-regular l.list f.low f.count (subst (AllByRecursion IsDatum) list (all.each c l.epoch)) (omega (arith, long))
-                (let fits = (subst IsPosition at position).offset in fits)),
+                (regular-placed l.list f.low f.count (omega (arith, long)) (let fits = (subst IsPosition at position).offset in fits)
+                (All-from_recursion IsDatum l.list (subst (AllByRecursion IsDatum) list (all.each c l.epoch)))),
           ),
         );
       }

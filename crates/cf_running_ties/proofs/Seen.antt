@@ -4,6 +4,7 @@ use Rattle.std.specs.Prelude.{IfSome, fold, option_map}
 use Rattle.std.specs.List.{AllByRecursion, cons_option}
 use Rattle.std.specs.Str.{bytes_eq}
 use Rattle.std.proofs.lemmas.Bool.{and_parts}
+use Rattle.std.proofs.lemmas.List.Elements.{All-from_recursion}
 use Rattle.std.proofs.lemmas.Slice.Eq.{bytes_eq-Decides}
 use mathlib.Core.List.{IsPrefix}
 use Rattle.cf_protocol.specs.Datum.{Datum, Placed}
@@ -18,18 +19,18 @@ use Rattle.cf_model.specs.Life.{Life}
 use Rattle.cf_model.specs.StreamState.{last_offset}
 use Rattle.cf_stream.specs.LogState.{epoch_in, holding_in, keys_in, life_in, list_in}
 use Rattle.cf_machine.specs.Config.{Config}
+use Rattle.cf_machine.specs.ReadBack.{IsDatum}
+use Rattle.cf_machine.proofs.Readings.{regular-placed}
 use Rattle.cf_order.specs.Passes.{PassState}
 use Rattle.cf_running.specs.Server.{may_gain}
 use Rattle.cf_running.specs.ShardLogs.{epochs_in}
 use Rattle.cf_running.proofs.Gaining.{WasOpened, was_opened}
 use Rattle.cf_node_hub.specs.Seen.{IsSound, Turn, listed_in, log_at, no_turn, turn_after}
 use Rattle.cf_node_hub.proofs.Sound.{OpensFresh, once_of}
-use Rattle.cf_running_ties.specs.Reads.{IsDatum}
 use Rattle.cf_running_ties.specs.Seen.{CanBeSaid, IsGood}
 use Rattle.cf_running_ties.specs.ShardCalls.{MayAll}
 use Rattle.cf_running_ties.proofs.Gained.{fits}
 use Rattle.cf_running_ties.proofs.Growing.{all-append}
-use Rattle.cf_running_ties.proofs.ReadAnswers.{from-regular}
 
 -- ---- what can be said
 
@@ -183,5 +184,6 @@ module _ (cfg : Config) where
         (short c e h.before (log_at seen c) (good c) h.begins h.opened) h.placed;
     positions = λ c e before h is. position c e before (log_at seen c) (good c) h is;
     placed = λ c e before low count h is low-fits.
-        from-regular (list_in before c) low count (all c e before (log_at seen c) (good c) h is) low-fits (short c e before (log_at seen c) (good c) h is);
+        regular-placed (list_in before c) low count low-fits (short c e before (log_at seen c) (good c) h is)
+        (All-from_recursion IsDatum (list_in before c) (all c e before (log_at seen c) (good c) h is));
   }

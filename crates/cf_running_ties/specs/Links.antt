@@ -8,11 +8,11 @@ use Rattle.cf_protocol.specs.LogEntry.Entry.{Publish}
 use Rattle.cf_stream.specs.declared.answer.Published.{Published}
 use Rattle.cf_hub.specs.InNotes.{IsListed}
 use Rattle.cf_machine.specs.PublicationList.{Place}
+use Rattle.cf_machine.specs.ReadBack.{IsDatum}
 use Rattle.cf_shard.specs.Delivery.{Carried, IsNext, Left}
 use Rattle.cf_shard.specs.LogAnswer.{IsPublished}
 use Rattle.cf_running.specs.Server.{Delivers, Offers, Section, Server, Site, ToPublish, at_number, can_gain, lists_of}
 use Rattle.cf_running.specs.Server.{log_of, place_of}
-use Rattle.cf_running_ties.specs.Reads.{IsDatum}
 
 -- where a publication on its way stands
 abbrev pub place : Carried → Place

@@ -5,11 +5,12 @@ use Rattle.cf_protocol.specs.Datum.{Datum, Placed}
 use Rattle.cf_protocol.specs.Note.{Listed, Lists, Note, outgoing_of}
 use Rattle.cf_protocol.specs.Outgoing.{Answer, Outgoing, Past}
 use Rattle.cf_protocol.specs.Position.{Position}
-use Rattle.cf_protocol.specs.Regular.{IsBody, IsCode, IsInfo, IsRegular}
+use Rattle.cf_protocol.specs.Regular.{IsCode, IsRegular}
 use Rattle.cf_stream.specs.PublicationList.{state_of}
 use Rattle.cf_model.specs.Life.{Life}
 use Rattle.cf_model.specs.StreamAnswer.{listed_above, read_of}
 use Rattle.cf_hub.specs.InNotes.{AreMissed, Grown}
+use Rattle.cf_machine.specs.ReadBack.{IsDatum}
 use Rattle.cf_running.specs.Server.{Publishes, Section, Server, Site, ToPublish, Work, life_of, lists_of}
 use Rattle.cf_hub_moves.specs.Readings.{answered}
 
@@ -23,9 +24,6 @@ SectionHas P s (Publishes k) = WorkHas P (s.connections k).work
 SectionHas P s other = ⊤
 
 -- what is published can be read back, and so can all that is listed
-abbrev pub IsDatum : Datum → Type 0
-IsDatum d = IsBody d.body × IsInfo d.info
-
 pub record AllReadBack (site : Site) (s : Server) : Type 0 where
   pub each : (c e : List ℕ) → AllByRecursion IsDatum (lists_of site s c e)
 

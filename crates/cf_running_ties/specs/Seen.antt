@@ -5,7 +5,7 @@ use Rattle.cf_protocol.specs.Epoch.{IsEpoch}
 use Rattle.cf_protocol.specs.LogEntry.{Entry}
 use Rattle.cf_protocol.specs.LogEntry.Entry.{Open, Publish, Trim, Forget, Size}
 use Rattle.cf_machine.specs.Config.{Config}
-use Rattle.cf_running_ties.specs.Reads.{IsDatum}
+use Rattle.cf_machine.specs.ReadBack.{IsDatum}
 use Rattle.cf_running_ties.specs.ShardCalls.{IsGained}
 
 -- an epoch that opens is one, and what is published can be read back

@@ -6,7 +6,7 @@ ghost use Rattle.cf_hub.specs.Session.{Attached};
 ghost use Rattle.cf_hub.specs.WantOfMemory.{OrCloses};
 ghost use Rattle.cf_hub.specs.Wordings.{plain};
 ghost use Rattle.cf_shard.specs.Delivery.{Carried};
-ghost use Rattle.cf_running.specs.Server.{Attaches, Connection, Delivers, Detaches, Section, Server, Site, Wanders, after, at_number, change, is_free, lists_of, start};
+ghost use Rattle.cf_running.specs.Server.{Attaches, Connection, Delivers, Detaches, Section, Server, Site, Wanders, after, at_number, change, lists_of, start};
 ghost use Rattle.cf_hub_moves.specs.HubAsides.{KeepSaying, MovesOrCloses};
 ghost use Rattle.cf_running_ties.specs.Links.{IsFirst};
 ghost use Rattle.cf_running_ties.specs.Nodes.{ClosesAnd, ClosesAndPings, IsHubOf, IsUntouched, Moves, MovesBehindClose, Says};
@@ -16,8 +16,9 @@ use crate::laws::hub_moves_are_sections;
 /// A node's hub stands beside the connections at the node, session by session, from the start on and after
 /// each call. What `Hub::deliver` makes of all sessions is one delivery to the node, behind closes of those
 /// that were too slow or found no memory; what `Hub::tick` makes of them are closes and pings. A session
-/// comes, changes or goes as its connection does. And a section that leaves the sessions of the node alone
-/// leaves all as it was, also where publication lists grow.
+/// comes, changes or goes as its connection does; it may go while its worker has something in hand. And a
+/// section that leaves the sessions of the node alone leaves all as it was, also where publication lists
+/// grow.
 pub fn hubs_stay_beside_their_nodes()
     ensures starts { (is_aside : List ℕ → Bool) (site : Site) (n boot : ℕ)
         → IsHubOf is_aside site start n (λ j. None) (empty n boot) }
@@ -54,7 +55,6 @@ pub fn hubs_stay_beside_their_nodes()
         (numbers : ℕ → Option ℕ) (old new : Node)
         → IsHubOf is_aside site server n numbers old → numbers j ≡ Some k
         → attached_at new j ≡ None → OthersStay j old new
-        → is_free (server.connections k).work ≡ true
         → IsHubOf is_aside site (after site (Detaches k code) server) n
         (at_number numbers j None) new }
     ensures stays { (is_aside : List ℕ → Bool) (site : Site) (server : Server) (n : ℕ)

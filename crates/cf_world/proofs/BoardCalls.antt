@@ -23,7 +23,8 @@ use Rattle.cf_stream.specs.ChannelLists.{AreShown, ChangesAt, ChangesSize, Lists
 use Rattle.cf_stream.specs.FreshEpochs.{Draws}
 use Rattle.cf_stream.specs.declared.answer.History.{History}
 use Rattle.cf_stream.specs.declared.answer.Recovery.{Recovery}
-use Rattle.cf_world.specs.BrokerTie.{AreSized, IsAccepted, IsStanding, IsDatum, ShowsBroker, Brings, Finds, FindsPast}
+use Rattle.cf_machine.specs.ReadBack.{IsDatum}
+use Rattle.cf_world.specs.BrokerTie.{AreSized, IsAccepted, IsStanding, ShowsBroker, Brings, Finds, FindsPast}
 use Rattle.cf_machine.specs.FreshEpochs.{AreFresh}
 use Rattle.cf_machine.specs.IntervalMachine.{size_by}
 use Rattle.cf_machine.specs.Lives.{life_at, life_by}

@@ -21,7 +21,8 @@ use Rattle.cf_model.specs.Life.{Life}
 use Rattle.cf_stream.specs.ChannelLists.{ChangesAt, life_with}
 use Rattle.cf_stream.specs.declared.answer.Published.{Published}
 use Rattle.cf_stream.specs.FreshEpochs.{Draws, DrawsNone, IsNoEpoch}
-use Rattle.cf_world.specs.BrokerTie.{IsAccepted, IsDatum, ShowsBroker, FindsNone, Publishes}
+use Rattle.cf_machine.specs.ReadBack.{IsDatum}
+use Rattle.cf_world.specs.BrokerTie.{IsAccepted, ShowsBroker, FindsNone, Publishes}
 use Rattle.cf_machine.specs.FreshEpochs.{AreFresh}
 use Rattle.cf_machine.specs.Lives.{life_at}
 use Rattle.cf_machine.specs.PublicationList.{Broker, Keys, opened, open_at, can_open, is_full, is_repeat, repeats, stands_or_opens, keys_with, list_with, add_at}

@@ -38,6 +38,7 @@ use Rattle.cf_machine.specs.Refusals.{Accepted, Judgement, Refused, TooLong, Unh
 use Rattle.cf_machine.specs.Session.{Session}
 use Rattle.cf_machine.specs.World.{World}
 use Rattle.cf_machine.proofs.Brokering.{lists-opened}
+use Rattle.cf_machine.proofs.Readings.{regular-placed}
 use Rattle.cf_world.specs.BrokerTie.{Histories, IsStanding, Publishes, ShowsBroker}
 use Rattle.cf_world.specs.ClientTie.{Becomes, IsOwn, ShowsPeer, sent_state}
 use Rattle.cf_world.specs.Exchange.{IsGranted}
@@ -61,7 +62,7 @@ use Rattle.cf_world.proofs.Looking.{off_at, off_is, open_at}
 use Rattle.cf_world.proofs.NodesTie.{link_goes, met_name, one_name, seat_shows}
 use Rattle.cf_world.proofs.Owned.{push-own}
 use Rattle.cf_world.proofs.Passing.{publish-set-up}
-use Rattle.cf_world.proofs.Reading.{Missing, regular-placed}
+use Rattle.cf_world.proofs.Reading.{Missing}
 use Rattle.cf_world.proofs.Rooms.{row_full, row_room}
 use Rattle.cf_world.proofs.Saying.{says_fails, says_left, says_listed, says_put}
 use Rattle.cf_world.proofs.SentOwn.{AreOld, old_of, own_fails, own_listed, own_sent}
@@ -338,7 +339,7 @@ module _ {cfg : Config} {table : NamespaceTable} {b : Code} {hubs : ℕ → Opti
       let items : y.publications.items ≡ placed_from (broker.lists c st.epoch) list.low list.count = f.publications ∙ ap (λ (ls : PublicationLists). placed_from (ls c st.epoch) list.low list.count) (sym same) in
       let top : st.top ≡ length (broker.lists c st.epoch) = stood.top in
       let regular : ArePlaced IsBody y.publications.items =
-      subst (ArePlaced IsBody) (sym items) (regular-placed (broker.lists c st.epoch) list.low list.count (let under = low-under limit st in omega (arith, top, under)) (f.shows.bounded c st.epoch) (f.shows.regular c st.epoch)) in
+      subst (ArePlaced IsBody) (sym items) (regular-placed (broker.lists c st.epoch) list.low list.count (let under = low-under limit st in omega (arith, top, under)) (let few = f.shows.bounded c st.epoch in omega (arith, few)) (f.shows.regular c st.epoch)) in
       let said : IsSaid broker.lists (reply_text n (Past y.position y.publications.items)) (Listed c n list.at list.low list.count) =
       subst (λ (q : Position). IsSaid broker.lists (reply_text n (Past q y.publications.items)) (Listed c n list.at list.low list.count)) (sym f.at)
       (says_listed broker.lists n (code t x s p found sits lists_it peers' becomes stays calls moves g) missing c (position_of st) list.low list.count y.publications.items

@@ -10,7 +10,8 @@ use Rattle.cf_hub.specs.Hub.{Node, attached_at}
 use Rattle.cf_hub.specs.InNotes.{AreMissed, IsSaid}
 use Rattle.cf_hub.specs.Session.{Attached}
 use Rattle.cf_machine.specs.PublicationList.{Broker}
-use Rattle.cf_world.specs.BrokerTie.{IsDatum, Publishes, datum_from, who_by}
+use Rattle.cf_machine.specs.ReadBack.{IsDatum}
+use Rattle.cf_world.specs.BrokerTie.{Publishes, datum_from, who_by}
 use Rattle.cf_world.specs.Exchange.{PutAnswered, Puts}
 use Rattle.cf_session.specs.SessionMachine.{reply_text}
 use Rattle.cf_world.specs.HubCalls.{who_in}

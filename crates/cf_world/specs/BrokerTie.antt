@@ -1,5 +1,6 @@
 -- The broker beside what the machine has for it.
-use Rattle.std.specs.Prelude.{◌≡◌, ◌≤◌, ◌-◌, ℕ, ℤ, true, false, is_some, Option, Some, None, List, [], ⊤, length, option_map}
+use Rattle.std.specs.Prelude.{◌≡◌, ◌≤◌, ◌-◌, ⊤, ℕ, ℤ, true, false, Option, Some, None, is_some, option_map}
+use Rattle.std.specs.Prelude.{List, [], length}
 use Rattle.std.specs.List.{All, AllZip}
 use Rattle.std.specs.String.{string_bytes}
 use Rattle.std.specs.BTreeSet.{contains_text}
@@ -8,7 +9,7 @@ use Rattle.cf_protocol.specs.Epoch.{IsEpoch}
 use Rattle.cf_protocol.specs.Datum.{Datum, Who}
 use Rattle.cf_protocol.specs.Note.{Lists, placed_at, placed_from}
 use Rattle.cf_protocol.specs.Position.{Position}
-use Rattle.cf_protocol.specs.Regular.{IsPlaced, IsBody, IsInfo}
+use Rattle.cf_protocol.specs.Regular.{IsPlaced, IsBody}
 use Rattle.cf_protocol.specs.Settings.{NamespaceTable, entry_at, settings_of}
 use Rattle.cf_model.specs.StreamState.{StreamState, last_offset, position_of}
 use Rattle.cf_model.specs.StreamAnswer.{listed_above, read_of}
@@ -20,6 +21,7 @@ use Rattle.cf_hub.specs.InNotes.{Grown}
 use Rattle.cf_machine.specs.Lives.{life_at}
 use Rattle.cf_machine.specs.PublicationList.{Place, Broker, at_last_offset, can_open, is_repeat, opened, publish}
 use Rattle.cf_machine.specs.IntervalMachine.{size_by}
+use Rattle.cf_machine.specs.ReadBack.{IsDatum}
 use Rattle.cf_world.specs.declared.broker.Accepted.{Accepted}
 use Rattle.cf_world.specs.declared.broker.Published.{Published}
 use Rattle.cf_world.specs.declared.broker.Published.TheVariants as outcome
@@ -47,10 +49,6 @@ who_by client = option_map (λ c. record { user = []; client = c }) client
 
 abbrev pub datum_from : List ℕ → Option (List ℕ) → Datum
 datum_from body client = record { body = body; info = who_by client }
-
--- a datum whose text can be read back
-abbrev pub IsDatum : Datum → Type 0
-IsDatum d = IsBody d.body × IsInfo d.info
 
 -- The settings that streams have now, where they began with the table: the same names are set up, and each channel's
 -- size is the one that was set for it last.

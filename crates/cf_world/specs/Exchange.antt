@@ -1,6 +1,6 @@
 -- What becomes of a command that a client sends: at the broker, and at the session that sent it.
-use Rattle.std.specs.Prelude.{⊤, ◌≡◌, ℕ, ℤ, nat_lt, ◌&&◌, not, is_some, IsSome, Bool, true, false, Option, Some, None}
-use Rattle.std.specs.Prelude.{List, length}
+use Rattle.std.specs.Prelude.{◌≡◌, ◌&&◌, ⊤, ℕ, ℤ, nat_lt, not, Bool, true, false}
+use Rattle.std.specs.Prelude.{Option, Some, None, is_some, IsSome, List, length}
 use Rattle.cf_protocol.specs.Checks.{checks, first_failed, longest_text}
 use Rattle.cf_protocol.specs.Outgoing.{Past, Published as PutDone}
 use Rattle.cf_protocol.specs.Regular.{IsBody, IsInfo}

@@ -1,6 +1,6 @@
 -- What the calls of one node's hub make of all nodes.
-use Rattle.std.specs.Prelude.{◌≡◌, ◌≢◌, ◌⊎◌, ◌+◌, ℕ, suc, true, false, Option, Some, List, [], ◌∷◌}
-use Rattle.std.specs.Prelude.{option_and_then, option_map, slice_get}
+use Rattle.std.specs.Prelude.{◌≡◌, ◌≢◌, ◌⊎◌, ◌+◌, ℕ, suc, true, false}
+use Rattle.std.specs.Prelude.{Option, Some, option_and_then, option_map, List, [], ◌∷◌, slice_get}
 use Rattle.cf_protocol.specs.Codes.{code_of}
 use Rattle.cf_protocol.specs.Datum.{Placed}
 use Rattle.cf_protocol.specs.Outgoing.{Failed, Outcome, Unsubscribed}

@@ -1,6 +1,6 @@
 -- The nodes, and where clients sit at them, beside what the machine has for them.
-use Rattle.std.specs.Prelude.{◌≡◌, ◌≤◌, ℕ, nat_lt, true, false, is_some, Option, Some, None, option_map, List, []}
-use Rattle.std.specs.Prelude.{length}
+use Rattle.std.specs.Prelude.{◌≡◌, ◌≤◌, ℕ, nat_lt, true, false}
+use Rattle.std.specs.Prelude.{Option, Some, None, is_some, option_map, List, [], length}
 use Rattle.cf_protocol.specs.Checks.{checks, first_failed}
 use Rattle.cf_protocol.specs.Names.{is_among}
 use Rattle.cf_protocol.specs.Note.{Lists}

@@ -1,5 +1,6 @@
 -- What a session is at its node's hub, and what becomes of both by the text of one command.
-use Rattle.std.specs.Prelude.{◌≡◌, ◌⊎◌, ⊤, ℕ, suc, zero, Bool, true, false, Option, Some, None, List, [], ◌∷◌}
+use Rattle.std.specs.Prelude.{◌≡◌, ◌⊎◌, ⊤, ℕ, suc, zero, Bool, true, false}
+use Rattle.std.specs.Prelude.{Option, Some, None, List, [], ◌∷◌}
 use Rattle.cf_protocol.specs.Datum.{Who}
 use Rattle.cf_protocol.specs.Frame.{IsCommands}
 use Rattle.cf_protocol.specs.Request as request
@@ -111,10 +112,6 @@ abbrev pub Greets : List ℕ → Session → List ℕ → Session → List ℕ �
 Greets id s text t reply =
     progress_of s ≡ Todo (Served None) → ((ks : List Command) → IsCommands text ks → ks ≡ connects ∷ [])
     → Greeted id s t reply
-
--- a new session whose client has this id now
-abbrev pub Meets : List ℕ → Session → Session → Type 0
-Meets id s t = progress_of s ≡ Todo (Served None) → (tables_of t ≡ tables_of s) × (is_idle t ≡ true) × (progress_of t ≡ Todo (Served (Some (record { user = []; client = id }))))
 
 -- ---- the sessions of all clients
 

@@ -3,7 +3,8 @@ ghost use Rattle.std.specs.Prelude.{◌≡◌, IfOk, IsSome, option_copied, opti
 ghost use Rattle.cf_protocol.specs.Settings.{NamespaceTable, settings_of};
 ghost use Rattle.cf_machine.specs.FreshEpochs.{AreFresh};
 ghost use Rattle.cf_machine.specs.PublicationList.{Broker as Shared, can_open, new_broker, publication};
-ghost use Rattle.cf_world.specs.BrokerTie.{IsDatum, ShowsBroker, Histories, Publishes, Reads, Stands, datum_from, who_by};
+ghost use Rattle.cf_machine.specs.ReadBack.{IsDatum};
+ghost use Rattle.cf_world.specs.BrokerTie.{ShowsBroker, Histories, Publishes, Reads, Stands, datum_from, who_by};
 
 use crate::epochs::WaitingEpochs;
 use crate::short::Short;

@@ -110,10 +110,9 @@ impl Peer<'_> {
     ghost use Rattle.cf_client.specs.ClientView.{state_of};
     ghost use Rattle.cf_client.specs.OneAnswer.{AreApart};
     ghost use Rattle.cf_machine.specs.ClientRequest.{command_of};
-    ghost use Rattle.cf_world.specs.ClientTie.{AsksFrom, LeavesAs, request_by, send_fault};
+    ghost use Rattle.cf_world.specs.ClientTie.{AsksFrom, LeavesAs, Meets, request_by, send_fault};
     ghost use Rattle.cf_world.specs.ClientTie.{sent_state};
     ghost use Rattle.cf_world.specs.Exchange.{sent_by};
-    ghost use Rattle.cf_world.specs.Serving.{Meets};
 
     fn break_off(&mut self)
         ensures state { state_of self.new.client ≡ reconnected (state_of self.old.client) }

@@ -28,8 +28,8 @@ returns-clause-one c = λ is_aside site s n j k numbers old new f a h at others 
     one is_aside site s n numbers old h new j k f a at others is node attached says
 
 pub returns-clause-detaches : goal.returns-clause-detaches
-returns-clause-detaches c = λ is_aside site s n j k code numbers old new h at none others free.
-    detaches is_aside site s n numbers old h new j k code at none others free
+returns-clause-detaches c = λ is_aside site s n j k code numbers old new h at none others.
+    detaches is_aside site s n numbers old h new j k code at none others
 
 pub returns-clause-stays : goal.returns-clause-stays
 returns-clause-stays c = λ is_aside site s n numbers hub section h u. stays is_aside site s n numbers hub h section u

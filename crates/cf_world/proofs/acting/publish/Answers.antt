@@ -5,7 +5,8 @@ use Rattle.cf_session.specs.Calls.{Answer}
 use Rattle.cf_machine.specs.FreshEpochs.{AreFresh}
 use Rattle.cf_machine.specs.PublicationList.{Broker as Shared}
 use Rattle.cf_world.specs.Acting.{PublishesAs, datum_of, put_answer}
-use Rattle.cf_world.specs.BrokerTie.{IsDatum, Publishes, ShowsBroker, datum_from}
+use Rattle.cf_machine.specs.ReadBack.{IsDatum}
+use Rattle.cf_world.specs.BrokerTie.{Publishes, ShowsBroker, datum_from}
 use Rattle.cf_world.specs.declared.broker.Broker.{Broker}
 use Rattle.cf_world.specs.declared.broker.Published.{Published}
 use Rattle.cf_world.specs.declared.broker.Published.TheVariants as outcome

@@ -1,0 +1,57 @@
+//! The command `simulate` with `--explain`: of a line that is unreadable it is said why.
+ghost use Rattle.std.specs.Prelude.{true, IfSome, OnErr, OnOk};
+ghost use Rattle.cf_schedule.specs.Seen.{shown_config};
+ghost use Rattle.cf_simulate.specs.Simulation.{Prints};
+
+use crate::fault::Fault;
+use cf_explain::line_fault;
+use cf_schedule::Config;
+use cf_simulate::{SimulateFault, simulate};
+use std::alloc::Global;
+use std::io::{Read, Write};
+use std::str;
+
+/// Reads all of a schedule, runs it, and writes its trace with remarks, as `simulate` does. If a line is unreadable, it says why.
+///
+/// # Errors
+///
+/// `Unreadable` if a line is; `Simulation` for what else `simulate` ends with; `InputOutput` if the input can't be read; `Memory`.
+pub fn explain<R: Read, W: Write>(
+    alloc: Global,
+    reader: &mut R,
+    writer: &mut W,
+    config: &Config,
+) -> Result<(), Fault>
+    ensures done { OnOk result (IfSome (R.remaining reader.old)
+        (λ input. Prints true (shown_config config.now) input (W.contents writer.old)
+        (W.contents writer.new))) }
+{
+    let mut input = Vec::new(alloc);
+    reader.read_to_end(&mut input)?;
+    let mut left = input.as_slice();
+    match simulate(alloc, &mut left, writer, config, true) {
+        Ok(()) => Ok(()),
+        Err(SimulateFault::Unreadable { line }) => {
+            Err(fault_of(alloc, input.as_slice(), config.nodes, line))
+        }
+        Err(fault) => Err(Fault::from(fault)),
+    }
+}
+
+// The fault of an unreadable line of this number.
+fn fault_of(alloc: Global, input: &[u8], nodes: u8, line: usize) -> Fault {
+    let plain = Fault::Simulation {
+        fault: SimulateFault::Unreadable { line },
+    };
+    let Ok(text) = str::from_utf8(input) else {
+        return plain;
+    };
+    let Some(words) = text.split('\n').nth(line.saturating_sub(1)) else {
+        return plain;
+    };
+    match line_fault(alloc, words, nodes) {
+        Ok(Some(why)) => Fault::Unreadable { line, why },
+        Ok(None) => plain,
+        Err(_) => Fault::Memory,
+    }
+}
