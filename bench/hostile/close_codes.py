@@ -85,6 +85,16 @@ def refused(count):
     return frame(text_of({"id": 1, "connect": {"token": "wrong"}})) + frame(SMALL) * count
 
 
+def attack(ready, port, seconds):
+    """Who is closed and goes on sending, again and again."""
+    ready()
+    until = time.monotonic() + seconds
+    while time.monotonic() < until:
+        told(port, refused(200))
+        for _, data, _ in FRAMES:
+            told(port, data + frame(SMALL) * 200)
+
+
 def unanswered(port):
     """A client that answers no ping, and sends a small command every tenth of a second: what it is told within 40 seconds."""
     socket = connected(port)

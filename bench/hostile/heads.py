@@ -4,7 +4,8 @@
 One connection sends 16,384 bytes of a head without a blank line, and is dropped at once, with no answer. Another sends its head in
 three pieces, a tenth of a second apart, and its first frame in one write with the last of them: it is shaken hands with and answered.
 A third sends one byte less than the longest head, and is answered. What is no handshake is told so, and dropped once it was read: bytes
-that are no request, with 200,000 more behind them, by 400, and a request without an upgrade by 426. `/health` is answered by 200.
+that are no request, with 200,000 more behind them, by 400, and a request without an upgrade by 426. `/health` is answered by 200, for
+`HEAD` without the word, and for any other method by 405, which names those two.
 """
 import time
 
@@ -54,7 +55,21 @@ TOLD = [
     ("no request, and more behind it", b"no request\r\n\r\n" + b"x" * 200_000, b"HTTP/1.1 400 ", b"\r\n\r\nbad request\n"),
     ("a request without an upgrade", b"GET / HTTP/1.1\r\nHost: x\r\n\r\n", b"HTTP/1.1 426 ", b"\r\n\r\nupgrade required\n"),
     ("the health", b"GET /health HTTP/1.0\r\n\r\n", b"HTTP/1.1 200 ", b"\r\n\r\nok"),
+    ("HEAD /health", b"HEAD /health HTTP/1.1\r\nHost: x\r\n\r\n", b"HTTP/1.1 200 ", b"\r\nContent-Length: 2\r\nConnection: close\r\n\r\n"),
+    ("POST /health", b"POST /health HTTP/1.1\r\nHost: x\r\nContent-Length: 4\r\n\r\nwell", b"HTTP/1.1 405 Method Not Allowed\r\nAllow: GET, HEAD\r\n",
+     b"\r\n\r\nmethod not allowed\n"),
+    ("HEAD elsewhere", b"HEAD / HTTP/1.1\r\nHost: x\r\n\r\n", b"HTTP/1.1 400 ", b"\r\n\r\nbad request\n"),
 ]
+
+
+def attack(ready, port, seconds):
+    """Heads that are too long, come in pieces, or open nothing."""
+    ready()
+    until = time.monotonic() + seconds
+    while time.monotonic() < until:
+        answer(port, [b"GET / HTTP/1.1\r\nX: " + b"x" * (LONGEST - 19)])
+        for _, request, _, _ in TOLD:
+            answer(port, [request])
 
 
 def check(program, seconds):
@@ -78,7 +93,7 @@ def check(program, seconds):
         stays.send({"ping": {}})
         if stays.code is not None:
             faults.append("a client beside them was closed")
-    return not faults, "; ".join(faults) or "16,384 bytes without a blank line are dropped, a head in three pieces with a frame behind it is answered, so is one of 16,383 bytes; 400, 426 and the health are told"
+    return not faults, "; ".join(faults) or "16,384 bytes without a blank line are dropped, a head in three pieces with a frame behind it is answered, so is one of 16,383 bytes; 400, 426, 405 and the health are told"
 
 
 if __name__ == "__main__":

@@ -43,12 +43,12 @@ def opened(port, first, count):
 
 
 def attack(ready, port, seconds):
-    """Opens 2,000 channels each tenth of a second."""
+    """Opens 2,000 channels each tenth of a second, 200,000 in all."""
     ready()
     until, first = time.monotonic() + seconds, 0
     while time.monotonic() < until:
         opened(port, first, 2_000)
-        first += 2_000
+        first = (first + 2_000) % 200_000
         time.sleep(0.1)
 
 

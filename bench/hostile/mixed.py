@@ -3,23 +3,41 @@
 
 None of the healthy is closed, nothing is lost or out of order; the longest wait from a publish to its push is said, and that of a
 ping command. Two nodes; the hostile clients are spread over both, and each comes back where it is closed.
+
+With `--minutes N` for so long, and beside twenty of `bench/histories`' clients too, who lose their connections and come back, and all that these
+got is judged. The server is started anew every ten minutes (`--restart`), to a graceful end before: the healthy clients of a life leave
+before its end, and others come after. After the first minute of a life and at its end it is looked for five seconds what memory and how
+many descriptors it has: at the end it is no more than a quarter over the first, and 16 MiB and 100 descriptors, since what the hostile
+clients have open varies.
 """
+import importlib.machinery
+import importlib.util
+import os
+import signal
 import time
 
 import burst_own_node
+import close_codes
 import closed_goes_on
 import fast_sender
 import half_reader
+import heads
 import late_pong
 import many_channels
 import presence_storm
+import recoveries
 import silent_connections
 import slow_leaves
+import stale
 import turn_budget
-from peers import Apart, Closed, Fails, Healthy, Server, faults_in_words, longest_ping, millis, run
+from peers import Apart, Closed, Fails, Healthy, Server, faults_in_words, healthy, longest_ping, millis, run
 
-HOSTILE = [burst_own_node, closed_goes_on, fast_sender, half_reader, late_pong, many_channels, presence_storm, silent_connections,
-           slow_leaves, turn_budget]
+HOSTILE = [burst_own_node, close_codes, closed_goes_on, fast_sender, half_reader, heads, late_pong, many_channels, presence_storm, recoveries,
+           silent_connections, slow_leaves, stale, turn_budget]
+NODES, MEMBERS = 2, 20
+SETTLED = 60        # seconds of a life after which it is looked what the server holds, or a third of a shorter one
+LEAVING = 15        # seconds before a life's end at which its healthy clients leave
+MORE, SPARE, OPEN = 1.25, 16 << 20, 100
 
 
 def again(ready, attack, port, seconds):
@@ -42,10 +60,15 @@ def again(ready, attack, port, seconds):
     return times
 
 
-def check(program, seconds, clients):
-    with Server(program, nodes=2) as server:
+def attacks_on(server, seconds):
+    return [Apart(again, it.attack, server.ports[at % NODES], seconds) for at, it in enumerate(HOSTILE)]
+
+
+def minute(program, seconds, clients):
+    """All of them at once, for so long."""
+    with Server(program, nodes=NODES) as server:
         others = Healthy(server.ports, clients)
-        attacks = [Apart(again, it.attack, server.ports[at % 2], seconds + 5) for at, it in enumerate(HOSTILE)]
+        attacks = attacks_on(server, seconds + 5)
         pings = [Apart(longest_ping, port, seconds) for port in server.ports]
         others.follow(seconds)
         waits = [ping.result() for ping in pings]
@@ -58,5 +81,89 @@ def check(program, seconds, clients):
                         f"for a ping's answer {millis(max(waits))}")
 
 
+def module_of_histories():
+    """bench/histories, whose name ends as no module's does."""
+    path = os.path.join(os.path.dirname(os.path.abspath(__file__)), "..", "histories")
+    loader = importlib.machinery.SourceFileLoader("histories", path)
+    made = importlib.util.module_from_spec(importlib.util.spec_from_loader("histories", loader))
+    loader.exec_module(made)
+    return made
+
+
+def held(members, server):
+    """The memory and the descriptors that a server has within five seconds: the least and the most of each."""
+    found = []
+    for _ in range(20):
+        members.turns(0.25)
+        found.append((server.bytes(), server.descriptors()))
+    return [(min(one), max(one)) for one in zip(*found)]
+
+
+class Life:
+    """One life of the server: what went wrong in it, and what it held."""
+
+    def __init__(self, program, histories, members, seconds, clients, is_last):
+        self.faults, self.positions, self.longest = [], None, 0
+        with Server(program, NODES, ["--ns", histories.NAMESPACES, "--stale", "25"]) as server:
+            members.server = server
+            others = Apart(healthy, server.ports, clients, max(5, seconds - LEAVING))
+            attacks = attacks_on(server, seconds + 600)
+            self.follow(histories, members, server, seconds)
+            for attack in attacks:
+                attack.kill()
+            found, self.longest = others.result(120)
+            self.faults += found
+            if server.process.poll() is not None:
+                raise Fails(f"serve ended with {server.process.returncode}")
+            if is_last:
+                members.come_to_rest()
+                self.positions = [dict(it.at) for it in members.subscribers]
+        members.server = None
+        for member in [*members.publishers, *members.subscribers]:
+            if member.peer:
+                member.look()
+            if member.peer:
+                member.lost()
+
+    def follow(self, histories, members, server, seconds):
+        """Serves the members for so long, and looks what the server holds."""
+        for publisher in members.publishers:
+            publisher.due = 0
+            publisher.turn()
+        members.publishes = members.loses = True
+        settled, until = min(SETTLED, seconds / 3), time.monotonic() + seconds
+        members.turns(settled)
+        (_, bytes_first), (_, open_first) = held(members, server)
+        members.turns(until - time.monotonic() - 5)
+        (bytes_last, _), (open_last, _) = held(members, server)
+        self.held = (f"{bytes_first >> 20} MiB and {open_first} descriptors after {settled:.0f} s, {bytes_last >> 20} and {open_last} "
+                     f"after {seconds:.0f}")
+        if bytes_last > MORE * bytes_first + SPARE or open_last > open_first + OPEN:
+            self.faults.append(f"it holds more and more: {self.held}")
+
+
+def long_run(program, seconds, clients, restart):
+    """Lives of the server, one after another, and what all clients got."""
+    signal.alarm(int(2 * seconds) + 600)
+    histories = module_of_histories()
+    members = histories.Run(program, NODES, MEMBERS)
+    count = max(1, round(seconds / restart))
+    lives = [Life(program, histories, members, seconds / count, clients, at == count - 1) for at in range(count)]
+    history = members.history()
+    judge = histories.Judge(history)
+    faults = [fault for life in lives for fault in life.faults] + judge.faults + histories.arrived(history, lives[-1].positions)
+    acknowledged = sum(life["acked"] for known in history["lives"].values() for life in known)
+    return not faults, (f"{len(HOSTILE)} hostile clients for {seconds / 60:.0f} minutes, {count} lives, beside {clients} healthy ones and {MEMBERS} who come and "
+                        f"go: {faults_in_words(faults)}; {acknowledged:,} publications, {judge.recovered + judge.lost} recoveries ({judge.lost} lost), "
+                        f"{judge.ended} times 2500; the longest wait from publish to push {millis(max(life.longest for life in lives))}; "
+                        + "; ".join(life.held for life in lives))
+
+
+def check(program, seconds, clients, minutes, restart):
+    if minutes:
+        return long_run(program, 60 * minutes, clients, 60 * restart)
+    return minute(program, seconds, clients)
+
+
 if __name__ == "__main__":
-    run(check, 60, clients=50)
+    run(check, 60, clients=50, minutes=0, restart=10)

@@ -54,6 +54,16 @@ def fill(port, channels):
     return epochs
 
 
+def attack(ready, port, seconds):
+    """Comes back to four channels in one frame, again and again."""
+    channels = [f"news{at}" for at in range(CHANNELS)]
+    epochs = fill(port, channels)
+    ready()
+    until = time.monotonic() + seconds
+    while time.monotonic() < until:
+        brought_back(port, asks(channels, epochs))
+
+
 def check(program, seconds):
     channels = [f"news{at}" for at in range(CHANNELS)]
     with Server(program) as server:

@@ -33,6 +33,17 @@ def is_ended(made, seconds):
     return True
 
 
+def attack(ready, port, seconds):
+    """200 clients that shake hands and say nothing, opened again every five seconds."""
+    ready()
+    until = time.monotonic() + seconds
+    while time.monotonic() < until:
+        quiet = [silent(port, at) for at in range(200)]
+        time.sleep(max(0, min(5, until - time.monotonic())))
+        for made in quiet:
+            made.close()
+
+
 def check(program, seconds):
     faults = []
     with Server(program, 1, ("--stale", "2"), DESCRIPTORS) as server:

@@ -3,7 +3,8 @@
 
 More clients than `serve` has descriptors (64) are there before it has said where it listens, since its standard output takes nothing
 yet: it goes on all the same, two times; a connection that waits is counted once, and not once a second. Standard error is a pipe that
-is full and that nobody reads, and one whose reader is gone: it ends at the end of its input all the same. It is held up for four seconds, as by a debugger: its health is `ok` as soon as it goes on.
+is full and that nobody reads, and one whose reader is gone: it ends at the end of its input all the same. With a standard stream closed at the start no socket
+has the number of one, and it ends with status 0. It is held up for four seconds, as by a debugger: its health is `ok` as soon as it goes on.
 """
 import contextlib
 import fcntl
@@ -89,6 +90,28 @@ def ends(program, words, **streams):
             made.close()
 
 
+def closed(program, words):
+    """What is wrong where `serve` is started with a standard stream closed; nothing where all is well."""
+    port = free_port()
+    command = [program, "serve", "--boot", str(next(BOOTS)), "--port", str(port)]
+    process = subprocess.Popen(["sh", "-c", f'exec "$@" {words}', "sh", *command], stdin=subprocess.PIPE, stdout=subprocess.DEVNULL,
+                               stderr=subprocess.DEVNULL)
+    try:
+        sockets = [] if words == "<&-" else clients_at(port)
+        time.sleep(0.2)
+        taken = [at for at in range(3) if process.poll() is None and "socket" in os.readlink(f"/proc/{process.pid}/fd/{at}")]
+        process.stdin.close()
+        status = process.wait(20)
+        for made in sockets:
+            made.close()
+        return f"{words}: a socket is number {taken}" if taken else f"{words}: status {status}" if status else ""
+    except (OSError, subprocess.TimeoutExpired) as why:
+        return f"{words}: {why}"
+    finally:
+        process.kill()
+        process.wait()
+
+
 def health(port):
     with connected(port) as asks:
         asks.sendall(b"GET /health HTTP/1.0\r\n\r\n")
@@ -111,6 +134,7 @@ def check(program, seconds):
         if status != 0:
             faults.append(f"standard error {words}: status {status}")
         os.close(pipe)
+    faults += [fault for words in ("<&-", ">&-", "2>&-", ">&- 2>&-") if (fault := closed(program, words))]
     with Server(program) as server:
         time.sleep(0.5)
         os.kill(server.process.pid, signal.SIGSTOP)
@@ -121,7 +145,7 @@ def check(program, seconds):
         found = asks.recv(4096)[9:12].decode()
         if found != "200" or health(server.port) != "200":
             faults.append(f"the health after a pause: {found}")
-    return not faults, "; ".join(faults) or f"2 of 2 starts into {CLIENTS} waiting clients, what waits is counted once; ends with standard error full, and closed; well after a pause"
+    return not faults, "; ".join(faults) or f"2 of 2 starts into {CLIENTS} waiting clients, what waits is counted once; ends with standard error full, and without a reader; no socket is a standard stream; well after a pause"
 
 
 if __name__ == "__main__":

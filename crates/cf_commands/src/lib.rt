@@ -11,6 +11,7 @@ mod serving;
 mod settings;
 mod sizes;
 mod speaking;
+mod stand_ins;
 
 pub use cf_simulate::simulate;
 pub use command_line::{Options, ServeOptions, SpeakOptions};

@@ -9,7 +9,7 @@ use cf_simulate::simulate;
 use std::io::{BufReader, BufWriter, Write};
 use std::net::Net;
 use std::process::ExitCode;
-use std::rt::Env;
+use std::rt::{Env, Files};
 use std::sync::Wait;
 use std::thread::Threads;
 use std::time::Clock;
@@ -48,7 +48,7 @@ fn words<R: Env + AllocGlobal>(rt: &R) -> Result<Vec<String>, Fault> {
 
 fn program<R>(rt: &R) -> Result<ExitCode, Fault>
 where
-    R: Input + Print + Eprint + Env + AllocGlobal + Threads + Wait + Clock + Net + Sync,
+    R: Input + Print + Eprint + Env + AllocGlobal + Files + Threads + Wait + Clock + Net + Sync,
 {
     let words = words(rt)?;
     let done = match command_line::read_words(rt.alloc(), words.as_slice()) {
@@ -66,7 +66,7 @@ where
 /// the fault's, which is said on standard error.
 pub fn run<R>(rt: &R) -> ExitCode
 where
-    R: Input + Print + Eprint + Env + AllocGlobal + Threads + Wait + Clock + Net + Sync,
+    R: Input + Print + Eprint + Env + AllocGlobal + Files + Threads + Wait + Clock + Net + Sync,
 {
     match program(rt) {
         Ok(code) => code,

@@ -9,6 +9,7 @@ use crate::report::{Teller, report};
 use crate::running::{Ear, Running, wait_for_workers};
 use crate::settings::usable;
 use crate::sizes::{Listener, Sizes};
+use crate::stand_ins::stand_ins;
 use cf_broker::{Broker, Passes, Words};
 use cf_epochs::{Boot, BootEpochs};
 use cf_link::{Receiver, Sender, pair};
@@ -19,6 +20,7 @@ use mio::net::TcpListener;
 use std::io::{BufWriter, ErrorKind, Write};
 use std::marker::Brand;
 use std::net::{Ipv4Addr, Net, SocketAddr};
+use std::rt::Files;
 use std::sync::Wait;
 use std::sync::atomic::{AtomicU64, Ordering};
 use std::thread::{Scope, Threads};
@@ -61,8 +63,10 @@ struct Senses {
 /// started, `Ended` one whose loop has ended; `InputOutput` where standard input or output fails; `Memory`.
 pub fn serve<R>(rt: &R, options: ServeOptions<'_>) -> Result<(), Fault>
 where
-    R: Input + Print + Eprint + AllocGlobal + Threads + Wait + Clock + Net + Sync,
+    R: Input + Print + Eprint + AllocGlobal + Files + Threads + Wait + Clock + Net + Sync,
 {
+    // Before anything else is opened, which would take the numbers of those that are closed.
+    let _stand_ins = stand_ins(rt)?;
     let alloc = rt.alloc();
     let namespaces = read_namespaces(alloc, options.namespaces);
     let namespaces = usable(Setting::Namespaces, namespaces)?;

@@ -9,6 +9,7 @@ use cf_session::{TurnEnd, Wire};
 use cf_wire::Gather;
 use std::collections::VecDeque;
 use std::io::ErrorKind;
+use std::mem;
 
 /// The most bytes that a head may have.
 const LONGEST_HEAD: usize = 16_384;
@@ -128,6 +129,8 @@ impl<'a, B: Backend> Open<'a, B> {
             return Turned::Idle;
         }
         self.wire.stream_mut().lend(buffer);
+        // What the connection kept for what waited is let go, since that is written.
+        drop(mem::replace(buffer, Vec::new(self.desk.handler.backend.alloc())));
         self.desk.begin(now, hears);
         let end = self.wire.turn(&mut self.desk);
         let stands = drains(&mut self.wire);

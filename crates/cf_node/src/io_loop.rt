@@ -12,6 +12,7 @@ use crate::leaving::Leaving;
 use crate::socket::Socket;
 use cf_dispatch::{Outlets, SESSIONS_AT_ONCE, Seconds, take_batch};
 use cf_fair::FairQueue;
+use cf_health::health_ask;
 use cf_protocol::CloseCode;
 use cf_queue::Out;
 use cf_session::Wire;
@@ -162,7 +163,12 @@ fn opened<'a, B: Backend>(
             return Connection::Empty;
         }
     };
+    // Those who ask by `GET` are answered as who wants a WebSocket.
+    let asks = health_ask(head.socket.early.as_slice());
     let gather = Gather::new(backend.alloc(), head.socket, GATHERED);
+    if let Some(ask) = asks {
+        return leaves(Leaving::told(gather, ask.answer(is_well), now));
+    }
     match Wire::accept(backend.alloc(), gather) {
         Ok(wire) => {
             let open = Open {
@@ -175,10 +181,15 @@ fn opened<'a, B: Backend>(
                 Err(_) => Connection::Empty,
             }
         }
-        Err(refused) => match Leaving::refused(refused, is_well, now) {
-            Some(leaving) => Connection::Leaving(leaving),
-            None => Connection::Empty,
-        },
+        Err(refused) => leaves(Leaving::refused(refused, is_well, now)),
+    }
+}
+
+// A connection that is let go, if there is somebody to read what it is told.
+fn leaves<'a, B: Backend>(leaving: Option<Leaving>) -> Connection<'a, B> {
+    match leaving {
+        Some(leaving) => Connection::Leaving(leaving),
+        None => Connection::Empty,
     }
 }
 

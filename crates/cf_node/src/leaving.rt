@@ -43,14 +43,19 @@ impl Leaving {
     ) -> Option<Leaving> {
         let Refused {
             fault,
-            mut stream,
+            stream,
             answered,
         } = refused;
-        let answers = match fault {
-            WireFault::Health => stream.write_all(health_answer(is_well)).is_ok(),
-            _ => answered,
-        };
-        if !answers {
+        match fault {
+            WireFault::Health => Leaving::told(stream, health_answer(is_well), now),
+            _ if answered => Some(Leaving::new(stream, now)),
+            _ => None,
+        }
+    }
+
+    /// One that gets this answer and no WebSocket. `None` where memory was refused.
+    pub(crate) fn told(mut stream: Gather<Socket>, answer: &[u8], now: u64) -> Option<Leaving> {
+        if stream.write_all(answer).is_err() {
             return None;
         }
         Some(Leaving::new(stream, now))

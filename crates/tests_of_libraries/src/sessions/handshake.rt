@@ -118,13 +118,19 @@ fn tell_answer(told: &mut Told, stream: Pieces, alloc: Global) {
     }
 }
 
-/// A stream of these lines, by pieces of so many bytes.
-fn stream_over(alloc: Global, lines: &str, piece: usize) -> Option<Pieces> {
+/// The bytes of these lines.
+pub(super) fn head_of(alloc: Global, lines: &str) -> Option<Vec<u8>> {
     let mut head = Vec::new(alloc);
     for line in lines.split(';') {
         head.extend_from_slice(line_of(line).as_bytes()).ok()?;
         head.extend_from_slice(b"\r\n").ok()?;
     }
+    Some(head)
+}
+
+/// A stream of these lines, by pieces of so many bytes.
+fn stream_over(alloc: Global, lines: &str, piece: usize) -> Option<Pieces> {
+    let head = head_of(alloc, lines)?;
     Some(Pieces::new(alloc, head, piece))
 }
 
