@@ -19,13 +19,13 @@ def one_frame():
     return frame(HISTORY + BEHIND + HISTORY * rest)
 
 
-def storm(port, seconds, pause=5):
-    """Sends such a frame on a new connection again and again, and gives the codes of their closes."""
+def storm(port, seconds, pause=5, patience=10):
+    """Sends such a frame on a new connection again and again, and gives the codes of their closes, each of which is waited for so long."""
     until, codes = time.monotonic() + seconds, []
     while time.monotonic() < until:
         peer = Peer(port)
         peer.write(one_frame())
-        codes.append(peer.until_closed(min(pause, seconds)))
+        codes.append(peer.until_closed(patience))
         peer.drop()
         time.sleep(max(0, min(pause, until - time.monotonic())))
     return codes
@@ -34,7 +34,7 @@ def storm(port, seconds, pause=5):
 def attack(ready, port, seconds):
     fill(port, "a", 100, LARGE)
     ready()
-    storm(port, seconds, 1)
+    storm(port, seconds, 1, 1)
 
 
 def check(program, seconds):
