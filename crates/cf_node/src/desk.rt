@@ -14,6 +14,7 @@ use cf_session::laws::idle_can_go_on;
 use cf_session::{Budget, Desk, Node, Session, carry_on, hear_text};
 use std::collections::VecDeque;
 use std::marker::PhantomData;
+use std::mem;
 
 /// What a turn may carry out of a client's texts, in the units of `cf_session::Budget`.
 const UNITS: usize = 96;
@@ -32,6 +33,10 @@ const MOST_PARTS: usize = 96;
 
 /// Once so many bytes came up for the client in a turn, no further part is carried out in it.
 const MOST_SAID: usize = 65_536;
+
+/// A socket of which so many bytes were heard within a second may have been full, so that what its client sent behind them came to it
+/// later.
+const FULL_SOCKET: usize = 16_384;
 
 /// So many times at most what waits in the hub is taken for a part: each takes 65,536 bytes, or all.
 const MOST_TAKES: usize = 32;
@@ -94,6 +99,8 @@ pub(crate) struct SessionDesk<'a, B: Backend> {
     has_heard: bool,
     // How many units of work are left in it.
     left: usize,
+    // How many bytes of text were heard since it was last asked.
+    heard_bytes: usize,
 }
 
 impl<'a, B: Backend> Desk for SessionDesk<'a, B> {
@@ -118,6 +125,7 @@ impl<'a, B: Backend> Desk for SessionDesk<'a, B> {
         self.go_on();
         self.owed = true;
         self.has_heard = true;
+        self.heard_bytes = self.heard_bytes.saturating_add(text.len());
     }
 
     fn next(&mut self) -> Option<Out> {
@@ -153,6 +161,7 @@ impl<'a, B: Backend> SessionDesk<'a, B> {
             hears: false,
             has_heard: false,
             left: 0,
+            heard_bytes: 0,
         }
     }
 
@@ -184,6 +193,11 @@ impl<'a, B: Backend> SessionDesk<'a, B> {
     /// was heard.
     pub(crate) fn is_spent(&self, left_off: bool) -> bool {
         self.goes_on() || left_off && self.has_heard
+    }
+
+    /// Whether so much was heard since this was last asked that something which was sent by now may have had no room in the socket.
+    pub(crate) fn heard_much(&mut self) -> bool {
+        mem::replace(&mut self.heard_bytes, 0) >= FULL_SOCKET
     }
 
     // Carries on what is on its way, part by part, until the turn's units are spent, or much came up

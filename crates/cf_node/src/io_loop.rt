@@ -290,11 +290,13 @@ impl<'a, B: Backend> IoLoop<'a, B> {
         self.serve_named();
     }
 
-    // Looks who answers its pings. Who waits for its turn may have answered.
+    // Looks who answers its pings. Who waits for its turn may have answered, and so may who was just heard and had sent much: its
+    // answer may have had no room in the socket.
     fn look_for_pongs(&mut self) {
         for place in 0..self.places.len() {
-            let is_unheard = self.waits(place);
+            let waits = self.waits(place);
             if let Some(Connection::Open(open)) = self.places.get_mut(place) {
+                let is_unheard = open.desk.heard_much() || waits;
                 let handler = &mut open.desk.handler;
                 handler.looks_for_pong(self.seconds.done(), is_unheard);
             }
