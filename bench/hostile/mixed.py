@@ -14,6 +14,7 @@ import importlib.machinery
 import importlib.util
 import os
 import signal
+import sys
 import time
 
 import burst_own_node
@@ -83,8 +84,9 @@ def minute(program, seconds, clients):
 
 def module_of_histories():
     """bench/histories, whose name ends as no module's does."""
-    path = os.path.join(os.path.dirname(os.path.abspath(__file__)), "..", "histories")
-    loader = importlib.machinery.SourceFileLoader("histories", path)
+    bench = os.path.dirname(os.path.dirname(os.path.abspath(__file__)))
+    sys.path.append(bench)      # for its judgement
+    loader = importlib.machinery.SourceFileLoader("histories", os.path.join(bench, "histories"))
     made = importlib.util.module_from_spec(importlib.util.spec_from_loader("histories", loader))
     loader.exec_module(made)
     return made
@@ -151,7 +153,8 @@ def long_run(program, seconds, clients, restart):
     lives = [Life(program, histories, members, seconds / count, clients, at == count - 1) for at in range(count)]
     history = members.history()
     judge = histories.Judge(history)
-    faults = [fault for life in lives for fault in life.faults] + judge.faults + histories.arrived(history, lives[-1].positions)
+    faults = [fault for life in lives for fault in life.faults] + judge.faults
+    faults += histories.arrived(history, lives[-1].positions)
     acknowledged = sum(life["acked"] for known in history["lives"].values() for life in known)
     return not faults, (f"{len(HOSTILE)} hostile clients for {seconds / 60:.0f} minutes, {count} lives, beside {clients} healthy ones and {MEMBERS} who come and "
                         f"go: {faults_in_words(faults)}; {acknowledged:,} publications, {judge.recovered + judge.lost} recoveries ({judge.lost} lost), "
