@@ -16,11 +16,9 @@ use Rattle.cf_machine.specs.World.{World}
 use Rattle.cf_world.specs.Tie.{AreTied, seats_of}
 use Rattle.cf_world.specs.declared.broker.Broker.{Broker as Code}
 use Rattle.cf_session.specs.declared.session.Session.{Session}
-use Rattle.cf_world.specs.Waits.{KeepsAt}
 use Rattle.cf_world.specs.declared.clients.Peer.{Peer}
 use Rattle.cf_world.specs.declared.clients.Seat.{Seat}
 use Rattle.cf_world.proofs.Sitting.{seat_here}
-use Rattle.cf_world.proofs.Waiting.{served-still}
 
 some-is : {A : Type 0} {a b : A} → Some a ≡ Some b → a ≡ b
 some-is h = cc

@@ -1,13 +1,12 @@
 -- A session reads the stream of a subscription that was asked for, or finishes one that was read.
-use Rattle.std.proofs.Common.{◌≡◌, ◌≢◌, ◌∙◌, inl, inr, ℕ, not, Bool, true, false, Option, Some, None, is_some, IsSome, option_map, if◌then◌else◌, ◌+◌, List, [], ◌∷◌, refl, sym, ap, subst}
+use Rattle.std.proofs.Common.{◌≡◌, ◌≢◌, ◌∙◌, inl, inr, ℕ, not, Bool, true, false, Option, Some, None, is_some, option_map, if◌then◌else◌, ◌+◌, List, [], ◌∷◌, refl, sym, ap, subst}
 use Rattle.cf_protocol.specs.Datum.{Who}
 use Rattle.cf_protocol.specs.Names.{with}
 use Rattle.cf_protocol.specs.Note.{Lists, Reading}
-use Rattle.cf_protocol.specs.Position.{Position}
-use Rattle.cf_protocol.specs.Settings.{NamespaceTable, settings_of}
+use Rattle.cf_protocol.specs.Settings.{NamespaceTable}
 use Rattle.cf_hub.specs.AlikeMoves.{CallsAreAlike, MovesAreAlike}
 use Rattle.cf_hub.specs.Asking.{asked_of}
-use Rattle.cf_hub.specs.Hub.{InState, Node, One, attached_at, is_open, moves, sub_at}
+use Rattle.cf_hub.specs.Hub.{InState, Node, attached_at, is_open, moves, sub_at}
 use Rattle.cf_hub.specs.Rows.{sub_in}
 use Rattle.cf_hub.specs.Session.{Attached}
 use Rattle.cf_hub.specs.Subscriptions.{reading_of}
@@ -22,12 +21,11 @@ use Rattle.cf_stream.specs.declared.answer.Recovery.{Recovery}
 use Rattle.cf_session.specs.Calls as call
 use Rattle.cf_session.specs.Calls.{Done, Read, Finish}
 use Rattle.cf_session.specs.CommandScripts.{Tables, after_finish, after_read}
-use Rattle.cf_session.specs.Script.{Script, Served, Over, Close, Say, Pong, Ask}
+use Rattle.cf_session.specs.Script.{Script, Served, Ask}
 use Rattle.cf_session.specs.SessionMachine.{Progress, Todo}
 use Rattle.cf_session.specs.Shown.{shown_answer}
 use Rattle.cf_session.specs.Standing.{progress_of, tables_of}
 use Rattle.cf_session.specs.declared.session.Session.{Session}
-use Rattle.cf_machine.specs.ClientLink.{ClientLink}
 use Rattle.cf_machine.specs.Config.{Config}
 use Rattle.cf_machine.specs.Event as said
 use Rattle.cf_machine.specs.FreshEpochs.{AreFresh}
@@ -35,10 +33,10 @@ use Rattle.cf_machine.specs.IntervalMachine.{happens}
 use Rattle.cf_machine.specs.PublicationList.{can_open}
 use Rattle.cf_machine.specs.World.{World}
 use Rattle.cf_machine.proofs.Names.{text_tells, with-other, with-same}
-use Rattle.cf_world.specs.Acting.{ReadsAs, TakesRead}
-use Rattle.cf_world.specs.BrokerTie.{Finds, FindsNone, Reads}
+use Rattle.cf_world.specs.Acting.{TakesRead}
+use Rattle.cf_world.specs.BrokerTie.{Reads}
 use Rattle.cf_world.specs.ClientTie.{ShowsClient, ShowsPeer}
-use Rattle.cf_world.specs.HubCalls.{AtHub, Finished, Hubs, Moves, WasRead, who_in}
+use Rattle.cf_world.specs.HubCalls.{Finished, Hubs, Moves, WasRead, who_in}
 use Rattle.cf_world.specs.NodesTie.{ShowsNodes, seated}
 use Rattle.cf_world.specs.Sending.{PeerMoves}
 use Rattle.cf_world.specs.Serving.{AreServed, IsServed, IsServedAt, Rests, wait_script}
@@ -47,7 +45,7 @@ use Rattle.cf_world.specs.Tie.{AreTied, seats_of}
 use Rattle.cf_world.specs.declared.broker.Broker.{Broker as Code}
 use Rattle.cf_world.specs.declared.clients.Peer.{Peer}
 use Rattle.cf_world.specs.declared.clients.Seat.{Seat}
-use Rattle.cf_world.proofs.AtHubs.{moved, seated-here}
+use Rattle.cf_world.proofs.AtHubs.{moved}
 use Rattle.cf_world.proofs.Breaking.{seats-with}
 use Rattle.cf_world.proofs.Exchanging.{same-seats}
 use Rattle.cf_world.proofs.Going.{Stays}

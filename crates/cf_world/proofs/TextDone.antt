@@ -1,7 +1,6 @@
 -- A client sent a command, and its node's session heard it, or not: the event has happened.
-use Rattle.std.proofs.Common.{◌≡◌, ◌≢◌, ◌∙◌, inl, inr, ℕ, not, Bool, true, false, Option, Some, None, if◌then◌else◌, List, [], ◌∷◌, refl, sym, ap, subst}
-use Rattle.std.proofs.lemmas.Bool.{not-false}
-use Rattle.std.specs.Prelude.{IsTrue, ◌↔◌}
+use Rattle.std.proofs.Common.{◌≡◌, ◌∙◌, ℕ, not, Bool, true, false, Option, Some, None, if◌then◌else◌, List, [], ◌∷◌, refl, sym, ap, subst}
+use Rattle.std.specs.Prelude.{IsTrue}
 use Rattle.cf_protocol.specs.Frame.{IsCommands}
 use Rattle.cf_protocol.specs.Note.{Lists as PublicationLists}
 use Rattle.cf_protocol.specs.Regular.{IsRegularCommand}
@@ -16,11 +15,8 @@ use Rattle.cf_model.specs.ClientState.{is_idle}
 use Rattle.cf_hub.specs.AlikeMoves.{CallsAreAlike, MovesAreAlike}
 use Rattle.cf_hub.specs.Counts.{CountsAll, CountsSession}
 use Rattle.cf_hub.specs.Hub.{Node, attached_at, is_open}
-use Rattle.cf_hub.specs.Rows.{sub_in}
 use Rattle.cf_hub.specs.Session.{Attached}
-use Rattle.cf_model.specs.SessionState.{is_unfinished}
 use Rattle.cf_session.specs.CommandScripts.{Tables}
-use Rattle.cf_session.specs.Standing.{progress_of, tables_of}
 use Rattle.cf_session.specs.declared.session.Session.{Session}
 use Rattle.cf_machine.specs.ClientRequest.{ClientRequest, Subscribe, Unsubscribe, Publish, History, command_of, request_of}
 use Rattle.cf_machine.specs.Config.{Config}
@@ -33,7 +29,6 @@ use Rattle.cf_world.specs.Exchange.{sent_by}
 use Rattle.cf_world.specs.HubCalls.{Hubs, Moves}
 use Rattle.cf_world.specs.Judging as judged
 use Rattle.cf_world.specs.Judging.{Judged, Judges}
-use Rattle.cf_world.specs.NodesTie.{seated}
 use Rattle.cf_world.specs.Sending.{Acts, HasSent, IsSent, PeerMoves, SendsAs, left_of}
 use Rattle.cf_world.specs.Serving.{AreServed, IsClients, IsServed, IsServedAt, Plays, Rests, ServesAs, ServesText}
 use Rattle.cf_world.specs.Tie.{AreTied, seats_of}

@@ -13,7 +13,7 @@ use Rattle.cf_model.specs.SessionState.{Subscription, Off, Asked, Ready, On, is_
 use Rattle.cf_session.specs.CommandScripts.{to_finish, to_read}
 use Rattle.cf_session.specs.Script.{Script, Served}
 use Rattle.cf_protocol.specs.Outgoing.{Connected}
-use Rattle.cf_session.specs.SessionMachine.{Progress, Todo, HearsText, reply_text}
+use Rattle.cf_session.specs.SessionMachine.{Todo, HearsText, reply_text}
 use Rattle.cf_session.specs.Standing.{is_idle, progress_of, tables_of}
 use Rattle.cf_session.specs.declared.session.Session.{Session}
 use Rattle.cf_machine.specs.Refusals.{bad_message}

@@ -1,7 +1,6 @@
-use Rattle.std.proofs.Common.{rules, ◌≡◌, ◌∙◌, ℕ, List, Some, refl, sym, ap, subst}
-use Rattle.cf_protocol.specs.Datum.{Datum, Who}
+use Rattle.std.proofs.Common.{◌≡◌, ◌∙◌, ℕ, List, Some, refl, sym, ap, subst}
+use Rattle.cf_protocol.specs.Datum.{Who}
 use Rattle.cf_protocol.specs.Settings.{NamespaceTable}
-use Rattle.cf_session.specs.Calls.{Answer}
 use Rattle.cf_machine.specs.FreshEpochs.{AreFresh}
 use Rattle.cf_machine.specs.PublicationList.{Broker as Shared}
 use Rattle.cf_world.specs.Acting.{PublishesAs, datum_of, put_answer}

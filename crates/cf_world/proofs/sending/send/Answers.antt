@@ -1,5 +1,4 @@
-use Rattle.std.proofs.Common.{rules, ◌≡◌, ◌&&◌, true, false, not, Bool, Result, Ok, Err, String, Global, List, Option, Some, ℕ, sym, ap, refl, subst, ◌∙◌}
-use Rattle.std.specs.String.{string_bytes}
+use Rattle.std.proofs.Common.{rules, ◌≡◌, ◌&&◌, true, false, not, Bool, Result, Ok, Err, String, Global, Option, Some, ℕ, sym, ap, refl, subst, ◌∙◌}
 use Rattle.cf_client.specs.ClientCalls.{RefusedBy}
 use Rattle.cf_client.specs.ClientView.{state_of}
 use Rattle.cf_client.specs.declared.fault.ClientFault.{ClientFault}
@@ -8,7 +7,6 @@ use Rattle.cf_hub.specs.Hub.{Node, attached_at, is_open}
 use Rattle.cf_world.specs.ClientTie.{send_fault}
 use Rattle.cf_world.specs.HubCalls.{Moves}
 use Rattle.cf_world.proofs.Named.{refused-some, sent-none}
-use Rattle.cf_world.proofs.TextDone.{it-rests}
 use Rattle.cf_world.proofs.SentSo.{unopened-so, unsent-so, unsettled-so}
 use Rattle.cf_world.proofs.sending.send.Goals.{else-branch-via-then-branch+else-not-is_closed, else-branch-via-else-branch}
 use Rattle.cf_world.proofs.sending.send.Goals as goal

@@ -1,5 +1,4 @@
-use Rattle.std.proofs.Common.{◌≡◌, ◌∙◌, inl, inr, ℕ, List, not, Bool, true, false, refl, sym, subst}
-use Rattle.cf_session.specs.SessionMachine.{HearsText}
+use Rattle.std.proofs.Common.{◌≡◌, ◌∙◌, inl, inr, ℕ, List, false, sym, subst}
 use Rattle.cf_session.specs.Standing.{Keeps, HearsFrame, is_short, progress_of, refusals, tables_of}
 use Rattle.cf_session.specs.declared.session.Session.{Session}
 use Rattle.cf_world.proofs.Long.{hears-long, long-now}
@@ -7,9 +6,6 @@ use Rattle.cf_hub.specs.Hub.{Node}
 use Rattle.cf_world.specs.Serving.{Plays, Runs}
 use Rattle.cf_world.specs.Stepping.{Steps}
 use Rattle.cf_world.specs.declared.broker.Broker.{Broker}
-use Rattle.cf_world.proofs.Running.{runs-says}
-use Rattle.cf_world.proofs.Waiting.{served-still}
-use Rattle.cf_world.proofs.OneText.{told-rests}
 use Rattle.cf_world.proofs.stepping.serve_text.Goals as goal
 
 plays-by : (k : ℕ) (s heard t : Session) (text : List ℕ) (old new : Broker) (h g : Node) → HearsFrame s text heard → Keeps s heard → is_short heard ≡ false

@@ -1,6 +1,5 @@
-use Rattle.std.proofs.Common.{rules, ◌≡◌, ◌∙◌, Option, Some, None, option_map, refl, sym, ap, subst}
+use Rattle.std.proofs.Common.{◌≡◌, ◌∙◌, Option, Some, option_map, sym, subst}
 use Rattle.cf_session.specs.Played.{asked_kind}
-use Rattle.cf_session.specs.SessionMachine.{Act}
 use Rattle.cf_session.specs.Shown.{answer_kind, shown_action}
 use Rattle.cf_session.specs.Standing.{progress_of}
 use Rattle.cf_session.specs.declared.action.Action.{Action}
