@@ -14,8 +14,8 @@ mod settings;
 mod sizes;
 mod speaking;
 
-pub use cf_simulate::simulate;
 pub use cf_explain::LineFault;
+pub use cf_simulate::simulate;
 pub use command_line::{Options, ServeOptions, SpeakOptions};
 pub use explaining::explain;
 pub use fault::{Fault, Setting};
