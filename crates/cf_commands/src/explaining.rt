@@ -1,5 +1,5 @@
 //! The command `simulate` with `--explain`: of a line that is unreadable it is said why.
-ghost use Rattle.std.specs.Prelude.{true, IfSome, OnErr, OnOk};
+ghost use Rattle.std.specs.Prelude.{true, IfSome, OnOk};
 ghost use Rattle.cf_schedule.specs.Seen.{shown_config};
 ghost use Rattle.cf_simulate.specs.Simulation.{Prints};
 
@@ -28,11 +28,24 @@ pub fn explain<R: Read, W: Write>(
 {
     let mut input = Vec::new(alloc);
     reader.read_to_end(&mut input)?;
-    let mut left = input.as_slice();
+    explain_input(alloc, input.as_slice(), writer, config)
+}
+
+// The same of an input that was read.
+fn explain_input<W: Write>(
+    alloc: Global,
+    input: &[u8],
+    writer: &mut W,
+    config: &Config,
+) -> Result<(), Fault>
+    ensures done { OnOk result (Prints true (shown_config config.now) input.now
+        (W.contents writer.old) (W.contents writer.new)) }
+{
+    let mut left = input;
     match simulate(alloc, &mut left, writer, config, true) {
         Ok(()) => Ok(()),
         Err(SimulateFault::Unreadable { line }) => {
-            Err(fault_of(alloc, input.as_slice(), config.nodes, line))
+            Err(fault_of(alloc, input, config.nodes, line))
         }
         Err(fault) => Err(Fault::from(fault)),
     }

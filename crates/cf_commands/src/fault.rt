@@ -34,13 +34,17 @@ pub enum Setting {
 pub enum Fault {
     /// A schedule can't be used, or its run ended before its end.
     #[error("{fault}")]
-    Simulation { fault: SimulateFault },
+    Simulation {
+        fault: SimulateFault,
+    },
     /// The input isn't UTF-8.
     #[error("not UTF-8")]
     NotUtf8,
     /// A setting is of another form than it should be.
     #[error("unusable setting: {setting}")]
-    Setting { setting: Setting },
+    Setting {
+        setting: Setting,
+    },
     /// An entry of an option breaks a rule. Entries are numbered from 1.
     #[error("unusable setting: {option}: entry {number}, `{entry}`: {rule}")]
     Entry {
@@ -51,7 +55,10 @@ pub enum Fault {
     },
     /// A line of a schedule is unreadable, and why, which is said if the schedule is explained.
     #[error("line {line}: unreadable\nline {line}: {why}")]
-    Unreadable { line: usize, why: LineFault },
+    Unreadable {
+        line: usize,
+        why: LineFault,
+    },
     #[error("out of memory")]
     Memory,
     /// A read or a write failed, or gave no end.
@@ -59,13 +66,20 @@ pub enum Fault {
     InputOutput,
     /// A node can't listen at its address, as when another program has the port.
     #[error("node {node}: can't listen at {address}\ninput or output failed")]
-    Listen { node: u8, address: SocketAddr },
+    Listen {
+        node: u8,
+        address: SocketAddr,
+    },
     /// A node's thread can't be started.
     #[error("node {node}: its thread can't be started\ninput or output failed")]
-    NotStarted { node: u8 },
+    NotStarted {
+        node: u8,
+    },
     /// A node's loop ended, or couldn't begin, while the node was to serve.
     #[error("node {node}: its loop has ended\ninput or output failed")]
-    Ended { node: u8 },
+    Ended {
+        node: u8,
+    },
 }
 
 impl Fault {

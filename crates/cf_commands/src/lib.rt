@@ -15,8 +15,8 @@ mod sizes;
 mod speaking;
 mod stand_ins;
 
-pub use cf_simulate::simulate;
 pub use cf_explain::LineFault;
+pub use cf_simulate::simulate;
 pub use command_line::{Options, ServeOptions, SpeakOptions};
 pub use explaining::explain;
 pub use fault::{Fault, Setting};

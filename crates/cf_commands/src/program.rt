@@ -16,10 +16,12 @@ use std::thread::Threads;
 use std::time::Clock;
 use std::{env, io};
 
-const WAITS_FOR_SCHEDULE: &str = "simulate waits for a schedule on standard input, a line for each event, and runs it at the end of the
+const WAITS_FOR_SCHEDULE: &str =
+    "simulate waits for a schedule on standard input, a line for each event, and runs it at the end of the
 input (Ctrl-D). `cf_server --help` tells what else there is, `cf_server simulate --help` what a line may say.";
 
-const WAITS_FOR_MESSAGES: &str = "speak waits for a client's messages on standard input, a line for each, until the end of the input
+const WAITS_FOR_MESSAGES: &str =
+    "speak waits for a client's messages on standard input, a line for each, until the end of the input
 (Ctrl-D). `cf_server speak --help` has some to paste.";
 
 // Says on standard error what a command waits for, if its reader is a terminal, at which somebody sits.

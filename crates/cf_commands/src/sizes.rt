@@ -81,10 +81,16 @@ impl<'a> fmt::Display for Answer<'a> {
         match self {
             Answer::Set { name, size } => write!(f, "size {name}={size}: set"),
             Answer::NotSetUp { name, size } => {
-                write!(f, "size {name}={size}: passed over, since --ns sets up no such namespace")
+                write!(
+                    f,
+                    "size {name}={size}: passed over, since --ns sets up no such namespace"
+                )
             }
             Answer::Refused { name, size } => {
-                write!(f, "size {name}={size}: refused by a shard, which keeps its size")
+                write!(
+                    f,
+                    "size {name}={size}: refused by a shard, which keeps its size"
+                )
             }
             Answer::NoSize => f.write_str(NO_SIZE),
             Answer::NoMemory => f.write_str(NO_MEMORY),
