@@ -209,21 +209,24 @@ impl<'a, B: Backend> Node for CommandHandler<'a, B> {
 }
 
 impl<'a, B: Backend> CommandHandler<'a, B> {
-    /// Its client is heard in a turn at this moment, in seconds, whose cost is counted from now on.
-    pub(crate) fn begin_turn(&mut self, now: u64) {
+    /// A turn in which its client is heard is to come from this moment on, in seconds.
+    pub(crate) fn is_owed(&mut self, now: u64) {
         if now.saturating_sub(self.heard) > SECONDS_IDLE {
             self.turns = 0;
         }
+    }
+
+    /// Its client is heard in a turn at this moment, in seconds, whose cost is counted from now on.
+    pub(crate) fn begin_turn(&mut self, now: u64) {
         self.turns = self.turns.saturating_add(1);
         self.heard = now;
         self.cost = CALL;
     }
 
-    /// Whether what its client does next may cost much more than its last turn: it has shown little so
-    /// far, or was idle, and what it showed was cheap.
-    pub(crate) fn is_fresh(&self, now: u64) -> bool {
-        let is_idle = now.saturating_sub(self.heard) > SECONDS_IDLE;
-        (self.turns < TURNS_TO_KNOW || is_idle) && self.cost < LOOP_BUDGET / 64
+    /// Whether what its client does next may cost much more than its last turn: it has shown little
+    /// since it came or was idle, and what it showed was cheap. Who waits for its turn isn't idle.
+    pub(crate) fn is_fresh(&self) -> bool {
+        self.turns < TURNS_TO_KNOW && self.cost < LOOP_BUDGET / 64
     }
 
     /// Takes what waits for the client, and puts it behind what was taken for it before. Whether

@@ -193,6 +193,20 @@ fn leaves<'a, B: Backend>(leaving: Option<Leaving>) -> Connection<'a, B> {
     }
 }
 
+// Whether nobody waits in a queue, or only those who are held, where these wait on.
+fn is_idle(queue: &FairQueue, holds: bool) -> bool {
+    queue.is_empty() || holds && queue.is_light_empty()
+}
+
+// Who has the next turn of a queue, if one has.
+fn next_of(queue: &mut FairQueue, holds: bool) -> Option<usize> {
+    if holds {
+        queue.next_light()
+    } else {
+        queue.next()
+    }
+}
+
 impl<'a, B: Backend> IoLoop<'a, B> {
     // Takes turns until `stop` isn't 0, and then closes all sessions.
     fn run<R: Wait + Clock, G: Gate>(
@@ -224,20 +238,24 @@ impl<'a, B: Backend> IoLoop<'a, B> {
 
     // Waits for readiness, where nothing is left to do.
     fn wait(&mut self, events: &mut Events) -> io::Result<()> {
-        let is_idle = self.queue.is_empty() || self.queue.is_light_empty() && self.holds();
-        let is_done = is_idle
-            && self.fresh.is_empty()
+        let is_done = self.is_idle()
             && !self.is_behind
             && self.accepts != Accepts::More
             && !self.seconds.is_late();
         let patience = if !is_done {
             0
-        } else if self.queue.is_empty() {
+        } else if self.queue.is_empty() && self.fresh.is_empty() {
             PATIENCE
         } else {
             SHORT_PATIENCE
         };
         self.acceptor.wait(events, Duration::from_millis(patience))
+    }
+
+    // Whether nobody has a turn to come but those who are held.
+    fn is_idle(&self) -> bool {
+        let holds = self.holds();
+        is_idle(&self.queue, holds) && is_idle(&self.fresh, holds)
     }
 
     // Whether who is held waits on: some node is behind with what was published, or this one with
@@ -338,17 +356,19 @@ impl<'a, B: Backend> IoLoop<'a, B> {
         if self.waits(place) {
             return;
         }
-        let (is_held, is_fresh) = match self.places.get(place) {
+        let (is_held, is_fresh, may_publish) = match self.places.get_mut(place) {
             Some(Connection::Open(open)) => {
-                let handler = &open.desk.handler;
-                let is_dear = open.is_spent && handler.cost >= LOOP_BUDGET;
-                let is_fresh = handler.is_fresh(self.seconds.done());
-                (handler.is_held || is_dear, is_fresh)
+                let is_spent = open.is_spent;
+                let handler = &mut open.desk.handler;
+                handler.is_owed(self.seconds.done());
+                let is_dear = is_spent && handler.cost >= LOOP_BUDGET;
+                let may_publish = handler.client.standing.number().is_some();
+                (handler.is_held || is_dear, handler.is_fresh(), may_publish)
             }
-            _ => (false, false),
+            _ => (false, false, false),
         };
         let added = if is_fresh && !is_held {
-            self.fresh.add(place, false)
+            self.fresh.add(place, may_publish)
         } else {
             self.queue.add(place, is_held)
         };
@@ -452,12 +472,8 @@ impl<'a, B: Backend> IoLoop<'a, B> {
             0
         };
         for heard in 0..self.queue.len() {
-            let next = if self.holds() {
-                self.queue.next_light()
-            } else {
-                self.queue.next()
-            };
-            let Some(place) = next else {
+            let holds = self.holds();
+            let Some(place) = next_of(&mut self.queue, holds) else {
                 return;
             };
             self.hear(place);
@@ -471,11 +487,13 @@ impl<'a, B: Backend> IoLoop<'a, B> {
     }
 
     // The same of those of whom it isn't known what they cost, in the order in which they came: so
-    // many whose turns prove dear keep nobody else waiting for more than one of them.
+    // many whose turns prove dear keep nobody else waiting for more than one of them. Those that may
+    // publish are held as others are.
     fn serve_fresh(&mut self) {
         self.spent = 0;
         for heard in 0..self.fresh.len() {
-            let Some(place) = self.fresh.next() else {
+            let holds = self.holds();
+            let Some(place) = next_of(&mut self.fresh, holds) else {
                 return;
             };
             self.hear(place);
