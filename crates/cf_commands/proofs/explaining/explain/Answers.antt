@@ -1,7 +1,7 @@
 use Rattle.std.proofs.Common.{List, ℕ, true}
 use Rattle.cf_schedule.specs.Seen.{shown_config}
 use Rattle.cf_simulate.specs.Simulation.{Prints}
-use Rattle.cf_commands.proofs.Explaining.{on_input}
+use Rattle.cf_commands.proofs.Inputs.{on_input}
 use Rattle.cf_commands.proofs.explaining.explain.Goals as goal
 
 pub returns-clause-done : goal.returns-clause-done
