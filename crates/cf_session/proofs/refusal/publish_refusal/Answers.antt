@@ -1,4 +1,4 @@
-use Rattle.std.proofs.Common.{rules, ◌≡◌, ◌≤◌, ◌||◌, ℕ, Bool, true, false, Option, None, List, [], ◌∷◌, length, refl, sym, ◌∙◌}
+use Rattle.std.proofs.Common.{rules, ◌≡◌, ◌≤◌, ◌||◌, ℕ, Bool, true, false, None, List, [], ◌∷◌, length, refl, sym, ◌∙◌}
 use Rattle.cf_protocol.specs.Checks.{Check, first_failed, is_bad_channel, is_bad_data, is_bad_key, may_publish, set_up}
 use Rattle.cf_protocol.specs.Shown.{shown_data}
 use Rattle.cf_protocol.specs.declared.codes.ErrorCode.{ErrorCode}
