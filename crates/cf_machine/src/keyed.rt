@@ -1,9 +1,11 @@
 //! Schedules with keys, and with sizes that change, computed on the definitions.
 ghost use Rattle.std.specs.Prelude.{◌≡◌, [], ◌∷◌};
 ghost use Rattle.cf_machine.specs.Event.{SetSize};
-ghost use Rattle.cf_machine.specs.Examples.{as_lines, keeping, plain, shown};
+ghost use Rattle.cf_machine.specs.LooseRun.{lines};
+ghost use Rattle.cf_machine.specs.StreamSafety.{Safe};
+ghost use Rattle.cf_machine.specs.Examples.{as_lines, keeping, plain, shown, tells_lost, tells_pub, tells_sub};
 ghost use Rattle.cf_machine.specs.RuleExamples.{shown_from};
-ghost use Rattle.cf_machine.specs.KeyExamples.{sent_twice, keys_gone, last_with_key, repeat_at_last, long_key, long_with_key, grows, sizes_stay};
+ghost use Rattle.cf_machine.specs.KeyExamples.{sent_twice, keys_gone, last_with_key, repeat_at_last, long_key, long_with_key, grows, sizes_stay, tells_all_missed};
 
 /// What the interval machine's clients are told where publishes have keys, and where sizes change.
 pub fn worked_keys_and_sizes()
@@ -29,4 +31,23 @@ pub fn worked_keys_and_sizes()
         ("ann news sub aaaa 0 fresh" ∷ "ann news pub aaaa 1 1" ∷ "ann news pub aaaa 2 2" ∷
         "ann news sub aaaa 7 lost" ∷ []) }
     ensures sizes_stay { shown (keeping 3) sizes_stay ≡ as_lines ("ann news list bbbb 3 2" ∷ []) }
+{}
+
+/// What stream safety refuses where publishes have keys, and where sizes change: what was sent twice told as a second publication,
+/// as one more at the end, or with what it was sent with the second time; `recovered` after a size that dropped some of what was
+/// missed, also where a larger size came after it; and `lost` where a size that had grown held all of it.
+pub fn unsafe_keys_and_sizes()
+    ensures second_place { Safe plain (lines sent_twice) (tells_sub 6 0 ∷ tells_pub 13 1 "1"
+        ∷ tells_pub 14 2 "2" ∷ []) → ⊥ }
+    ensures one_more { Safe plain (lines sent_twice) (tells_sub 6 0 ∷ tells_pub 13 1 "1"
+        ∷ tells_pub 14 2 "3" ∷ tells_pub 15 3 "2" ∷ []) → ⊥ }
+    ensures second_data { Safe plain (lines sent_twice) (tells_sub 6 0 ∷ tells_pub 13 1 "2"
+        ∷ tells_pub 14 2 "3" ∷ []) → ⊥ }
+    ensures dropped { Safe (keeping 3) (lines (grows (SetSize [] 2 ∷ [])))
+        (tells_sub 6 0 ∷ tells_pub 11 1 "1" ∷ tells_pub 12 2 "2" ∷ tells_all_missed 25) → ⊥ }
+    ensures dropped_before { Safe (keeping 3)
+        (lines (grows (SetSize [] 2 ∷ SetSize [] 5 ∷ [])))
+        (tells_sub 6 0 ∷ tells_pub 11 1 "1" ∷ tells_pub 12 2 "2" ∷ tells_all_missed 26) → ⊥ }
+    ensures held_by_then { Safe (keeping 3) (lines (grows [])) (tells_sub 6 0
+        ∷ tells_pub 11 1 "1" ∷ tells_pub 12 2 "2" ∷ tells_lost 24 7 ∷ []) → ⊥ }
 {}
