@@ -15,6 +15,9 @@ use std::collections::{BTreeMap, VecDeque};
 /// A client that wasn't heard for more seconds than these was idle.
 const SECONDS_IDLE: u64 = 2;
 
+/// A turn is dear that costs as much as this.
+const DEAR: u64 = LOOP_BUDGET / 64;
+
 /// After so many turns it is known what those of a client cost.
 const TURNS_TO_KNOW: u32 = 8;
 
@@ -31,6 +34,8 @@ pub(crate) struct CommandHandler<'a, B> {
     pub(crate) is_held: bool,
     /// What the turn costs so far in which its client was heard last.
     pub(crate) cost: u64,
+    /// What its turns before were expected to cost, of which half is believed of the next one.
+    pub(crate) expected: u64,
     /// In how many turns it was heard since it came or was idle.
     pub(crate) turns: u32,
     /// When it was heard last, in seconds.
@@ -220,13 +225,20 @@ impl<'a, B: Backend> CommandHandler<'a, B> {
     pub(crate) fn begin_turn(&mut self, now: u64) {
         self.turns = self.turns.saturating_add(1);
         self.heard = now;
+        self.expected = self.cost.max(self.expected / 2);
         self.cost = CALL;
+    }
+
+    /// Whether the next turn of its client is expected to be dear: as the last one was, or one before,
+    /// of whose cost half less is believed with each turn.
+    pub(crate) fn is_dear(&self) -> bool {
+        self.cost.max(self.expected / 2) >= DEAR
     }
 
     /// Whether what its client does next may cost much more than its last turn: it has shown little
     /// since it came or was idle, and what it showed was cheap. Who waits for its turn isn't idle.
     pub(crate) fn is_fresh(&self) -> bool {
-        self.turns < TURNS_TO_KNOW && self.cost < LOOP_BUDGET / 64
+        self.turns < TURNS_TO_KNOW && !self.is_dear()
     }
 
     /// Takes what waits for the client, and puts it behind what was taken for it before. Whether

@@ -19,8 +19,8 @@ use std::mem;
 /// What a turn may carry out of a client's texts, in the units of `cf_session::Budget`.
 const UNITS: usize = 96;
 
-/// The same where some node is behind with what was published: one call.
-const FEW_UNITS: usize = 4;
+/// The same where some node is behind with what was published: one call and its reply.
+const FEW_UNITS: usize = 5;
 
 /// The units of one part of that: a call of the node, or a few texts that are only said.
 const PART: usize = 4;
@@ -152,6 +152,7 @@ impl<'a, B: Backend> SessionDesk<'a, B> {
                 has_published: false,
                 is_held: false,
                 cost: 0,
+                expected: 0,
                 turns: 0,
                 heard: now,
             },

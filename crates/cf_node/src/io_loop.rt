@@ -92,8 +92,9 @@ struct IoLoop<'a, B: Backend> {
     // The places that have a turn to come. Those are held that published while some node was behind,
     // or more than one turn of the loop sends.
     queue: FairQueue,
-    // The same of those of whom it isn't known what they cost: each turn of the loop gives turns to
-    // some of either.
+    // The same of those whose turns are dear, and of those of whom it isn't known what they cost: each
+    // turn of the loop gives turns to some of each.
+    dear: FairQueue,
     fresh: FairQueue,
     // What the turns cost that this turn of the loop has given so far.
     spent: u64,
@@ -133,6 +134,7 @@ pub(crate) fn serve<R: Wait + Clock, B: Backend, G: Gate>(
         free: Vec::new(alloc),
         owners: Vec::new(alloc),
         queue: FairQueue::new(alloc, LOOP_BUDGET),
+        dear: FairQueue::new(alloc, LOOP_BUDGET),
         fresh: FairQueue::new(alloc, LOOP_BUDGET),
         spent: 0,
         debt: 0,
@@ -244,7 +246,7 @@ impl<'a, B: Backend> IoLoop<'a, B> {
             && !self.seconds.is_late();
         let patience = if !is_done {
             0
-        } else if self.queue.is_empty() && self.fresh.is_empty() {
+        } else if self.queue.is_empty() && self.dear.is_empty() && self.fresh.is_empty() {
             PATIENCE
         } else {
             SHORT_PATIENCE
@@ -255,7 +257,7 @@ impl<'a, B: Backend> IoLoop<'a, B> {
     // Whether nobody has a turn to come but those who are held.
     fn is_idle(&self) -> bool {
         let holds = self.holds();
-        is_idle(&self.queue, holds) && is_idle(&self.fresh, holds)
+        is_idle(&self.queue, holds) && is_idle(&self.dear, holds) && is_idle(&self.fresh, holds)
     }
 
     // Whether who is held waits on: some node is behind with what was published, or this one with
@@ -280,7 +282,9 @@ impl<'a, B: Backend> IoLoop<'a, B> {
             self.accept_some();
         }
         self.serve_named();
-        self.serve_queue();
+        self.pay();
+        self.serve_light();
+        self.serve_dear();
         self.serve_fresh();
         if !self.is_behind {
             self.backend.shared().catch_up();
@@ -356,19 +360,23 @@ impl<'a, B: Backend> IoLoop<'a, B> {
         if self.waits(place) {
             return;
         }
-        let (is_held, is_fresh, may_publish) = match self.places.get_mut(place) {
-            Some(Connection::Open(open)) => {
-                let is_spent = open.is_spent;
-                let handler = &mut open.desk.handler;
-                handler.is_owed(self.seconds.done());
-                let is_dear = is_spent && handler.cost >= LOOP_BUDGET;
-                let may_publish = handler.client.standing.number().is_some();
-                (handler.is_held || is_dear, handler.is_fresh(), may_publish)
-            }
-            _ => (false, false, false),
-        };
-        let added = if is_fresh && !is_held {
+        let mut is_held = false;
+        let mut is_dear = false;
+        let mut is_fresh = false;
+        let mut may_publish = false;
+        if let Some(Connection::Open(open)) = self.places.get_mut(place) {
+            let is_spent = open.is_spent;
+            let handler = &mut open.desk.handler;
+            handler.is_owed(self.seconds.done());
+            is_held = handler.is_held || is_spent && handler.cost >= LOOP_BUDGET;
+            is_dear = handler.is_dear();
+            is_fresh = handler.is_fresh() && !is_held;
+            may_publish = handler.client.standing.number().is_some();
+        }
+        let added = if is_fresh {
             self.fresh.add(place, may_publish)
+        } else if is_dear {
+            self.dear.add(place, is_held)
         } else {
             self.queue.add(place, is_held)
         };
@@ -379,13 +387,15 @@ impl<'a, B: Backend> IoLoop<'a, B> {
 
     // Whether a place waits for its turn.
     fn waits(&self, place: usize) -> bool {
-        self.queue.waits(place) || self.fresh.waits(place)
+        self.queue.waits(place) || self.dear.waits(place) || self.fresh.waits(place)
     }
 
     // What a turn cost counts for its connection, and for this turn of the loop: no further turn is
     // given in it behind one that has spent its bounds.
     fn charge(&mut self, place: usize, cost: u64, is_spent: bool) {
-        self.queue.charge(place, cost, self.fresh.len() as u64);
+        let others = self.fresh.len() as u64;
+        self.queue.charge(place, cost, others);
+        self.dear.charge(place, cost, others);
         let spent = if is_spent { LOOP_BUDGET } else { cost };
         self.spent = self.spent.saturating_add(spent);
         self.debt = self.debt.saturating_add(cost);
@@ -461,26 +471,40 @@ impl<'a, B: Backend> IoLoop<'a, B> {
         Ok(place)
     }
 
-    // Who has a turn to come has it, the one that is due first, until these turns cost what one of the
-    // loop may; and who got something by it is served.
-    fn serve_queue(&mut self) {
-        self.spent = 0;
-        // What is sent is owed no more.
+    // What is sent is owed no more.
+    fn pay(&mut self) {
         self.debt = if self.is_behind {
             self.debt.saturating_sub(LOOP_BUDGET)
         } else {
             0
         };
+    }
+
+    // Who has a turn to come has it, the one that is due first, until these turns cost what one of the
+    // loop may; and who got something by it is served.
+    fn serve_light(&mut self) {
+        self.spent = 0;
         for heard in 0..self.queue.len() {
             let holds = self.holds();
             let Some(place) = next_of(&mut self.queue, holds) else {
                 return;
             };
-            self.hear(place);
-            if heard % HEARD_AT_ONCE == 0 {
-                self.serve_named();
+            if self.hears_enough(place, heard) {
+                return;
             }
-            if self.spent >= LOOP_BUDGET {
+        }
+    }
+
+    // The same of those whose turns are dear: they keep nobody else waiting for more than one of
+    // theirs, however many they are.
+    fn serve_dear(&mut self) {
+        self.spent = 0;
+        for heard in 0..self.dear.len() {
+            let holds = self.holds();
+            let Some(place) = next_of(&mut self.dear, holds) else {
+                return;
+            };
+            if self.hears_enough(place, heard) {
                 return;
             }
         }
@@ -496,14 +520,20 @@ impl<'a, B: Backend> IoLoop<'a, B> {
             let Some(place) = next_of(&mut self.fresh, holds) else {
                 return;
             };
-            self.hear(place);
-            if heard % HEARD_AT_ONCE == 0 {
-                self.serve_named();
-            }
-            if self.spent >= LOOP_BUDGET {
+            if self.hears_enough(place, heard) {
                 return;
             }
         }
+    }
+
+    // The turn of the connection at a place, behind so many others. Whether turns have cost what this
+    // turn of the loop may.
+    fn hears_enough(&mut self, place: usize, heard: usize) -> bool {
+        self.hear(place);
+        if heard % HEARD_AT_ONCE == 0 {
+            self.serve_named();
+        }
+        self.spent >= LOOP_BUDGET
     }
 
     // The turn of the connection at a place: its head is read on, or its client is heard.
@@ -614,6 +644,7 @@ impl<'a, B: Backend> IoLoop<'a, B> {
     // A place stands empty again.
     fn vacate(&mut self, place: usize) {
         self.queue.remove(place);
+        self.dear.remove(place);
         self.fresh.remove(place);
         let _ = self.free.push(place);
     }
