@@ -44,6 +44,7 @@ fn name_of(answer: &[u8]) -> &'static str {
 }
 
 /// Heads that a node looks at.
+#[derive(Drop)]
 struct Heads;
 
 impl Subject for Heads {
