@@ -1,8 +1,17 @@
-"""The program that a script of examples/, bench/ or .ci/ runs: the one that was made here, or another one that its words name."""
+"""The program that a script of examples/, bench/ or .ci/ runs: the one that was made here, or another one that its words name; and how
+a script ends."""
 import os
 import sys
 
 TOP = os.path.dirname(os.path.dirname(os.path.abspath(__file__)))
+
+
+class Fails(Exception):
+    """A point doesn't hold, in words."""
+
+
+class Closed(Exception):
+    """A connection is over: with the code of its close, or 0 if none came."""
 
 
 def program_at(path=None, crate="cf_server"):
@@ -27,3 +36,13 @@ def words_and_program(crate="cf_server", most=None, usage="", words=None):
     if odd:
         sys.exit(f"{os.path.basename(sys.argv[0])}: it takes no word {odd[0]}; --help tells what it takes")
     return words, program_at(path, crate)
+
+
+def ended_by(main):
+    """Runs a script, and ends with the status that it gives, or, if a point doesn't hold, with 1 and with what was wrong."""
+    try:
+        sys.exit(main())
+    except (Fails, Closed) as fault:
+        folder, name = os.path.split(os.path.abspath(sys.argv[0]))
+        print(f"{os.path.basename(folder)}/{name}: {'closed with ' if isinstance(fault, Closed) else ''}{fault}")
+        sys.exit(1)

@@ -10,7 +10,7 @@ With `--pong 1` also a client that never answers a ping and goes on sending: it 
 """
 import time
 
-from peers import Server, connected, frame, handshake, run, text_of
+from peers import Server, connected, frame, frames_in, handshake, run, text_of
 
 TOKENS = ("--tokens", "right=user")
 BEHIND = (2, 3, 20, 200, 1000)
@@ -44,16 +44,8 @@ FRAMES = [
 
 def first_close(data):
     """The code of the first close frame that the server sent in these bytes, behind the head of its answer; None without one."""
-    at = data.find(b"\r\n\r\n") + 4
-    while len(data) - at >= 2:
-        size, start = data[at + 1] & 0x7F, at + 2
-        if size >= 126:
-            width = 2 if size == 126 else 8
-            size, start = int.from_bytes(data[start:start + width], "big"), start + width
-        if data[at] & 0x0F == 8:
-            return int.from_bytes(data[start:start + 2], "big")
-        at = start + size
-    return None
+    behind = data[data.find(b"\r\n\r\n") + 4:]
+    return next((int.from_bytes(payload[:2], "big") for kind, payload, _ in frames_in(behind) if kind == 8), None)
 
 
 def told(port, data, later=frame(SMALL), seconds=10):
