@@ -106,4 +106,6 @@ class Follower:
             self.wait = min(2 * self.wait, 5)
 
 
+if len(sys.argv) != 4:
+    sys.exit(__doc__)
 Follower().follow(sys.argv[1], int(sys.argv[2]), sys.argv[3])

@@ -18,4 +18,10 @@ async def publish(server, channel, data):
     return "no server answered"
 
 if __name__ == "__main__":
-    sys.exit(asyncio.run(publish(sys.argv[1], sys.argv[2], json.loads(sys.argv[3]))))
+    if len(sys.argv) != 4:
+        sys.exit(__doc__)
+    try:
+        data = json.loads(sys.argv[3])
+    except ValueError as fault:
+        sys.exit(f"publish.py: the third word is no JSON: {fault}")
+    sys.exit(asyncio.run(publish(sys.argv[1], sys.argv[2], data)))

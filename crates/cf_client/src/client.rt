@@ -117,7 +117,7 @@ impl Client {
     ///
     /// # Errors
     ///
-    /// `NotNow` while not connected, and where the channel isn't idle; `AtLastId` where no id is left; `Memory`.
+    /// `NotNow` while not connected, and if the channel isn't idle; `AtLastId` if no id is left; `Memory`.
     pub fn ask(&mut self, channel: &str) -> Result<String, ClientFault>
         ensures text { IfOk result (IsNextCommand self.old (request.Subscribe channel.now None)) }
         ensures ok { OnOk result (state_of self.new ≡ asked channel.now None (state_of self.old)) }
@@ -131,7 +131,7 @@ impl Client {
     ///
     /// # Errors
     ///
-    /// `NotNow` while not connected, and where the channel isn't idle; `AtLastId` where no id is left; `Memory`.
+    /// `NotNow` while not connected, and if the channel isn't idle; `AtLastId` if no id is left; `Memory`.
     pub fn ask_from(&mut self, channel: &str) -> Result<String, ClientFault>
         ensures text { IfOk result
             (IsNextCommand self.old
@@ -179,7 +179,7 @@ impl Client {
     ///
     /// # Errors
     ///
-    /// `NotNow` while not connected; `AtLastId` where no id is left.
+    /// `NotNow` while not connected; `AtLastId` if no id is left.
     pub fn next_id(&self) -> Result<u32, ClientFault>
         ensures ok { IfOk result (λ id. id ≡ (state_of self.now).client.fresh) }
         ensures may { OnOk result (call_fault (state_of self.now) ≡ None) }
@@ -199,7 +199,7 @@ impl Client {
     ///
     /// # Errors
     ///
-    /// `NotNow` while not connected, and where the channel is idle; `AtLastId` where no id is left; `Memory`.
+    /// `NotNow` while not connected, and if the channel is idle; `AtLastId` if no id is left; `Memory`.
     pub fn leave(&mut self, channel: &str) -> Result<String, ClientFault>
         ensures text { IfOk result (IsNextCommand self.old (request.Unsubscribe channel.now)) }
         ensures ok { OnOk result (state_of self.new ≡ left channel.now (state_of self.old)) }
@@ -223,7 +223,7 @@ impl Client {
     ///
     /// # Errors
     ///
-    /// `NotNow` while not connected; `AtLastId` where no id is left; `Memory`.
+    /// `NotNow` while not connected; `AtLastId` if no id is left; `Memory`.
     pub fn put(&mut self, channel: &str, body: &str) -> Result<String, ClientFault>
         ensures text { IfOk result
             (IsNextCommand self.old (request.Publish channel.now [] (request.Body body.now))) }
@@ -239,7 +239,7 @@ impl Client {
     ///
     /// # Errors
     ///
-    /// `NotNow` while not connected; `AtLastId` where no id is left; `Memory`.
+    /// `NotNow` while not connected; `AtLastId` if no id is left; `Memory`.
     pub fn put_key(&mut self, channel: &str, key: &str, body: &str) -> Result<String, ClientFault>
         ensures text { IfOk result
             (IsNextCommand self.old (request.Publish channel.now key.now (request.Body body.now))) }
@@ -265,7 +265,7 @@ impl Client {
     ///
     /// # Errors
     ///
-    /// `NotNow` while not connected; `AtLastId` where no id is left; `Memory`.
+    /// `NotNow` while not connected; `AtLastId` if no id is left; `Memory`.
     pub fn list(&mut self, channel: &str, limit: i32) -> Result<String, ClientFault>
         ensures text { IfOk result
             (IsNextCommand self.old (request.History channel.now limit None false)) }
@@ -315,7 +315,7 @@ impl Client {
     ///
     /// # Errors
     ///
-    /// `Bad` where the text is no frame of replies and pushes, whether the client is connected or not; `NotNow` where it is one,
+    /// `Bad` if the text is no frame of replies and pushes, whether the client is connected or not; `NotNow` if it is one,
     /// while not connected; `Memory`, which leaves the client as it was too: what takes memory comes before the first change. A
     /// text for which memory is refused while it is read is `Memory`, since nobody knows then whether it is `Bad`.
     pub fn on_text(&mut self, text: &str) -> Result<Vec<AppEvent>, ClientFault>

@@ -10,7 +10,7 @@ use std::alloc::AllocError;
 #[derive(Drop)]
 pub enum AppEvent {
     /// The subscription stands. The publications that the client gets from now on follow the position, or the position
-    /// that it had before where it has recovered.
+    /// that it had before if it has recovered.
     Subscribed {
         channel: String,
         /// Whether the client asked to go on from a position.

@@ -5,7 +5,7 @@ ghost use Rattle.cf_client.specs.declared.fault.ClientFault.TheVariants.{Memory}
 use std::alloc::AllocError;
 use thiserror::Error;
 
-/// Why a call of a client is refused. Of several causes the first named here is given, but that a text is `Memory` where memory
+/// Why a call of a client is refused. Of several causes the first named here is given, but that a text is `Memory` if memory
 /// is refused while it is read. A refused call changes nothing.
 #[derive(Clone, Copy, PartialEq, Eq, Debug, Drop, Error)]
 pub enum ClientFault {

@@ -57,8 +57,8 @@ A line `size NAME=K` of standard input sets how many publications the streams of
 The answer stands on standard error: `size =200: set`, or why it was passed over, or that a shard of the broker refused it and
 keeps its size. Lines that don't begin with `size` are passed over, and not answered.
 
-On standard error it says, at most once a second of each kind, how many connections were refused for want of descriptors or
-memory, how many publications were lost on full links, and how many sessions were closed for slowness; --quiet for none.";
+On standard error it says, at most once a second of each node and kind, how many connections were refused for want of descriptors
+or memory, how many publications were lost on full links, and how many sessions were closed for slowness; --quiet for none.";
 
 const SPEAK: &str = "Speaks with one client: each line of standard input is one of its messages";
 

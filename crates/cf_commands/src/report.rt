@@ -1,7 +1,8 @@
-//! What an operator sees on standard error while nodes serve: at most one line a second of each kind.
+//! What an operator sees on standard error while nodes serve: at most one line a second of each node and kind.
 use crate::readiness::Readiness;
 use crate::running::Running;
 use cf_broker::Broker;
+use cf_node::FaultCounts;
 use cf_shard::Naming;
 use cf_stream::Epochs;
 use mio::Interest;
@@ -46,23 +47,90 @@ impl Teller {
         }
     }
 
-    // Tells how often it has gone wrong since that was told last, and how often in all, if there is something new.
-    fn tell<R: Eprint>(&mut self, rt: &R, what: &str, told: &mut u64, all: u64) {
+    // Tells how often it has gone wrong at a node since that was told last, and how often in all, if there is something new.
+    fn tell<R: Eprint>(&mut self, rt: &R, node: usize, what: &str, told: &mut u64, all: u64) {
         let more = all.saturating_sub(*told);
         if more > 0 && self.is_heard() {
-            let _ = eprintln!(rt; "{what}: {more} more, {all} in all");
+            let _ = eprintln!(rt; "node {node}: {what}: {more} more, {all} in all");
             *told = all;
         }
     }
 }
 
-// How many publications the nodes lost, since their links had no room for them.
-fn lost_of<N: Naming, E: Epochs + Drop>(broker: &Broker<N, E>) -> u64 {
-    let mut lost: u64 = 0;
-    for node in 0..broker.nodes() {
-        lost = lost.saturating_add(broker.lost(node));
+// What goes wrong at a node, and how much of it was told.
+#[derive(Drop)]
+struct Told<'a> {
+    node: usize,
+    counts: &'a FaultCounts,
+    refused: u64,
+    lost: u64,
+    slow: u64,
+}
+
+impl<'a> Told<'a> {
+    // Tells what is new, if the node's link has lost so many publications.
+    fn go_on<R: Eprint>(&mut self, rt: &R, teller: &mut Teller, lost: u64) {
+        let node = self.node;
+        let lack = "connections refused for want of descriptors or memory";
+        teller.tell(rt, node, lack, &mut self.refused, self.counts.refused());
+        let full = "publications lost on full links";
+        teller.tell(rt, node, full, &mut self.lost, lost);
+        let slow = "sessions closed for slowness";
+        teller.tell(rt, node, slow, &mut self.slow, self.counts.slow());
     }
-    lost
+}
+
+/// What tells each second what goes wrong at the nodes.
+#[derive(Drop)]
+pub(crate) struct Reporter<'a> {
+    teller: Teller,
+    // One for each node; none if the program is to be quiet.
+    nodes: Vec<Told<'a>>,
+}
+
+impl<'a> Reporter<'a> {
+    /// A reporter at standard error, who has told nothing yet.
+    pub(crate) fn open<R: Net + AllocGlobal>(
+        rt: &R,
+        running: &'a Running,
+    ) -> io::Result<Reporter<'a>> {
+        let mut nodes = Vec::new(rt.alloc());
+        if !running.is_quiet {
+            for (node, counts) in running.counts.iter().enumerate() {
+                nodes.push(Told {
+                    node,
+                    counts,
+                    refused: 0,
+                    lost: 0,
+                    slow: 0,
+                })?;
+            }
+        }
+        let teller = Teller::open(rt)?;
+        Ok(Reporter { teller, nodes })
+    }
+
+    /// Tells each second what has gone wrong since the last one, until `stop` isn't 0.
+    pub(crate) fn report<R, N, E>(&mut self, rt: &R, broker: &Broker<N, E>, stop: &AtomicU64)
+    where
+        R: Eprint + Wait + Clock,
+        N: Naming,
+        E: Epochs + Drop,
+    {
+        if self.nodes.is_empty() {
+            return;
+        }
+        for _ in rt.forever() {
+            let is_over = sees_stop(rt, stop);
+            for told in self.nodes.iter_mut() {
+                let lost = broker.lost(told.node);
+                told.go_on(rt, &mut self.teller, lost);
+            }
+            if is_over {
+                break;
+            }
+        }
+    }
 }
 
 // Waits for a second, or until `stop` isn't 0. Whether it is.
@@ -74,35 +142,4 @@ fn sees_stop<R: Clock>(rt: &R, stop: &AtomicU64) -> bool {
         thread::sleep(rt, Duration::from_millis(BETWEEN));
     }
     false
-}
-
-/// Tells each second what has gone wrong since the last one, until `stop` isn't 0; if the program is to be quiet, nothing.
-pub(crate) fn report<R, N, E>(
-    rt: &R,
-    teller: &mut Teller,
-    broker: &Broker<N, E>,
-    running: &Running,
-    stop: &AtomicU64,
-)
-where
-    R: Eprint + Wait + Clock,
-    N: Naming,
-    E: Epochs + Drop,
-{
-    if running.is_quiet {
-        return;
-    }
-    let counts = &running.counts;
-    let (mut refused, mut lost, mut slow) = (0, 0, 0);
-    for _ in rt.forever() {
-        let is_over = sees_stop(rt, stop);
-        let lack = "connections refused for want of descriptors or memory";
-        teller.tell(rt, lack, &mut refused, counts.refused());
-        let full = "publications lost on full links";
-        teller.tell(rt, full, &mut lost, lost_of(broker));
-        teller.tell(rt, "sessions closed for slowness", &mut slow, counts.slow());
-        if is_over {
-            break;
-        }
-    }
 }

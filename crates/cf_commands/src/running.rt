@@ -43,8 +43,8 @@ pub(crate) struct Running {
     begun: AtomicU64,
     // The number of a node whose loop ended, or `NONE`.
     failed: AtomicU64,
-    /// What goes wrong at the nodes.
-    pub(crate) counts: FaultCounts,
+    /// What goes wrong at each node.
+    pub(crate) counts: Vec<FaultCounts>,
     /// What publications reach, at all nodes.
     pub(crate) reach: Reach,
     /// Whether nothing is said of that.
@@ -52,14 +52,22 @@ pub(crate) struct Running {
 }
 
 impl Running {
-    /// No node serves yet. An error if there is no clock.
-    pub(crate) fn new<R: Clock>(rt: &R, reach: Reach, is_quiet: bool) -> io::Result<Running> {
+    /// So many nodes, of which none serves yet. An error if there is no clock, or no memory.
+    pub(crate) fn new<R: Clock + AllocGlobal>(
+        rt: &R,
+        nodes: u8,
+        is_quiet: bool,
+    ) -> io::Result<Running> {
+        let mut counts = Vec::with_capacity(rt.alloc(), usize::from(nodes))?;
+        for _ in 0..nodes {
+            counts.push(FaultCounts::new())?;
+        }
         Ok(Running {
             start: Instant::now(rt)?,
             begun: AtomicU64::new(0),
             failed: AtomicU64::new(NONE),
-            counts: FaultCounts::new(),
-            reach,
+            counts,
+            reach: Reach::new(rt.alloc(), nodes)?,
             is_quiet,
         })
     }

@@ -6,14 +6,14 @@ ghost use denote.Param.Send.{IsSend, IsSync};
 use crate::command_line::ServeOptions;
 use crate::entries::{namespaces_of, tokens_of};
 use crate::fault::{Fault, Setting};
-use crate::report::{Teller, report};
+use crate::report::{Reporter, Teller};
 use crate::running::{Ear, Running, wait_for_workers};
 use crate::sizes::{Listener, Sizes};
 use crate::stand_ins::stand_ins;
 use cf_broker::{Broker, Passes, Words};
 use cf_epochs::{Boot, BootEpochs};
 use cf_link::{Receiver, Sender, pair};
-use cf_node::{Node, Reach, Setup};
+use cf_node::{Node, Setup};
 use cf_protocol::{Namespaces, Tokens};
 use cf_shard::{Delivery, Naming};
 use mio::net::TcpListener;
@@ -39,7 +39,7 @@ struct Opened<'a, N: Naming> {
 }
 
 // The nodes, the broker between them with its passes, and where they listen. The broker lies in a box, since a function that lends
-// a broker of its own is dear to prove.
+// a broker of its own is costly to prove.
 #[derive(Drop)]
 struct Joined<'a, N: Naming> {
     broker: Box<Broker<N, BootEpochs>>,
@@ -50,9 +50,9 @@ struct Joined<'a, N: Naming> {
 
 // What hears standard input, and what tells on standard error.
 #[derive(Drop)]
-struct Senses {
+struct Senses<'a> {
     ear: Ear,
-    teller: Teller,
+    reporter: Reporter<'a>,
 }
 
 /// Serves clients until standard input ends. Each node's address is printed as `node I 127.0.0.1:PORT` once all nodes serve.
@@ -114,8 +114,7 @@ where
     requires words { words ≡ names N.words 16 }
     requires namespaces { namespaces.now ≡ N.namespaces }
 {
-    let reach = Reach::new(rt.alloc(), options.nodes)?;
-    let running = Running::new(rt, reach, options.is_quiet)?;
+    let running = Running::new(rt, options.nodes, options.is_quiet)?;
     let Joined {
         broker,
         passes,
@@ -132,7 +131,7 @@ where
     // All that a start needs is there before the first client is accepted.
     let senses = Senses {
         ear: Ear::open(rt)?,
-        teller: Teller::open(rt)?,
+        reporter: Reporter::open(rt, &running)?,
     };
     run_nodes(
         rt,
@@ -189,10 +188,12 @@ fn open_nodes<'a, N: Naming, R: Net + AllocGlobal>(
         addresses: Vec::new(rt.alloc()),
     };
     for number in 0..options.nodes {
-        let setup = Setup::new(number, options.boot, namespaces, tokens)
-            .counted(&running.counts)
+        let mut setup = Setup::new(number, options.boot, namespaces, tokens)
             .stale(u64::from(options.stale))
             .reaching(&running.reach);
+        if let Some(counts) = running.counts.get(usize::from(number)) {
+            setup = setup.counted(counts);
+        }
         add_node(rt, options, setup, &mut opened)?;
     }
     Ok(opened)
@@ -291,7 +292,7 @@ fn run_nodes<N, R>(
     nodes: Vec<Node<'_, N>>,
     addresses: &[SocketAddr],
     sizes: &mut Sizes<'_, R, N, BootEpochs>,
-    senses: Senses,
+    senses: Senses<'_>,
 ) -> Result<(), Fault>
 where
     N: Naming + Send + Sync,
@@ -300,7 +301,7 @@ where
     let broker = sizes.broker;
     let Senses {
         mut ear,
-        mut teller,
+        mut reporter,
     } = senses;
     let stop = AtomicU64::new(0);
     let stop = &stop;
@@ -323,7 +324,7 @@ where
             ) {
                 Ok(()) => {
                     // If nobody can tell what goes wrong, the nodes serve all the same.
-                    let _ = scope.spawn(move || report(rt, &mut teller, broker, running, stop));
+                    let _ = scope.spawn(move || reporter.report(rt, broker, stop));
                     watch(rt, running, addresses, sizes, &mut ear)
                 }
                 Err(fault) => Err(fault),

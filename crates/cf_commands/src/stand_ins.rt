@@ -6,11 +6,11 @@ use std::rt::Files;
 
 const NULL_DEVICE: &str = "/dev/null";
 
-// Where it is seen whether the stream of this number is open. Where nothing tells that, none seems to be.
+// Where it is seen whether the stream of this number is open. If nothing tells that, none seems to be.
 const STREAMS: [&str; 3] = ["/proc/self/fd/0", "/proc/self/fd/1", "/proc/self/fd/2"];
 
 /// The null device, in the place of each standard stream that is closed: a file that is opened gets the lowest number that is free.
-/// While these are kept no socket has the number of a stream, and gets what is written there. Where there is no such device,
+/// While these are kept no socket has the number of a stream, and gets what is written there. If there is no such device,
 /// nothing.
 ///
 /// # Errors

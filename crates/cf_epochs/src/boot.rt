@@ -27,7 +27,7 @@ impl Model for Boot {
 }
 
 impl Boot {
-    /// The start of this number, where it is in the range.
+    /// The start of this number, if it is in the range.
     pub fn new(number: u64) -> Option<Boot>
         ensures some { IfSome result (λ b. b ≡ number) }
         ensures variant { IsSome result ↔ IsBoot number }

@@ -5,7 +5,7 @@ ghost use Rattle.std.specs.Prelude.{◌≡◌, ◌≢◌, List, ℕ};
 ghost use Rattle.std.specs.List.{All, AllPairs};
 ghost use Rattle.cf_epochs.specs.Source.{AreOthers, Gives, IsSource, Source, epoch_at};
 
-/// Two sources gave one epoch last only where their boot numbers, shards and counts are the same.
+/// Two sources gave one epoch last only if their boot numbers, shards and counts are the same.
 #[tactic(auto, using(crate::proofs::Spelling::told_apart))]
 pub fn told_apart()
     ensures { (s t : Source) → IsSource s → IsSource t → epoch_at s ≡ epoch_at t → s ≡ t }

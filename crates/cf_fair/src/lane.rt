@@ -45,7 +45,7 @@ impl Lane {
     ///
     /// # Errors
     ///
-    /// Where memory is refused nothing changes.
+    /// If memory is refused nothing changes.
     pub fn add(&mut self, ticket: Ticket) -> Result<(), AllocError>
         requires { is_there ticket.2 self.old ≡ false }
         ensures ok { OnOk result (self.new ≡ with_ticket ticket self.old) }

@@ -83,12 +83,12 @@ impl FairQueue {
         }
     }
 
-    /// Notes that a place is ready, or has more to do, and whether it is held. Where it waits already
+    /// Notes that a place is ready, or has more to do, and whether it is held. If it waits already
     /// nothing changes.
     ///
     /// # Errors
     ///
-    /// Where memory is refused nothing changes.
+    /// If memory is refused nothing changes.
     pub fn add(&mut self, place: usize, is_held: bool) -> Result<(), AllocError>
         ensures ok { OnOk result
             (Comes (is_waiting place self.old) place is_held self.old self.new) }

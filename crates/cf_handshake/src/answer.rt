@@ -23,7 +23,7 @@ pub enum Refusal {
 }
 
 impl Opening {
-    /// The answer that opens the WebSocket, and chooses `centrifuge-json` where that was offered.
+    /// The answer that opens the WebSocket, and chooses `centrifuge-json` if that was offered.
     pub fn answer(&self, alloc: Global) -> Result<Vec<u8>, AllocError>
         ensures { IfOk result (λ text. text.items ≡ opening_text self.now) }
     {

@@ -100,7 +100,7 @@ fn has_version(head: &[u8], lines: &[HeaderSpan]) -> bool
     only_value(head, lines, b"Sec-WebSocket-Version") == Some(b"13".as_slice())
 }
 
-// What is asked for by the key, where all else is as it is to be.
+// What is asked for by the key, if all else is as it is to be.
 fn asked_by_key(head: &[u8], lines: &[HeaderSpan]) -> Asked
     requires { All (IsHeaderWithin (length head.now)) lines.now }
     ensures { AsksByKey (fields_of head.now lines.now) result }

@@ -8,7 +8,7 @@ ghost use Rattle.cf_handshake.specs.Lines.{has_line, is_item, lists, listed_in, 
 use httparse::is_space_or_tab;
 use httparse::spans::HeaderSpan;
 
-/// Whether the case of letters matters where an item of a list is looked for.
+/// Whether the case of letters matters when an item of a list is looked for.
 #[derive(Clone, Copy)]
 pub(crate) enum Case {
     Matters,
@@ -35,7 +35,7 @@ pub(crate) fn has_line(head: &[u8], lines: &[HeaderSpan], name: &[u8]) -> bool
     false
 }
 
-/// The value of the one line with this name: `None` where there is none, or where there are several.
+/// The value of the one line with this name: `None` if there is none, or if there are several.
 pub(crate) fn only_value<'h>(head: &'h [u8], lines: &[HeaderSpan], name: &[u8]) -> Option<&'h [u8]>
     requires { All (IsHeaderWithin (length head.now)) lines.now }
     ensures { option_map (λ v. v.now) result

@@ -109,7 +109,7 @@ impl Hub {
         self.boot
     }
 
-    /// What always holds of a node: a row stands exactly where a session's channel isn't off, each once, the sessions have
+    /// What always holds of a node: a row stands exactly if a session's channel isn't off, each once, the sessions have
     /// numbers below the most, and the count of refused requests fits 64 bits.
     pub fn invariant(&self)
         ensures agrees { Agrees (attached_at self.now) self.now.rows }
@@ -122,7 +122,7 @@ impl Hub {
         let _refused = self.refused;
     }
 
-    /// Brings a publication to each session that follows its channel, each once, in order of their subscribing. Where memory is
+    /// Brings a publication to each session that follows its channel, each once, in order of their subscribing. If memory is
     /// refused for one, or its client is too slow, that one alone is closed, or gives up what it keeps.
     pub fn deliver(&mut self, channel: &str, epoch: &Epoch, publication: &Publication) -> Delivered
         ensures each { Delivers channel.now epoch.now publication.now self.old self.new }
@@ -201,7 +201,7 @@ impl Hub {
         self.refused = count_more(self.refused, refused);
     }
 
-    // The push of a publication, written once for all. Where memory is refused for it that is noted, and each session gets one of
+    // The push of a publication, written once for all. If memory is refused for it that is noted, and each session gets one of
     // its own.
     fn push_for_all(&mut self, channel: &str, publication: &Publication) -> Option<ByteStr>
         ensures written { IsWritten result channel.now publication.now }

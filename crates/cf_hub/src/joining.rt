@@ -116,7 +116,7 @@ impl Hub {
         self.place(session, channel).is_some()
     }
 
-    /// Makes a subscription that the command `id` asked for, from a position where it gave one.
+    /// Makes a subscription that the command `id` asked for, from a position if it gave one.
     pub fn begin(
         &mut self,
         session: u32,

@@ -42,7 +42,7 @@ pub fn rows_are_counted()
     ensures all { CountsAll }
 {}
 
-/// A node has all sessions that it may have exactly where it has so many.
+/// A node has all sessions that it may have exactly if it has so many.
 pub fn sessions_are_counted()
     ensures { CountsSessions }
 {}

@@ -193,7 +193,7 @@ pub(crate) fn pong_one(sessions: &mut Sessions, number: u32)
     }
 }
 
-/// Pings one session's client where it is due.
+/// Pings one session's client if it is due.
 pub(crate) fn tick_one(sessions: &mut Sessions, alloc: Global, number: u32, now: u64) -> Step
     ensures here { MeetsIn number (Pings result.refused now) sessions.old sessions.new }
     ensures others { OthersStayIn number sessions.old sessions.new }

@@ -72,7 +72,7 @@ impl Progress {
         was_asked
     }
 
-    /// Gives the reply and what follows it, where the stream was read, and stands behind both.
+    /// Gives the reply and what follows it, if the stream was read, and stands behind both.
     fn answer(&mut self) -> Option<Answered>
         ensures { MatchOption result
             ((self.new ≡ self.old) × (is_ready (sub_of (Some self.old)) ≡ false))
@@ -159,7 +159,7 @@ impl Session {
         }
     }
 
-    /// Queues a channel's reply, the run that follows it, and an unsubscribe push where something is missing then. Says whether
+    /// Queues a channel's reply, the run that follows it, and an unsubscribe push if something is missing then. Says whether
     /// there was something to finish.
     pub(crate) fn finish(&mut self, alloc: Global, channel: &str) -> (bool, Step)
         ensures found { result.0 ≡ is_ready ((state_of self.old).subs channel.now) }
@@ -177,7 +177,7 @@ impl Session {
         }
     }
 
-    /// Queues a reply, the run that follows it, and an unsubscribe push where something is missing then.
+    /// Queues a reply, the run that follows it, and an unsubscribe push if something is missing then.
     fn say_finish(
         &mut self,
         alloc: Global,

@@ -24,7 +24,7 @@ impl Hub {
     ghost use Rattle.cf_hub.specs.WantOfMemory.{OrCloses};
     ghost use Rattle.cf_hub.specs.Wordings.{plain, reading};
 
-    /// Takes what the read of a channel's stream gave, once. False where the session hasn't asked for the channel, or has it
+    /// Takes what the read of a channel's stream gave, once. False if the session hasn't asked for the channel, or has it
     /// already; then nothing changes.
     pub fn read_done(&mut self, session: u32, channel: &str, recovery: Recovery) -> bool
         ensures asked { result ≡ is_asked (sub_at self.old session channel.now) }
@@ -38,7 +38,7 @@ impl Hub {
     }
 
     /// Queues the reply of a subscription whose stream was read, the publications that follow it without gap or repeat, and an
-    /// unsubscribe push where something is missing then. False where there is nothing to finish; then nothing changes.
+    /// unsubscribe push if something is missing then. False if there is nothing to finish; then nothing changes.
     pub fn finish(&mut self, session: u32, channel: &str) -> bool
         ensures found { result ≡ is_ready (sub_at self.old session channel.now) }
         ensures session { Meets session
@@ -54,7 +54,7 @@ impl Hub {
         found
     }
 
-    /// Queues a text. Where the client is too slow or memory is refused, the session is closed in place of it.
+    /// Queues a text. If the client is too slow or memory is refused, the session is closed in place of it.
     pub fn say(&mut self, session: u32, text: String) -> Queued
         ensures said { result ≡ queued_in (attached_at self.new session) }
         ensures session { Meets session
@@ -70,7 +70,7 @@ impl Hub {
         said
     }
 
-    /// Checks a finished subscription against where its stream stands, none where it has no stream. Where the client is too slow
+    /// Checks a finished subscription against where its stream stands, none if it has no stream. If the client is too slow
     /// or memory is refused for the unsubscribe push, the session is closed.
     pub fn check(&mut self, session: u32, channel: &str, top: Option<Position>) -> Checked
         ensures answer { result ≡ check_answer top (sub_at self.old session channel.now) }

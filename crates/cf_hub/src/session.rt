@@ -82,7 +82,7 @@ impl Session {
         }
     }
 
-    /// Closes the session where a text that was refused so makes it. Says whether memory was refused.
+    /// Closes the session if a text that was refused so makes it. Says whether memory was refused.
     fn refuse(&mut self, refusal: QueueRefusal) -> bool
         ensures state { Moves (unsaid refusal) self.old self.new }
         ensures memory { result ≡ wants_memory refusal }
@@ -112,7 +112,7 @@ impl Session {
         self.step(was_closed, Fate::Passed, refused)
     }
 
-    /// Queues the push of a publication that was written for all, or one of its own where it was not, or closes the session.
+    /// Queues the push of a publication that was written for all, or one of its own if it was not, or closes the session.
     /// Says whether memory was refused.
     fn say_publication(
         &mut self,
@@ -178,7 +178,7 @@ impl Session {
         take_out(&mut self.subscriptions, channel);
     }
 
-    /// Brings a publication. Its text is handed in where it was written.
+    /// Brings a publication. Its text is handed in if it was written.
     pub(crate) fn bring(
         &mut self,
         alloc: Global,

@@ -82,7 +82,7 @@ impl Sessions {
         None
     }
 
-    /// Puts a session at a number that has a place, or at the one behind all places. Where memory is refused, nothing changes.
+    /// Puts a session at a number that has a place, or at the one behind all places. If memory is refused, nothing changes.
     pub(crate) fn insert(
         &mut self,
         alloc: Global,

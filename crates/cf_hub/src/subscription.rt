@@ -55,7 +55,7 @@ pub(crate) struct Met {
 }
 
 impl Progress {
-    /// Takes a publication that is delivered: keeps it until the reply, or goes on to it where it is the next one.
+    /// Takes a publication that is delivered: keeps it until the reply, or goes on to it if it is the next one.
     fn take(&mut self, epoch: &Epoch, publication: &Publication) -> Met
         ensures meets { result.meets
             ≡ coming (at_offset epoch.now publication.now) self.old }
@@ -73,7 +73,7 @@ impl Progress {
     }
 }
 
-/// Goes on to a publication where it is the next one.
+/// Goes on to a publication if it is the next one.
 fn go_on(at: &mut Position, epoch: &Epoch, publication: &Publication) -> Verdict
     ensures verdict { result
         ≡ verdict_code (verdict at.old (at_offset epoch.now publication.now)) }

@@ -63,7 +63,7 @@ impl Session {
     ghost use Rattle.cf_hub.specs.Sessions.{Acts, EndsAs, ticks_of};
     ghost use Rattle.cf_hub.specs.Wordings.{plain};
 
-    /// Checks a finished subscription against where its stream stands. None where there is none to check.
+    /// Checks a finished subscription against where its stream stands. None if there is none to check.
     pub(crate) fn check(
         &mut self,
         alloc: Global,
@@ -87,7 +87,7 @@ impl Session {
         }
     }
 
-    /// Queues a ping where one is due, and closes the session where the last one is unanswered for too long.
+    /// Queues a ping if one is due, and closes the session if the last one is unanswered for too long.
     pub(crate) fn tick(&mut self, alloc: Global, now: u64) -> Step
         ensures state { Acts result.refused (ticks_of now self.old) self.old self.new }
         ensures badge { badge_of self.new ≡ ticked now (badge_of self.old) }

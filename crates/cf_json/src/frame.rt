@@ -28,7 +28,7 @@ fn numeric(text: &[u8]) -> bool
     }
 }
 
-/// What follows the value at the front. Where it is a number no other one begins at once.
+/// What follows the value at the front. If it is a number no other one begins at once.
 #[tactic(auto, unfolding(crate::specs::Reading::apart_end))]
 fn apart_end(text: &[u8]) -> Result<&[u8], Stop>
     ensures same { rest_of result ≡ apart_end max_depth text.now }

@@ -6,7 +6,7 @@ ghost use Rattle.cf_json.specs.Integers.{whole_of, signed_of, as_u64, as_i64};
 
 use crate::span::Span;
 
-/// The number at the span where it is spelled by digits alone and fits a `u64`.
+/// The number at the span if it is spelled by digits alone and fits a `u64`.
 pub fn read_whole(text: &str, span: Span) -> Option<u64>
     requires { (n : List ℕ) × IsAt text.now (number n) span }
     ensures { (n : List ℕ) → IsAt text.now (number n) span
@@ -18,7 +18,7 @@ pub fn read_whole(text: &str, span: Span) -> Option<u64>
     }
 }
 
-/// The number at the span where it is spelled by digits alone, or by a minus and digits, and fits an `i64`.
+/// The number at the span if it is spelled by digits alone, or by a minus and digits, and fits an `i64`.
 pub fn read_signed(text: &str, span: Span) -> Option<i64>
     requires { (n : List ℕ) × IsAt text.now (number n) span }
     ensures { (n : List ℕ) → IsAt text.now (number n) span

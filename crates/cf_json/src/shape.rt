@@ -71,7 +71,7 @@ fn deepest(text: &[u8]) -> usize
     highest
 }
 
-/// How deep the arrays and objects of the value nest: 0 where it is neither, and 1 for an empty one.
+/// How deep the arrays and objects of the value nest: 0 if it is neither, and 1 for an empty one.
 pub fn depth(text: &str, span: Span) -> usize
     requires { (t : Tree) × IsAt text.now t span }
     ensures { (t : Tree) → IsAt text.now t span → result ≡ depth t }

@@ -4,7 +4,7 @@ use std::sync::atomic::{AtomicU64, Ordering};
 use std::thread::Parker;
 use std::time::{Clock, Duration};
 
-/// A receiver says that it is about to sleep, looks once more and sleeps. A sender wakes it only where it has said so.
+/// A receiver says that it is about to sleep, looks once more and sleeps. A sender wakes it only if it has said so.
 #[derive(Drop)]
 pub(crate) struct Bell {
     asleep: AtomicU64,

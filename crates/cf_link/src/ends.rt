@@ -64,7 +64,7 @@ impl<T> Model for Receiver<T> {
     ghost invariant = { λ s. IsPassOf (arc_value s.line) s.pass × ((known s.pass).pops ≡ true) };
 }
 
-/// A new link with room for so many items, by its two ends. Capacity 0 is no link; an `AllocError` where memory was refused.
+/// A new link with room for so many items, by its two ends. Capacity 0 is no link; an `AllocError` if memory was refused.
 pub fn pair<T: Drop>(alloc: Global, capacity: usize) -> Result<(Sender<T>, Receiver<T>), AllocError>
     requires { 0 < capacity }
     ensures link { IfOk result (λ ends. IsSameLink ends.0 ends.1) }
@@ -92,7 +92,7 @@ pub fn pair<T: Drop>(alloc: Global, capacity: usize) -> Result<(Sender<T>, Recei
 }
 
 impl<T> Sender<T> {
-    /// Sends an item, and wakes nobody: `ring` does, once for all that was sent. The item comes back where the link was full at one
+    /// Sends an item, and wakes nobody: `ring` does, once for all that was sent. The item comes back if the link was full at one
     /// moment of the call: as many as it has room for were sent behind those that this end was told to have been received. It takes
     /// no memory.
     pub fn send(&mut self, rt: &impl Wait, item: T) -> Result<(), T>
@@ -128,7 +128,7 @@ impl<T> Sender<T> {
 }
 
 impl<T> Receiver<T> {
-    /// The oldest item that waits. `None` where the link was empty at one moment of the call, and never before all was received
+    /// The oldest item that waits. `None` if the link was empty at one moment of the call, and never before all was received
     /// that this end was told to have been sent. It takes no memory.
     pub fn receive(&mut self, rt: &impl Wait) -> Option<T>
         ensures same { IsSameLink self.new self.old }
@@ -148,7 +148,7 @@ impl<T> Receiver<T> {
         self.line.len_as::<Receives, _>(rt, &mut self.pass)
     }
 
-    /// The oldest item that waits. Where none does it sleeps until the other end rings, or for so long at most, and looks again;
+    /// The oldest item that waits. If none does it sleeps until the other end rings, or for so long at most, and looks again;
     /// it may wake sooner. `None` as for `receive`. It takes no memory.
     pub fn receive_within<R: Wait + Clock>(&mut self, rt: &R, most: Duration) -> Option<T>
         ensures same { IsSameLink self.new self.old }

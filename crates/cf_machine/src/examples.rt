@@ -63,8 +63,8 @@ pub fn worked_examples()
 
 /// What stream safety refuses: entries of event 0, past the last one or out of order; a publication told before it was
 /// published, with another body than its datum, or with two data; a gap, a repeat, a publication before the subscription and
-/// one after its end; a recovered subscription that brings less than was missed; `recovered` where the stream no longer held
-/// all that, and `lost` where it did; and a subscription told on a read from before its ask, twice on one read, without any
+/// one after its end; a recovered subscription that brings less than was missed; `recovered` when the stream no longer held
+/// all that, and `lost` when it did; and a subscription told on a read from before its ask, twice on one read, without any
 /// read, after the break that gave up its ask, to a client that never connected, and on a read made after the client left.
 pub fn unsafe_traces()
     ensures event_zero { Safe plain (lines two_come) (tells_sub 0 0 ∷ []) → ⊥ }

@@ -7,7 +7,7 @@ ghost use Rattle.cf_machine.specs.Examples.{as_lines, keeping, plain, shown, tel
 ghost use Rattle.cf_machine.specs.RuleExamples.{shown_from};
 ghost use Rattle.cf_machine.specs.KeyExamples.{sent_twice, keys_gone, last_with_key, repeat_at_last, long_key, long_with_key, grows, sizes_stay, tells_all_missed};
 
-/// What the interval machine's clients are told where publishes have keys, and where sizes change.
+/// What the interval machine's clients are told when publishes have keys, and when sizes change.
 pub fn worked_keys_and_sizes()
     ensures sent_twice { shown plain sent_twice ≡ as_lines
         ("ann news sub aaaa 0 fresh" ∷ "ann news pub aaaa 1 1" ∷ "ann news pub aaaa 2 3" ∷ []) }
@@ -33,9 +33,9 @@ pub fn worked_keys_and_sizes()
     ensures sizes_stay { shown (keeping 3) sizes_stay ≡ as_lines ("ann news list bbbb 3 2" ∷ []) }
 {}
 
-/// What stream safety refuses where publishes have keys, and where sizes change: what was sent twice told as a second publication,
+/// What stream safety refuses when publishes have keys, and when sizes change: what was sent twice told as a second publication,
 /// as one more at the end, or with what it was sent with the second time; `recovered` after a size that dropped some of what was
-/// missed, also where a larger size came after it; and `lost` where a size that had grown held all of it.
+/// missed, also when a larger size came after it; and `lost` when a size that had grown held all of it.
 pub fn unsafe_keys_and_sizes()
     ensures second_place { Safe plain (lines sent_twice) (tells_sub 6 0 ∷ tells_pub 13 1 "1"
         ∷ tells_pub 14 2 "2" ∷ []) → ⊥ }

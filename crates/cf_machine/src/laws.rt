@@ -18,7 +18,7 @@ ghost use Rattle.cf_machine.specs.World.{start};
 
 /// The headline, of every schedule under every configuration: no two clients ever hold different publications at one place;
 /// what an application gets after subscribing is a run of the stream without gap or repeat; a recovered subscription is
-/// followed by exactly what was missed; and `recovered` is said exactly where, at the read, the stream still held all of that
+/// followed by exactly what was missed; and `recovered` is said exactly if, at the read, the stream still held all of that
 /// within the limit of one reply.
 pub fn safe_always()
     ensures { (config : Config) (events : List Event)

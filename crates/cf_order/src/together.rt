@@ -65,7 +65,7 @@ impl<N: Naming> NamedOwner<N> {
         }
     }
 
-    /// Adds an entry, and says whether it did: it did not where the log has 2^62 entries.
+    /// Adds an entry, and says whether it did: it did not if the log has 2^62 entries.
     pub fn append(&mut self, word: &ShardWord, pass: &mut Pass, entry: &Entry<'_>) -> bool
         requires word { word.now ≡ N.word }
         requires pass { pass.old.word ≡ N.word }
@@ -115,8 +115,8 @@ fn publish_as<'a, N: Naming, R: Wait>(
     (pass, published)
 }
 
-/// Two threads publish a body each to one channel, with passes that are lent to them and handed back. Where both did, the
-/// pass has seen both publications, behind all that it had seen before, and two publishes more are its own. Where one did not, the
+/// Two threads publish a body each to one channel, with passes that are lent to them and handed back. If both did, the
+/// pass has seen both publications, behind all that it had seen before, and two publishes more are its own. If one did not, the
 /// pass has seen a log that is full.
 pub fn publish_both<N: Naming + Send + Sync, R: Threads + Wait + Sync>(
     rt: &R,

@@ -96,7 +96,7 @@ impl ShardWord {
     ///
     /// # Errors
     ///
-    /// Where memory is refused.
+    /// If memory is refused.
     pub fn new(alloc: Global) -> Result<(ShardWord, Owner, Pass), AllocError>
         ensures owner { IfOk result (λ r. r.1 ≡ record { word = r.0; log = [] }) }
         ensures pass { IfOk result (λ r. r.2 ≡ first_pass r.0) }
@@ -127,7 +127,7 @@ impl ShardWord {
         self.table.shared.load::<Looks>(&mut pass.seat, 0)
     }
 
-    /// Whether the log has no more entries than a mark, by one load. Where it says so to a pass that has seen as many entries
+    /// Whether the log has no more entries than a mark, by one load. If it says so to a pass that has seen as many entries
     /// as the mark, the log then was what the pass had seen.
     pub fn is_quiet_since(&self, pass: &mut Pass, mark: u64) -> bool
         requires { pass.old.word ≡ self.now }

@@ -6,7 +6,7 @@ use crate::refusal::PresenceRefusal;
 use std::alloc::{AllocFailed, Global};
 use std::collections::BTreeMap;
 
-/// Puts a value at a key, and answers what was there. `Memory` where a growth was refused.
+/// Puts a value at a key, and answers what was there. `Memory` if a growth was refused.
 pub(crate) fn put<V: Drop>(
     map: &mut BTreeMap<String, V>,
     alloc: Global,

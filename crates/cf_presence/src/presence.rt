@@ -55,8 +55,8 @@ impl Presence {
         }
     }
 
-    /// A client of a user enters a channel at a moment in seconds. Where it is there already, its user and moment are set anew;
-    /// under the same user that takes no memory, and is never refused. `Memory` where a growth was refused.
+    /// A client of a user enters a channel at a moment in seconds. If it is there already, its user and moment are set anew;
+    /// under the same user that takes no memory, and is never refused. `Memory` if a growth was refused.
     pub fn enter(
         &mut self,
         channel: &str,
@@ -72,14 +72,14 @@ impl Presence {
         enter_in(&mut self.map, self.alloc, channel, client, user, now)
     }
 
-    /// A client leaves a channel. Where it isn't there nothing changes. It takes no memory.
+    /// A client leaves a channel. If it isn't there nothing changes. It takes no memory.
     pub fn leave(&mut self, channel: &str, client: &str)
         ensures { self.new ≡ left self.old channel.now client.now }
     {
         leave_in(&mut self.map, channel, client);
     }
 
-    /// The user of each client that is there in a channel, by the client's id. `Memory` where a growth was refused.
+    /// The user of each client that is there in a channel, by the client's id. `Memory` if a growth was refused.
     pub fn list(&self, channel: &str) -> Result<BTreeMap<String, String>, PresenceRefusal>
         ensures { IfOk result
             (λ users. shown_users users ≡ users_of (clients_of self.now channel.now)) }

@@ -12,7 +12,7 @@ use crate::refusal::PresenceRefusal;
 use std::alloc::Global;
 use std::collections::BTreeMap;
 
-/// One client more of a user. `Memory` where a growth was refused.
+/// One client more of a user. `Memory` if a growth was refused.
 #[tactic(auto, using(std::proofs::lemmas::Map::Text::text_keys))]
 pub(crate) fn add_user(
     users: &mut BTreeMap<String, u64>,

@@ -40,7 +40,7 @@ pub enum Request {
     PresenceStats {
         channel: String,
     },
-    /// The publications of a channel's stream, at most `limit` of them, after `since` where it is there.
+    /// The publications of a channel's stream, at most `limit` of them, after `since` if it is there.
     History {
         channel: String,
         limit: i32,

@@ -89,7 +89,7 @@ impl Epoch {
     }
 }
 
-/// Two epochs are equal where their characters are.
+/// Two epochs are equal if their characters are.
 impl PartialEq for Epoch {
     ghost use Rattle.std.specs.Str.{bytes_eq};
     ghost use Rattle.std.specs.Cmp.{partial_equiv_from_equiv};

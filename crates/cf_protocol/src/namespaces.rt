@@ -48,7 +48,7 @@ impl Namespaces {
         })
     }
 
-    /// The settings of a channel, where its namespace is set up.
+    /// The settings of a channel, if its namespace is set up.
     pub fn find(&self, channel: &str) -> Option<Settings>
         ensures found { result ≡ settings_of self.now channel.now }
         ensures usable { IfSome result IsUsable }
@@ -86,7 +86,7 @@ pub fn namespace_of(channel: &str) -> &str
     }
 }
 
-/// The settings with one flag more: `p` (publish), `h` (history) or `s` (presence), where it isn't set yet.
+/// The settings with one flag more: `p` (publish), `h` (history) or `s` (presence), if it isn't set yet.
 fn with_flag(settings: Settings, flag: u8) -> Option<Settings>
     ensures { MatchOption result (HasMost flag settings) (AddsLetter flag settings) }
 {
@@ -151,7 +151,7 @@ fn read_entry(text: &str) -> Option<(&str, Settings)>
     Some((name, settings))
 }
 
-/// One entry more, behind the others. `Bad` where the text is no entry, or its name stands already.
+/// One entry more, behind the others. `Bad` if the text is no entry, or its name stands already.
 fn add(entries: &mut Vec<(String, Settings)>, alloc: Global, text: &str) -> Result<(), ReadFault>
     ensures { Adds IsNamespace text.now (named entries.old.items) result
         (named entries.new.items) }

@@ -39,7 +39,7 @@ pub struct Publication {
     pub offset: u64,
     /// The compact text of its data.
     pub body: String,
-    /// The client that published it, where one did.
+    /// The client that published it, if one did.
     pub info: Option<Info>,
 }
 

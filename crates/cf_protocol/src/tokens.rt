@@ -28,7 +28,7 @@ impl Model for Tokens {
 }
 
 impl Tokens {
-    /// The user that a token connects, where the token is known. The empty token connects the empty user.
+    /// The user that a token connects, if the token is known. The empty token connects the empty user.
     pub fn user(&self, token: &str) -> Option<&str>
         ensures { option_copied result ≡ user_of self.now token.now }
     {
@@ -64,7 +64,7 @@ fn read_entry(text: &str) -> Option<(&str, &str)>
     Some((token, user))
 }
 
-/// One entry more, behind the others. `Bad` where the text is no entry, or its token stands already.
+/// One entry more, behind the others. `Bad` if the text is no entry, or its token stands already.
 fn add(entries: &mut Vec<(String, String)>, alloc: Global, text: &str) -> Result<(), ReadFault>
     ensures { Adds IsToken text.now (in_bytes entries.old.items) result
         (in_bytes entries.new.items) }

@@ -17,7 +17,7 @@ pub fn arrivals_are_a_set()
 {}
 
 /// The run that a release passes on ends at the greatest offset up to which everything above the reply's position arrived,
-/// where no more arrived than are kept; else it is empty. The release falls short exactly where more arrived than are kept,
+/// if no more arrived than are kept; else it is empty. The release falls short exactly if more arrived than are kept,
 /// or a position of another epoch or above the run's end.
 pub fn run_ends_at_the_greatest()
     ensures reached { (arrived : List Position) (r : Reading)
@@ -34,7 +34,7 @@ pub fn run_ends_at_the_greatest()
 {}
 
 /// What is kept goes on standing for the positions that arrived, and while no memory was refused a release of it passes on as
-/// many, and falls short where they do.
+/// many, and falls short if they do.
 pub fn what_is_kept_stands()
     ensures within { (a : Arrival) (k : ArrivalBuffer) → IsWithin k → IsWithin (with_arrival a k) }
     ensures arrival { (a : Arrival) (k : ArrivalBuffer) (arrived : List Position)

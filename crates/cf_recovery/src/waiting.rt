@@ -14,7 +14,7 @@ use std::marker::Model;
 pub const MOST_KEPT: usize = 1000;
 
 /// The publications that came to a node for a channel since a subscription was asked for: each place once, as it came first, and at
-/// most 1,000. Where one more comes, or memory is refused, all are given up, and nothing is kept from then on.
+/// most 1,000. If one more comes, or memory is refused, all are given up, and nothing is kept from then on.
 ///
 /// Centrifugo, history and recovery: publications are buffered between subscribing and the reply. The limit is this project's own.
 #[derive(Drop)]
@@ -74,7 +74,7 @@ impl Waiting {
 
     /// Keeps a copy of a publication of this epoch, unless one of its place is kept already.
     ///
-    /// At the 1,001st place, and where memory is refused, all that is kept is given up, and so is whatever comes later. `short` tells
+    /// At the 1,001st place, and if memory is refused, all that is kept is given up, and so is whatever comes later. `short` tells
     /// the second from the first.
     pub fn keep(&mut self, epoch: &Epoch, publication: &Publication)
         ensures kept { self.new.short ≡ self.old.short
@@ -134,7 +134,7 @@ impl Waiting {
         ensures { result ≡ has (places self.now.arrived) epoch.now offset }
     {
         if self.highest < offset {
-            return false; // so it is where publications come in order
+            return false; // so it is when publications come in order
         }
         let at = Position {
             epoch: *epoch,
@@ -150,7 +150,7 @@ impl Waiting {
         self.publications.len() >= MOST_KEPT
     }
 
-    /// Keeps a copy. Where memory is refused nothing changes.
+    /// Keeps a copy. If memory is refused nothing changes.
     fn store(&mut self, epoch: &Epoch, publication: &Publication) -> Result<(), AllocError>
         requires { TakesRoom (arrival epoch.now publication.now) self.old }
         ensures ok { OnOk result

@@ -21,7 +21,7 @@ ghost use Rattle.cf_running.specs.WasRead.{IsWhatWasRead};
 ghost use Rattle.cf_running.specs.ShardLogs.{Goes, IsApart, IsIn, IsTied, ListsAs, MayGain, ReadsAs, after};
 
 /// A shard's log stands beside the machine's broker: at the start, and after each entry that the log may
-/// gain, where the machine goes on by that entry's happening, which is allowed. The logs of other shards
+/// gain, if the machine goes on by that entry's happening, which is allowed. The logs of other shards
 /// stand beside it as before.
 pub fn logs_are_tied()
     ensures starts { (mine : List ℕ → Bool) (sizes : NamespaceTable)

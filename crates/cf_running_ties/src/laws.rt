@@ -51,7 +51,7 @@ pub fn hub_moves_are_sections()
     what_is_kept_stands();
 }
 
-/// What a call of a lent shard adds to its log, by its contract, may be gained entry by entry, where an
+/// What a call of a lent shard adds to its log, by its contract, may be gained entry by entry, if an
 /// epoch that is drawn is new to its channel; so the log is gained entry by entry from the start. And what
 /// a read answers is what the worker then has in hand.
 pub fn shard_calls_are_sections()
@@ -93,7 +93,7 @@ pub fn shard_calls_are_sections()
         → IsGained config log → MayAll config log more → IsGained config (log ++ more) }
 {}
 
-/// An epoch that a shard draws is none that its log ever had, where its source is one of `cf_epochs`: over
+/// An epoch that a shard draws is none that its log ever had, if its source is one of `cf_epochs`: over
 /// any calls from an empty log, as their contracts have them. So whatever they add to the log may be gained
 /// entry by entry, and nothing is left to be assumed of epochs, of the last offset or of the log.
 pub fn drawn_epochs_are_new()
@@ -152,7 +152,7 @@ pub fn links_carry_what_is_listed()
 
 /// What a read and a history of a lent shard answer is listed, and is what the worker then has in hand: a
 /// reading with its publications, and the reply of its note. So it is while all data that is listed can be
-/// read back: from the start on, where all that is published can.
+/// read back: from the start on, if all that is published can.
 pub fn what_is_read_is_listed()
     ensures starts { (site : Site) → AllReadBack site start }
     ensures stays { (site : Site) (server : Server) (section : Section)

@@ -17,7 +17,7 @@ use crate::laws::hub_moves_are_sections;
 /// each call. What `Hub::deliver` makes of all sessions is one delivery to the node, behind closes of those
 /// that were too slow or found no memory; what `Hub::tick` makes of them are closes and pings. A session
 /// comes, changes or goes as its connection does; it may go while its worker has something in hand. And a
-/// section that leaves the sessions of the node alone leaves all as it was, also where publication lists
+/// section that leaves the sessions of the node alone leaves all as it was, also if publication lists
 /// grow.
 pub fn hubs_stay_beside_their_nodes()
     ensures starts { (is_aside : List ℕ → Bool) (site : Site) (n boot : ℕ)

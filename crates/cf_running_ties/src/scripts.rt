@@ -16,7 +16,7 @@ ghost use Rattle.cf_running.specs.Server.{AsksShard, Began, Begins, Calls, Errs,
 ghost use Rattle.cf_running_ties.specs.InHand.{AsksBroker, HasInHand, Hears, MayBeRefused, by_answer, id_of, is_published};
 ghost use Rattle.cf_running_ties.specs.Reads.{IsListing};
 
-/// Where a session's script begins a command, a section takes it in hand: what the script goes on with,
+/// If a session's script begins a command, a section takes it in hand: what the script goes on with,
 /// by its checks or by the hub's answer, is what the worker has in hand then.
 pub fn commands_are_taken_in_hand()
     ensures refused { (site : Site) (server : Server) (k : ℕ) (who : Who) (next : Script)
@@ -42,7 +42,7 @@ pub fn commands_are_taken_in_hand()
 {}
 
 /// What a worker has in hand goes as its session's script: by each answer of broker and hub, a section
-/// makes of it what the script goes on with, until the reply is said and the worker is free; and where
+/// makes of it what the script goes on with, until the reply is said and the worker is free; and if
 /// memory for a reply is refused, an error takes its place.
 pub fn work_goes_as_the_script()
     ensures refused { (site : Site) (server : Server) (k : ℕ) (who : Who) (next : Script)

@@ -30,7 +30,7 @@ impl Model for Body {
 }
 
 impl Body {
-    /// The compact text of the one JSON value that a text holds, with white space around it. Unreadable where there is
+    /// The compact text of the one JSON value that a text holds, with white space around it. Unreadable if there is
     /// none of depth at most 60.
     pub fn read(alloc: Global, text: &str) -> Result<Body, EventFault>
         ensures ok { IfOk result (IsData text.now) }

@@ -315,7 +315,7 @@ fn in_channel(alloc: Global, word: &str, text: &str) -> Result<Event, EventFault
     }
 }
 
-// A channel, a key where there is one, and a datum.
+// A channel, a key if there is one, and a datum.
 fn publication(
     alloc: Global,
     text: &str,
@@ -336,7 +336,7 @@ fn publication(
     }
 }
 
-// The key that stands before a datum, where there is one, and the datum.
+// The key that stands before a datum, if there is one, and the datum.
 fn key_before(alloc: Global, text: &str, is_keyed: bool) -> Result<(Option<Key>, &str), EventFault>
     ensures ok { IfOk result (λ p. IsKeyBefore is_keyed (key_of p.0) p.1.now text.now) }
     ensures err { IfErr result

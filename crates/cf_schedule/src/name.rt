@@ -122,7 +122,7 @@ fn is_namespace_name(text: &str) -> bool
 }
 
 impl ClientName {
-    /// The name that a text is. Unreadable where the text is none.
+    /// The name that a text is. Unreadable if the text is none.
     pub fn read(alloc: Global, text: &str) -> Result<ClientName, EventFault>
         ensures ok { IfOk result (λ name. name ≡ text.now) }
         ensures unreadable { IsErrOf result EventFault.Unreadable ↔ ¬ IsClientName text.now }
@@ -144,7 +144,7 @@ impl ClientName {
 }
 
 impl ChannelName {
-    /// The name that a text is. Unreadable where the text is none.
+    /// The name that a text is. Unreadable if the text is none.
     pub fn read(alloc: Global, text: &str) -> Result<ChannelName, EventFault>
         ensures ok { IfOk result (λ name. name ≡ text.now) }
         ensures unreadable { IsErrOf result EventFault.Unreadable ↔ ¬ IsChannelName text.now }
@@ -166,7 +166,7 @@ impl ChannelName {
 }
 
 impl Key {
-    /// The key that a text is. Unreadable where the text is none.
+    /// The key that a text is. Unreadable if the text is none.
     pub fn read(alloc: Global, text: &str) -> Result<Key, EventFault>
         ensures ok { IfOk result (λ key. key ≡ text.now) }
         ensures unreadable { IsErrOf result EventFault.Unreadable ↔ ¬ IsKey text.now }
@@ -187,7 +187,7 @@ impl Key {
     }
 }
 
-/// The characters of a key, none where there is no key.
+/// The characters of a key, none if there is no key.
 pub fn key_text(key: &Option<Key>) -> &str
     ensures { result.now ≡ key_of key.now }
 {
@@ -198,7 +198,7 @@ pub fn key_text(key: &Option<Key>) -> &str
 }
 
 impl NamespaceName {
-    /// The name that a text is. Unreadable where the text is none.
+    /// The name that a text is. Unreadable if the text is none.
     pub fn read(alloc: Global, text: &str) -> Result<NamespaceName, EventFault>
         ensures ok { IfOk result (λ name. name ≡ text.now) }
         ensures unreadable { IsErrOf result EventFault.Unreadable ↔ ¬ IsNamespaceName text.now }

@@ -50,7 +50,7 @@ pub(crate) fn room_to_publish(stood: Option<u64>, count: u64) -> Result<(), Refu
     }
 }
 
-/// Whether the log has room for the entry of a stream that opens, where none stands.
+/// Whether the log has room for the entry of a stream that opens, if none stands.
 pub(crate) fn has_room(stood: Option<u64>, count: u64) -> bool
     ensures yes { IsTrue result → HasRoom stood count }
     ensures no { IsFalse result → (stood ≡ None) × (2 ^ 62 ≤ count) }
@@ -61,7 +61,7 @@ pub(crate) fn has_room(stood: Option<u64>, count: u64) -> bool
     }
 }
 
-/// Whether the log has room for the entry of a call on a stream, where one stands.
+/// Whether the log has room for the entry of a call on a stream, if one stands.
 pub(crate) fn has_room_on(stood: Option<u64>, count: u64) -> bool
     ensures yes { IsTrue result → HasRoomOn stood count }
     ensures no { IsFalse result → IsSome stood × (2 ^ 62 ≤ count) }
@@ -72,7 +72,7 @@ pub(crate) fn has_room_on(stood: Option<u64>, count: u64) -> bool
     }
 }
 
-/// The entry of a call on a stream, where one stood. It is no publish.
+/// The entry of a call on a stream, if one stood. It is no publish.
 pub(crate) fn note_on(
     word: &ShardWord,
     owner: &mut Owner,
@@ -95,7 +95,7 @@ pub(crate) fn note_on(
     }
 }
 
-/// The entry of a stream that opened, where none stood.
+/// The entry of a stream that opened, if none stood.
 pub(crate) fn note_opening(
     word: &ShardWord,
     owner: &mut Owner,
@@ -119,7 +119,7 @@ pub(crate) fn note_opening(
     }
 }
 
-/// The entries of an accepted publish: the stream's opening where none stood, and the newest publication that the channel holds.
+/// The entries of an accepted publish: the stream's opening if none stood, and the newest publication that the channel holds.
 pub(crate) fn note_publish(
     streams: &Streams,
     word: &ShardWord,

@@ -14,7 +14,7 @@ pub enum Refused {
     /// The stream's top offset is the last one.
     #[error("at the last offset")]
     AtLastOffset,
-    /// A history after a position of another epoch than the stream's, or where there is no stream.
+    /// A history after a position of another epoch than the stream's, or if there is no stream.
     #[error("wrong epoch")]
     WrongEpoch,
     /// A stream would open, and there is no epoch for it.

@@ -1,4 +1,4 @@
-//! How a simulation ends where it doesn't succeed.
+//! How a simulation ends if it doesn't succeed.
 ghost use Rattle.std.specs.Prelude.{◌≡◌};
 ghost use Rattle.cf_simulate.specs.Status.{status_of};
 
@@ -28,7 +28,7 @@ pub enum SimulateFault {
 }
 
 impl SimulateFault {
-    /// The program's exit status: 2 for its input, 3 for want of memory, 4 where input or output failed.
+    /// The program's exit status: 2 for its input, 3 for want of memory, 4 if input or output failed.
     pub fn status(&self) -> u8
         ensures { result ≡ status_of self.now }
     {

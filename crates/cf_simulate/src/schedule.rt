@@ -79,7 +79,7 @@ impl<'a> Schedule<'a> {
         }
     }
 
-    // Adds the event of the line of this number. Where it brings an epoch again, it is refused, and with it the schedule.
+    // Adds the event of the line of this number. If it brings an epoch again, it is refused, and with it the schedule.
     fn add(
         &mut self,
         alloc: Global,
@@ -123,7 +123,7 @@ fn lines_of(alloc: Global, text: &str) -> Result<Vec<&str>, AllocError>
     text.split('\n').collect(alloc)
 }
 
-// Notes the epoch that an event brings, and refuses it where an earlier event brought it.
+// Notes the epoch that an event brings, and refuses it if an earlier event brought it.
 fn note_epoch(
     alloc: Global,
     epochs: &mut BTreeSet<String>,

@@ -39,7 +39,7 @@ impl GivenEpochs {
     ///
     /// # Errors
     ///
-    /// `Bad` is any other text, the empty one among them; `Memory` where memory is refused.
+    /// `Bad` is any other text, the empty one among them; `Memory` if memory is refused.
     pub fn read(alloc: Global, text: &str) -> Result<GivenEpochs, ReadFault>
         ensures found { IfOk result (λ epochs. epochs ≡ words_of text.now) }
         ensures given { OnOk result (AreGiven (words_of text.now)) }

@@ -1,4 +1,4 @@
-//! How a conversation ends where it doesn't succeed.
+//! How a conversation ends if it doesn't succeed.
 use std::alloc::{AllocError, AllocFailed};
 use std::io;
 use thiserror::Error;

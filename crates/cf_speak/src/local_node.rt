@@ -217,7 +217,7 @@ impl Node for LocalNode {
         }
     }
 
-    // The subscription is finished, and where it stands then, its client is present.
+    // The subscription is finished, and if it stands then, its client is present.
     fn finish(&mut self, channel: String) {
         let Some(number) = self.number else {
             return;

@@ -17,7 +17,7 @@ pub struct Recovery {
     pub position: Position,
     /// Whether everything after the client's position was held, and was at most 300.
     pub recovered: bool,
-    /// Where recovered, everything after the client's position, in order. Else nothing.
+    /// If recovered, everything after the client's position, in order. Else nothing.
     pub publications: Vec<Publication>,
 }
 

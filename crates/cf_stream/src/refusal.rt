@@ -11,7 +11,7 @@ pub enum StreamRefusal {
     /// A publish to a stream at offset 9,007,199,254,740,991, above which an offset is no exact JSON number everywhere.
     #[error("the stream is at its last offset")]
     AtLastOffset,
-    /// A history after a position whose epoch isn't the stream's, or where the channel has no stream.
+    /// A history after a position whose epoch isn't the stream's, or if the channel has no stream.
     #[error("the position is of another epoch")]
     WrongEpoch,
     /// No stream stood, and no epoch was drawn for a new one. This alone comes after want of memory, since it takes the draw to know.

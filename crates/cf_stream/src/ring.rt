@@ -65,7 +65,7 @@ impl<T: Drop> Ring<T> {
         self.get(self.len().saturating_sub(1))
     }
 
-    /// Makes room for one item more where `size` allows it. The block grows only where it has to, to about twice what is held.
+    /// Makes room for one item more if `size` allows it. The block grows only if it has to, to about twice what is held.
     pub(crate) fn make_room(&mut self, alloc: Global, size: usize) -> Result<(), AllocError>
         requires { (1 ≤ size) × (size ≤ 10000) × (length self.old.items ≤ size) }
         ensures items { self.new.items ≡ self.old.items }
@@ -115,7 +115,7 @@ impl<T: Drop> Ring<T> {
     }
 }
 
-/// Makes room for one item more in a block, where `size` allows it.
+/// Makes room for one item more in a block, if `size` allows it.
 fn grow<T: Drop>(block: &mut HeapCircularBuffer<T>, size: usize) -> Result<(), AllocError>
     requires { (1 ≤ size) × (size ≤ 10000) × (length block.old.items ≤ size) }
     ensures items { block.new.items ≡ block.old.items }

@@ -113,7 +113,7 @@ impl Stream {
         after_top(alloc, Epoch::none(), size, 0, now)
     }
 
-    /// The stream's epoch and the offset of the last publication in it, 0 where there was none.
+    /// The stream's epoch and the offset of the last publication in it, 0 if there was none.
     pub fn position(&self) -> Position
         ensures { result ≡ position_of self.now }
     {
@@ -162,7 +162,7 @@ impl Stream {
         }
     }
 
-    /// Appends a publication at a moment in seconds, and answers its position. The oldest one held goes where there are `size`.
+    /// Appends a publication at a moment in seconds, and answers its position. The oldest one held goes if there are `size`.
     /// A publish whose key is among the last hundred repeats the publication that brought it: it appends nothing, is a use alone
     /// and is answered with that one's position, without memory and at the last offset too. The empty key is none.
     pub fn publish(
@@ -220,7 +220,7 @@ impl Stream {
         })
     }
 
-    /// The publications after a position, where all of them are held and there are at most 300.
+    /// The publications after a position, if all of them are held and there are at most 300.
     pub fn recover(&mut self, since: Option<Position>, now: u64) -> Result<Recovery, StreamRefusal>
         ensures makes { OnOk result (self.new ≡ used_at self.old now) }
         ensures answer { IfOk result (λ r.
@@ -259,7 +259,7 @@ impl Stream {
         }
     }
 
-    /// How many of the publications held came after a position, None where it is of another epoch.
+    /// How many of the publications held came after a position, None if it is of another epoch.
     fn newer_than(&self, since: Option<Position>) -> Option<usize>
         ensures other { IsNone result ↔ IsSomeAnd since (λ p. p.epoch ≢ self.now.epoch) }
         ensures within { IfSome result (λ n. n ≤ length self.now.held) }
@@ -346,7 +346,7 @@ impl Stream {
         inner.size = size as u16;
     }
 
-    /// Empties the history where `seconds` have passed since the last publication, and says whether the stream is to be forgotten,
+    /// Empties the history if `seconds` have passed since the last publication, and says whether the stream is to be forgotten,
     /// since it wasn't used for 2,592,000 seconds. A moment earlier than the last one does nothing. It takes no memory.
     pub fn tick(&mut self, now: u64, seconds: u64) -> TickOutcome
         ensures outcome { (result ≡ TickOutcome.Forgotten)
@@ -435,7 +435,7 @@ fn after_top(
     })
 }
 
-/// Whether so many seconds have passed since a moment. None have where that moment is still to come.
+/// Whether so many seconds have passed since a moment. None have if that moment is still to come.
 fn has_passed(moment: u64, seconds: u64, now: u64) -> bool
     ensures { result ≡ is_over moment seconds now }
 {

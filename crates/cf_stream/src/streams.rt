@@ -110,7 +110,7 @@ impl Streams {
         }
     }
 
-    /// Publishes to a channel at a moment in seconds, and answers the position. The channel's stream opens where there is none.
+    /// Publishes to a channel at a moment in seconds, and answers the position. The channel's stream opens if there is none.
     /// A publish whose key is among the last hundred of the stream is a repeat: it adds nothing, and is answered with the position
     /// of the publication that it repeats. The empty key is none.
     pub fn publish<E: Epochs>(
@@ -175,7 +175,7 @@ impl Streams {
         resize_in(&mut self.map, name, size);
     }
 
-    /// The publications of a channel after a position, where all are held. Its stream opens where there is none.
+    /// The publications of a channel after a position, if all are held. Its stream opens if there is none.
     pub fn read<E: Epochs>(
         &mut self,
         epochs: &mut E,
@@ -203,7 +203,7 @@ impl Streams {
         read_in(&mut self.map, epochs, self.alloc, size, channel, since, now)
     }
 
-    /// The first publications of a channel that are held after a position. Without a position its stream opens where there is none.
+    /// The first publications of a channel that are held after a position. Without a position its stream opens if there is none.
     pub fn history<E: Epochs>(
         &mut self,
         epochs: &mut E,
@@ -320,7 +320,7 @@ impl Streams {
         }
     }
 
-    /// How many publications a channel holds, 0 where it has no stream. It takes no memory and opens nothing.
+    /// How many publications a channel holds, 0 if it has no stream. It takes no memory and opens nothing.
     pub fn held(&self, channel: &str) -> usize
         ensures { result ≡ held_at self.now channel.now }
     {
@@ -343,7 +343,7 @@ fn size_for(namespaces: &Namespaces, channel: &str) -> usize
     }
 }
 
-/// How many seconds a channel holds its publications, 0 where its namespace isn't set up.
+/// How many seconds a channel holds its publications, 0 if its namespace isn't set up.
 pub(crate) fn seconds_for(namespaces: &Namespaces, channel: &str) -> u64
     ensures { result ≡ seconds_at namespaces.now channel.now }
 {
@@ -451,7 +451,7 @@ fn trim_at(map: &mut BTreeMap<String, Stream>, channel: &str, count: usize)
     }
 }
 
-/// A moment before which nothing is due, once a stream was used now that holds what it holds for so many seconds, where nothing was due
+/// A moment before which nothing is due, once a stream was used now that holds what it holds for so many seconds, if nothing was due
 /// before `quiet_until`.
 fn quiet_after_use(quiet_until: u64, now: u64, seconds: u64) -> u64
     ensures before { result ≤ quiet_until }

@@ -73,9 +73,9 @@ impl SubTable {
 
     /// Adds the row of a session that doesn't follow the channel yet, behind all others.
     ///
-    /// It is refused with `Full` exactly where the table has 65,536 rows, and with `Memory` where memory is refused. Before
+    /// It is refused with `Full` exactly if the table has 65,536 rows, and with `Memory` if memory is refused. Before
     /// anything changes it takes all that takes memory: a block, and room in both maps. It costs the same however many rows
-    /// there are, but where a map grows.
+    /// there are, but when a map grows.
     pub fn add(&mut self, channel: u32, session: u32) -> Result<(), SubRefusal>
         requires absent { follows self.old channel session ≡ false }
         ensures ok { OnOk result (self.new ≡ with_row self.old channel session) }
@@ -157,7 +157,7 @@ impl SubTable {
         self.walk(channel).next()
     }
 
-    /// The session that comes next after this one in the walk of a channel that this one follows; no session where it is the
+    /// The session that comes next after this one in the walk of a channel that this one follows; no session if it is the
     /// last or doesn't follow the channel. It takes no memory.
     ///
     /// With `first` it goes over a channel's sessions while rows go: take the next session before this one's row is removed.

@@ -58,7 +58,7 @@ impl Subscribers {
 
     /// Adds the row of a session that doesn't follow the channel yet, behind all others.
     ///
-    /// It is refused with `Full` exactly where there are 65,536 rows, and with `Memory` where memory is refused.
+    /// It is refused with `Full` exactly if there are 65,536 rows, and with `Memory` if memory is refused.
     pub fn add(&mut self, alloc: Global, channel: &str, session: u32) -> Result<(), SubRefusal>
         requires absent { follows self.old channel.now session ≡ false }
         ensures ok { OnOk result (self.new ≡ with_follow self.old channel.now session) }

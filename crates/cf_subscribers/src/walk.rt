@@ -8,7 +8,7 @@ use std::marker::Model;
 /// The sessions that follow a channel, in order of adding.
 #[derive(Drop)]
 pub struct FollowerWalk<'a> {
-    /// None where the channel has no number, and so no row.
+    /// None if the channel has no number, and so no row.
     pub(crate) rest: Option<Walk<'a>>,
 }
 

@@ -113,7 +113,7 @@ impl Broker {
         Ok(Published::Accepted)
     }
 
-    /// Reads a channel's stream for a subscription. None where its namespace is not set up, or no epoch waits for its stream.
+    /// Reads a channel's stream for a subscription. None if its namespace is not set up, or no epoch waits for its stream.
     pub(crate) fn read(
         &mut self,
         channel: &str,

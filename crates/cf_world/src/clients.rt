@@ -153,7 +153,7 @@ impl Peer<'_> {
         Ok(())
     }
 
-    /// What a client sends. It can't where the channel isn't idle, or is, or its ids are used up.
+    /// What a client sends. It can't if the channel isn't idle, or is, or its ids are used up.
     pub(crate) fn send(&mut self, command: &ClientCommand<'_>) -> Result<String, ClientFault>
         ensures text { IfOk result (λ t. string_bytes t
             ≡ command_text (command_of (sent_by command.now self.old))) }

@@ -53,7 +53,7 @@ impl World<'_> {
         }
     }
 
-    /// A node restarts: its sessions are gone, and its boot number grows. It answers `Short` too where the boot number is the last.
+    /// A node restarts: its sessions are gone, and its boot number grows. It answers `Short` too if the boot number is the last.
     pub fn restart(&mut self, node: u8) -> Result<(), Short>
         ensures { OnOk result (GoesOn (said.Restart node) self.old self.new) }
     {

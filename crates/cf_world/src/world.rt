@@ -48,7 +48,7 @@ impl<'a> World<'a> {
         })
     }
 
-    /// Ends the world, and frees all that it holds. Where a world is dropped instead, it is proved there how each of its parts is.
+    /// Ends the world, and frees all that it holds. If a world is dropped instead, it is proved there how each of its parts is.
     pub fn end(self) {}
 
     /// A node's sessions.

@@ -6,7 +6,7 @@ use std::alloc::{AllocError, Global};
 use std::io;
 use std::time::Instant;
 
-/// A hub, and the channels of its crowds. It lies in a box, since a function that lends a hub of its own is dear to prove.
+/// A hub, and the channels of its crowds. It lies in a box, since a function that lends a hub of its own is costly to prove.
 #[derive(Drop)]
 pub(crate) struct Crowds {
     hub: Box<Hub>,

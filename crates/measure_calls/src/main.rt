@@ -16,7 +16,7 @@ use std::io;
 use std::time::Instant;
 use table::Rows;
 
-/// The number of a word; 0 where it is none.
+/// The number of a word; 0 if it is none.
 fn number_of(word: Option<&str>) -> u32 {
     match word {
         Some(word) => word.parse::<u32>().unwrap_or(0),
@@ -32,7 +32,7 @@ fn numbers_of(passed: &str) -> (u32, u32, u32) {
     (first, second, number_of(words.next()))
 }
 
-/// Makes a call, and says how much was done; none where it was refused, or there is no such call.
+/// Makes a call, and says how much was done; none if it was refused, or there is no such call.
 fn call(
     alloc: Global,
     crowds: &mut Crowds,

@@ -2,7 +2,7 @@
 //!
 //! A table is a text, and each line of it a row: `DONE => COMES`. DONE begins with the word of a call, behind which stands what it is
 //! passed; `; ` parts calls, and what comes of them. COMES is what the answer is shown as, or the words in which the call was refused:
-//! `nothing` where nothing comes, and `itself` for what DONE passes. In both, `*COUNT*PIECE*` is that many pieces, with a number from
+//! `nothing` when nothing comes, and `itself` for what DONE passes. In both, `*COUNT*PIECE*` is that many pieces, with a number from
 //! 1,000 on in the place of each `#`, and `␊` is a line feed. An empty line is no row, nor is one that begins with `//`, a remark; an
 //! empty line and `# TITLE: SETTING` begin a part, which is played on a subject of its own.
 //!
@@ -12,10 +12,10 @@ use std::alloc::Global;
 use std::fmt::{Display, Write};
 use std::process::Abort;
 
-/// Of a text that is longer so many bytes are shown where a row isn't so.
+/// Of a text that is longer so many bytes are shown when a row isn't so.
 const SHOWN: usize = 400;
 
-/// What stands where a word is no number.
+/// What stands if a word is no number.
 const NO_NUMBER: &str = "no number: ";
 
 /// What rows are about.

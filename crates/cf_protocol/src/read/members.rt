@@ -48,7 +48,7 @@ impl<'a> Members<'a> {
         value_of(&self.found, key).copied()
     }
 
-    /// The same, where `null` counts as absent.
+    /// The same; `null` counts as absent.
     pub fn present(&self, key: &str) -> Option<Span>
         requires { AreMembers self.now }
         ensures { OfFields self.now (λ fs. Finds self.now.text.now result (present_at key.now fs)) }
@@ -59,7 +59,7 @@ impl<'a> Members<'a> {
         }
     }
 
-    /// A text; the empty one where it is absent.
+    /// A text; the empty one if it is absent.
     pub fn text(&self, alloc: Global, key: &str) -> Result<String, ReadFault>
         requires { AreMembers self.now }
         ensures { OfFields self.now (λ fs.
@@ -74,7 +74,7 @@ impl<'a> Members<'a> {
         }
     }
 
-    /// A flag; false where it is absent.
+    /// A flag; false if it is absent.
     pub fn flag(&self, key: &str) -> Result<bool, ReadFault>
         requires { AreMembers self.now }
         ensures { OfFields self.now (λ fs.
@@ -90,7 +90,7 @@ impl<'a> Members<'a> {
         }
     }
 
-    /// A whole number of at most so much; 0 where it is absent.
+    /// A whole number of at most so much; 0 if it is absent.
     pub fn whole(&self, key: &str, most: u64) -> Result<u64, ReadFault>
         requires { AreMembers self.now }
         ensures exact { OfFields self.now (λ fs.
@@ -109,7 +109,7 @@ impl<'a> Members<'a> {
         }
     }
 
-    /// A limit, a whole number of 32 bits with a sign; 0 where it is absent.
+    /// A limit, a whole number of 32 bits with a sign; 0 if it is absent.
     pub fn limit(&self, key: &str) -> Result<i32, ReadFault>
         requires { AreMembers self.now }
         ensures { OfFields self.now (λ fs.
@@ -127,7 +127,7 @@ impl<'a> Members<'a> {
         }
     }
 
-    /// The items of a list; none where it is absent.
+    /// The items of a list; none if it is absent.
     pub fn list(&self, alloc: Global, key: &str) -> Result<Vec<Span>, ReadFault>
         requires { AreMembers self.now }
         ensures { OfFields self.now (λ fs.
@@ -168,7 +168,7 @@ impl<'a> Members<'a> {
         })
     }
 
-    /// The position of `since`, where it is there.
+    /// The position of `since`, if it is there.
     pub fn since(&self, alloc: Global) -> Result<Option<Position>, ReadFault>
         requires { AreMembers self.now }
         ensures { OfFields self.now (λ fs.

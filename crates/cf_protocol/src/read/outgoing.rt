@@ -51,7 +51,7 @@ fn read_end(alloc: Global, members: &Members<'_>) -> Result<Option<u32>, ReadFau
     found.positive("code").map(Some)
 }
 
-/// What is pushed; none where it is of a kind that isn't known.
+/// What is pushed; none if it is of a kind that isn't known.
 fn read_pushed(alloc: Global, members: &Members<'_>) -> Result<Option<Pushed>, ReadFault>
     requires { AreMembers members.now }
     ensures { OfFields members.now (λ fs. Answers told_pushed result (pushes_of fs)) }
@@ -68,7 +68,7 @@ fn read_pushed(alloc: Global, members: &Members<'_>) -> Result<Option<Pushed>, R
     }
 }
 
-/// The push that has these members; none where it is of a kind that isn't known.
+/// The push that has these members; none if it is of a kind that isn't known.
 fn read_push(alloc: Global, members: &Members<'_>) -> Result<Option<Outgoing>, ReadFault>
     requires { AreMembers members.now }
     ensures { OfFields members.now (λ fs. Answers told result (push_from fs)) }

@@ -20,7 +20,7 @@ pub fn read_client(alloc: Global, text: &str, span: Span) -> Result<Info, ReadFa
     Ok(Info { user, client })
 }
 
-/// The info of a publication, where a client published it.
+/// The info of a publication, if a client published it.
 fn read_publisher(alloc: Global, members: &Members<'_>) -> Result<Option<Info>, ReadFault>
     requires { AreMembers members.now }
     ensures { OfFields members.now (λ fs. Answers (λ w. w) result (object_or_none info fs "info")) }

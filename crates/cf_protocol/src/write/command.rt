@@ -14,7 +14,7 @@ use std::alloc::{AllocError, Global};
 ///
 /// # Errors
 ///
-/// Where there is no memory.
+/// If there is no memory.
 pub fn write_command(alloc: Global, command: &Command) -> Result<String, AllocError>
     ensures { IfOk result (λ s. string_bytes s ≡ command_text (shown_command command.now)) }
 {
@@ -23,7 +23,7 @@ pub fn write_command(alloc: Global, command: &Command) -> Result<String, AllocEr
     writer.into_text()
 }
 
-/// The members of a command. Its request stands also where it is an empty object.
+/// The members of a command. Its request stands also if it is an empty object.
 fn write_members(writer: &mut Writer, id: u32, request: &Request)
     ensures { Adds writer.old writer.new (command_members as_it_is id (shown_request request.now)) }
 {
@@ -162,7 +162,7 @@ fn write_history(
     writer.value("}");
 }
 
-/// The position of a history, left out where there is none, and where it is the empty epoch at 0.
+/// The position of a history, left out if there is none, and if it is the empty epoch at 0.
 fn write_since(writer: &mut Writer, since: &Option<Position>)
     ensures { Adds writer.old writer.new (("since" ⇒ since_of since.now) ∷ []) }
 {

@@ -25,7 +25,7 @@ const VERSION: &str = "1.0.0";
 ///
 /// # Errors
 ///
-/// Where there is no memory.
+/// If there is no memory.
 pub fn write_reply(alloc: Global, outgoing: &Outgoing) -> Result<String, AllocError>
     ensures { IfOk result (λ s. string_bytes s ≡ outgoing_text (shown_outgoing outgoing.now)) }
 {
@@ -45,7 +45,7 @@ pub fn write_reply(alloc: Global, outgoing: &Outgoing) -> Result<String, AllocEr
     }
 }
 
-/// The members of a reply. Its result stands also where it is an empty object.
+/// The members of a reply. Its result stands also if it is an empty object.
 fn write_answer(writer: &mut Writer, id: u32, outcome: &Outcome)
     ensures { Adds writer.old writer.new (reply as_it_is id (shown_outcome outcome.now)) }
 {
@@ -141,7 +141,7 @@ fn write_past(writer: &mut Writer, id: u32, position: &Position, publications: &
     write_id(writer, id);
 }
 
-/// The error of a command that is refused, left out where it has no code.
+/// The error of a command that is refused, left out if it has no code.
 fn write_error(writer: &mut Writer, code: u32)
     ensures { Adds writer.old writer.new (("error" ⇒ inner (error_members code)) ∷ []) }
 {
@@ -155,7 +155,7 @@ fn write_error(writer: &mut Writer, code: u32)
     writer.value("}");
 }
 
-/// Each client under its id with its info, which stands also where it is empty; left out where there are no clients.
+/// Each client under its id with its info, which stands also if it is empty; left out if there are no clients.
 fn write_clients(writer: &mut Writer, users: &BTreeMap<String, String>)
     ensures { Adds writer.old writer.new (presence (shown_users users.now)) }
 {
@@ -172,7 +172,7 @@ fn write_clients(writer: &mut Writer, users: &BTreeMap<String, String>)
     writer.value("}");
 }
 
-/// The publications of a result, left out where there are none.
+/// The publications of a result, left out if there are none.
 fn write_publications(writer: &mut Writer, publications: &Vec<Publication>)
     ensures { Adds writer.old writer.new
         (("publications" ⇒ publications_list as_it_is publications.now.items) ∷ []) }

@@ -29,7 +29,7 @@ pub fn write_placed(writer: &mut Writer, publication: &Publication)
     writer.value("}");
 }
 
-/// The info of a publication, left out where there is none, and where it is empty.
+/// The info of a publication, left out if there is none, and if it is empty.
 fn write_publisher(writer: &mut Writer, info: &Option<Info>)
     ensures { Adds writer.old writer.new (("info" ⇒ info_or_none info.now) ∷ []) }
 {

@@ -18,12 +18,12 @@ const INFO_ROOM: usize = 31;
 const UNSUBSCRIBE_ROOM: usize = 83;
 
 /// The text of the push of a publication on a channel: the one that [`write_reply`](crate::write_reply) gives of it.
-/// The parts are lent, and nothing is copied but into the text, whose room is reserved at once where no byte of the names has
+/// The parts are lent, and nothing is copied but into the text, whose room is reserved at once if no byte of the names has
 /// to be escaped.
 ///
 /// # Errors
 ///
-/// Where there is no memory.
+/// If there is no memory.
 pub fn write_publication(
     alloc: Global,
     channel: &str,
@@ -45,7 +45,7 @@ pub fn write_publication(
 ///
 /// # Errors
 ///
-/// Where there is no memory.
+/// If there is no memory.
 pub fn write_unsubscribe(alloc: Global, channel: &str, code: u32) -> Result<String, AllocError>
     ensures { IfOk result (λ s. string_bytes s ≡ unsubscribe_text channel.now code) }
 {
@@ -60,7 +60,7 @@ pub fn write_unsubscribe(alloc: Global, channel: &str, code: u32) -> Result<Stri
     writer.into_text()
 }
 
-/// How many bytes the push of a publication has at most, where no byte of its names has to be escaped.
+/// How many bytes the push of a publication has at most, if no byte of its names has to be escaped.
 fn publication_room(channel: &str, publication: &Publication) -> usize {
     let room = channel
         .len()
@@ -75,7 +75,7 @@ fn publication_room(channel: &str, publication: &Publication) -> usize {
     }
 }
 
-/// The end of a subscription, left out where it has no code.
+/// The end of a subscription, left out if it has no code.
 fn write_end(writer: &mut Writer, code: u32)
     ensures { Adds writer.old writer.new (("unsubscribe" ⇒ inner (unsubscribed code)) ∷ []) }
 {

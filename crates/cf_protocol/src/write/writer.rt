@@ -50,7 +50,7 @@ impl Writer {
     ///
     /// # Errors
     ///
-    /// Where some call had no memory.
+    /// If some call had no memory.
     pub fn into_text(mut self) -> Result<String, AllocError>
         ensures { IfOk result (λ s.
             (self.failed ≡ false) × (string_bytes s ≡ string_bytes self.text ++ 125 ∷ [])) }
@@ -97,7 +97,7 @@ impl Writer {
         }
     }
 
-    /// A text between quotation marks. Where no byte of it has to be escaped, it is copied as it is.
+    /// A text between quotation marks. If no byte of it has to be escaped, it is copied as it is.
     fn quoted(&mut self, text: &str)
         ensures text { Grows self.old self.new (quoted text.now) }
         ensures fresh { self.new.fresh ≡ self.old.fresh }
@@ -141,7 +141,7 @@ impl Writer {
         self.begin(bracket);
     }
 
-    /// A member that is left out where its text is empty.
+    /// A member that is left out if its text is empty.
     pub fn text_member(&mut self, key: &str, text: &str)
         ensures { Adds self.old self.new ((key.now, written.text text.now) ∷ []) }
     {
@@ -152,7 +152,7 @@ impl Writer {
         }
     }
 
-    /// A member that is left out where its number is 0.
+    /// A member that is left out if its number is 0.
     pub fn whole_member(&mut self, key: &str, number: u64)
         ensures { Adds self.old self.new ((key.now, written.whole number) ∷ []) }
     {
@@ -163,7 +163,7 @@ impl Writer {
         }
     }
 
-    /// A member that is left out where its number is 0.
+    /// A member that is left out if its number is 0.
     pub fn signed_member(&mut self, key: &str, number: &i32)
         ensures { Adds self.old self.new ((key.now, written.signed number.now) ∷ []) }
     {
@@ -174,7 +174,7 @@ impl Writer {
         }
     }
 
-    /// A member that is left out where it is false.
+    /// A member that is left out if it is false.
     pub fn flag_member(&mut self, key: &str, flag: bool)
         ensures { Adds self.old self.new ((key.now, written.flag flag) ∷ []) }
     {

@@ -48,7 +48,7 @@ fn subscribe<N: Net + AllocGlobal>(rt: &N, address: SocketAddr) -> Option<Reader
 }
 
 impl<S: Read + Write + Drop> Reader<S> {
-    // It takes what came. None where that isn't as it should be.
+    // It takes what came. None if that isn't as it should be.
     fn turn(&mut self) -> Option<()> {
         for event in self.connection.hear().ok()? {
             self.take(event)?;
@@ -86,7 +86,7 @@ impl<S: Read + Write + Drop> Reader<S> {
         self.connection.send(|client| client.ask_from(NEWS)).ok()
     }
 
-    // Where its client isn't idle it leaves, and it asks from its position.
+    // If its client isn't idle it leaves, and it asks from its position.
     fn come_back(&mut self) -> Option<()> {
         if !self.connection.client().is_idle(NEWS) {
             self.connection.send(|client| client.leave(NEWS)).ok()?;

@@ -91,7 +91,7 @@ fn name_of(answer: &[u8]) -> &'static str {
     "another answer"
 }
 
-/// Tells the answer that refuses a handshake, or why there is no wire where nothing is answered.
+/// Tells the answer that refuses a handshake, or why there is no wire if nothing is answered.
 fn tell_refused(told: &mut Told, fault: WireFault, answered: bool, output: &[u8]) {
     if answered && fault == WireFault::Handshake {
         return told.tell(name_of(output));

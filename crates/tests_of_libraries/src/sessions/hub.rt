@@ -170,7 +170,7 @@ impl Subject for Hub {
     }
 }
 
-/// A hub with nobody on it. It lies in a box, since a function that lends a hub of its own is dear to prove.
+/// A hub with nobody on it. It lies in a box, since a function that lends a hub of its own is costly to prove.
 fn empty_hub(alloc: Global) -> Result<Box<Hub>, AllocError> {
     Ok(Box::new(alloc, Hub::new(alloc, 0, 1))?)
 }
@@ -252,8 +252,8 @@ fn steps(rt: HostRuntime) {
     table.ends(&rt);
 }
 
-/// After the steps of the first row, which come to what it says where there is memory for each, one of the others comes of the
-/// steps behind them. Where the test itself is refused memory, nothing is looked at.
+/// After the steps of the first row, which come to what it says if there is memory for each, one of the others comes of the
+/// steps behind them. If the test itself is refused memory, nothing is looked at.
 fn comes_one_of(
     alloc: Global,
     table: &mut Table<'_>,
@@ -294,7 +294,7 @@ attach; begin 2 news; read 2 news; finish 2 news; take 2",
     "0; begun; yes; yes; reply; 1; begun; yes; yes; reply; 2; begun; yes; yes; reply",
 );
 
-/// Where memory is refused, one of them is closed; or none, where it was for the one text of all, which each then writes for itself.
+/// If memory is refused, one of them is closed; or none, if it was for the one text of all, which each then writes for itself.
 const ALL_BUT_ONE: &str = "\
 Delivered { passed: 3, kept: 0, dropped: 0, ended: 0, closed: 0 }; push; push; push
 Delivered { passed: 3, kept: 0, dropped: 0, ended: 0, closed: 0 } short; push; push; push
@@ -316,7 +316,7 @@ const ONE_ASKS: (&str, &str) = (
     "0; begun; yes; yes; reply; 1; begun",
 );
 
-/// What was kept comes behind the reply; or an end, where memory was refused for it. Where it is refused for the reply or for what
+/// What was kept comes behind the reply; or an end, if memory was refused for it. If it is refused for the reply or for what
 /// comes behind it, what was said before goes out, and the close.
 const KEPT_OR_ENDED: &str = "\
 Delivered { passed: 1, kept: 1, dropped: 0, ended: 0, closed: 0 }; yes; yes; reply; push; nothing

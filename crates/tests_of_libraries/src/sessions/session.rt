@@ -55,7 +55,7 @@ fn channel_of(action: &Action) -> &str {
     }
 }
 
-/// Answers the call that is out, which is on this channel, where there is memory for the answer.
+/// Answers the call that is out, which is on this channel, if there is memory for the answer.
 fn answer(told: &mut Told, alloc: Global, session: &mut Session<'_>, channel: &str) {
     if let Some(kind) = session.awaited() {
         match answer_to(alloc, kind, channel) {
@@ -259,7 +259,7 @@ fn talk(rt: HostRuntime) {
     table.ends(&rt);
 }
 
-/// Behind what a text does otherwise stands what it may do where memory is refused: a connect closes, the other commands are
+/// Behind what a text does otherwise stands what it may do when memory is refused: a connect closes, the other commands are
 /// answered 100, at once or after the call, and each text may close as it is read. A subscribe asks for nothing then.
 const OR_GIVEN_UP: &str =
     r#"{"id":1,"connect":{}} => attach  / {"connect":{"client":"0-1-1","ping":25,"pong":true,"version":"1.0.0"},"id":1} | close 3004 internal server error | attach  / close 3004 internal server error
@@ -267,7 +267,7 @@ const OR_GIVEN_UP: &str =
 {"id":2,"publish":{"channel":"news","data":1,"key":"k"}} => publish k: 1 0-1-1 / {"id":2,"publish":{}} | close 3004 internal server error | {"error":{"code":100,"message":"internal server error","temporary":true},"id":2} | publish k: 1 0-1-1 / {"error":{"code":100,"message":"internal server error","temporary":true},"id":2}
 {"id":2,"history":{"channel":"news","limit":-1}} => history -1 / {"history":{"epoch":"aaaa","offset":3,"publications":[{"data":{},"info":{"client":"0-1-1","user":"ann"},"offset":3}]},"id":2} | close 3004 internal server error | {"error":{"code":100,"message":"internal server error","temporary":true},"id":2} | history -1 / {"error":{"code":100,"message":"internal server error","temporary":true},"id":2}"#;
 
-/// Whether this is the first of these, or any of the others where memory was refused.
+/// Whether this is the first of these, or any of the others if memory was refused.
 fn is_one_of(done: &str, allowed: &str, was_refused: bool) -> bool {
     match allowed.split_once(" | ") {
         Some((_, others)) if was_refused => others.split(" | ").any(|other| other == done),
@@ -276,8 +276,8 @@ fn is_one_of(done: &str, allowed: &str, was_refused: bool) -> bool {
     }
 }
 
-/// A session does what the row says, or gives its command up where memory is refused to it, and then is idle. Whether it goes on: not
-/// where it is closed, or there was no memory to answer its call or to tell what it did.
+/// A session does what the row says, or gives its command up if memory is refused to it, and then is idle. Whether it goes on: not
+/// if it is closed, or there was no memory to answer its call or to tell what it did.
 fn goes_on(alloc: Global, session: &mut Session<'_>, table: &mut Table<'_>, row: &str) -> bool {
     let (text, allowed) = row.split_once(" => ").unwrap_or((row, "no arrow"));
     let was_short = session.short();

@@ -415,7 +415,7 @@ fn failing_wire(alloc: Global, fails: usize) -> Result<Wire<Pieces>, WireFault> 
     wire_over(alloc, "3 81 81 00 00 00 00 'a", 3, fails)
 }
 
-/// How many calls of the stream a handshake makes, and how many a turn by its end, where none fails.
+/// How many calls of the stream a handshake makes, and how many a turn by its end, if none fails.
 fn calls_of_a_turn(alloc: Global) -> Option<(usize, usize)> {
     let mut wire = failing_wire(alloc, usize::MAX).ok()?;
     let mut desk = Echo::new(alloc, None)?;

@@ -31,7 +31,7 @@ fn publish(alloc: Global, stream: &mut Stream, key: &str) -> Result<Published, S
     stream.publish(body, key, ann(alloc), 0)
 }
 
-/// Tells the offset of a publication, behind `again` where it repeats one, or why there is none.
+/// Tells the offset of a publication, behind `again` if it repeats one, or why there is none.
 fn tell_published(told: &mut Told, published: Result<Published, StreamRefusal>) {
     match published {
         Ok(Published { position, repeated }) => {

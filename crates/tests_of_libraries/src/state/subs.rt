@@ -188,7 +188,7 @@ where
     Some(table)
 }
 
-/// Whether a full table takes a row more only where one went. It is as before then.
+/// Whether a full table takes a row more only if one went. It is as before then.
 fn is_limited(table: &mut SubTable) -> bool {
     table.len() == MOST_ROWS
         && put(table, 7, 5000) == Err(SubRefusal::Full)

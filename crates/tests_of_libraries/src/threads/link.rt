@@ -8,7 +8,7 @@ use std::thread;
 use std::thread::Threads;
 use std::time::{Clock, Duration, Instant};
 
-/// `send ITEM` gives the item back where there is no room.
+/// `send ITEM` gives the item back if there is no room.
 const STEPS: &str = "\
 waiting => 0
 send 7 => sent
@@ -67,7 +67,7 @@ fn one_place(rt: HostRuntime) {
     table.ends(&rt);
 }
 
-/// What is left at the end was sent and not received: nothing, where all was received.
+/// What is left at the end was sent and not received: nothing, if all was received.
 #[test]
 fn settled_with_nothing_left(rt: HostRuntime) {
     let (mut sender, mut receiver) = pair(rt.alloc(), 1).expect(&rt, "memory");
@@ -78,7 +78,7 @@ fn settled_with_nothing_left(rt: HostRuntime) {
     assert!(rt; settle(&rt, sender, receiver) == 0);
 }
 
-/// The same: one, where a further send came before it.
+/// The same: one, if a further send came before it.
 #[test]
 fn settled_behind_a_send(rt: HostRuntime) {
     let (mut sender, mut receiver) = pair(rt.alloc(), 1).expect(&rt, "memory");

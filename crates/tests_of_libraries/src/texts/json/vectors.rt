@@ -12,7 +12,7 @@ use cf_json::{
 };
 use std::alloc::Global;
 
-/// The span of a text's one value, where that is of the kind.
+/// The span of a text's one value, if that is of the kind.
 fn span_of(text: &str, wanted: Kind) -> Option<Span>
     ensures { IfSome result (λ s. (t : Tree) × IsAt text.now t s × (kind_of t ≡ wanted)) }
 {

@@ -16,7 +16,7 @@ use std::collections::BTreeMap;
 use std::process::Abort;
 use std::sync::Wait;
 
-/// Tells the position of a publication, behind `again` where it is repeated.
+/// Tells the position of a publication, behind `again` if it is repeated.
 fn tell_published(told: &mut Told, answer: Result<Published, Refused>) {
     let Ok(Published { position, repeated }) = answer else {
         return told.tell("refused");
