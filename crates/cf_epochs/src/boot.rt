@@ -7,8 +7,9 @@ use std::marker::Model;
 /// The last boot number.
 const LAST_BOOT: u64 = 999_999_999_999_999;
 
-/// The number of a start of the server: 1 to 999,999,999,999,999. Its operator uses none twice.
-#[derive(Clone, Copy)]
+/// The number of a start of the server: 1 to 999,999,999,999,999. Its operator uses none twice. It can't be copied, and
+/// [`BootEpochs::of_shards`](crate::BootEpochs::of_shards) takes it, so that a start's epochs are asked for once.
+#[derive(Drop)]
 pub struct Boot {
     number: u64,
 }

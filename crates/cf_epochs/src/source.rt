@@ -1,6 +1,6 @@
 //! Where the epochs of a running server's streams come from.
 ghost use Rattle.std.specs.Prelude.{◌≡◌};
-ghost use Rattle.cf_epochs.specs.Source.{AreOfShards, epoch_at, unused};
+ghost use Rattle.cf_epochs.specs.Source.{AreOfShards, IsBoot, epoch_at, unused};
 
 use crate::boot::Boot;
 use arrayvec::ArrayString;
@@ -17,20 +17,20 @@ const LAST_COUNT: u64 = 999_999_999_999;
 /// or count, and those of two starts by the boot number ([`laws`](crate::laws)).
 #[derive(Drop)]
 pub struct BootEpochs {
-    boot: Boot,
+    boot: u64,
     shard: u8,
     count: u64,
 }
 
 impl Model for BootEpochs {
     ghost use Rattle.std.specs.Prelude.{◌≤◌};
-    ghost use Rattle.cf_epochs.specs.Source.{Source, last_count};
+    ghost use Rattle.cf_epochs.specs.Source.{IsBoot, Source, last_count};
 
     ghost Value = { Source };
 
     ghost view = { λ e. record { boot = e.boot; shard = e.shard; count = e.count } };
 
-    ghost invariant = { λ e. e.count ≤ last_count };
+    ghost invariant = { λ e. IsBoot e.boot × (e.count ≤ last_count) };
 }
 
 impl Epochs for BootEpochs {
@@ -49,7 +49,8 @@ impl Epochs for BootEpochs {
 
 impl BootEpochs {
     // A shard's epochs at this start, from the first.
-    fn new(boot: Boot, shard: u8) -> BootEpochs
+    fn new(boot: u64, shard: u8) -> BootEpochs
+        requires { IsBoot boot }
         ensures { result ≡ unused boot shard }
     {
         BootEpochs {
@@ -59,11 +60,12 @@ impl BootEpochs {
         }
     }
 
-    /// The epochs of the sixteen shards at this start, from the first.
+    /// The epochs of the sixteen shards at this start, from the first. The number is used up by it.
     pub fn of_shards(boot: Boot) -> [BootEpochs; 16]
         ensures { AreOfShards boot result }
     {
-        array::from_fn(|shard| BootEpochs::new(boot, shard as u8))
+        let number = boot.number();
+        array::from_fn(|shard| BootEpochs::new(number, shard as u8))
     }
 
     // The epoch of the count.
@@ -72,7 +74,7 @@ impl BootEpochs {
     {
         let mut digits = Buffer::new();
         let mut text = ArrayString::<32>::new();
-        text.push_str(digits.format(self.boot.number()));
+        text.push_str(digits.format(self.boot));
         text.push_str("x");
         text.push_str(digits.format(self.shard));
         text.push_str("x");
