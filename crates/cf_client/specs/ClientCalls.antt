@@ -107,7 +107,7 @@ pub record AnswersAsk (id : ℕ) (becomes : Mode → Mode) (items : List ℕ →
 abbrev pub NoAsk : ℕ → State → Type 0
 NoAsk id s = (c : List ℕ) → asks_under id (s.client.modes c) ≡ false
 
--- a call is answered where it is out, and nothing else changes
+-- a call is answered if it is out, and nothing else changes
 abbrev pub AnswersCall : ℕ → (List ℕ → AppItem) → State → State → List AppItem → Type 0
 AnswersCall id tells old new told =
     (new ≡ answered id old) × (told ≡ map tells (option_to_list (channel_under id old.out)))

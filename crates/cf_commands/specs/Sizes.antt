@@ -1,4 +1,4 @@
--- What becomes of the shards where a namespace gets another size. (This project's own profile.)
+-- What becomes of the shards when a namespace gets another size. (This project's own profile.)
 use Rattle.std.specs.Prelude.{ℕ, ◌<◌, List, [], ◌∷◌}
 use Rattle.cf_shard.specs.Shards.{pass_at}
 use Rattle.cf_order.specs.Passes.{PassState}

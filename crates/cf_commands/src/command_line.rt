@@ -41,21 +41,22 @@ streams are still those that they know.
 What comes faster than a node takes it waits on the node's link. What a full link has no room for is lost on the way to that
 node; its clients are told to subscribe again, and get it by recovery. --link 1 shows that, and a larger link makes it rare.
 
-A connection that never sends a connect command stays for ever, and takes one of a node's 16,384 places; with --stale 25 it is dropped
-25 seconds after its handshake.
+A connection that never sends a connect command stays for ever, and takes one of a node's 16,384 places; with --stale 25 it is
+dropped 25 seconds after its handshake.
 
-It ends at the end of standard input (Ctrl-D at a terminal): each client is closed with 3001. To keep it running without
-a terminal, give it an input that does not end:
-  sleep infinity | cf_server serve --boot 7 --port 8000
+It ends at the end of standard input (Ctrl-D at a terminal): each client is closed with 3001. Ctrl-C and TERM end it at once, and
+no client is told why. Without a terminal somebody has to hold its input open, and to let it go at the end, as examples/run-serve
+does. By hand, the first line starts it, the second says a line to it, and the third ends it:
+  mkfifo input; cf_server serve --boot 7 --port 8000 < input & exec 9> input
+  echo \"size =200\" >&9
+  exec 9>&-
 If a node can't serve, or its loop ends, all nodes end, and the status is 4. `input or output failed` then stands on standard
 error, and above it the node and what failed there: its port is taken by another program (another --port), it may not listen there,
 or its thread can't be started. Alone it says that standard input or output failed, as a pipe whose reader is gone.
 
 A line `size NAME=K` of standard input sets how many publications the streams of a namespace hold from then on, 1 to 10,000;
-`size =K` is for the channels without a `:`. By a fifo that is held open (examples/run-serve makes one):
-  mkfifo input; cf_server serve --boot 7 --port 8000 < input & exec 9> input; echo \"size =200\" >&9
-The answer stands on standard error: `size =200: set`, or why it was passed over, or that a shard of the broker refused it and
-keeps its size. Lines that don't begin with `size` are passed over, and not answered.
+`size =K` is for the channels without a `:`. The answer stands on standard error: `size =200: set`, or why it was passed over, or
+that a shard of the broker refused it and keeps its size. Lines that don't begin with `size` are passed over, and not answered.
 
 On standard error it says, at most once a second of each node and kind, how many connections were refused for want of descriptors
 or memory, how many publications were lost on full links, and how many sessions were closed for slowness; --quiet for none.";
@@ -84,10 +85,8 @@ Each new stream takes the next of the epochs; if none is left, a command that wo
 
 const PROGRAM_NOTES: &str = "With no command it is `simulate`.
 
-Each command reads standard input to its end. `serve` serves until then: Ctrl-D at a terminal ends it. What keeps it from ending
-without a terminal is an input that does not end:
-  sleep infinity | cf_server serve --boot 7 --port 8000
-`cf_server serve --help` tells more. --version says the number of the program, and not of which sources it was built.
+Each command reads standard input to its end. `serve` serves until then: Ctrl-D at a terminal ends it, and `cf_server serve --help`
+tells how it is held open and ended without one. --version says the number of the program, and not of which sources it was built.
 
 Exit status: 0 done, 2 unusable words or input, 3 out of memory, 4 input or output failed.";
 

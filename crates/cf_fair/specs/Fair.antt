@@ -67,7 +67,7 @@ pub record Joins (k : ℕ) (is_held : Bool) (old new : Fair) : Type 0 where
   pub budget : new.budget ≡ old.budget
   pub number : new.number ≡ up old.number 1
 
--- where it waits already nothing changes
+-- if it waits already nothing changes
 abbrev pub Comes : Bool → ℕ → Bool → Fair → Fair → Type 0
 Comes true k is_held old new = IsSame old new
 Comes false k is_held old new = Joins k is_held old new

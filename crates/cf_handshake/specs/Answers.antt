@@ -10,7 +10,7 @@ use Rattle.cf_handshake.specs.declared.answer.Refusal.TheVariants.{BadRequest, U
 abbrev pub status_line : List ℕ → List ℕ
 status_line status = codes "HTTP/1.1 " ++ status ++ crlf
 
--- the subprotocol is chosen where it was offered
+-- the subprotocol is chosen if it was offered
 abbrev pub protocol_line : Bool → List ℕ
 protocol_line true = field_line (codes "Sec-WebSocket-Protocol") (codes "centrifuge-json")
 protocol_line false = []

@@ -77,11 +77,11 @@ AsksWithKey (Some key) json (Socket opening) =
 AsksWithKey (Some key) json Health = ⊥
 AsksWithKey (Some key) json (Refused refusal) = ¬ (IsValidKey key) × (refusal ≡ BadRequest)
 
--- by the one key, where all else is as it is to be
+-- by the one key, if all else is as it is to be
 abbrev pub AsksByKey : Fields → Asked → Type 0
 AsksByKey lines asked = AsksWithKey (only_value lines (codes "Sec-WebSocket-Key")) (offers_json lines) asked
 
--- the first rule that is broken decides: 1. `GET`, and one host; 2. where no line asks for an upgrade, the path; 3.
+-- the first rule that is broken decides: 1. `GET`, and one host; 2. if no line asks for an upgrade, the path; 3.
 -- HTTP/1.1, and an upgrade to `websocket`; 4. version 13; 5. one key, the base64 of sixteen bytes
 abbrev pub Asks : Request → Asked → Type 0
 Asks r asked =

@@ -26,7 +26,7 @@ only_of [] = None
 only_of (value ∷ []) = Some value
 only_of (value ∷ other ∷ values) = None
 
--- the value of the one line with this name: none where there is none, or where there are several
+-- the value of the one line with this name: none if there is none, or if there are several
 abbrev pub only_value : Fields → List ℕ → Option (List ℕ)
 only_value lines name = only_of (values_of lines name)
 
@@ -35,7 +35,7 @@ abbrev pub parts_from : List ℕ → List ℕ → List (List ℕ)
 parts_from part [] = part ∷ []
 parts_from part (b ∷ bs) = cond (b == comma) (part ∷ parts_from [] bs) (parts_from (part ++ b ∷ []) bs)
 
--- two words are the same, where the case of letters matters, or is ignored
+-- two words are the same, as the case of letters matters or is ignored
 abbrev pub is_same : Case → List ℕ → List ℕ → Bool
 is_same Matters word item = bytes_eq word item
 is_same Ignored word item = eq_ignore_case word item

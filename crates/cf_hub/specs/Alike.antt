@@ -1,6 +1,6 @@
 -- Two sessions are alike that are at the same places: their subscriptions are the same but for what is kept before a
 -- reply, and what waits for the one client is said in other words to the other. R relates what is kept, by channel,
--- by the id of the ask and by the reading, where the stream was read; S relates notes.
+-- by the id of the ask and by the reading, if the stream was read; S relates notes.
 use Rattle.std.specs.Prelude.{◌≡◌, ⊤, ℕ, Option, Some, None, List}
 use Rattle.std.specs.List.{AllZip}
 use Rattle.cf_protocol.specs.Note.{Reading}

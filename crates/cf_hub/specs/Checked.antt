@@ -13,7 +13,7 @@ answer_of Fine = answer.Fine
 answer_of Behind = answer.Behind
 answer_of Ended = answer.Ended
 
--- nothing where there is no finished subscription
+-- nothing if there is no finished subscription
 abbrev pub check_answer : {B : Type 0} → Option Position → Subscription B → Answer
 check_answer top Off = answer.Nothing
 check_answer top (Asked id since b) = answer.Nothing

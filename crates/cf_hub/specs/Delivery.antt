@@ -19,7 +19,7 @@ sub_fate q (Asked id since b) = Kept
 sub_fate q (Ready id was r b) = Kept
 sub_fate q (On p mark) = verdict_fate (verdict p q)
 
--- closed where the call closed it, else this
+-- closed if the call closed it, else this
 abbrev pub fate_or : {B N : Type 0} → SessionState B N → SessionState B N → Fate → Fate
 fate_or a b f = if not a.closed && b.closed then Closed else f
 

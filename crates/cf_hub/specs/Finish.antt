@@ -9,7 +9,7 @@ use Rattle.cf_model.specs.SessionState.{put_sub}
 use Rattle.cf_hub.specs.WantOfMemory.{SaysAll}
 use Rattle.cf_hub.specs.Wordings.{Held, releasing}
 
--- The run is what was kept behind the reply's position. Where no memory is refused b is `finishes (releasing run) c a`.
+-- The run is what was kept behind the reply's position. If no memory is refused b is `finishes (releasing run) c a`.
 pub record Finishes (refused : Bool) (c : List ℕ) (id : ℕ) (was : Bool) (r : Reading) (h : Held)
     (a b : SessionState Held Item) : Type 0 where
   pub run : List Placed
@@ -17,7 +17,7 @@ pub record Finishes (refused : Bool) (c : List ℕ) (id : ℕ) (was : Bool) (r :
   pub said : SaysAll refused (releasing run) (finish_notes (releasing run) c id was r h)
       (put_sub c (finished (releasing run) r h) a) b
 
--- nothing changes where there is nothing to finish
+-- nothing changes if there is nothing to finish
 abbrev pub FinishesAt : Bool → List ℕ → Subscription Held → SessionState Held Item → SessionState Held Item
     → Type 0
 FinishesAt refused c Off a b = b ≡ a

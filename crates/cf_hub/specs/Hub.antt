@@ -38,7 +38,7 @@ pub record Node : Type 0 where
   pub refused : ℕ
   pub turns : Turns
 
--- the session of a number, where there is one
+-- the session of a number, if there is one
 abbrev pub attached_at : Node → ℕ → Option Attached
 attached_at h k = option_map attached_shown (lookup (is_at (nat_cmp k)) h.sessions)
 
@@ -88,7 +88,7 @@ pub record One (k : ℕ) (move : SessionState Held Item → SessionState Held It
   pub others : OthersStay k old new
   pub agrees : Agrees (attached_at new) new.rows
 
--- the channel of session k; Off where there is no such session
+-- the channel of session k; Off if there is no such session
 abbrev pub sub_at : Node → ℕ → List ℕ → Subscription Held
 sub_at h k c = sub_in (attached_at h k) c
 
@@ -156,7 +156,7 @@ pub record SameRest (old new : Node) : Type 0 where
   pub used : new.used ≡ old.used
   pub refused : new.refused ≡ old.refused
 
--- Session k meets a call that may want memory: R says what became of its state, where memory was refused for it or not.
+-- Session k meets a call that may want memory: R says what became of its state, if memory was refused for it or not.
 pub record Meets (k : ℕ) (R : Bool → SessionState Held Item → SessionState Held Item → Type 0)
     (old new : Node) : Type 0 where
   pub hit : Bool

@@ -1,4 +1,4 @@
--- What a node's sessions become where one of them is lent to be changed.
+-- What a node's sessions become when one of them is lent to be changed.
 use Rattle.std.specs.Prelude.{ℕ, Option, Some, slice_set}
 use Rattle.std.specs.Borrow.{LendsIf, MutBor, Fml}
 use Rattle.cf_hub.specs.declared.session.Session.{Session}
@@ -6,6 +6,6 @@ use Rattle.cf_hub.specs.contracts.session.Session.{the_row as session_row}
 use Rattle.cf_hub.specs.contracts.session_table.Sessions.{the_row}
 use Rattle.cf_hub.specs.Places.{Places}
 
--- number k has what was last behind r; where it has no session, nothing changes
+-- number k has what was last behind r; if it has no session, nothing changes
 abbrev pub LendsSession : MutBor Places → ℕ → Option (MutBor Session) → Fml
 LendsSession s k r = LendsIf the_row session_row s r (λ w. slice_set s.now k (Some w)) s.now

@@ -6,11 +6,11 @@ use Rattle.cf_hub.specs.declared.session.Session.{Session}
 abbrev pub Places : Type 0
 Places = List (Option Session)
 
--- the session of number k, where there is one
+-- the session of number k, if there is one
 abbrev pub session_in : Places → ℕ → Option Session
 session_in ps k = slice_index_or ps k None
 
--- each session beside its number, in order, where the first place is that of number n
+-- each session beside its number, in order, if the first place is that of number n
 abbrev pub numbered : ℕ → Places → List (ℕ × Session)
 numbered n [] = []
 numbered n (None ∷ ps) = numbered (suc n) ps

@@ -53,6 +53,6 @@ answer_notes c a =
     Text (reply_text a.id a.was_recovering (reading_of a.recovery) a.recovery.publications.items)
     ∷ map (λ x. Text (push_text c x)) a.released.run.items
 
--- and the unsubscribe push where something is missing then
+-- and the unsubscribe push if something is missing then
 abbrev pub finish_texts : List ℕ → Answered → List Item
 finish_texts c a = answer_notes c a ++ (if a.released.insufficient then Text (end_text c) ∷ [] else [])

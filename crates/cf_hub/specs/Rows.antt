@@ -1,4 +1,4 @@
--- A row stands exactly where a session's channel isn't off.
+-- A row stands exactly if a session's channel isn't off.
 use Rattle.std.specs.Prelude.{◌≡◌, ℕ, not, Bool, true, false, if◌then◌else◌, Option, Some, None, List}
 use Rattle.std.specs.Str.{bytes_eq}
 use Rattle.cf_subscribers.specs.Follows.{Follow, follows, without_follow, without_session}

@@ -55,7 +55,7 @@ leaves_if ends c s = if ends then put_sub c Off s else s
 abbrev pub pushes : List ℕ → List Placed → List Item
 pushes c ps = map (λ p. Text (push_text c p)) ps
 
--- a ping is said where one is due
+-- a ping is said if one is due
 abbrev pub ticks_of : ℕ → Session → Move
 ticks_of now s = ticks plain now (badge_of s)
 
@@ -95,7 +95,7 @@ abbrev pub EndsAs : Fate → List ℕ → Session → Session → Type 0
 EndsAs f c old new =
     (d : List ℕ) → is_off ((state_of new).subs d) ≡ off_after f c d (is_off ((state_of old).subs d))
 
--- closed where the call closed it, else this
+-- closed if the call closed it, else this
 abbrev pub closed_or : Bool → Session → Fate → Fate
 closed_or was_closed s f = if not was_closed && (state_of s).closed then Closed else f
 
@@ -103,7 +103,7 @@ closed_or was_closed s f = if not was_closed && (state_of s).closed then Closed 
 abbrev pub finish_fate : Answered → Fate
 finish_fate a = if a.released.insufficient then Ended else Passed
 
--- the channel's subscription is finished where there is one to finish
+-- the channel's subscription is finished if there is one to finish
 abbrev pub FinishesSession : Bool → List ℕ → Session → Session → Type 0
 FinishesSession refused c old new = FinishesAt refused c ((state_of old).subs c) (state_of old) (state_of new)
 
@@ -113,7 +113,7 @@ FinishesSession refused c old new = FinishesAt refused c ((state_of old).subs c)
 abbrev pub OthersStayIn : ℕ → Places → Places → Type 0
 OthersStayIn k old new = (j : ℕ) → j ≢ k → attached_in new j ≡ attached_in old j
 
--- the session of k, where there is one, becomes this
+-- the session of k, if there is one, becomes this
 abbrev pub BecomesIn : ℕ → (Attached → Attached) → Places → Places → Type 0
 BecomesIn k f old new = attached_in new k ≡ option_map f (attached_in old k)
 
@@ -125,11 +125,11 @@ MovesIn k move old new = BecomesIn k (moves move) old new
 abbrev pub MeetsIn : ℕ → (Attached → Attached → Type 0) → Places → Places → Type 0
 MeetsIn k R old new = Both R (attached_in old k) (attached_in new k)
 
--- it makes this move, or is closed where memory was refused
+-- it makes this move, or is closed if memory was refused
 abbrev pub ActsIn : ℕ → Step → Move → Places → Places → Type 0
 ActsIn k step move old new = MeetsIn k (InState (OrCloses step.refused plain move)) old new
 
--- its channel's subscription is finished where there is one to finish
+-- its channel's subscription is finished if there is one to finish
 abbrev pub FinishesIn : ℕ → Step → List ℕ → Places → Places → Type 0
 FinishesIn k step c old new = MeetsIn k (InState (FinishesAt step.refused c (sub_in (attached_in old k) c))) old new
 

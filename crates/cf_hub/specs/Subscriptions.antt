@@ -31,7 +31,7 @@ Subscriptions = IndexMap (String Global) (Box Progress Global) (BuildHasherDefau
 abbrev pub names : Subscriptions → List (List ℕ)
 names m = map string_bytes (keys m)
 
--- what stands in a box, where there is one
+-- what stands in a box, if there is one
 abbrev pub in_box : Option (Box Progress Global) → Option Progress
 in_box o = option_map (λ b. b.value) o
 
@@ -60,7 +60,7 @@ sub_of (Some (code.On at mark)) = On at mark
 abbrev pub SetsAt : Subscriptions → Subscriptions → List ℕ → Option Progress → Type 0
 SetsAt old new c w = (q : List ℕ) → progress_at new q ≡ update bytes_eq (progress_at old) c w q
 
--- where a finished subscription stands after what is at q: there, where that is the next one
+-- where a finished subscription stands after what is at q: there, if that is the next one
 abbrev pub stands_by : Verdict → Position → Position → Position
 stands_by Drop at q = at
 stands_by Pass at q = q

@@ -40,7 +40,7 @@ item_weight (Close code) = 0
 
 -- ---- the code's wording
 
--- where this publication is delivered, the read gave these, and these follow the reply
+-- if this publication is delivered, the read gave these, and these follow the reply
 abbrev pub texts : Placed → List Placed → List Placed → Wording Held Item
 texts p missed run =
     record {
@@ -79,6 +79,6 @@ plain = texts no_publication [] []
 abbrev pub at_offset : List ℕ → Placed → Position
 at_offset e p = record { epoch = e; offset = p.offset }
 
--- the text, where there is one, is the push of this publication
+-- the text, if there is one, is the push of this publication
 abbrev pub IsWritten : Option (List ℕ) → List ℕ → Placed → Type 0
 IsWritten text c p = IfSome text (λ t. t ≡ push_text c p)

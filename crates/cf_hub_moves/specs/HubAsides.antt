@@ -1,6 +1,6 @@
--- The moves of a hub's calls in notes, where between the notes other texts wait for the client, as a connect reply or
+-- The moves of a hub's calls in notes, if between the notes other texts wait for the client, as a connect reply or
 -- an answer about presence: they are none of the machine's, but they weigh. So a session may be closed as too slow
--- where its notes alone would have room. (This project's own profile.)
+-- if its notes alone would have room. (This project's own profile.)
 use Rattle.std.specs.Prelude.{◌≡◌, ◌⊎◌, ⊤, ℕ, Bool, Option, List, [], ◌∷◌}
 use Rattle.cf_protocol.specs.Datum.{Placed}
 use Rattle.cf_protocol.specs.Note.{Lists, Note, Reading}

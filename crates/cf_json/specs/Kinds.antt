@@ -13,7 +13,7 @@ kind_of (text c) = Text
 kind_of (array ps) = Array
 kind_of (object ps) = Object
 
--- what begins with this byte, where a value does
+-- what begins with this byte, if a value does
 unfoldable pub kind_from : ℕ → Kind
 kind_from x =
     if x == 123 then Object else if x == 91 then Array else if x == 34 then Text

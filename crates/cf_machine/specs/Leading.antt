@@ -13,7 +13,7 @@ use Rattle.cf_machine.specs.Session.{Sub}
 abbrev pub coming : ClientLink → List Note
 coming l = l.way ++ l.session.notes
 
--- the first fact where the test holds, else the second
+-- the first fact if the test holds, else the second
 abbrev pub if_same : Bool → Type 0 → Type 0 → Type 0
 if_same true A B = A
 if_same false A B = B

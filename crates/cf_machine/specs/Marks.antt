@@ -1,4 +1,4 @@
--- What befalls one client at one channel, read off the events and a trace.
+-- What befalls one client at one channel, as the events and a trace tell it.
 use Rattle.std.specs.Prelude.{ℕ, suc, ◌==◌, Bool, true, false, if◌then◌else◌, Option, Some, None, List, [], ◌∷◌, ◌++◌}
 use Rattle.std.specs.Str.{bytes_eq}
 use Rattle.cf_protocol.specs.Position.{Position}

@@ -1,7 +1,7 @@
 -- STREAM SAFETY: what a trace may say, beside the happenings that it is of.
 -- A reader has to believe the machine in five things, which are not in the trace: whether the condition of an event
 -- held, which node a client is on, whether its subscription was asked for there, the stream as its node read it (see
--- Marks), and what had been published at each place. All else is read off the events themselves and the trace.
+-- Marks), and what had been published at each place. All else is taken from the events themselves and the trace.
 use Rattle.std.specs.Prelude.{◌≡◌, ℕ, zero, suc, ◌-◌, ◌≤◌, ◌<◌, min, ◌↔◌, IsTrue, Bool, true, false, if◌then◌else◌}
 use Rattle.std.specs.Prelude.{Option, Some, None, List, [], ◌∷◌, ◌++◌, ◌⊎◌, length, take}
 use Rattle.cf_protocol.specs.Position.{Position}
@@ -89,7 +89,7 @@ last_read (Subscribed recovered at ∷ ms) = None
 last_read (Published at ∷ ms) = last_read ms
 last_read (Stops ∷ ms) = None
 
--- where a subscription sets out: from the old position where it recovered, else from the reply's
+-- where a subscription sets out: from the old position if it recovered, else from the reply's
 abbrev pub sets_out : Bool → Option Position → Position → Position
 sets_out true (Some p) at = record { epoch = at.epoch; offset = p.offset }
 sets_out true None at = at
@@ -132,7 +132,7 @@ abbrev pub places : Position → ℕ → List Mark
 places p zero = []
 places p (suc n) = Published (next p) ∷ places (next p) n
 
--- those after the old position, up to the reply's; none where the old position is not below that
+-- those after the old position, up to the reply's; none if the old position is not below that
 abbrev pub all_places : Option Position → Position → List Mark
 all_places None at = []
 all_places (Some p) at = places p (at.offset - p.offset)
@@ -149,18 +149,18 @@ RecoveredRun history =
 
 -- The stream is of the old position's epoch and held everything after it, within the limit of one reply.
 -- Nothing here keeps the old offset from being above the top: `-` stops at 0, and this then holds of a full stream. A
--- machine that says recovered only where the old offset is not above the top so has to prove that it never is.
+-- machine that says recovered only if the old offset is not above the top so has to prove that it never is.
 abbrev pub StillHeld : Option Position → StreamState → Type 0
 StillHeld None s = ⊥
 StillHeld (Some p) s = (p.epoch ≡ s.epoch) × (s.top - p.offset ≤ min s.held most_in_reply)
 
--- what may be said after this read: recovered exactly where all was still held, and where the stream stood
+-- what may be said after this read: recovered exactly if all was still held, and where the stream stood
 abbrev pub IsHonest : Option Position → Option StreamState → Bool → Position → Type 0
 IsHonest old None recovered at = ⊥
 IsHonest old (Some found) recovered at = (IsTrue recovered ↔ StillHeld old found) × (at ≡ position_of found)
 
 -- HONEST RECOVERY: a Subscribed stands behind a read made for the ask that it answers, and says recovered exactly
--- where the stream then still held everything since the old position; and it gives the position at which that read
+-- if the stream then still held everything since the old position; and it gives the position at which that read
 -- found the stream.
 abbrev pub HonestRecovery : List (List Mark) → Type 0
 HonestRecovery history =
@@ -186,5 +186,5 @@ pub record Safe (cfg : Config) (hs : List Happening) (t : List Entry) : Type 0 w
   pub unbroken : (x c : List ℕ) → Unbroken (befell cfg hs t x c)
   -- a recovered subscription brings exactly what was missed
   pub recovered_run : (x c : List ℕ) → RecoveredRun (befell cfg hs t x c)
-  -- and it says recovered exactly where all of that was still held
+  -- and it says recovered exactly if all of that was still held
   pub honest_recovery : (x c : List ℕ) → HonestRecovery (befell cfg hs t x c)

@@ -3,7 +3,7 @@ use Rattle.std.specs.Prelude.{◌≡◌, ℕ, ◌+◌, ◌≤◌, false, List, l
 use Rattle.cf_protocol.specs.Note.{Lists, Reading, Note, Reply, Pub, End, Fails, Put as Accepted, Left, Listed}
 use Rattle.cf_protocol.specs.Note.{PingDue, Close}
 
--- It ends within the list of its epoch, it begins no later than it ends, and where it didn't recover it begins where
+-- It ends within the list of its epoch, it begins no later than it ends, and if it didn't recover it begins where
 -- it ends.
 abbrev pub IsReadingOf : Lists → List ℕ → Reading → Type 0
 IsReadingOf lists c r =

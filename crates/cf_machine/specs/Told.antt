@@ -20,7 +20,7 @@ abbrev pub run_items : Lists → List ℕ → Position → ℕ → List Item
 run_items lists c p zero = []
 run_items lists c p (suc n) = Published c (next p) (body_at lists c (next p)) ∷ run_items lists c (next p) n
 
--- a reply, and where it recovered what it brings
+-- a reply, and if it recovered what it brings
 abbrev pub reading_items : Lists → List ℕ → Bool → Reading → List Item
 reading_items lists c was r =
     Subscribed c was r.recovered (read_to r)
@@ -73,7 +73,7 @@ abbrev pub entries : ℕ → List ℕ → List Item → List Entry
 entries n x [] = []
 entries n x (i ∷ is) = record { at = n; client = x; item = i } ∷ entries n x is
 
--- what client x is told where the first of these notes reaches it, in event n
+-- what client x is told when the first of these notes reaches it, in event n
 abbrev pub told_first : ℕ → List ℕ → World → List Note → List Entry
 told_first n x w ns = entries n x (first_items w.broker.lists (w.links x).client ns)
 
@@ -89,7 +89,7 @@ abbrev pub trace : Config → ℕ → World → List Event → List Entry
 trace cfg n w [] = []
 trace cfg n w (e ∷ es) = writes cfg n w e ++ trace cfg (suc n) (happens cfg w e) es
 
--- the same for a loose run, where a note that was on its way tells something when it is received
+-- the same for a loose run, when a note that was on its way tells something when it is received
 abbrev pub loosely_tells : ℕ → World → Happening → List Entry
 loosely_tells n w (Scheduled e) = tells n w e
 loosely_tells n w (Receive x) = told_first n x w (w.links x).way

@@ -71,7 +71,7 @@ abbrev pub any_unfinished : (List ℕ → Sub) → List (List ℕ) → Bool
 any_unfinished subs [] = false
 any_unfinished subs (c ∷ cs) = is_unfinished (subs c) || any_unfinished subs cs
 
--- A client is ready where it is connected and its session has no unfinished subscription: commands are carried out in
+-- A client is ready if it is connected and its session has no unfinished subscription: commands are carried out in
 -- order.
 abbrev pub is_ready : ClientLink → Bool
 is_ready l = is_some l.node && not (any_unfinished l.session.subs l.channels)

@@ -74,7 +74,7 @@ reconnects x = record { fresh = first_id; modes = λ c. idle (x.modes c); calls 
 abbrev pub moved_on : Position → Position → Position
 moved_on p q = record { epoch = p.epoch; offset = q.offset }
 
--- What a note makes of channel c. A reply counts where it answers the ask that is out, a push while the channel is
+-- What a note makes of channel c. A reply counts if it answers the ask that is out, a push while the channel is
 -- live.
 abbrev pub takes : List ℕ → Mode → Note → Mode
 takes c (Idle last) n = Idle last

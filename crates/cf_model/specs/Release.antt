@@ -16,7 +16,7 @@ greatest test zero = 0
 greatest test (suc n) = if test (suc n) then suc n else greatest test n
 
 -- How many are passed on after a reply that ends at the reading's top: the greatest number such that everything from
--- there up to it arrived; none where more came than are kept.
+-- there up to it arrived; none if more came than are kept.
 abbrev pub run_length : List Position → Reading → ℕ
 run_length arrived r = if overfull arrived then 0 else greatest (all_arrived arrived r.epoch r.top) (highest arrived)
 

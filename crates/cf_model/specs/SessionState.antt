@@ -51,7 +51,7 @@ pub record Wording (B N : Type 0) : Type 0 where
   pub with_read : B → B
   pub given_up : B → B
 
--- the close of a client that is too slow, the one where memory is refused, and the one of a client that answers no ping
+-- the close of a client that is too slow, the one when memory is refused, and the one of a client that answers no ping
 abbrev pub slow : ℕ
 slow = 3008
 
@@ -123,7 +123,7 @@ read_at w c r (On p mark) s = s
 abbrev pub reads : {B N : Type 0} → Wording B N → List ℕ → Reading → SessionState B N → SessionState B N
 reads w c r s = read_at w c r (s.subs c) s
 
--- A publication is delivered: it is kept before the reply; after it, it is dropped where it is known, passed on where
+-- A publication is delivered: it is kept before the reply; after it, it is dropped if it is known, passed on if
 -- it is the next one, and else the subscription ends.
 abbrev pub by_verdict : {B N : Type 0} → Wording B N → List ℕ → Position → Option ℕ → Verdict
     → SessionState B N
@@ -142,7 +142,7 @@ come_at w c q (On p mark) s = by_verdict w c q mark (verdict p q) s
 abbrev pub comes : {B N : Type 0} → Wording B N → List ℕ → Position → SessionState B N → SessionState B N
 comes w c q s = come_at w c q (s.subs c) s
 
--- The reply is given, then the run of what came meanwhile, and an end where that falls short.
+-- The reply is given, then the run of what came meanwhile, and an end if that falls short.
 abbrev pub finished : {B N : Type 0} → Wording B N → Reading → B → Subscription B
 finished w r b = if w.falls_short r b then Off else On (record { epoch = r.epoch; offset = r.top + w.reach r b }) None
 

@@ -17,7 +17,7 @@ abbrev pub still_held : Position → StreamState → Bool
 still_held p s =
     bytes_eq p.epoch s.epoch && (nat_le p.offset s.top && nat_le (s.top - p.offset) (min s.held most_in_reply))
 
--- What a read for recovery finds: from that position on where all that follows it is still held, and else the top
+-- What a read for recovery finds: from that position on if all that follows it is still held, and else the top
 -- alone.
 abbrev pub read_of : Option Position → StreamState → Reading
 read_of None s = record { epoch = s.epoch; low = s.top; top = s.top; recovered = false }
@@ -26,7 +26,7 @@ read_of (Some p) s =
     then record { epoch = s.epoch; low = p.offset; top = s.top; recovered = true }
     else record { epoch = s.epoch; low = s.top; top = s.top; recovered = false }
 
--- how many publications a history's limit allows: at most 300, also where it is negative
+-- how many publications a history's limit allows: at most 300, also if it is negative
 abbrev pub allowed_by : ℤ → ℕ
 allowed_by (pos n) = min n most_in_reply
 allowed_by (negsuc n) = most_in_reply
@@ -46,7 +46,7 @@ listed_above o limit s =
       count = min (allowed_by limit) (s.top - max o (s.top - s.held));
     }
 
--- What a history answers; None where it is since a position of another epoch.
+-- What a history answers; None if it is since a position of another epoch.
 abbrev pub history_of : Option Position → ℤ → StreamState → Option Listing
 history_of None limit s = Some (listed_above 0 limit s)
 history_of (Some p) limit s = if bytes_eq p.epoch s.epoch then Some (listed_above p.offset limit s) else None

@@ -23,7 +23,7 @@ opens_in epoch = record { epoch = epoch; top = 0; held = 0 }
 abbrev pub position_of : StreamState → Position
 position_of s = record { epoch = s.epoch; offset = s.top }
 
--- with one publication more, where at most so many are held
+-- with one publication more, if at most so many are held
 abbrev pub with_one_more : ℕ → StreamState → StreamState
 with_one_more size s = record s { top = s.top + 1; held = min (s.held + 1) size }
 

@@ -43,7 +43,7 @@ pub record Looked (v w : View) (n : ℕ) : Type 0 where
   pub share : v.share ≤ published w.found
   pub below : v.share ≤ n
 
--- what a view says of itself, where the word's count is n
+-- what a view says of itself, if the word's count is n
 pub record Knows (v : View) (n : ℕ) : Type 0 where
   pub met : IsPrefix v.met v.found
   pub seen : IsPrefix v.log v.found

@@ -15,7 +15,7 @@ one_of u s = if bytes_eq s.user u then 1 else 0
 abbrev pub clients_with : (user : List ℕ) → List Seen → ℕ
 clients_with u ss = sum_by (one_of u) ss
 
--- a count, which is left out where it is none
+-- a count, which is left out if it is none
 abbrev pub counted : ℕ → Option ℕ
 counted n = if n == 0 then None else Some n
 

@@ -94,7 +94,7 @@ pub data Refusal : Type 0 where
   Full : Refusal
   -- the stream is at its last offset
   AtLastOffset : Refusal
-  -- a history since a position of another epoch, or since any where the channel has no stream
+  -- a history since a position of another epoch, or since any if the channel has no stream
   OtherEpoch : Refusal
   -- the session is closed
   NoSession : Refusal

@@ -33,7 +33,7 @@ close_reason_of close.NoPong = codes "no pong"
 close_reason_of close.InvalidToken = codes "invalid token"
 close_reason_of close.BadRequest = codes "bad request"
 
--- where this is the code's number its reason, and else what follows
+-- if this is the code's number its reason, and else what follows
 abbrev pub reason_or : CloseCode → ℕ → List ℕ → List ℕ
 reason_or c n others = if n == close_code_of c then close_reason_of c else others
 

@@ -25,7 +25,7 @@ data_of (Some t) = if nat_le (depth t) max_data_depth then Body (compact_text t)
 abbrev pub connect : Fields → Option Request
 connect r = text r "token" >>= λ token. Some (Connect token)
 
--- the position counts only where `recover` is true
+-- the position counts only if `recover` is true
 abbrev pub subscribe : Fields → Option Request
 subscribe r =
     flag r "recover" >>= λ recover. position r >>= λ from. text r "channel" >>= λ channel. Some

@@ -19,7 +19,7 @@ r >>= f = option_and_then f r
 abbrev pub both : {A : Type 0} → Option A → Option (List A) → Option (List A)
 both r rs = r >>= λ x. option_map (λ xs. x ∷ xs) rs
 
--- each of the list under f, where f reads them all
+-- each of the list under f, if f reads them all
 abbrev pub read_all : {A B : Type 0} → (A → Option B) → List A → Option (List B)
 read_all f [] = Some []
 read_all f (x ∷ xs) = both (f x) (read_all f xs)
@@ -83,11 +83,11 @@ abbrev pub unless_null : Tree → Option Tree
 unless_null null = None
 unless_null t = Some t
 
--- the same, where `null` counts as absent
+-- the same, if `null` counts as absent
 abbrev pub present : Fields → Name → Option Tree
 present r k = option_and_then unless_null (member r k)
 
--- what it is read as, and x where nothing stands
+-- what it is read as, and x if nothing stands
 abbrev pub read_or : {A : Type 0} → A → (Tree → Option A) → Option Tree → Option A
 read_or x read None = Some x
 read_or x read (Some t) = read t

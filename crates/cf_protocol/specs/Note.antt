@@ -5,7 +5,7 @@ use Rattle.cf_protocol.specs.Datum.{Datum, Placed, numbered}
 use Rattle.cf_protocol.specs.Outgoing.{Outgoing, Ping, Answer, Push, Subscribed, Unsubscribed, Published, Past}
 use Rattle.cf_protocol.specs.Outgoing.{Failed, Publication, Unsubscribe}
 
--- What a read of a stream answers: its epoch and top, and where it was recovered the offset from which it was, else
+-- What a read of a stream answers: its epoch and top, and if it was recovered the offset from which it was, else
 -- its top. (Centrifugo, history and recovery; the exact rule is this project's own profile.)
 pub record Reading : Type 0 where
   pub epoch : List ℕ

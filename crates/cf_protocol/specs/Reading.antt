@@ -14,13 +14,13 @@ use Rattle.cf_protocol.specs.declared.read.members.Members.{Members}
 use Rattle.cf_protocol.specs.declared.fault.ReadFault.{ReadFault}
 use Rattle.cf_protocol.specs.declared.fault.ReadFault.TheVariants.{Bad, Memory}
 
--- Ok of something that stands for what is there, and Bad only where nothing is
+-- Ok of something that stands for what is there, and Bad only if nothing is
 abbrev pub Tells : {T A : Type 0} → (T → A → Type 0) → Result T ReadFault → Option A → Type 0
 Tells R (Ok v) o = IsSomeAnd o (R v)
 Tells R (Err Bad) o = o ≡ None
 Tells R (Err Memory) o = ⊤
 
--- the same, where what is found is a function of the answer
+-- the same, if what is found is a function of the answer
 abbrev pub Answers : {T A : Type 0} → (T → A) → Result T ReadFault → Option A → Type 0
 Answers show (Ok v) o = o ≡ Some (show v)
 Answers show (Err Bad) o = o ≡ None
@@ -58,7 +58,7 @@ Finds text (Some s) o = IsSomeAnd o (λ t. IsAt text t s)
 abbrev pub present_at : List ℕ → Fields → Option Tree
 present_at k fs = option_and_then unless_null (look_up k fs)
 
--- the items of a list, none where it isn't there
+-- the items of a list, none if it isn't there
 abbrev pub items_at : List ℕ → Fields → Option (List Tree)
 items_at k fs = read_or [] as_items (present_at k fs)
 
@@ -80,7 +80,7 @@ with_value k t = Some (k, t)
 unfoldable pub the_key : {K : Type 0} → List (Bor (List ℕ) × K) → Fields → Option (K × Tree)
 the_key ks fs = the_only (each_under with_value ks fs)
 
--- that key, and where its value stands; Bad where no key has one, or several have
+-- that key, and where its value stands; Bad if no key has one, or several have
 abbrev pub Chooses : {K : Type 0} → List ℕ → Result (K × Span) ReadFault → Option (K × Tree) → Type 0
 Chooses text (Ok r) o = (t : Tree) × IsAt text t r.1 × (o ≡ Some (r.0, t))
 Chooses text (Err Bad) o = o ≡ None

@@ -52,7 +52,7 @@ HasMost b old = (s : Settings) → times b (letters_of s) ≤ times b (letters_o
 
 -- ---- entries
 
--- a table has one entry more, which the text spells; Bad where each that it spells has a name that stands already
+-- a table has one entry more, which the text spells; Bad if each that it spells has a name that stands already
 abbrev pub Adds : {V : Type 0} → (List ℕ → List ℕ × V → Type 0) → List ℕ → List (List ℕ × V)
     → Result Unit ReadFault
     → List (List ℕ × V) → Type 0

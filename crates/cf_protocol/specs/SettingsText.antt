@@ -41,7 +41,7 @@ letters_of s =
     (if s.publish then codes "p" else []) ++ (if s.history then codes "h" else [])
     ++ (if s.presence then codes "s" else [])
 
--- SIZE,SECONDS,FLAGS, where the flags are these letters in any order. A number is written without leading zeros.
+-- SIZE,SECONDS,FLAGS, if the flags are these letters in any order. A number is written without leading zeros.
 abbrev pub IsSettings : List ℕ → Settings → Type 0
 IsSettings text s =
     IsUsable s
@@ -49,7 +49,7 @@ IsSettings text s =
     × IsPermutation (letters_of s) flags
     × (text ≡ decimal s.size ++ codes "," ++ decimal s.seconds ++ codes "," ++ flags)
 
--- NAME=SETTINGS, where the name may be empty
+-- NAME=SETTINGS, if the name may be empty
 abbrev pub IsNamespace : List ℕ → List ℕ × Settings → Type 0
 IsNamespace text e =
     IsWord 32 e.0 × (settings : List ℕ) × IsSettings settings e.1 × (text ≡ e.0 ++ codes "=" ++ settings)

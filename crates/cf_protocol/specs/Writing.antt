@@ -7,12 +7,12 @@ use Rattle.cf_json.specs.Compact.{key_text, first_text, more_text}
 use Rattle.cf_protocol.specs.Written.{Member, parts_of, items_of}
 use Rattle.cf_protocol.specs.declared.write.writer.Writer.{Writer}
 
--- where no call lacked memory so far, the text is the one before with this piece behind it
+-- if no call lacked memory so far, the text is the one before with this piece behind it
 abbrev pub Grows : Writer → Writer → List ℕ → Type 0
 Grows old new piece =
     new.failed ≡ false → (old.failed ≡ false) × (string_bytes new.text ≡ string_bytes old.text ++ piece)
 
--- an object is begun, where no call lacked memory so far, and has no member yet
+-- an object is begun, if no call lacked memory so far, and has no member yet
 pub record IsBegun (w : Writer) : Type 0 where
   pub text : w.failed ≡ false → string_bytes w.text ≡ 123 ∷ []
   pub fresh : w.fresh ≡ true

@@ -21,7 +21,7 @@ use Rattle.cf_protocol.specs.Note.{Note, Lists, outgoing_of, insufficient}
 
 -- ---- members
 
--- a key as it is spelled, and its value where the member stands
+-- a key as it is spelled, and its value if the member stands
 abbrev pub Member : Type 0
 Member = List ℕ × Option Tree
 
@@ -44,7 +44,7 @@ abbrev pub items_of : List Tree → Parts
 items_of [] = no_parts
 items_of (t ∷ ts) = part [] t (items_of ts)
 
--- what is left out where it is 0, false, an empty text, an empty list or an empty object
+-- what is left out if it is 0, false, an empty text, an empty list or an empty object
 abbrev pub whole : ℕ → Option Tree
 whole n = if n == 0 then None else Some (number (decimal n))
 
@@ -109,7 +109,7 @@ body_of body (Body b) = Some (body b)
 abbrev pub channel_alone : List ℕ → Tree
 channel_alone channel = object_of (("channel" ⇒ text channel) ∷ [])
 
--- the request object stands also where it is empty
+-- the request object stands also if it is empty
 abbrev pub command : (List ℕ → Tree) → ℕ → Request → List Member
 command body id request.Pong = []
 command body id (request.Connect token) =
@@ -149,7 +149,7 @@ message_of code =
 abbrev pub reason_of : ℕ → List ℕ
 reason_of code = if code == insufficient then codes "insufficient state" else []
 
--- the info of a client under its id, also where it is empty
+-- the info of a client under its id, also if it is empty
 abbrev pub client : List ℕ × List ℕ → Member
 client u = (escaped u.0, Some (object_of (info (record { client = u.0; user = u.1 }))))
 
@@ -177,7 +177,7 @@ abbrev pub error : ℕ → List Member
 error code =
     ("code" ⇒ whole code) ∷ ("message" ⇒ text (message_of code)) ∷ ("temporary" ⇒ flag (code == 100)) ∷ []
 
--- the result object stands also where it is empty
+-- the result object stands also if it is empty
 abbrev pub reply : (List ℕ → Tree) → ℕ → Outcome → List Member
 reply body id (Connected client) = ("connect" ⇒ Some (object_of (connected client))) ∷ ("id" ⇒ whole id) ∷ []
 reply body id (Subscribed p ps recovered was) =

@@ -34,7 +34,7 @@ nothing_kept = record { arrived = []; overflow = false; short = false }
 abbrev pub given_up : Bool → ArrivalBuffer
 given_up short = record { arrived = []; overflow = true; short = short }
 
--- After a publication came, where no memory is refused. What stands already stays as first kept; with one too many
+-- After a publication came, if no memory is refused. What stands already stays as first kept; with one too many
 -- all is given up.
 abbrev pub with_arrival : Arrival → ArrivalBuffer → ArrivalBuffer
 with_arrival a k =

@@ -1,4 +1,4 @@
--- Runs of the server's sections that show what clients are told, where sections of several threads fall between one
+-- Runs of the server's sections that show what clients are told, when sections of several threads fall between one
 -- another. (This project's own profile.)
 use Rattle.std.specs.Prelude.{ℕ, List, [], ◌∷◌, ◌++◌, codes, None}
 use Prim.Native.String.{String as Name}

@@ -1,7 +1,7 @@
 -- THE RUNNING SERVER, SECTION BY SECTION. Each section is what one thread does in one go: under a shard's lock, under
 -- a hub's lock, at a link, or at its own end of a connection. Threads take them in any order. What a section makes of
 -- what it finds there is what the contract of its call says; here in notes, as cf_hub's laws say that a session of
--- texts may be seen. Where a section has two entries for a shard's log, as an opening and a publication, or a tick's,
+-- texts may be seen. If a section has two entries for a shard's log, as an opening and a publication, or a tick's,
 -- they are two steps here. (This project's own profile.)
 use Rattle.std.specs.Prelude.{ℕ, ℤ, zero, suc, ◌+◌, ◌==◌, nat_le, nat_lt, ◌&&◌, ◌||◌, not, Bool, true, false}
 use Rattle.std.specs.Prelude.{if◌then◌else◌, is_some, is_none, Option, Some, None, option_map, List, [], ◌∷◌, ◌++◌}
@@ -177,7 +177,7 @@ change k f s = record s { connections = at_number s.connections k (f (s.connecti
 
 -- ---- under a shard's lock
 
--- the log gains an entry, where it may: an opening, a tick's or a trim's or a forget's, and another size
+-- the log gains an entry, if it may: an opening, a tick's or a trim's or a forget's, and another size
 abbrev pub gains : Site → ℕ → Entry → Server → Server
 gains site n x s = if can_gain site n x s then gain n x s else s
 
@@ -194,7 +194,7 @@ accepts site c key d s =
 abbrev pub answers : List ℕ → ℕ → Connection → Connection
 answers c id x = record x { work = ToSay c (Put id) }
 
--- A publish that repeats one is answered, and that is all. Another is accepted and answered, where the log may gain it.
+-- A publish that repeats one is answered, and that is all. Another is accepted and answered, if the log may gain it.
 abbrev pub publishes : Site → ℕ → Work → Server → Server
 publishes site k (ToPublish c id key d) s =
     if repeats key (life_of site s c) then change k (answers c id) s
@@ -290,12 +290,12 @@ abbrev pub finishes_by : (List ℕ → Session → Session) → Work → Connect
 finishes_by f (ToFinish c) x = record x { session = f c x.session; work = Free }
 finishes_by f other x = x
 
--- Where it is broken off, the session was open: the first notes are said, and then it is closed, for want of memory,
--- or as too slow, where what waits for its client besides notes leaves no room for more.
+-- If it is broken off, the session was open: the first notes are said, and then it is closed, for want of memory,
+-- or as too slow, if what waits for its client besides notes leaves no room for more.
 abbrev pub breaks_off : Words → (count code : ℕ) → Work → Connection → Connection
 breaks_off w count code h x = if x.session.closed then x else finishes_by (λ c. finishes_amid w c count code) h x
 
--- where the session is closed, the rest is dropped
+-- if the session is closed, the rest is dropped
 abbrev pub drops : Connection → Connection
 drops x = if x.session.closed then record x { work = Free } else x
 
@@ -307,7 +307,7 @@ abbrev pub says : Words → Work → Connection → Connection
 says w (ToSay c n) x = record x { session = push w n x.session; work = Free }
 says w other x = x
 
--- an error is said in place of the answer, as where memory for its text is refused
+-- an error is said in place of the answer, as when memory for its text is refused
 abbrev pub error_for : ℕ → List ℕ → Note → Note
 error_for code c (Put id) = Fails c id code
 error_for code c (Left id) = Fails c id code
@@ -487,7 +487,7 @@ pub data Section : Type 0 where
   Receives : (client : List ℕ) → Section
   Breaks : (client : List ℕ) → Section
 
--- what a section makes of the server; nothing where it cannot be
+-- what a section makes of the server; nothing if it cannot be
 abbrev pub after : Site → Section → Server → Server
 after site (Gains (Publish c key d)) s = s
 after site (Gains (Size name n)) s = s
@@ -543,7 +543,7 @@ abbrev pub told_at : Site → List ℕ → Option ℕ → Server → List Told
 told_at site x None s = []
 told_at site x (Some k) s = telling x (first_items (lists_of site s) (s.clients x) (s.connections k).way)
 
--- only where a note reaches a client, its application is told something
+-- only if a note reaches a client is its application told something
 abbrev pub tells : Site → Section → Server → List Told
 tells site (Receives x) s = told_at site x (s.seats x) s
 tells site other s = []

@@ -66,9 +66,9 @@ IsIn its x = (q : List ℕ) → is_about its x q ≡ true → its q ≡ true
 abbrev pub IsApart : (mine its : List ℕ → Bool) → Entry → Type 0
 IsApart mine its x = (q : List ℕ) → is_about its x q ≡ true → mine q ≡ false
 
--- An opening where no stream stands, in an epoch that isn't empty and was never the channel's; a publication where a
+-- An opening if no stream stands, in an epoch that isn't empty and was never the channel's; a publication if a
 -- stream stands, of a namespace that is set up, that repeats none of the stream, which is not at the last offset; a
--- trim or a forget where a stream stands; another size at any time.
+-- trim or a forget if a stream stands; another size at any time.
 abbrev pub MayGain : Config → List Entry → Entry → Type 0
 MayGain cfg log (Open c e) =
     (life_in cfg.namespaces log c ≡ None) × (e ≢ []) × (is_among e (epochs_in log c) ≡ false)
@@ -88,7 +88,7 @@ happening_of its (Size name n) = SizeAmong (λ q. its q && in_namespace name q) 
 
 -- ---- the tie
 
--- the log stands beside the machine's broker, where no epoch waits
+-- the log stands beside the machine's broker, if no epoch waits
 pub record IsTied (mine : List ℕ → Bool) (sizes : NamespaceTable) (log : List Entry) (b : Broker) : Type 0 where
   pub waits : b.waiting ≡ []
   pub log_of : IsLogOf mine sizes log b

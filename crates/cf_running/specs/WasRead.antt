@@ -28,7 +28,7 @@ IsOut id since (Idle last) = ⊥
 IsOut id since (Asking k from last) = (k ≡ id) × (from ≡ since)
 IsOut id since (Live at) = ⊥
 
--- all that was published above the position from which the client asked, where it recovered
+-- all that was published above the position from which the client asked, if it recovered
 abbrev pub missed : Lists → List ℕ → Bool → Option Position → Position → List Item
 missed lists c true (Some p) at = run_items lists c p (at.offset - p.offset)
 missed lists c true None at = []

@@ -10,7 +10,7 @@ use Rattle.cf_protocol.specs.Request.{Unsubscribe, Publish, Presence, PresenceSt
 use Rattle.cf_protocol.specs.Written.{outgoing_text}
 use Rattle.cf_hub.specs.InNotes.{IsSaid}
 
--- the data can be read back, where there is some
+-- the data can be read back, if there is some
 abbrev pub IsReadBack : Data → Type 0
 IsReadBack Absent = ⊤
 IsReadBack TooDeep = ⊤

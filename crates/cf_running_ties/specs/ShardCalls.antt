@@ -16,7 +16,7 @@ MayAll cfg log (x ∷ xs) = (may_gain cfg log x ≡ true) × MayAll cfg (log ++ 
 abbrev pub IsGained : Config → List Entry → Type 0
 IsGained cfg log = MayAll cfg [] log
 
--- where no stream stood, the epoch is one, and was never the channel's
+-- if no stream stood, the epoch is one, and was never the channel's
 abbrev pub IsDrawn : Option Shown → List Entry → (channel epoch : List ℕ) → Type 0
 IsDrawn stream log c e = stream ≡ None → (e ≢ []) × (is_among e (epochs_in log c) ≡ false)
 

@@ -1,4 +1,4 @@
--- A shard's calls from its start, one after another, as their contracts have them, where its epochs come from a
+-- A shard's calls from its start, one after another, as their contracts have them, if its epochs come from a
 -- source of cf_epochs. (This project's own profile.)
 use Rattle.std.specs.Prelude.{◌≡◌, ⊤, ℕ, IsSome, List, [], ◌∷◌, ◌++◌}
 use Rattle.cf_protocol.specs.Datum.{Datum}

@@ -47,7 +47,7 @@ abbrev pub put_word : Bool → List ℕ
 put_word false = codes "put"
 put_word true = codes "putkey"
 
--- r is the last word s, behind the key k where there is one
+-- r is the last word s, behind the key k if there is one
 abbrev pub IsKeyBefore : Bool → List ℕ → List ℕ → List ℕ → Type 0
 IsKeyBefore false k s r = (k ≡ []) × (r ≡ s)
 IsKeyBefore true k s r = IsKey k × (r ≡ spaced (k ∷ s ∷ []))
@@ -60,7 +60,7 @@ IsPublication keyed c k body r =
 
 -- ---- what is refused
 
--- where something is refused as unreadable, this holds of it
+-- if something is refused as unreadable, this holds of it
 abbrev pub Refused : EventFault → Type 0 → Type 0
 Refused Unreadable P = P
 Refused Memory P = Unit {0}

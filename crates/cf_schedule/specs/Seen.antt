@@ -11,7 +11,7 @@ use Rattle.cf_schedule.specs.declared.event.Event.TheVariants as variant
 abbrev pub shown_config : CodeConfig → Config
 shown_config c = record { nodes = c.nodes; namespaces = c.namespaces }
 
--- the key of a publish: the empty one where it has none
+-- the key of a publish: the empty one if it has none
 abbrev pub key_of : Option (List ℕ) → List ℕ
 key_of None = []
 key_of (Some key) = key

@@ -22,7 +22,7 @@ use Rattle.cf_shard.specs.declared.refusal.Refused.TheVariants.{AtLastOffset, Wr
 
 -- ---- `makes`: streams, log and epochs after a call that succeeds
 
--- a publish with this answer: the channel's stream is given the datum under the key; where it opens, an epoch was drawn
+-- a publish with this answer: the channel's stream is given the datum under the key; if it opens, an epoch was drawn
 pub record HasPublished {E : Type 0} (draws : Draw E) (channel key : List ℕ) (d : Datum) (now : ℕ)
     (old new : Lent E)
     (p : Published) : Type 0 where
@@ -30,7 +30,7 @@ pub record HasPublished {E : Type 0} (draws : Draw E) (channel key : List ℕ) (
   pub log : new.log ≡ old.log ++ entries_of_publish p.repeated old.streams channel p.position.epoch key d
   pub drawn : DrawsFor draws channel p.position.epoch old new
 
--- a read or a history with this position: the channel's stream is used; where it opens, an epoch was drawn
+-- a read or a history with this position: the channel's stream is used; if it opens, an epoch was drawn
 pub record HasUsed {E : Type 0} (draws : Draw E) (channel : List ℕ) (now : ℕ) (old new : Lent E)
     (p : Position) : Type 0 where
   pub streams : new.streams ≡ after_use old.streams channel p.epoch now
@@ -65,15 +65,15 @@ pub record HasTicked {E : Type 0} (t : NamespaceTable) (now : ℕ) (old new : Le
 
 -- ---- `answer`: what is answered off the lent streams
 
--- a publish: the answer is that of the channel's list, and where it is no repeat, the stream then stands there
+-- a publish: the answer is that of the channel's list, and if it is no repeat, the stream then stands there
 pub record AnswersPublishOn {E : Type 0} (channel key : List ℕ) (old new : Lent E) (p : Published) : Type 0 where
   pub is : PublishesAt old.streams channel key p.position p.repeated
   pub stands : p.repeated ≡ false → StandsAt new.streams channel (Some p.position)
 
 -- ---- `refusals`: when each is given, and which is never
 
--- of a publish: a repeat has none; the last offset exactly where the stream is there; no epoch only where no stream
--- stood and none was drawn; the last count only where the log has no room; never a wrong epoch
+-- of a publish: a repeat has none; the last offset exactly if the stream is there; no epoch only if no stream
+-- stood and none was drawn; the last count only if the log has no room; never a wrong epoch
 pub record RefusalsOfPublish {E : Type 0} (draws : Draw E) (channel key : List ℕ) (d : Datum) (old new : Lent E)
     (result : Result Published Refused) : Type 0 where
   pub repeat : (p : Position) → repeat_at (stream_of old.streams channel) key ≡ Some p
@@ -90,7 +90,7 @@ pub record RefusalsOfRead {E X : Type 0} (draws : Draw E) (channel : List ℕ) (
   pub count : IsErrOf result AtLastCount → IsFull old.log (entries_of_use old.streams channel [])
   pub never : IfErr result (λ e. (e ≢ AtLastOffset) × (e ≢ WrongEpoch))
 
--- of a history: a wrong epoch exactly where the position is of another epoch, or there is no stream for it; no epoch
+-- of a history: a wrong epoch exactly if the position is of another epoch, or there is no stream for it; no epoch
 -- and the last count as for a publish; never the last offset
 pub record RefusalsOfHistory {E X : Type 0} (draws : Draw E) (channel : List ℕ) (since : Option Position)
     (old new : Lent E) (result : Result X Refused) : Type 0 where

@@ -42,14 +42,14 @@ pub record IsCall (seen after : List Entry) (entries : List Entry → List Entry
 abbrev pub IsPosition : NamespaceTable → (log : List Entry) → (channel : List ℕ) → Option Position → Type 0
 IsPosition t log c position = position ≡ option_map stands_at (life_in t log c)
 
--- the answer to a publish between two logs: that of the channel's list as it was, and but for a repeat where the
+-- the answer to a publish between two logs: that of the channel's list as it was, and but for a repeat if the
 -- stream stands then
 pub record AnswersPublish (t : NamespaceTable) (before after : List Entry) (channel key : List ℕ)
     (p : Published) : Type 0 where
   pub is : IsPublishedIn (life_or (life_in t before channel) p.position.epoch) key p.position p.repeated
   pub stands : p.repeated ≡ false → IsPosition t after channel (Some p.position)
 
--- an accepted publish: the log ends with its one entry, after the opening where the stream opened; a repeat has none
+-- an accepted publish: the log ends with its one entry, after the opening if the stream opened; a repeat has none
 abbrev pub IsPublished : NamespaceTable → (seen after : List Entry) → (channel key : List ℕ) → Datum
     → Published
     → Type 0
@@ -72,7 +72,7 @@ IsHistoryAnswer t seen after c since limit p items =
     IsCall seen after (λ log. opening (life_in t log c) c p.epoch [])
     (λ log. IsListed (life_or (life_in t log c) p.epoch) since limit p items)
 
--- a trim and a forget: one entry where the channel has a stream
+-- a trim and a forget: one entry if the channel has a stream
 abbrev pub IsTrimmed : NamespaceTable → (seen after : List Entry) → (channel : List ℕ) → (count : ℕ)
     → Type 0
 IsTrimmed t seen after c n = IsCall seen after (λ log. if_stands (life_in t log c) (Trim c n)) (λ log. Unit {0})
@@ -108,7 +108,7 @@ IsOutside l None = ⊥
 IsOutside None (Some p) = Unit {0}
 IsOutside (Some l) (Some p) = p.epoch ≢ l.epoch
 
--- the log has no room for the entries of a call, after the opening of the channel's stream where there is none
+-- the log has no room for the entries of a call, after the opening of the channel's stream if there is none
 abbrev pub HasNoRoom : NamespaceTable → (log : List Entry) → (channel : List ℕ) → (entries : List Entry)
     → Type 0
 HasNoRoom t log c entries = IsFull log (opening (life_in t log c) c [] entries)

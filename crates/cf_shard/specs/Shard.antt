@@ -66,7 +66,7 @@ LacksRoom entries e old new = (e ≡ LastCount) × (new ≡ old) × IsFull old.l
 -- ---- what a call makes of streams and epochs
 
 -- the streams after a publish under this key, and after a read or a history, at a moment: the channel's stream opens
--- in this epoch where there is none
+-- in this epoch if there is none
 abbrev pub after_publish : StreamMap → (channel epoch key : List ℕ) → Datum → (now : ℕ) → StreamMap
 after_publish k c e key d now = put_at k c (Some (given (stood_or_opened k c e) key d now))
 
@@ -82,7 +82,7 @@ pub record IsResized (name : List ℕ) (size : ℕ) (old new : StreamMap) : Type
 abbrev pub Draw : Type 0 → Type 1
 Draw E = E → Option (List ℕ) → E → Type 0
 
--- the epoch of the channel's stream: drawn where none stood
+-- the epoch of the channel's stream: drawn if none stood
 abbrev pub DrawsFor : {E : Type 0} → Draw E → (channel epoch : List ℕ) → (old new : Lent E) → Type 0
 DrawsFor draws c e old new = Draws draws (stream_of old.streams c) e old.epochs new.epochs
 

@@ -8,16 +8,16 @@ use Rattle.cf_order.specs.Passes.{PassState}
 use Rattle.cf_stream.specs.Streams.{StreamMap, stream_of, due_channels}
 use Rattle.cf_stream.specs.LogState.{opening, publishing, if_stands, due_entries}
 
--- a read or a history: that the stream opened in this epoch, where there was none
+-- a read or a history: that the stream opened in this epoch, if there was none
 abbrev pub entries_of_use : StreamMap → (channel epoch : List ℕ) → List Entry
 entries_of_use k c e = opening (stream_of k c) c e []
 
--- an accepted publish: the same, and then the publication; nothing where it is a repeat
+-- an accepted publish: the same, and then the publication; nothing if it is a repeat
 abbrev pub entries_of_publish : (repeated : Bool) → StreamMap → (channel epoch key : List ℕ) → Datum
     → List Entry
 entries_of_publish repeated k c e key d = publishing repeated (stream_of k c) c e key d
 
--- a trim, and a forget: one entry where the channel has a stream
+-- a trim, and a forget: one entry if the channel has a stream
 abbrev pub entries_of_trim : StreamMap → (channel : List ℕ) → (count : ℕ) → List Entry
 entries_of_trim k c n = if_stands (stream_of k c) (Trim c n)
 
@@ -38,7 +38,7 @@ abbrev pub to_open : {X : Type 0} → Option X → ℕ
 to_open None = 1
 to_open (Some x) = 0
 
--- a log of this length has room for the entry of a stream that opens, where none stands
+-- a log of this length has room for the entry of a stream that opens, if none stands
 abbrev pub HasRoom : {X : Type 0} → Option X → ℕ → Type 0
 HasRoom None n = n < 2 ^ 62
 HasRoom (Some x) n = Unit {0}
@@ -47,7 +47,7 @@ HasRoom (Some x) n = Unit {0}
 abbrev pub HasRoomForTwo : {X : Type 0} → Option X → ℕ → Type 0
 HasRoomForTwo stood n = HasRoom stood n × (n + to_open stood + 1 ≤ 2 ^ 62)
 
--- a log of this length has room for the entry of a call on a stream, where one stands
+-- a log of this length has room for the entry of a call on a stream, if one stands
 abbrev pub HasRoomOn : {X : Type 0} → Option X → ℕ → Type 0
 HasRoomOn None n = Unit {0}
 HasRoomOn (Some x) n = n < 2 ^ 62

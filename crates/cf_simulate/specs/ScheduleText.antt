@@ -12,7 +12,7 @@ use Rattle.cf_machine.specs.FreshEpochs.{AreDistinct}
 abbrev pub lines_of : List ℕ → List (List ℕ)
 lines_of text = slice_split (λ b. b == 10) text
 
--- a line gives nothing where it is passed over, and else the event that it says
+-- a line gives nothing if it is passed over, and else the event that it says
 abbrev pub Gives : ℕ → List ℕ → Option Event → Type 0
 Gives nodes line None = IsPassedOver line
 Gives nodes line (Some e) = Says nodes line e

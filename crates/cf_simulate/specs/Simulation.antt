@@ -1,4 +1,4 @@
--- What `simulate` writes, and when each fault comes. Where the writer's bytes are known, this says what is added to
+-- What `simulate` writes, and when each fault comes. If the writer's bytes are known, this says what is added to
 -- them.
 use Rattle.std.specs.Prelude.{◌≡◌, ◌⊎◌, ℕ, suc, ◌+◌, ◌≤◌, Bool, true, false, Option, List, [], ◌∷◌, ◌++◌, length, take}
 use Rattle.std.specs.Str.{IsUtf8}
@@ -133,7 +133,7 @@ pub record Stops (explains : Bool) (cfg : Config) (input : List ℕ) (old new : 
   pub schedule : IsSchedule cfg.nodes input events
   pub ends : EndsRun explains cfg events old new f
 
--- Why it ended before its end. Where the input can't be used, or can't be read, nothing is written.
+-- Why it ended before its end. If the input can't be used, or can't be read, nothing is written.
 abbrev pub Ends : Bool → Config → List ℕ → Option (List ℕ) → Option (List ℕ) → SimulateFault → Type 0
 Ends explains cfg input old new NotUtf8 = (IsUtf8 input → ⊥) × Keeps old new
 Ends explains cfg input old new (Unreadable n) = IsUtf8 input × IsUnreadableAt cfg.nodes input n × Keeps old new

@@ -1,4 +1,4 @@
--- How the program ends where a simulation doesn't succeed (this project's own profile).
+-- How the program ends if a simulation doesn't succeed (this project's own profile).
 use Rattle.std.specs.Prelude.{ℕ}
 use Rattle.cf_simulate.specs.declared.fault.SimulateFault.{SimulateFault}
 use Rattle.cf_simulate.specs.declared.fault.SimulateFault.TheVariants.{Unreadable, UsedTwice, NotUtf8, Memory}

@@ -105,7 +105,7 @@ pub record HasNoEpoch (c : List ℕ) (s m : Scene) (a : Answer) : Type 0 where
   pub answer : a ≡ Refused error.Internal
   pub rest : m ≡ record s { epochs = m.epochs }
 
--- the stream that is used, which opens in this epoch where there is none
+-- the stream that is used, which opens in this epoch if there is none
 abbrev pub used : Scene → List ℕ → List ℕ → Shown
 used s c e = stood_or_opened s.streams c e
 
@@ -263,7 +263,7 @@ Step s PassesPong (Some a) m = ⊥
 Step s (Closes code) None m = close_at s.number code s m
 Step s (Closes code) (Some a) m = ⊥
 
--- the same where no memory was refused; want of memory is remembered
+-- the same if no memory was refused; want of memory is remembered
 pub record StepUnlessShort (s : Scene) (act : Act) (a : Option Answer) (m : Scene) : Type 0 where
   pub remembered : fell_short s ≡ true → fell_short m ≡ true
   pub step : fell_short m ≡ false → Step s act a m

@@ -15,7 +15,7 @@ use Rattle.cf_stream.specs.Streams.{StreamMap, IsOfAnother, repeat_at, size_at}
 
 -- ---- `epochs`: what a call draws, at a channel that has this stream, or none
 
--- an answer in this epoch: drawn where no stream stood; no epoch only where none stood and none was drawn; at another
+-- an answer in this epoch: drawn if no stream stood; no epoch only if none stood and none was drawn; at another
 -- refusal nothing was drawn
 pub record DrawsToOpen {E X : Type 0} (draws : E → Option (List ℕ) → E → Type 0) (stood : Option Shown)
     (old new : E)
@@ -26,13 +26,13 @@ pub record DrawsToOpen {E X : Type 0} (draws : E → Option (List ℕ) → E →
 
 -- ---- `refusals`: when each is given, and which is never
 
--- of a publish to one stream: a repeat has none; the last offset exactly where the stream is there; else memory alone
+-- of a publish to one stream: a repeat has none; the last offset exactly if the stream is there; else memory alone
 pub record RefusalsOfOne (s : Shown) (key : List ℕ) (result : Result Published StreamRefusal) : Type 0 where
   pub repeat : (o : ℕ) → repeated_by s key ≡ Some o → result ≡ Ok (answer_to s key)
   pub last : IsErrOf result AtLastOffset ↔ IsStuck s key
   pub else_memory : IfErr result (λ e. e ≢ AtLastOffset → e ≡ Memory)
 
--- of a publish to a channel: a repeat has none; the last offset exactly where the stream is there; never a wrong epoch
+-- of a publish to a channel: a repeat has none; the last offset exactly if the stream is there; never a wrong epoch
 pub record RefusalsOfPublish (stood : Option Shown) (key : List ℕ) (result : Result Published StreamRefusal)
     : Type 0 where
   pub repeat : (p : Position) → repeat_at stood key ≡ Some p
@@ -40,7 +40,7 @@ pub record RefusalsOfPublish (stood : Option Shown) (key : List ℕ) (result : R
   pub last : IsErrOf result AtLastOffset ↔ IsAtLast stood key
   pub never : IfErr result (λ e. e ≢ WrongEpoch)
 
--- of a history: a wrong epoch exactly where the position is of another epoch, or there is no stream for it; never the
+-- of a history: a wrong epoch exactly if the position is of another epoch, or there is no stream for it; never the
 -- last offset
 pub record RefusalsOfHistory (stood : Option Shown) (since : Option Position) (result : Result History StreamRefusal)
     : Type 0 where

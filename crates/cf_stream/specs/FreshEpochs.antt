@@ -15,7 +15,7 @@ DrawsNone draws old new = (r : Option (List ℕ)) × draws old r new × IsNoEpoc
 abbrev pub DrawsEpoch : {E : Type 0} → (E → Option (List ℕ) → E → Type 0) → List ℕ → E → E → Type 0
 DrawsEpoch draws e old new = draws old (Some e) new × (e ≢ [])
 
--- the epoch of a channel's stream: where none stood it is drawn, else nothing is drawn
+-- the epoch of a channel's stream: if none stood it is drawn, else nothing is drawn
 abbrev pub Draws : {E : Type 0} → (E → Option (List ℕ) → E → Type 0) → Option Shown → List ℕ → E → E
     → Type 0
 Draws draws None e old new = DrawsEpoch draws e old new

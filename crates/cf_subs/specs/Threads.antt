@@ -39,7 +39,7 @@ module _ {T : Type 0} where
     abbrev pub noted : (ℕ → Option At) → Held T → ℕ → Option At
     noted f h k = cond (key h.value == k) (Some (at h.at)) (f k)
 
-    -- the last block of each number, or what f has where there is none
+    -- the last block of each number, or what f has if there is none
     abbrev pub last_of : (ℕ → Option At) → List (Held T) → ℕ → Option At
     last_of f [] = f
     last_of f (h ∷ hs) = last_of (noted f h) hs

@@ -19,7 +19,7 @@ number_at ns c = get_by_text ns.numbers c
 abbrev pub HasNone : Names → Type 0
 HasNone ns = (n : ℕ) → name_at ns n ≡ None
 
--- a name has a number exactly where that number has the name
+-- a name has a number exactly if that number has the name
 pub record Inverts (number : List ℕ → Option ℕ) (name : ℕ → Option (List ℕ)) : Type 0 where
   pub there : (c : List ℕ) (n : ℕ) → number c ≡ Some n → name n ≡ Some c
   pub back : (c : List ℕ) (n : ℕ) → name n ≡ Some c → number c ≡ Some n
@@ -34,7 +34,7 @@ SetsName old new n w = (m : ℕ) → name_at new m ≡ (if m == n then w else na
 abbrev pub SameNames : Names → Names → Type 0
 SameNames old new = (m : ℕ) → name_at new m ≡ name_at old m
 
--- a number has a name exactly where a row has the number
+-- a number has a name exactly if a row has the number
 abbrev pub Covers : (ℕ → Option (List ℕ)) → List Row → Type 0
 Covers name rows = (n : ℕ) → is_some (name n) ≡ has_channel rows n
 

@@ -50,7 +50,7 @@ who_by client = option_map (λ c. record { user = []; client = c }) client
 abbrev pub datum_from : List ℕ → Option (List ℕ) → Datum
 datum_from body client = record { body = body; info = who_by client }
 
--- The settings that streams have now, where they began with the table: the same names are set up, and each channel's
+-- The settings that streams have now, if they began with the table: the same names are set up, and each channel's
 -- size is the one that was set for it last.
 pub record AreSized (table now : NamespaceTable) (sizes : List ℕ → Option ℕ) : Type 0 where
   pub names : (name : List ℕ) → is_some (entry_at now name) ≡ is_some (entry_at table name)
@@ -78,7 +78,7 @@ pub record Brings (lists : Lists) (c : List ℕ) (since : Option Position) (s : 
   pub publications : r.publications.items
       ≡ placed_from (lists c s.epoch) (read_of since s).low (s.top - (read_of since s).low)
 
--- a read finds the stream, which it opens where none stands; or finds none, and none can be opened
+-- a read finds the stream, which it opens if none stands; or finds none, and none can be opened
 pub record Finds (table : NamespaceTable) (m : Broker) (c : List ℕ) (since : Option Position) (new : Code)
     (r : Recovery) : Type 0 where
   pub state : StreamState
@@ -94,7 +94,7 @@ abbrev pub Reads : NamespaceTable → Broker → List ℕ → Option Position �
 Reads table m c since new (Some r) = Finds table m c since new r
 Reads table m c since new None = FindsNone table m c new
 
--- a history finds the stream, which it opens where none stands; or finds none, and none can be opened
+-- a history finds the stream, which it opens if none stands; or finds none, and none can be opened
 pub record FindsPast (table : NamespaceTable) (m : Broker) (c : List ℕ) (limit : ℤ) (new : Code)
     (h : History) : Type 0 where
   pub state : StreamState

@@ -53,7 +53,7 @@ asks_too_much (ListHistory c limit) b = not (can_open c b)
 abbrev pub lacks_by : NamespaceTable → SentCommand → Broker → Bool
 lacks_by table k b = asks_too_much k.request b && passes table (command_of k)
 
--- A client's command was sent where the client could send one and waited for no reply to a subscribe, and passed its
+-- A client's command was sent if the client could send one and waited for no reply to a subscribe, and passed its
 -- checks.
 pub record IsGranted (cfg : Config) (m : World) (x : List ℕ) (p : Peer) (e : ClientRequest) : Type 0 where
   pub left : id_left (m.links x) ≡ true

@@ -27,7 +27,7 @@ use Rattle.cf_world.specs.declared.clients.Seat.{Seat}
 abbrev pub Hubs : Type 0
 Hubs = ℕ → Option Node
 
--- hub n changes so, where it is there, and the others stay
+-- hub n changes so, if it is there, and the others stay
 pub record OneHub (n : ℕ) (P : Node → Node → Type 0) (old new : Hubs) (h : Node) : Type 0 where
   pub hub : Node
   pub now : new n ≡ Some hub

@@ -18,7 +18,7 @@ use Rattle.cf_machine.specs.Session.{Session}
 use Rattle.cf_machine.specs.World.{World}
 use Rattle.cf_world.specs.declared.clients.Seat.{Seat}
 
--- the session of a seat, where there is one
+-- the session of a seat, if there is one
 abbrev pub session_in : Option Node → ℕ → Option Attached
 session_in None k = None
 session_in (Some h) k = attached_at h k

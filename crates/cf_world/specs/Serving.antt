@@ -41,7 +41,7 @@ pub record Rests (who : Who) (s : Session) : Type 0 where
   pub idle : is_idle s ≡ true
   pub served : progress_of s ≡ Todo (Served (Some who))
 
--- The session of a client whose connect was heard, beside what its hub has for it: it is idle where no subscription
+-- The session of a client whose connect was heard, beside what its hub has for it: it is idle if no subscription
 -- waits for its reply, and else does what is next for the one that does.
 pub record IsServed (t : NamespaceTable) (o : Option Attached) (s : Session) : Type 0 where
   pub tables : (tables_of s).namespaces ≡ t
@@ -50,7 +50,7 @@ pub record IsServed (t : NamespaceTable) (o : Option Attached) (s : Session) : T
   pub rests : ((c : List ℕ) → is_unfinished (sub_in o c) ≡ false) → Rests who s
   pub waits : (c : List ℕ) (x : Script) → wait_script who c (sub_in o c) ≡ Some x → progress_of s ≡ Todo x
 
--- where the hub has not closed it
+-- if the hub has not closed it
 abbrev pub IsServedAt : NamespaceTable → Option Attached → Session → Type 0
 IsServedAt table o s = is_open o ≡ true → IsServed table o s
 
@@ -115,7 +115,7 @@ Greets id s text t reply =
 
 -- ---- the sessions of all clients
 
--- each client that has a seat has its session there, which its hub's shows where that is open
+-- each client that has a seat has its session there, which its hub's shows if that is open
 abbrev pub AreServed : NamespaceTable → (ℕ → Option Node) → (List ℕ → Option Peer) → Type 0
 AreServed table hubs peers =
     (x : List ℕ) (p : Peer) (s : Seat) → peers x ≡ Some p → p.seat ≡ Some s
