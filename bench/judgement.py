@@ -21,14 +21,19 @@ class Judge:
     otherwise than the stream held, a top that can't be the stream's, or something that didn't arrive."""
 
     def __init__(self, history):
-        self.sizes = history["sizes"]
-        self.lives = {(channel, life["epoch"]): life for channel, lives in history["lives"].items() for life in lives}
+        self.sizes, self.lives = history["sizes"], {}
         self.places, self.faults = {}, []
         self.recovered = self.lost = self.ended = 0
+        self.clients = [Client(self, f"client {number}") for number in range(len(history["clients"]))]
+        self.goes_on(history)
+
+    def goes_on(self, history):
+        """Judges what was read and what the clients got since the history that it judged last."""
+        self.lives = {(channel, life["epoch"]): life for channel, lives in history["lives"].items() for life in lives}
         for channel, epoch, top, publications in history["read"]:
             self.run(f"the publisher of {channel}", channel, epoch, top - len(publications), top, publications)
-        for number, events in enumerate(history["clients"]):
-            Client(self, f"client {number}", events).judge()
+        for client, events in zip(self.clients, history["clients"]):
+            client.judge(events)
 
     def fault(self, kind, who, words):
         self.faults.append(f"{kind}: {who}: {words}")
@@ -64,12 +69,12 @@ class Judge:
 class Client:
     """One client: where it is in each channel, and whether it is subscribed there."""
 
-    def __init__(self, judge, who, events):
-        self.judged, self.who, self.events = judge, who, events
+    def __init__(self, judge, who):
+        self.judged, self.who = judge, who
         self.at, self.live, self.asked = {}, set(), {}
 
-    def judge(self):
-        for kind, *words in self.events:
+    def judge(self, events):
+        for kind, *words in events:
             getattr(self, kind)(*words)
 
     def ask(self, channel, epoch, offset, acked):

@@ -97,6 +97,8 @@ def held(members, server):
     found = []
     for _ in range(20):
         members.turns(0.25)
+        if server.process.poll() is not None:
+            raise Fails(f"serve ended with {server.process.returncode}")
         found.append((server.bytes(), server.descriptors()))
     return [(min(one), max(one)) for one in zip(*found)]
 
@@ -108,8 +110,14 @@ class Life:
         self.faults, self.positions, self.longest = [], None, 0
         with Server(program, NODES, ["--ns", histories.NAMESPACES, "--stale", "25"]) as server:
             members.server = server
+            # Publishers first, while all is calm, so that each channel has its life.
+            members.publishes = False
+            for publisher in members.publishers:
+                publisher.due = 0
+                publisher.turn()
             others = Apart(healthy, server.ports, clients, max(5, seconds - LEAVING))
             attacks = attacks_on(server, seconds + 600)
+            self.faults += [f"{it.early}" for it in attacks if it.early is not None]
             self.follow(histories, members, server, seconds)
             for attack in attacks:
                 attack.kill()
@@ -129,9 +137,6 @@ class Life:
 
     def follow(self, histories, members, server, seconds):
         """Serves the members for so long, and looks what the server holds."""
-        for publisher in members.publishers:
-            publisher.due = 0
-            publisher.turn()
         members.publishes = members.loses = True
         settled, until = min(SETTLED, seconds / 3), time.monotonic() + seconds
         members.turns(settled)
@@ -144,15 +149,33 @@ class Life:
             self.faults.append(f"it holds more and more: {self.held}")
 
 
+def tell(lives, judge):
+    """Says on standard error how a life went, so that who waits for an hour sees it."""
+    life = lives[-1]
+    print(f"life {len(lives)}: {faults_in_words(life.faults)}; until now {judge.recovered + judge.lost} recoveries, "
+          f"{len(judge.faults)} faults; the longest wait {millis(life.longest)}; {life.held}", file=sys.stderr, flush=True)
+
+
+def judge_life(judge, members):
+    """Judges what the members got in a life, and lets it go: that of an hour would take gigabytes."""
+    judge.goes_on(members.history())
+    judge.places.clear()    # (the next life has epochs of its own)
+    members.read.clear()
+    for member in members.subscribers:
+        member.events.clear()
+
+
 def long_run(program, seconds, clients, restart):
     """Lives of the server, one after another, and what all clients got."""
     signal.alarm(int(2 * seconds) + 600)
     histories = module_of_histories()
     members = histories.Run(program, NODES, MEMBERS)
-    count = max(1, round(seconds / restart))
-    lives = [Life(program, histories, members, seconds / count, clients, at == count - 1) for at in range(count)]
+    judge, lives, count = histories.Judge(members.history()), [], max(1, round(seconds / restart))
+    for at in range(count):
+        lives.append(Life(program, histories, members, seconds / count, clients, at == count - 1))
+        judge_life(judge, members)
+        tell(lives, judge)
     history = members.history()
-    judge = histories.Judge(history)
     faults = [fault for life in lives for fault in life.faults] + judge.faults
     faults += histories.arrived(history, lives[-1].positions)
     acknowledged = sum(life["acked"] for known in history["lives"].values() for life in known)
