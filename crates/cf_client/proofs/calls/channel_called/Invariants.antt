@@ -1,3 +1,4 @@
+-- The loop keeps that the calls still to be looked at have the same answer as all.
 use Rattle.std.proofs.Common.{◌≡◌, drop}
 use Rattle.cf_client.specs.ClientCalls.{channel_under}
 use Rattle.cf_client.specs.Shown.{calls_of}

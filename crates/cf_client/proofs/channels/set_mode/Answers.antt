@@ -1,3 +1,4 @@
+-- Without an entry nothing changes; with one, the value behind the lent place is the only one that is another, key by key.
 use Rattle.std.proofs.Common.{Some, IsSome, refl, sym, subst, ap, ◌∙◌}
 use Rattle.std.specs.Option.{option_copied_mut}
 use Rattle.std.proofs.lemmas.Map.Text.{btree_map_updates_text}

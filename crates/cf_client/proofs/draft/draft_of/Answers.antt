@@ -1,3 +1,4 @@
+-- The loop keeps that the texts so far take the known state to the drafted one, with the events told; each step is `take`'s.
 use Rattle.std.proofs.Common.{◌∷◌, [], ◌++◌, map, sym, ap, subst}
 use Rattle.std.proofs.lemmas.List.{map-append}
 use Rattle.cf_protocol.specs.Shown.{shown_outgoing}

@@ -1,3 +1,4 @@
+-- Each clause is a law of the theory, cited by name.
 use Rattle.cf_client.proofs.Apart.{asked_apart, left_apart, called_apart, reconnected_apart, texts_apart, one_outcome}
 use Rattle.cf_client.proofs.laws.one_answer.Goals as goal
 

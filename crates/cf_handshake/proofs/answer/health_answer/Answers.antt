@@ -1,3 +1,4 @@
+-- Each branch's text is reckoned out, with the digits of its length unfolded.
 use Rattle.std.proofs.Common.{refl}
 use Rattle.std.specs.Fmt.{digits}
 use Rattle.cf_handshake.proofs.answer.health_answer.Goals as goal

@@ -1,3 +1,4 @@
+-- The loop keeps that the lines still to be looked at answer as all do.
 use Rattle.std.proofs.Common.{◌≡◌, drop}
 use Rattle.websocket.specs.Headers.{fields_of}
 use Rattle.cf_handshake.specs.Lines.{has_line}

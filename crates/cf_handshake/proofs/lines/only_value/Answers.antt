@@ -1,3 +1,4 @@
+-- The loop keeps that the values are those found and those still to come; a second one is found to be two.
 use Rattle.std.proofs.Common.{sym, ap, ◌∙◌}
 use Rattle.websocket.specs.Headers.{eq_ignore_case}
 use Rattle.cf_handshake.proofs.Values.{named_from, two_values}

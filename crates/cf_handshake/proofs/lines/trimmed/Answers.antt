@@ -1,3 +1,4 @@
+-- The first loop keeps what a skip of blanks from the front leaves, the second one what that from the back does.
 use Rattle.std.proofs.Common.{◌≡◌, List, ℕ, length, reverse, slice_range, sym, ap, ◌∙◌, refl, arith}
 use Rattle.std.proofs.lemmas.List.{reverse-reverse}
 use Rattle.std.proofs.lemmas.Slice.{between_to_end}

@@ -1,3 +1,4 @@
+-- The loop keeps that the count so far and the lines still to come make the count of all.
 use Rattle.std.proofs.Common.{◌≡◌, ◌+◌, ◌≤◌, length, drop, codes}
 use Rattle.websocket.specs.Headers.{fields_of}
 use Rattle.cf_handshake.specs.Lines.{values_of}

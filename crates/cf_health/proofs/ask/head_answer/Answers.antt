@@ -1,3 +1,4 @@
+-- Each branch's text is reckoned out, with the digits of its length unfolded.
 use Rattle.std.proofs.Common.{refl}
 use Rattle.std.specs.Fmt.{digits}
 use Rattle.cf_health.proofs.ask.head_answer.Goals as goal

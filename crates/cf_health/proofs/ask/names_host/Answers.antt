@@ -1,3 +1,4 @@
+-- Two words that are the same but for case are what the byte-wise test decides.
 use Rattle.std.proofs.lemmas.Bool.Decides.{same_from_decides}
 use Rattle.std.proofs.lemmas.Slice.Eq.{bytes_eq-Decides}
 use Rattle.websocket.specs.Headers.{eq_ignore_case}

@@ -1,3 +1,4 @@
+-- From `moves_are_alike`, by the theory's law for calls.
 use Rattle.cf_hub.proofs.AlikeMoves.{calls_alike}
 use Rattle.cf_hub.proofs.laws.calls_are_alike.Goals as goal
 

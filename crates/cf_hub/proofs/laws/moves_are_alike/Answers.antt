@@ -1,3 +1,4 @@
+-- From the laws of `cf_recovery` on what is kept, by the theory's law for moves.
 use Rattle.cf_hub.proofs.AlikeMoves.{moves_alike}
 use Rattle.cf_hub.proofs.laws.moves_are_alike.Goals as goal
 

@@ -1,3 +1,4 @@
+-- Each clause is a law of the theory, cited by name.
 use Rattle.cf_hub.proofs.Counts.{counts_all, counts_session}
 use Rattle.cf_hub.proofs.laws.rows_are_counted.Goals as goal
 

@@ -1,3 +1,4 @@
+-- Each clause is a law of the theory, cited by name, with what a list held put into one record.
 use Rattle.std.proofs.Common.{◌∙◌, sym}
 use Rattle.cf_hub.proofs.InNotes.{listed_stays, read_stays, session_grows}
 use Rattle.cf_hub.proofs.laws.what_is_said_stays.Goals as goal

@@ -1,3 +1,4 @@
+-- The session had no such subscription, by its state; what its table promises of the added one is carried to all sessions.
 use Rattle.std.proofs.Common.{◌≡◌, ◌∙◌, Option, Some, None, refl, sym, ap, true, option_map}
 use Rattle.std.specs.Option.{option_copied_mut}
 use Rattle.std.proofs.lemmas.Result.{on_ok_weaker, on_err_weaker}

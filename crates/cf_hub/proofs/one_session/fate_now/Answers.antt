@@ -1,3 +1,4 @@
+-- Where the session isn't on the channel any more, it was ended, as its state shows.
 use Rattle.std.proofs.Common.{◌≡◌, ◌∙◌, Bool, true, false, Option, Some, not, refl, sym, subst, option_map, rules}
 use Rattle.std.specs.Prelude.{IsTrue}
 use Rattle.cf_hub.specs.Places.{session_in}

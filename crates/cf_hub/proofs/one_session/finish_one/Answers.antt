@@ -1,3 +1,5 @@
+-- By whether there is such a session: `met_none` and `ends_none` if not, and else what its own method promises, said of all
+-- sessions.
 use Rattle.std.proofs.Common.{◌∙◌, Option, option_map, sym, ap, subst}
 use Rattle.std.specs.Option.{option_copied_mut}
 use Rattle.cf_hub.specs.Finish.{FinishesAt}

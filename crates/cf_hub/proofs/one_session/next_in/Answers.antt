@@ -1,3 +1,4 @@
+-- The loop keeps that the numbers taken so far name no session with output (`IsNaming`).
 use Rattle.cf_hub.specs.Hub.{attached_in}
 use Rattle.cf_hub.proofs.Naming.{begins_naming}
 use Rattle.cf_hub.proofs.one_session.next_in.Goals as goal

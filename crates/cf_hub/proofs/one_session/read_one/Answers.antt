@@ -1,3 +1,4 @@
+-- The session's own reading is said of all sessions by `moved_here`.
 use Rattle.std.proofs.Common.{◌∙◌, refl, sym, ap}
 use Rattle.std.specs.Option.{option_copied_mut}
 use Rattle.cf_hub.specs.Sessions.{takes_read}

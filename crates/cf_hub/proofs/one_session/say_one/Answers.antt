@@ -1,3 +1,5 @@
+-- By whether there is such a session, and whether it was closed before: in each case what its own method promises, said of all
+-- sessions.
 use Rattle.std.proofs.Common.{◌∙◌, [], string_bytes, sym, ap}
 use Rattle.std.specs.Option.{option_copied_mut}
 use Rattle.cf_hub.specs.Hub.{InState}

@@ -1,3 +1,4 @@
+-- The loop goes from session to session of the channel, and keeps that those behind it are settled (`IsSettling`).
 use Rattle.std.proofs.Common.{◌≡◌, ◌<◌, ℕ, Option, Some, None, subst, sym, rules}
 use Rattle.cf_subscribers.specs.Follows.{after_in, sessions_of}
 use Rattle.cf_hub.specs.Hub.{attached_in}

@@ -1,3 +1,4 @@
+-- The last of a run stands at its end, so the end's offset is that one's.
 use Rattle.std.proofs.Common.{rules, ◌≡◌, ◌-◌, Some, length, slice_get}
 use Rattle.cf_hub.proofs.Runs.{last_of}
 use Rattle.cf_hub.proofs.reply.end_of.Goals as goal

@@ -1,3 +1,4 @@
+-- In both branches the keys are those of before and this one behind them, as the map promises of an insert.
 use Rattle.std.proofs.Common.{◌≡◌, map, ap, ◌∙◌, string_bytes, rules}
 use Rattle.std.specs.Map.{keys_of}
 use Rattle.cf_hub.proofs.Order.{asked_last}

@@ -1,3 +1,4 @@
+-- In both branches the other keys are those of before, as the map promises of a removal.
 use Rattle.std.proofs.Common.{map, ap, ◌∙◌, string_bytes}
 use Rattle.std.specs.Map.{keys_of}
 use Rattle.cf_hub.proofs.Order.{left_out}

@@ -1,3 +1,4 @@
+-- From the laws of `cf_recovery` on what is kept, by the theory's law for moves.
 use Rattle.cf_hub_moves.specs.Asides.{SaysAside}
 use Rattle.cf_hub_moves.proofs.HubAsides.{moves_among}
 use Rattle.cf_hub_moves.proofs.laws.moves_are_among.Goals as goal

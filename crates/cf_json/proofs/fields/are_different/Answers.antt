@@ -1,3 +1,4 @@
+-- The loop keeps that a member that stands alone among those left stands alone among all, since no later one has its key.
 use Rattle.std.proofs.Common.{◌≡◌, map, refl, sym, ap, ◌∙◌, subst}
 use Rattle.std.proofs.lemmas.List.{nil_from_length}
 use Rattle.cf_json.specs.Members.{entry_of}

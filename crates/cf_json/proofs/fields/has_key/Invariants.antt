@@ -1,3 +1,4 @@
+-- The loop keeps that the members still to be looked at answer as all do.
 use Rattle.std.proofs.Common.{◌≡◌, length, map}
 use Rattle.std.specs.List.{list_any}
 use Rattle.std.specs.Str.{bytes_eq}

@@ -1,3 +1,4 @@
+-- The loop goes from the back, and keeps that those seen are the last of their keys, which the set of keys remembers.
 use Rattle.std.proofs.Common.{◌≡◌, ◌∷◌, ◌++◌, [], map, reverse, Bool, true, false, refl, sym, ap, ◌∙◌, append_assoc, cond, rules, arith}
 use Rattle.std.specs.Prelude.{String, string_bytes, not}
 use Rattle.std.specs.declared.alloc.Global.{Global}

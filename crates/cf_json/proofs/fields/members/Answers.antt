@@ -1,3 +1,4 @@
+-- The members read are those of the grammar; where two have one key, the last stands, and the reader's refusals are passed on.
 use Rattle.std.proofs.Common.{◌≡◌, List, [], ℕ, map, sym, subst}
 use Rattle.std.specs.Bool.{OnTrue}
 use Rattle.std.proofs.lemmas.Result.{err_from_is_err_and}

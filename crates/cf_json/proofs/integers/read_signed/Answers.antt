@@ -1,3 +1,4 @@
+-- The number's own bytes are those within the span, so the kit's reading of them is the grammar's.
 use Rattle.std.proofs.Common.{◌≡◌, Some, None, sym, ap, ◌∙◌, subst}
 use Rattle.std.specs.Str.Parse.{IsNumeral, signed_digits_value, without_leading_sign}
 use Rattle.std.proofs.lemmas.Int.{to_z-of_z}

@@ -1,3 +1,5 @@
+-- The loop keeps that the highest level of the whole is that of what is left, from the level reached; each byte moves it by
+-- one.
 use Rattle.std.proofs.Common.{◌≡◌, max, arith, length, ap, ◌∙◌}
 use Rattle.cf_json.proofs.Shapes.{one_level, level_after-le}
 use Rattle.cf_json.proofs.shape.deepest.Goals as goal

@@ -1,3 +1,4 @@
+-- What lies within the span is the value's own text, of which `deepest` tells the depth.
 use Rattle.std.proofs.Common.{ap, ◌∙◌, drop, take, arith}
 use Rattle.cf_json.specs.Levels.{deepest}
 use Rattle.cf_json.specs.declared.squeeze.Mode.TheVariants.{Between}

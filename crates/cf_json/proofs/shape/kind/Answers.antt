@@ -1,3 +1,4 @@
+-- The value's first byte tells its kind, by `kind_at`.
 use Rattle.std.proofs.Common.{ap, ◌∙◌, get_or}
 use Rattle.cf_json.specs.Kinds.{kind_from}
 use Rattle.cf_json.proofs.Shapes.{kind_at}

@@ -1,3 +1,4 @@
+-- The loop keeps whether all bytes so far are visible.
 use Rattle.std.proofs.Common.{◌≡◌, take}
 use Rattle.std.specs.List.{list_all}
 use Rattle.cf_json.specs.Bytes.{is_visible}

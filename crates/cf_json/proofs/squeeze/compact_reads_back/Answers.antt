@@ -1,3 +1,4 @@
+-- Both clauses are laws of the theory, cited by name.
 use Rattle.cf_json.proofs.Compacts.{compact_value, value_regular}
 use Rattle.cf_json.proofs.squeeze.compact_reads_back.Goals as goal
 

@@ -1,3 +1,4 @@
+-- The loop keeps that if nothing is to go from what is left, nothing is from the whole; a string is passed over in one step.
 use Rattle.std.proofs.Common.{◌≡◌, ◌∷◌, Ok, sym, ap, ◌∙◌, subst, arith}
 use Rattle.std.proofs.lemmas.Bool.{ne_eqb}
 use Rattle.std.proofs.lemmas.List.{nil_from_length}

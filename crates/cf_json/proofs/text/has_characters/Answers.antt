@@ -1,3 +1,4 @@
+-- The loop keeps that the pieces left pair up, with the high half before them, exactly if the whole has characters.
 use Rattle.std.proofs.Common.{sym, ap, ◌∙◌}
 use Rattle.cf_json.specs.Characters.{a_piece, pieces, is_high, is_low}
 use Rattle.cf_json.proofs.Surrogates.{are_pairs, tells, at_end, past_plain, lone_backslash, past_escape, past_short, past_unit, four, stops, goes_on, stops_at_unit, passes_unit}

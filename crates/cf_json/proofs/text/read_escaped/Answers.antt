@@ -1,3 +1,4 @@
+-- What lies within the span is the text's token, which the kit reads; where it reads none, there are no characters.
 use Rattle.std.proofs.Common.{◌≡◌, Some, is_some, Result, Ok, Err, sym, ap, ◌∙◌, subst}
 use Rattle.std.proofs.lemmas.Bool.{true≢false}
 use Rattle.std.specs.Prelude.{option_and_then, IfErr, IsErrAnd}

@@ -1,3 +1,5 @@
+-- Between the quotation marks there are characters or none, as `has_characters` told; where there are some, only memory is
+-- left as reason.
 use Rattle.std.proofs.Common.{◌≡◌, ℕ, ◌+◌, ◌-◌, List, take, drop, false, Option, Some, None, is_some, refl, sym, ap, ◌∙◌, arith}
 use Rattle.std.proofs.lemmas.Bool.{true≢false}
 use Rattle.cf_json.specs.Characters.{characters}

@@ -1,3 +1,4 @@
+-- The loop keeps that the text's end is the same behind each block of plain bytes.
 use Rattle.std.proofs.Common.{◌≡◌, ◌++◌, sym, ap, ◌∙◌, arith}
 use Rattle.std.proofs.lemmas.List.{take-append-drop}
 use Rattle.cf_json.specs.declared.token.Within.TheVariants.{Plain}

@@ -1,3 +1,4 @@
+-- The loop keeps that the text's end is the same behind each plain byte.
 use Rattle.std.proofs.Common.{sym, ap, ◌∙◌, arith}
 use Rattle.cf_json.specs.declared.token.Within.TheVariants.{Plain}
 use Rattle.cf_json.specs.Reading.{text_end}

@@ -1,3 +1,4 @@
+-- The plain front of a block is a front of the text, so the text's end is the same behind it.
 use Rattle.std.proofs.Common.{◌≡◌, take, drop, true, sym, ap, ◌∙◌, subst}
 use Rattle.std.proofs.lemmas.List.{take-append-drop}
 use Rattle.std.specs.List.{list_all}

@@ -1,3 +1,4 @@
+-- The loop keeps that all bytes before the place are plain.
 use Rattle.std.proofs.Common.{◌≡◌, take, true}
 use Rattle.std.specs.List.{list_all}
 use Rattle.cf_json.specs.Bytes.{is_plain}

@@ -1,3 +1,4 @@
+-- The loop keeps that the end is the same for what is left of the word and of the text.
 use Rattle.std.proofs.Common.{◌≡◌, ◌≤◌, ◌+◌, length}
 use Rattle.cf_json.specs.Reading.{word_end}
 use Rattle.cf_json.proofs.token.word_end.Given as goal

@@ -1,3 +1,4 @@
+-- A new log is allowed to begin (`begins`) and to have two sides (`forks`).
 use Rattle.std.proofs.Common.{rules, ap, ◌∙◌}
 use Rattle.crossbeam_queue.specs.Passes.{ruled_capacity}
 use Rattle.cf_link.proofs.Rules.{begins, forks}

@@ -1,3 +1,4 @@
+-- Both ends' views are merged (`merges`), and what was sent is what was received and what the queue still holds.
 use Rattle.std.proofs.Common.{◌++◌, ap, sym, ◌∙◌}
 use Rattle.cf_link.specs.declared.log.Log.{Log}
 use Rattle.cf_link.specs.Link.{End}

@@ -1,3 +1,4 @@
+-- Each clause is an example that was reckoned out, cited by name.
 use Rattle.cf_machine.proofs.KeysRefused.{second_place, one_more, second_data, dropped, dropped_before, held_by_then}
 use Rattle.cf_machine.proofs.keyed.unsafe_keys_and_sizes.Goals as goal
 

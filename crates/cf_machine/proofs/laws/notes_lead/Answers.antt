@@ -1,3 +1,4 @@
+-- Both clauses are laws of the theory, cited by name.
 use Rattle.cf_machine.proofs.Headline.{notes_lead, positions_listed}
 use Rattle.cf_machine.proofs.laws.notes_lead.Goals as goal
 

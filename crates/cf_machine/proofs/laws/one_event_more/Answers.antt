@@ -1,3 +1,4 @@
+-- Both clauses are the theory's: the run, and the trace, of one event more.
 use Rattle.std.proofs.Common.{length, ◌+◌, refl}
 use Rattle.cf_machine.specs.World.{start}
 use Rattle.cf_machine.proofs.Schedules.{run-more, trace-more}

@@ -1,3 +1,4 @@
+-- The law of the theory, cited by name.
 use Rattle.cf_machine.proofs.Headline.{safe_run}
 use Rattle.cf_machine.proofs.laws.safe_always.Goals as goal
 

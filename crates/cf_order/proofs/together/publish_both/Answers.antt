@@ -1,3 +1,5 @@
+-- Both branches are one proof: what was joined is what was lent, and each of the two appends gained its share or found the log
+-- full.
 use Rattle.std.proofs.Common.{◌≡◌, ap, ◌∙◌, arith}
 use Rattle.cf_order.proofs.Gaining.{lent_begins, lent_gains}
 use Rattle.cf_order.proofs.Prefixes.{prefix_length, prefix_trans}

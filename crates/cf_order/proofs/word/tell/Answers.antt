@@ -1,3 +1,4 @@
+-- The theory's `tells` allows the look that brings the pass up to the count.
 use Rattle.cf_order.proofs.Steps.{tells}
 use Rattle.cf_order.proofs.word.tell.Goals as goal
 

@@ -1,3 +1,4 @@
+-- Where the entry is another user's nothing changes but the borrow; else its moment does, and the users' counts don't.
 use Rattle.std.proofs.Common.{rules, true, refl, ◌≡◌, ◌∙◌, ap, sym, subst, Some, string_bytes}
 use Rattle.std.specs.Option.{IsSome, option_copied_mut}
 use Rattle.std.specs.Map.{update, values_of}

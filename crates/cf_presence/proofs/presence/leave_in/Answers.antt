@@ -1,3 +1,4 @@
+-- In a channel with nobody there is nobody to leave.
 use Rattle.std.proofs.Common.{◌≡◌, None, arith}
 use Rattle.std.specs.BTreeMap.{get_by_text}
 use Rattle.std.proofs.lemmas.Map.Text.{text_keys}

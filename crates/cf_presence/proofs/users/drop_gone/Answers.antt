@@ -1,3 +1,4 @@
+-- The loop keeps that the counts are those of who stays and of who is still to be looked at.
 use Rattle.std.proofs.Common.{rules}
 use Rattle.std.specs.Map.{values_of}
 use Rattle.std.proofs.lemmas.Map.Iter.{rest_more}

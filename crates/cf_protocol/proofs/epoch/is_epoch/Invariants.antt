@@ -1,3 +1,4 @@
+-- The loop keeps that all letters so far are those of an epoch.
 use Rattle.std.proofs.Common.{◌≡◌, true, take}
 use Rattle.std.specs.List.{list_all}
 use Rattle.std.specs.Char.{is_ascii_alphanumeric}

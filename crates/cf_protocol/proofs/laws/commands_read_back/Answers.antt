@@ -1,3 +1,4 @@
+-- The laws of the JSON reader are collected in one record, from which the theory has what is written read back.
 use Rattle.std.proofs.Common.{refl, arith}
 use Rattle.cf_protocol.specs.Frame.{commands_of}
 use Rattle.cf_protocol.specs.Written.{command_text, command, parts_of, as_it_is}

@@ -1,3 +1,4 @@
+-- An empty channel is excluded; else the law for the length of a compact text is used.
 use Rattle.std.proofs.Common.{◌≡◌, ℕ, ◌+◌, ◌<◌, List, [], ◌∷◌, length, None, decimal, ◌∙◌, arith, length-append, ne_eqb}
 use Rattle.cf_json.specs.Quoting.{quoted}
 use Rattle.cf_protocol.specs.Outgoing.{Push, Publication}

@@ -1,3 +1,4 @@
+-- The laws of the JSON reader are collected in one record, from which the theory has what is written read back.
 use Rattle.std.proofs.Common.{arith}
 use Rattle.cf_protocol.specs.Frame.{replies_of}
 use Rattle.cf_protocol.specs.Written.{outgoing_text, outgoing, parts_of, as_it_is}

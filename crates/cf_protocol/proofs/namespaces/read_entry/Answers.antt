@@ -1,3 +1,4 @@
+-- By the part that can't be read: each early end is the one that the definition has there.
 use Rattle.std.proofs.Common.{sym}
 use Rattle.cf_protocol.proofs.Entering.{namespace_uncut, namespace_misnamed, namespace_unset, namespace_found}
 use Rattle.cf_protocol.proofs.namespaces.read_entry.Goals as goal

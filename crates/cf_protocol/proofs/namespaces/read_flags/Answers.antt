@@ -1,3 +1,4 @@
+-- The loop keeps that the letters set are those so far, in some order; one that is set twice, or that is none, is refused.
 use Rattle.std.proofs.Common.{refl, subst, sym, ◌∙◌}
 use Rattle.std.specs.List.Sorted.{IsPermutation}
 use Rattle.cf_protocol.specs.SettingsText.{letters_of}

@@ -1,3 +1,4 @@
+-- The loop keeps that the entries are those of the parts so far, with different names.
 use Rattle.std.proofs.Common.{lit<, ◌∷◌, [], subst, map}
 use Rattle.std.specs.List.{AllZip}
 use Rattle.std.proofs.lemmas.Result.{err_from_is_err_and}

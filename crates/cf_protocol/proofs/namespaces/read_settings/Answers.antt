@@ -1,3 +1,4 @@
+-- By the part that can't be read: each early end is the one that the definition has there.
 use Rattle.cf_protocol.proofs.Entering.{commas, settings_uncut, settings_cut_once, settings_unsized, settings_untimed, settings_by}
 use Rattle.cf_protocol.proofs.namespaces.read_settings.Goals as goal
 

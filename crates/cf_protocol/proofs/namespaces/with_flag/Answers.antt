@@ -1,3 +1,4 @@
+-- A letter that isn't set yet is added; the branch says which.
 use Rattle.std.proofs.lemmas.Bool.{not-true}
 use Rattle.cf_protocol.proofs.Flagging.{adds_publish, adds_history}
 use Rattle.cf_protocol.proofs.namespaces.with_flag.Goals as goal

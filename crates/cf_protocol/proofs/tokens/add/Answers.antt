@@ -1,3 +1,5 @@
+-- An entry that can't be read, or whose token stands already, is refused as the definition does; else it is pushed behind the
+-- others.
 use Rattle.std.proofs.Common.{sym, ap, ◌∙◌, ◌∷◌, [], ◌++◌, subst, ◌≡◌}
 use Rattle.std.specs.Prelude.{None}
 use Rattle.std.specs.String.{string_bytes}

@@ -1,3 +1,4 @@
+-- By the part that can't be read: each early end is the one that the definition has there.
 use Rattle.std.proofs.Common.{sym}
 use Rattle.cf_protocol.proofs.Entering.{token_uncut, token_misnamed, token_unused, token_found}
 use Rattle.cf_protocol.proofs.tokens.read_entry.Goals as goal

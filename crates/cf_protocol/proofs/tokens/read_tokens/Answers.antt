@@ -1,3 +1,4 @@
+-- An empty text is an empty table; else the loop keeps that the entries are those of the parts so far, with different tokens.
 use Rattle.std.proofs.Common.{lit<, sym, ap, ◌∙◌, ◌∷◌, [], subst, map}
 use Rattle.std.specs.List.{AllZip}
 use Rattle.std.proofs.lemmas.Result.{err_from_is_err_and}

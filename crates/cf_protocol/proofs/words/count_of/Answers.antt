@@ -1,3 +1,4 @@
+-- A zero or a plus in front is refused; else the number is the kit's, if it is in bounds.
 use Rattle.std.proofs.Common.{◌≢◌, ℕ, arith, sym, get_or, ◌∙◌, Ok, Err}
 use Rattle.std.proofs.lemmas.Bool.{false≢true}
 use Rattle.std.proofs.lemmas.Str.Pattern.{starts_char}

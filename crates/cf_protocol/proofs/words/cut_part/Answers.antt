@@ -1,3 +1,4 @@
+-- The kit's cut at the first comma is the definition's.
 use Rattle.std.proofs.Common.{arith}
 use Rattle.cf_protocol.proofs.Cutting.{cut_by}
 use Rattle.cf_protocol.proofs.words.cut_part.Goals as goal

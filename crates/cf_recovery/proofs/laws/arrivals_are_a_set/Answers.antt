@@ -1,3 +1,4 @@
+-- Both clauses are laws of the theory, cited by name.
 use Rattle.cf_recovery.proofs.Runs.{member, once}
 use Rattle.cf_recovery.proofs.laws.arrivals_are_a_set.Goals as goal
 

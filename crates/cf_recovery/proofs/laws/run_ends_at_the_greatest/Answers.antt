@@ -1,3 +1,4 @@
+-- Each clause is a law of the theory, cited by name.
 use Rattle.cf_recovery.proofs.Runs.{reached, furthest, none, sufficient}
 use Rattle.cf_recovery.proofs.laws.run_ends_at_the_greatest.Goals as goal
 

@@ -1,3 +1,4 @@
+-- Each clause is a law of the theory, the last two the halves of what a release stands for.
 use Rattle.std.proofs.Common.{refl}
 use Rattle.cf_recovery.proofs.Keeping.{stands_more, within-arrival}
 use Rattle.cf_recovery.proofs.Releasing.{stands_released}

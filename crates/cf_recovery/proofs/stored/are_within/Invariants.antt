@@ -1,3 +1,4 @@
+-- The loop keeps that the places left are within exactly if all are.
 use Rattle.std.proofs.Common.{◌≡◌, ◌+◌, drop}
 use Rattle.cf_model.specs.Arrivals.{all_within}
 use Rattle.cf_recovery.specs.ArrivalBuffer.{places}

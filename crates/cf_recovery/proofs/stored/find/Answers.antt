@@ -1,3 +1,4 @@
+-- The loop keeps that none so far stands at the offset wanted; one that does is found.
 use Rattle.std.proofs.Common.{◌+◌, ◌<◌, ◌∙◌, sym, length, arith}
 use Rattle.cf_recovery.specs.Stored.{stored}
 use Rattle.cf_recovery.proofs.Storing.{is_at-read, none_more, none_all, length-stored}

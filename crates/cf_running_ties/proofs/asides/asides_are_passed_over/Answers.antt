@@ -1,3 +1,4 @@
+-- Each clause is a law of the theory, two of them from what the protocol's crate promises of what it reads back.
 use Rattle.std.proofs.Common.{◌≡◌, true}
 use Rattle.cf_running_ties.proofs.Passing.{all_passed, errors, left_out, no_note, text}
 use Rattle.cf_running_ties.proofs.asides.asides_are_passed_over.Goals as goal

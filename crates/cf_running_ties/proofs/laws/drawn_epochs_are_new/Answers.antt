@@ -1,3 +1,4 @@
+-- Both clauses follow from what the epochs' crate promises: that two drawn ones are told apart.
 use Rattle.cf_running_ties.proofs.ShardLife.{drawn, gained}
 use Rattle.cf_running_ties.proofs.laws.drawn_epochs_are_new.Goals as goal
 

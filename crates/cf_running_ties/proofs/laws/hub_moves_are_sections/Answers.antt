@@ -1,3 +1,4 @@
+-- From what the crates below promise of a hub's moves and of what is kept, by the theory's law.
 use Rattle.std.proofs.Common.{◌≡◌, true}
 use Rattle.cf_hub_moves.proofs.HubAsides.{moves_among}
 use Rattle.cf_running_ties.proofs.laws.hub_moves_are_sections.Goals as goal

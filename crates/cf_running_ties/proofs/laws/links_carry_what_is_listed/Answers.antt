@@ -1,3 +1,4 @@
+-- Each clause is a law of the theory, cited by name or with its arguments in order.
 use Rattle.cf_running_ties.proofs.Links.{accepted, offered, others, receives, repeated, sends, starts, stays}
 use Rattle.cf_running_ties.proofs.laws.links_carry_what_is_listed.Goals as goal
 

@@ -1,3 +1,4 @@
+-- Each clause is a law of the theory, with its arguments in order.
 use Rattle.cf_running_ties.proofs.ShardCalls.{forgets, publishes, sizes, trims, uses}
 use Rattle.cf_running_ties.proofs.Gained.{goes_on}
 use Rattle.cf_running_ties.proofs.ShardReads.{reads}

@@ -1,3 +1,4 @@
+-- Each clause is a law of the theory, the first from what the JSON crate promises of a compact text.
 use Rattle.cf_running_ties.proofs.Heard.{heard_all, names, replies}
 use Rattle.cf_running_ties.proofs.laws.what_is_heard_is_regular.Goals as goal
 

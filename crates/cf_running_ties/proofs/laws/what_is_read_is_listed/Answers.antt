@@ -1,3 +1,4 @@
+-- Each clause is a law of the theory, two of them from what the hub's crate promises of what is said.
 use Rattle.cf_running_ties.proofs.ReadAnswers.{histories, reads, starts, stays}
 use Rattle.cf_running_ties.proofs.laws.what_is_read_is_listed.Goals as goal
 

@@ -1,3 +1,4 @@
+-- Both clauses are laws of the theory, for a step that says something and for one that may close.
 use Rattle.cf_hub.specs.WantOfMemory.{OrCloses}
 use Rattle.cf_hub.specs.Wordings.{plain}
 use Rattle.cf_running_ties.proofs.OneSession.{meets, moves}

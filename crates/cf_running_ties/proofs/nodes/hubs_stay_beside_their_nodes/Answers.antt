@@ -1,3 +1,4 @@
+-- Each clause is a law of the theory, one for each section that touches a node, with its arguments in order.
 use Rattle.cf_running.specs.Server.{lists_of}
 use Rattle.cf_running_ties.proofs.Numbered.{bounded, past}
 use Rattle.cf_running_ties.proofs.OneSession.{attaches, detaches, one, starts, stays, wanders}

@@ -1,3 +1,4 @@
+-- Each clause is a law of the theory, cited by name.
 use Rattle.cf_running_ties.proofs.Handling.{begins, calls, leaves, refused}
 use Rattle.cf_running_ties.proofs.scripts.commands_are_taken_in_hand.Goals as goal
 

@@ -1,3 +1,4 @@
+-- Each clause is a law of the theory, cited by name.
 use Rattle.cf_running_ties.proofs.Handling.{broker_refuses, errs, finished, gives_up, listed, published, reads, said}
 use Rattle.cf_running_ties.proofs.scripts.work_goes_as_the_script.Goals as goal
 

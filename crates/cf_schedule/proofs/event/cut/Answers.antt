@@ -1,3 +1,4 @@
+-- The kit's cut at the first blank is the definition's.
 use Rattle.std.proofs.Common.{ℕ, MatchOption, arith, List, Bor}
 use Rattle.std.specs.Prelude.{Option, Some, None}
 use Rattle.std.proofs.lemmas.Str.Pattern.{split_parts, IsSplitOnceResult}

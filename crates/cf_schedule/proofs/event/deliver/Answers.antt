@@ -1,3 +1,4 @@
+-- By the word that can't be read: without it the line is no such event, since it could be cut in no other way.
 use Rattle.std.proofs.Common.{sym, arith}
 use Rattle.std.specs.Fmt.{decimal}
 use Rattle.cf_schedule.proofs.Spacing.{never_cut, unspaced_number}

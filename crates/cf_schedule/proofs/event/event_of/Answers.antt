@@ -1,3 +1,4 @@
+-- By the first word: each arm is the reader of that kind of line, and a word that is none is refused.
 use Rattle.std.proofs.Common.{codes, rules, ◌∷◌, ◌++◌, Err, refl, sym, subst, ◌∙◌}
 use Rattle.cf_schedule.specs.Word.{IsClientName, IsChannelName}
 use Rattle.cf_schedule.proofs.Lines.{no_break, no_forget, no_take, no_word}

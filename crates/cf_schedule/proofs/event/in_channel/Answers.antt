@@ -1,3 +1,4 @@
+-- By the two names and then by the word: each arm is that kind of line, and a name that can't be read is refused.
 use Rattle.std.proofs.Common.{codes, rules, subst}
 use Rattle.std.proofs.lemmas.Result.{err_from_is_err_and}
 use Rattle.cf_schedule.specs.Word.{IsClientName, IsChannelName}

@@ -1,3 +1,4 @@
+-- By whether a key stands there: what is cut off is the key, and one that can't be read is refused.
 use Rattle.std.proofs.Common.{rules, Bool, ◌∷◌, ◌++◌, ap, sym, subst, ◌∙◌}
 use Rattle.cf_schedule.specs.LineRead.{IsKeyBefore}
 use Rattle.cf_schedule.specs.Word.{IsKey}

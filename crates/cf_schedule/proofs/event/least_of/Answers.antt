@@ -1,3 +1,4 @@
+-- Two numerals of one text are one number, so one that is too low is refused.
 use Rattle.std.proofs.Common.{arith, sym, ◌∙◌}
 use Rattle.std.proofs.lemmas.Fmt.{decimal_injective}
 use Rattle.cf_schedule.proofs.event.least_of.Goals as goal

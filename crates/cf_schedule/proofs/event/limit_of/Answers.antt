@@ -1,3 +1,4 @@
+-- With a minus in front the limit is the least's, and without one the most's.
 use Rattle.std.proofs.Common.{arith, Some, None}
 use Rattle.std.proofs.lemmas.Str.Pattern.{strip_prefix_char}
 use Rattle.cf_schedule.proofs.Limits.{limit_signed, limit_plain}

@@ -1,3 +1,4 @@
+-- By the word that can't be read: without it the line is no such event, since it could be cut in no other way.
 use Rattle.std.proofs.Common.{[], ◌∷◌, sym, subst}
 use Rattle.std.proofs.lemmas.Result.{err_from_is_err_and}
 use Rattle.cf_machine.specs.TraceLine.{spaced}

@@ -1,3 +1,4 @@
+-- By the part that can't be read: channel, key and body in turn, each of which is refused with its reason.
 use Rattle.std.proofs.Common.{rules, ℕ, List, ◌∷◌, ◌++◌, ap, sym, subst, ◌∙◌}
 use Rattle.std.proofs.lemmas.Result.{err_from_is_err_and}
 use Rattle.cf_schedule.specs.Word.{IsChannelName}

@@ -1,3 +1,4 @@
+-- What was read is the event, and why nothing could be read is why there is none.
 use Rattle.std.proofs.Common.{ℕ, List}
 use Rattle.cf_schedule.specs.LineRead.{IsPublication}
 use Rattle.cf_schedule.specs.Seen.{key_of}

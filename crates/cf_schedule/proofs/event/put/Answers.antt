@@ -1,3 +1,4 @@
+-- The name first, and then what `publication` reads: each that can't be read is refused with its reason.
 use Rattle.std.proofs.Common.{rules, ℕ, List, ◌∷◌, ◌++◌, ap, sym, subst, ◌∙◌}
 use Rattle.std.proofs.lemmas.Result.{err_from_is_err_and}
 use Rattle.cf_schedule.specs.LineRead.{IsPublication}

@@ -1,3 +1,4 @@
+-- A text with other letters, or with a zero in front, is no number; else it is the kit's, if that fits.
 use Rattle.std.proofs.Common.{◌≡◌, ◌<◌, ◌^◌, ℕ, arith, sym, length, get_or, ◌∙◌, Ok, Err}
 use Rattle.std.specs.Str.Parse.{digits_value}
 use Rattle.std.proofs.lemmas.Bool.{false≢true}

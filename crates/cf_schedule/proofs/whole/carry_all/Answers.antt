@@ -1,3 +1,4 @@
+-- The loop keeps that the world stands for the run of the events so far, and what was told for its trace.
 use Rattle.std.proofs.Common.{rules, ◌≡◌, ◌<◌, ◌≤◌, ◌+◌, List, [], ◌∷◌, ◌++◌, length, take, map, sym, ap, ◌∙◌, subst, cond, true, is_ok}
 use Rattle.std.proofs.lemmas.List.{take_more, map-append}
 use Rattle.cf_machine.specs.Event.{Event}

@@ -1,3 +1,5 @@
+-- The world begins tied to the machine's start, so what `carry_all` tells is the trace; and that one is safe, as `safe_always`
+-- has it.
 use Rattle.std.proofs.Common.{ap, map}
 use Rattle.cf_machine.specs.Config.{Config}
 use Rattle.cf_world.specs.Entries.{shown_entry}

@@ -1,3 +1,4 @@
+-- Each kind of event is one call, whose clause is read with the variant that is matched.
 use Rattle.std.proofs.Common.{rules, sym, ap, ◌∙◌, w32}
 use Rattle.std.proofs.lemmas.Int.{to_z-of_z}
 use Rattle.cf_machine.specs.Event as said

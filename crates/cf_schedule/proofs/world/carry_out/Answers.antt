@@ -1,3 +1,4 @@
+-- Only a take writes anything; what `carry_on` promises holds of the other events.
 use Rattle.std.proofs.Common.{sym, ap, ◌∙◌}
 use Rattle.cf_machine.specs.Event as said
 use Rattle.cf_machine.specs.IntervalMachine.{run}

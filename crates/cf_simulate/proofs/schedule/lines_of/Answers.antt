@@ -1,3 +1,4 @@
+-- The kit's parts between line feeds are the definition's lines.
 use Rattle.std.proofs.Common.{arith}
 use Rattle.std.proofs.lemmas.Iterator.Consumers.{map_from_collect}
 use Rattle.std.proofs.lemmas.Iterator.Splits.{YieldsList-from_str_split}

@@ -1,3 +1,4 @@
+-- An epoch that is said is noted, and no other event changes the notes.
 use Rattle.std.proofs.Common.{◌∙◌, rules}
 use Rattle.std.specs.String.{string_bytes}
 use Rattle.std.proofs.lemmas.Map.Text.{btree_set_updates_text}

@@ -1,3 +1,4 @@
+-- The loop keeps that the lines of the entries so far are written.
 use Rattle.std.proofs.Common.{◌≡◌, take}
 use Rattle.std.specs.Prelude.{string_bytes}
 use Rattle.cf_simulate.proofs.Writing.{lines_of_entries}

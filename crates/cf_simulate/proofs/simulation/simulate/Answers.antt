@@ -1,3 +1,5 @@
+-- By where it ends: unread, read and stopped, or written whole; in each case what was written is the front that the definition
+-- has.
 use Rattle.std.proofs.Common.{List, ℕ}
 use Rattle.std.proofs.lemmas.Result.{err_from_is_err_and}
 use Rattle.cf_machine.specs.Config.{Config}

@@ -1,3 +1,4 @@
+-- The loop keeps that what was written and what is left make the whole.
 use Rattle.cf_simulate.proofs.Writing.{leaves_more}
 use Rattle.cf_simulate.proofs.simulation.write_bytes.Goals as goal
 

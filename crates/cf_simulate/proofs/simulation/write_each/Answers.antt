@@ -1,3 +1,4 @@
+-- The loop keeps that the world stands for the events so far, and that their lines are written; an early end leaves a front.
 use Rattle.std.proofs.Common.{arith, List, map, subst}
 use Rattle.std.specs.Io.KnownBytes.{Appends}
 use Rattle.std.proofs.lemmas.Result.{err_from_is_err_and}

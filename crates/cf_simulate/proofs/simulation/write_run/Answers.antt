@@ -1,3 +1,4 @@
+-- What `write_events` promises of the run is said for the schedule; without one nothing was written.
 use Rattle.std.proofs.Common.{rules}
 use Rattle.cf_simulate.proofs.Steps.{part_written}
 use Rattle.cf_simulate.proofs.simulation.write_run.Goals as goal

@@ -1,3 +1,4 @@
+-- What was written before stays, so what the answer writes comes behind it, unless memory ran short.
 use Rattle.std.proofs.Common.{◌≡◌, ◌∙◌, false, Some, None, List, ℕ, refl, sym, subst}
 use Rattle.std.specs.Io.KnownBytes.{Appends, Keeps}
 use Rattle.cf_session.specs.Standing.{is_short, progress_of, tables_of}

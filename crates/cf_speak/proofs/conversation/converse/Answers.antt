@@ -1,3 +1,4 @@
+-- A new session and a new node are those that the definition begins with, so what `serve_lines` promises is said of them.
 use Rattle.std.proofs.Common.{sym}
 use Rattle.cf_speak.proofs.conversation.converse.Goals as goal
 

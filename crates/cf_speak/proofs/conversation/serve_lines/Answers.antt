@@ -1,3 +1,4 @@
+-- The loop keeps that the session waits idle and that what was written answers the lines so far.
 use Rattle.std.proofs.Common.{◌≡◌, ◌∙◌, false, Some, rules, sym, subst, option_map}
 use Rattle.std.specs.Prelude.{IsErrOf}
 use Rattle.cf_speak.specs.declared.fault.SpeakFault.TheVariants as fault

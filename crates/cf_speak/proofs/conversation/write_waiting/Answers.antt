@@ -1,3 +1,4 @@
+-- The loop keeps that what is written and what still waits make what waited, in order.
 use Rattle.cf_queue.specs.Meaning.{meaning}
 use Rattle.cf_speak.specs.Shown.{scene_of}
 use Rattle.cf_speak.proofs.Waiting.{written_more}

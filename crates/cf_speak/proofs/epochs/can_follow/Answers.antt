@@ -1,3 +1,4 @@
+-- The epoch isn't empty, and none of those before is the same, as the test says.
 use Rattle.std.proofs.Common.{◌≡◌, length, false, sym, ap, ◌∙◌, subst}
 use Rattle.std.specs.Prelude.{◌==◌, not}
 use Rattle.std.specs.List.{list_any}

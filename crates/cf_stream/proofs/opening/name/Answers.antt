@@ -1,3 +1,4 @@
+-- What `get` promises of the map is read key by key.
 use Rattle.std.proofs.Common.{arith}
 use Rattle.std.proofs.lemmas.Map.Text.{text_keys}
 use Rattle.cf_stream.proofs.opening.name.Goals as goal

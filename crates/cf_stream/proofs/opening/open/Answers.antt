@@ -1,3 +1,4 @@
+-- With an epoch the stream is put under it; without one what was put is taken out again, and the map is as before.
 use Rattle.std.proofs.Common.{None}
 use Rattle.std.proofs.lemmas.Map.Text.{btree_map_updates_text}
 use Rattle.cf_stream.specs.Stream.{in_epoch}

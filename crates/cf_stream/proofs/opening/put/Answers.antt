@@ -1,3 +1,4 @@
+-- What the map promises of an insert, key by key, is read as an update of the definition's function.
 use Rattle.std.proofs.Common.{Some, ap, string_bytes, ◌∙◌}
 use Rattle.std.specs.BTreeMap.{get_by_text}
 use Rattle.std.specs.Map.{update}

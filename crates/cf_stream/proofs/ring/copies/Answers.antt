@@ -1,3 +1,4 @@
+-- The loop keeps that the copies so far are the publications from the start on, and that there is room for the others.
 use Rattle.std.proofs.Common.{sym}
 use Rattle.cf_stream.proofs.Placing.{copied_more}
 use Rattle.cf_stream.proofs.ring.copies.Goals as goal

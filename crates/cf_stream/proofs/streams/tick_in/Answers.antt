@@ -1,3 +1,4 @@
+-- What the map leaves is each entry, ticked by the seconds of its channel, if it stays.
 use Rattle.std.proofs.Common.{rules, string_bytes}
 use Rattle.cf_stream.specs.Stream.{stays, ticked}
 use Rattle.cf_stream.specs.Streams.{seconds_at}

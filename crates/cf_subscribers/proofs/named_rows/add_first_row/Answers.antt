@@ -1,3 +1,4 @@
+-- The name is new, so no row has its number; if the row is refused the name is taken out again, and the names are as before.
 use Rattle.std.proofs.Common.{◌∙◌, ap, Some}
 use Rattle.cf_subscribers.specs.Follows.{with_follow}
 use Rattle.cf_subscribers.specs.Names.{by_name, name_at}

@@ -1,3 +1,4 @@
+-- By whether the channel still has a row: if not its name goes too, and no row loses its name.
 use Rattle.std.proofs.Common.{◌≡◌, ◌∙◌, false, true, sym, ap, rules, None}
 use Rattle.cf_subs.specs.Rows.{has_channel}
 use Rattle.cf_subscribers.specs.Names.{by_name, name_at}

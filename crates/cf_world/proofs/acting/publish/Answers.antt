@@ -1,3 +1,4 @@
+-- Each outcome is the broker's, with the client that publishes in its info, by one helper for all of them.
 use Rattle.std.proofs.Common.{◌≡◌, ◌∙◌, ℕ, List, Some, refl, sym, ap, subst}
 use Rattle.cf_protocol.specs.Datum.{Who}
 use Rattle.cf_protocol.specs.Settings.{NamespaceTable}

@@ -1,3 +1,4 @@
+-- What `retain` promises of the clients is read name by name.
 use Rattle.std.proofs.Common.{rules, string_bytes}
 use Rattle.std.specs.BTreeMap.{is_at}
 use Rattle.std.specs.Cmp.Lexicographic.{slice_cmp}

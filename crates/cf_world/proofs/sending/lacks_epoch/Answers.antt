@@ -1,3 +1,4 @@
+-- In the two arms that aren't answered at once no epoch can be opened, so whether one lacks is the channel's question.
 use Rattle.std.proofs.Common.{rules, ◌≡◌, ◌∙◌, None, false, string_bytes, sym, ap}
 use mir.Syntax.{w32}
 use mir.Val.{of_z, to_z}

@@ -1,3 +1,4 @@
+-- The text is heard, the one action that follows is answered, and then there is none: so the session greets.
 use Rattle.std.proofs.Common.{rules, ◌≡◌, ◌∙◌, false, Option, Some, option_map, string_bytes, sym, subst}
 use Rattle.cf_session.specs.Shown.{shown_action}
 use Rattle.cf_session.specs.Standing.{is_short, progress_of, refusals, tables_of}

@@ -1,3 +1,4 @@
+-- The session gives its next action, or none, and stays what it was beside that.
 use Rattle.std.proofs.Common.{◌≡◌, ◌∙◌, false, Option, Some, None, option_map, refl, sym}
 use Rattle.cf_session.specs.Shown.{shown_action}
 use Rattle.cf_session.specs.Standing.{is_short, progress_of, refusals, tables_of}

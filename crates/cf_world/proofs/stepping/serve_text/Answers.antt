@@ -1,3 +1,4 @@
+-- By how many steps it took to the end: each is one of the script, so the whole is a run of it.
 use Rattle.std.proofs.Common.{◌≡◌, ◌∙◌, inl, inr, ℕ, List, false, sym, subst}
 use Rattle.cf_session.specs.Standing.{Keeps, HearsFrame, is_short, progress_of, refusals, tables_of}
 use Rattle.cf_session.specs.declared.session.Session.{Session}

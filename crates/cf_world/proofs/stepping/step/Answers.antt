@@ -1,3 +1,4 @@
+-- What the session waits for is the answer that this action has, as `next` says.
 use Rattle.std.proofs.Common.{◌≡◌, ◌∙◌, Option, Some, option_map, sym, subst}
 use Rattle.cf_session.specs.Played.{asked_kind}
 use Rattle.cf_session.specs.Shown.{answer_kind, shown_action}

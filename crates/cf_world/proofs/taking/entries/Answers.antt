@@ -1,3 +1,4 @@
+-- The loop keeps that the entries so far tell the items so far.
 use Rattle.std.proofs.Common.{rules, ◌≡◌, ◌∙◌, [], ◌∷◌, ◌++◌, map, ap}
 use Rattle.std.proofs.lemmas.List.{map-append}
 use Rattle.cf_world.specs.Entries.{shown_entry}

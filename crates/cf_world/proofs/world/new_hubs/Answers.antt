@@ -1,3 +1,4 @@
+-- The loop keeps that the hubs so far are new ones, by number.
 use Rattle.std.proofs.Common.{◌≡◌, ℕ, ◌+◌, List, [], ◌∷◌, ◌++◌, length, arith, sym, ap, ◌∙◌, subst}
 use Rattle.cf_hub.specs.Hub.{Node, empty}
 use Rattle.cf_world.specs.HubCalls.{AreNew}

@@ -1,3 +1,4 @@
+-- In the one arm that isn't refuted at once, the answer is that of the mode that is matched.
 use Rattle.std.proofs.Common.{refl}
 use Rattle.cf_client.proofs.channels.Mode.is_asking.Goals as goal
 

@@ -1,3 +1,4 @@
+-- A caller of `ask_since`, whose clauses it hands on.
 use Rattle.cf_client.proofs.client.Client.ask.Goals as goal
 
 pub returns-clause-text : goal.returns-clause-text

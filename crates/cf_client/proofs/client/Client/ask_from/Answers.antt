@@ -1,3 +1,4 @@
+-- A caller of `ask_since`, whose clauses are rewritten by where the client was last.
 use Rattle.cf_client.proofs.client.Client.ask_from.Goals as goal
 
 pub returns-clause-text : goal.returns-clause-text

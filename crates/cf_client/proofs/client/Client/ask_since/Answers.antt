@@ -1,3 +1,4 @@
+-- The lemma `asked_path` has the state behind an ask; each early end says which refusal it is, or that memory was short.
 use Rattle.std.proofs.Common.{◌≡◌, true, false, refl, sym, ap, subst, ◌∙◌}
 use Rattle.std.specs.Prelude.{Err}
 use Rattle.cf_model.specs.ClientState.{is_idle, last_of}

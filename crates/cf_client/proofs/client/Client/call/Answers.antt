@@ -1,3 +1,4 @@
+-- The lemma `called_path` has the state with one call more, and that no two answers are for one id.
 use Rattle.std.proofs.Common.{sym, subst}
 use Rattle.cf_client.specs.ClientCalls.{State}
 use Rattle.cf_client.specs.OneAnswer.{AreApart}

@@ -1,3 +1,4 @@
+-- The lemma that the state behind a leave stays apart, and for each early end the refusal that the definition names there.
 use Rattle.std.proofs.Common.{refl, sym, subst, ◌∙◌}
 use Rattle.std.specs.Prelude.{Err}
 use Rattle.cf_client.specs.ClientView.{state_of}

@@ -1,3 +1,4 @@
+-- The text is put together from those of its parts; each early end is told by the call that ended it.
 use Rattle.std.proofs.Common.{◌∙◌, None, false, w32}
 use Rattle.std.proofs.lemmas.Int.{to_z-of_z}
 use Rattle.cf_protocol.specs.Request as request

@@ -1,3 +1,5 @@
+-- The invariant is carried by `texts_apart`, over what `draft_of` and `carry_out` promise, and the events are those of the
+-- definition.
 use Rattle.std.proofs.Common.{map, sym, subst}
 use Rattle.cf_protocol.specs.Shown.{shown_outgoing}
 use Rattle.cf_client.specs.ClientCalls.{State, TakesAll}

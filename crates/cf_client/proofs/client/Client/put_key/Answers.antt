@@ -1,3 +1,4 @@
+-- The text is put together from those of its parts; each early end is told by the call that ended it.
 use Rattle.std.proofs.Common.{◌∙◌}
 use Rattle.cf_protocol.specs.Request as request
 use Rattle.cf_protocol.specs.Written.{command_text}

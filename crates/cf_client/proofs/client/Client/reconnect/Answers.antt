@@ -1,3 +1,4 @@
+-- The state is that of a client which begins: no calls, and each mode made idle.
 use Rattle.std.proofs.Common.{false}
 use Rattle.cf_client.specs.ClientView.{ids_of}
 use Rattle.cf_client.specs.Shown.{calls_of}

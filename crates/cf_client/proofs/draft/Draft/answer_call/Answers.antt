@@ -1,3 +1,4 @@
+-- One answer more in the draft leaves the calls without that id, by the lemmas on what is found and answered.
 use Rattle.std.proofs.Common.{◌≡◌, ◌==◌, ◌∙◌, Bool, None, if◌then◌else◌, refl, sym, ap, rules}
 use Rattle.std.specs.List.{list_any}
 use Rattle.std.specs.Option.{option_map}

@@ -1,3 +1,4 @@
+-- The loop moves one changed mode after another into the map, and keeps that what is drafted stays the same for each channel.
 use Rattle.std.proofs.Common.{◌≡◌, ◌∙◌, ◌==◌, not, None, [], List, ℕ, ap, refl, subst, if◌then◌else◌, rules}
 use Rattle.std.proofs.lemmas.Fn.{filter_same}
 use Rattle.std.proofs.lemmas.List.{nil_from_length}

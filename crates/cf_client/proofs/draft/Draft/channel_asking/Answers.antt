@@ -1,3 +1,4 @@
+-- The loop keeps that none of the channels so far asks under this id; the one that does is the answer.
 use Rattle.std.proofs.Common.{◌≡◌, ◌∙◌, [], map, sym, ap, subst, rules, All, Bor}
 use Rattle.std.specs.String.{string_bytes}
 use Rattle.std.specs.Map.Iter.{deref_pair}

@@ -1,3 +1,4 @@
+-- If a channel asked under the id its subscription failed; else the call that is answered did, and the draft has it told.
 use Rattle.std.proofs.Common.{◌≡◌, ◌∙◌, refl, ◌∷◌, [], ap, sym, subst, List, ℕ, inl, inr, map, Bor}
 use Rattle.std.proofs.lemmas.Result.{on_ok_weaker}
 use Rattle.std.specs.Prelude.{option_to_list}

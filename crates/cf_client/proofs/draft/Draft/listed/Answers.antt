@@ -1,3 +1,4 @@
+-- The channel of the call is the definition's, so what is told is a list of that channel.
 use Rattle.std.proofs.Common.{◌≡◌, ◌∙◌, refl, ap, sym, List, ℕ, Some, map, Bor}
 use Rattle.std.proofs.lemmas.Result.{on_ok_weaker}
 use Rattle.std.specs.Prelude.{option_to_list}

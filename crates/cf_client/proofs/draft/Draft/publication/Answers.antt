@@ -1,3 +1,4 @@
+-- A channel that isn't live takes nothing; a live one moves to the publication's offset, which is told.
 use Rattle.std.proofs.Common.{◌≡◌, ◌∙◌, [], ◌∷◌, sym, ap, subst, List, ℕ}
 use Rattle.std.proofs.lemmas.List.{append-nil}
 use Rattle.std.proofs.lemmas.Result.{on_ok_weaker}

@@ -1,3 +1,4 @@
+-- What `put_mode` promises of the changed modes is said of the state that the draft stands for.
 use Rattle.std.proofs.Common.{refl}
 use Rattle.std.proofs.lemmas.Result.{on_ok_weaker}
 use Rattle.cf_client.proofs.Drafting.{put_moves}

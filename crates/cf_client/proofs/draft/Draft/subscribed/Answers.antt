@@ -1,3 +1,4 @@
+-- Without a channel that asks, nothing is told; with one, it becomes live at the position, and that is told.
 use Rattle.std.proofs.Common.{[], ◌∷◌, map, sym, ap, ◌∙◌, refl, List, ℕ, inl, inr}
 use Rattle.std.proofs.lemmas.List.{append-nil}
 use Rattle.std.proofs.lemmas.Result.{on_ok_weaker}

@@ -1,3 +1,4 @@
+-- Each kind of text is one call, whose clauses are read with the variant that is matched; a ping has a pong told.
 use Rattle.std.proofs.Common.{◌∷◌, [], ap, refl}
 use Rattle.std.proofs.lemmas.Result.{on_ok_weaker}
 use Rattle.cf_client.specs.AppItem.{PongDue}

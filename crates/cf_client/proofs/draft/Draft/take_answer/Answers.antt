@@ -1,3 +1,4 @@
+-- Each kind of answer is one call, whose clauses are read with the variant that is matched.
 use Rattle.std.proofs.Common.{◌≡◌, length, rules}
 use Rattle.cf_client.proofs.draft.Draft.take_answer.Goals as goal
 

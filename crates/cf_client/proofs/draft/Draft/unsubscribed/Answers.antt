@@ -1,3 +1,4 @@
+-- By the mode's variant, and then by the code: from a limit on the channel is asked for again, and else it becomes idle.
 use Rattle.std.proofs.Common.{◌≡◌, [], ◌∷◌, map, true, false, Some, nat_le, ap, ◌∙◌, sym, subst, refl, List, ℕ, arith}
 use Rattle.std.proofs.lemmas.List.{append-nil}
 use Rattle.std.proofs.lemmas.Result.{on_ok_weaker}

@@ -1,3 +1,4 @@
+-- A line more keeps the invariant, if it has no line feed: `contains` says that it has none.
 use Rattle.std.proofs.Common.{rules, subst}
 use Rattle.cf_explain.specs.Remarks.{AreRemarks}
 use Rattle.cf_explain.proofs.Adding.{none_found, remark_added}

@@ -1,3 +1,4 @@
+-- Two lists of remarks make a list of remarks, by `remarks_joined`.
 use Rattle.std.proofs.Common.{rules, subst}
 use Rattle.cf_explain.specs.Remarks.{AreRemarks}
 use Rattle.cf_explain.proofs.Adding.{remarks_joined}

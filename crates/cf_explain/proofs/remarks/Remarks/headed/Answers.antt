@@ -1,3 +1,4 @@
+-- The heading is the definition's text, and has no line feed, so the line may be added.
 use Rattle.std.proofs.Common.{◌≡◌, ◌∙◌, ◌++◌, arith, rules, subst, sym}
 use Rattle.cf_explain.specs.Remarks.{IsOneLine, heading, remark}
 use Rattle.cf_explain.proofs.Adding.{heading_line}

@@ -1,3 +1,4 @@
+-- A caller of `open`, whose clauses it hands on.
 use Rattle.cf_hub.proofs.hub.Hub.attach.Goals as goal
 
 pub returns-in-Ok-clause-number : goal.returns-in-Ok-clause-number

@@ -1,3 +1,5 @@
+-- One session is closed: by the lemmas on one session that changes, once where it is taken off its channels and once where it
+-- isn't.
 use Rattle.std.proofs.Common.{◌∙◌, List, [], subst, sym, ap, refl}
 use Rattle.cf_subscribers.specs.Follows.{Follow}
 use Rattle.cf_queue.specs.OutQueue.{Close}

@@ -1,3 +1,5 @@
+-- The session is taken out of the table and off the rows, and the two agree on what is left, since all its subscriptions are
+-- gone.
 use Rattle.std.proofs.Common.{◌∙◌, Option, List, [], ℕ, subst, sym, ap, option_map}
 use Rattle.cf_subscribers.specs.Follows.{Follow}
 use Rattle.cf_hub.specs.declared.fate.Fate.TheVariants as fate

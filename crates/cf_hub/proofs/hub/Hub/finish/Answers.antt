@@ -1,3 +1,4 @@
+-- One session is met (`met_agrees`, `met_seen_at`): what `finish_one` promises of the table is said of the hub.
 use Rattle.std.proofs.Common.{◌∙◌, ℕ, Option, sym, ap, refl}
 use Rattle.cf_hub.specs.Hub.{Node, counted, one_if}
 use Rattle.cf_hub.specs.Rows.{sub_in}

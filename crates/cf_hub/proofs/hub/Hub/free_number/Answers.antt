@@ -1,3 +1,4 @@
+-- The loop keeps that all numbers below are taken, which the invariant says of those below the count of taken ones.
 use Rattle.std.proofs.Common.{ℕ, Option, ◌∙◌, is_some, sym, ap}
 use Rattle.cf_hub.specs.Hub.{Node}
 use Rattle.cf_hub.specs.Session.{Attached}

@@ -1,3 +1,4 @@
+-- What the fields keep is said of the view, for those who call from outside.
 use Rattle.std.proofs.Common.{refl}
 use Rattle.cf_hub.proofs.Hubs.{agrees_view, bounded_view}
 use Rattle.cf_hub.proofs.hub.Hub.invariant.Goals as goal

@@ -1,3 +1,4 @@
+-- A row's place is there exactly if the definition has the session subscribed.
 use Rattle.std.proofs.Common.{◌∙◌, is_some, ap}
 use Rattle.cf_hub.specs.Hub.{sub_at}
 use Rattle.cf_hub.proofs.Checks.{is_placed}

@@ -1,3 +1,4 @@
+-- What `all_finished` promises of the found session is carried to the session in the view.
 use Rattle.std.proofs.Common.{◌↔◌, ◌≡◌, ◌∙◌, ℕ, List, Bool, Option, false, sym, ap, subst, option_map}
 use Rattle.std.specs.Prelude.{IsTrue}
 use Rattle.std.specs.Option.{option_copied}

@@ -1,3 +1,4 @@
+-- One session changes (`one_agrees`, `one_seen`), and its row goes with its subscription, so rows and sessions agree.
 use Rattle.std.proofs.Common.{◌∙◌, not, Option, List, ℕ, subst, sym, ap, refl}
 use Rattle.cf_subscribers.specs.Follows.{Follow}
 use Rattle.cf_hub.specs.declared.fate.Fate.TheVariants as fate

@@ -1,3 +1,4 @@
+-- What the table promises of its next session is carried over the view, with the bound that the invariant has.
 use Rattle.std.proofs.Common.{ℕ, Option, sym, ap, subst, refl}
 use Rattle.std.specs.Prelude.{IfNone, IfSome}
 use Rattle.cf_hub.specs.Hub.{HasNoneFrom, IsNextFrom, Node}

@@ -1,3 +1,4 @@
+-- What `next_in` promises is carried over the view, session by session.
 use Rattle.std.proofs.Common.{◌≢◌, ℕ, Option, [], sym, ap, subst}
 use Rattle.std.specs.Prelude.{IfSome}
 use Rattle.cf_hub.specs.Hub.{IsNextTurn, Node, attached_in, waits_in}

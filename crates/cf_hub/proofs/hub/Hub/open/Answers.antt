@@ -1,3 +1,4 @@
+-- The number is free, so to seat a session there changes nobody else, and its badge is the one that the definition gives it.
 use Rattle.std.proofs.Common.{rules, ◌≡◌, ◌∙◌, ◌+◌, ℕ, Option, Some, None, List, sym, ap, string_bytes, is_some, false, option_map}
 use Rattle.cf_hub.specs.Hub.{Node, attached_in, client_id, fresh}
 use Rattle.cf_hub.specs.Session.{Attached, Badge, attached_of}

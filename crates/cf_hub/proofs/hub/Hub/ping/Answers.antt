@@ -1,3 +1,4 @@
+-- One session is met (`met_agrees`, `ping_seen`): what `tick_one` promises of the table is said of the hub.
 use Rattle.std.proofs.Common.{◌∙◌, [], sym, ap, refl}
 use Rattle.cf_hub.specs.Hub.{Node, Pings, counted, one_if}
 use Rattle.cf_hub.specs.Turns.{gets_turn}

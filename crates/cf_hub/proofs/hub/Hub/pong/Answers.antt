@@ -1,3 +1,4 @@
+-- A pong changes a badge and no subscription, so rows and sessions agree as before.
 use Rattle.std.proofs.Common.{◌≡◌, ◌∙◌, ℕ, Option, Some, None, List, [], option_map, sym, ap, refl}
 use Rattle.cf_hub.specs.declared.fate.Fate.TheVariants as fate
 use Rattle.cf_hub.specs.Hub.{Node, attached_in}

@@ -1,3 +1,4 @@
+-- The count of refusals grows exactly if nothing was written, whichever way that is asked.
 use Rattle.std.proofs.Common.{◌∙◌, ap, not, sym}
 use Rattle.cf_hub.specs.Hub.{met_refusal}
 use Rattle.cf_hub.proofs.Walks.{twice}

@@ -1,3 +1,4 @@
+-- One session changes (`one_agrees`, `one_seen`) by what it reads, which ends none of its subscriptions.
 use Rattle.std.proofs.Common.{◌∙◌, ℕ, Option, [], sym, ap, refl}
 use Rattle.cf_hub.specs.declared.fate.Fate.TheVariants as fate
 use Rattle.cf_hub.specs.Hub.{Node}

@@ -1,3 +1,4 @@
+-- What the table promises of the place is carried over the view.
 use Rattle.std.proofs.Common.{◌∙◌, ℕ, Option, option_map, sym, ap}
 use Rattle.cf_hub.specs.Hub.{Node}
 use Rattle.cf_hub.specs.Session.{Attached, attached_of}

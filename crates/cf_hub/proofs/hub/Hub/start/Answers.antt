@@ -1,3 +1,5 @@
+-- The row is added first, which is allowed since none was there; if the session then refuses, it is removed, and all is as
+-- before.
 use Rattle.std.proofs.Common.{◌≡◌, ◌∙◌, ℕ, Option, List, option_map, is_some, sym, ap, subst, not, false}
 use Rattle.cf_hub.specs.Hub.{Node, attached_in, is_open, moves}
 use Rattle.cf_hub.specs.Rows.{Agrees, sub_in}

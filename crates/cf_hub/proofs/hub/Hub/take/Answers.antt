@@ -1,3 +1,4 @@
+-- One session changes (`one_agrees`, `one_seen`) by its front item, which is given.
 use Rattle.std.proofs.Common.{◌∙◌, Option, [], ℕ, sym, ap, refl, option_and_then, slice_get}
 use Rattle.cf_hub.specs.declared.fate.Fate.TheVariants as fate
 use Rattle.cf_hub.specs.Hub.{Node}

@@ -1,3 +1,4 @@
+-- The loop keeps that the sessions below were pinged and those above are as they were, and ends where no session is left.
 use Rattle.std.proofs.Common.{rules, arith}
 use Rattle.cf_hub.proofs.Pinging.{begins_pinging, ends_pinging, goes_on_pinging, skips_pinging}
 use Rattle.cf_hub.proofs.hub.Hub.tick.Goals as goal

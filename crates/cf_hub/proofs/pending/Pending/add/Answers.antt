@@ -1,3 +1,4 @@
+-- A number that isn't marked isn't in the queue, so to mark it and to put it in keeps that marks and numbers agree.
 use Rattle.std.proofs.Common.{rules, arith, ◌≡◌, ◌<◌, length, true, false, slice_set, sym, subst, List, ℕ}
 use Rattle.std.specs.VecDeque.{deque_capacity}
 use Rattle.cf_hub.specs.Marks.{AreMarked, is_marked}

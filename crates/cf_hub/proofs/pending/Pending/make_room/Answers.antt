@@ -1,3 +1,4 @@
+-- Places that are added at the end are unmarked, so marks and numbers agree as before.
 use Rattle.std.proofs.Common.{rules, arith, ◌≡◌, ◌≤◌, ◌<◌, ◌+◌, length, sym, subst, List, ℕ, false}
 use Rattle.std.specs.VecDeque.{deque_capacity}
 use Rattle.cf_hub.specs.Marks.{AreMarked, is_marked}

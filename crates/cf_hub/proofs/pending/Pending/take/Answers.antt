@@ -1,3 +1,4 @@
+-- The front number is marked, so it is within, and to clear its mark keeps that marks and numbers agree.
 use Rattle.std.proofs.Common.{rules, arith, ◌≡◌, ◌∷◌, false, slice_set, sym, subst, List, ℕ}
 use Rattle.std.specs.VecDeque.{deque_capacity}
 use Rattle.cf_hub.specs.Marks.{AreMarked}

@@ -1,3 +1,5 @@
+-- By what the subscription does with the delivery (`meeting`), an arm each; what isn't ended leaves the state as the
+-- definition has it.
 use Rattle.std.proofs.Common.{rules, ◌≡◌, Bool, sym, subst, ◌∙◌}
 use Rattle.cf_recovery.specs.declared.verdict.Verdict.TheVariants as answer
 use Rattle.cf_hub.specs.declared.subscription.Meets.TheVariants as meets

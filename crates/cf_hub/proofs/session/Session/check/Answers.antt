@@ -1,3 +1,4 @@
+-- A check that goes on leaves all subscriptions on; one that ends says so, or closes if there is no memory for the text.
 use Rattle.std.proofs.Common.{◌∙◌, Bool, subst, sym, ap, inl, not, ◌&&◌, if◌then◌else◌}
 use Rattle.cf_queue.specs.OutQueue.{Item, Text, Close}
 use Rattle.cf_hub.specs.declared.fate.Fate.TheVariants as fate

@@ -1,3 +1,5 @@
+-- Without a subscription that is ready nothing changes; with one, the answer is said and the subscription put, or left at its
+-- end.
 use Rattle.std.proofs.Common.{◌∙◌, sym, ap, refl, not, ◌&&◌, if◌then◌else◌}
 use Rattle.cf_queue.specs.OutQueue.{Item}
 use Rattle.cf_hub.specs.declared.fate.Fate.TheVariants as fate

@@ -1,3 +1,4 @@
+-- The loop keeps that the publications so far are said, one text each, in order.
 use Rattle.std.proofs.Common.{◌≡◌, ◌||◌, ◌∙◌, ◌+◌, ◌++◌, Bool, List, [], ◌∷◌, ℕ, sym, ap, subst, map, take}
 use Rattle.std.proofs.lemmas.List.{map_more}
 use Rattle.cf_protocol.specs.Datum.{Placed}

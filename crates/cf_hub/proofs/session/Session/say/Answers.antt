@@ -1,3 +1,4 @@
+-- The text is the one asked for, and the queue that took it is the definition's.
 use Rattle.std.proofs.Common.{rules, ◌≡◌, ℕ, List, subst, inl}
 use Rattle.cf_queue.specs.OutQueue.{Text}
 use Rattle.cf_model.specs.SessionState.{push}

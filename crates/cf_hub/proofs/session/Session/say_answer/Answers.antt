@@ -1,3 +1,4 @@
+-- The text of the reply is put together as the definition's, from the recovery that was read.
 use Rattle.std.proofs.Common.{ℕ, List, Bool, [], ◌∷◌, subst, sym, map}
 use Rattle.cf_queue.specs.OutQueue.{Text}
 use Rattle.cf_hub.specs.Session.{state_of}

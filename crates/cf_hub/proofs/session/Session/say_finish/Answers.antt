@@ -1,3 +1,4 @@
+-- By whether the subscription ends there: the texts said are those of the definition, one behind the other.
 use Rattle.std.proofs.Common.{rules, ◌≡◌, ◌∙◌, List, Bool, [], ◌∷◌, ◌++◌, subst, sym, true, false, if◌then◌else◌, ◌||◌}
 use Rattle.cf_queue.specs.OutQueue.{Item, Text}
 use Rattle.cf_hub.specs.Session.{state_of}

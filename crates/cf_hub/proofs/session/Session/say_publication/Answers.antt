@@ -1,3 +1,4 @@
+-- The text is the push's, and the queue that took it is the definition's.
 use Rattle.std.proofs.Common.{rules, ◌≡◌, ℕ, List, inl, subst}
 use Rattle.cf_queue.specs.OutQueue.{Text}
 use Rattle.cf_model.specs.SessionState.{push}

@@ -1,3 +1,4 @@
+-- What is said or closes ends no subscription (`said_off`), channel by channel.
 use Rattle.std.proofs.Common.{◌∙◌, [], string_bytes, sym, ap, refl, not, ◌&&◌, if◌then◌else◌}
 use Rattle.cf_queue.specs.OutQueue.{Text, Close}
 use Rattle.cf_hub.specs.declared.fate.Fate.TheVariants as fate

@@ -1,3 +1,4 @@
+-- Neither a close nor a ping ends a subscription, channel by channel.
 use Rattle.std.proofs.Common.{◌∙◌, [], sym, ap, refl, not, ◌&&◌, if◌then◌else◌}
 use Rattle.cf_queue.specs.OutQueue.{Text, Close}
 use Rattle.cf_hub.specs.declared.fate.Fate.TheVariants as fate

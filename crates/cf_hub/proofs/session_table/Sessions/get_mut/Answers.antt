@@ -1,3 +1,4 @@
+-- The lent session is the one at its place, so what is written to it is written there and nowhere else.
 use Rattle.std.proofs.Common.{rules, ◌≡◌, ◌∙◌, sym, ap, Some, None, inl, slice_set}
 use Rattle.std.specs.Box.{with_value}
 use Rattle.std.proofs.lemmas.List.{map-set, get_or-map}

@@ -1,3 +1,4 @@
+-- The place is within or one behind the last, so what was written is there, and all other places stay.
 use Rattle.std.proofs.Common.{rules, ◌≡◌, ◌≤◌, ◌∙◌, Some, arith, ap, sym, subst, length}
 use Rattle.std.proofs.lemmas.List.{length-map}
 use Rattle.cf_hub.specs.Places.{Places, session_in, unboxed}

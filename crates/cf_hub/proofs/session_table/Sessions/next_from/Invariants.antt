@@ -1,3 +1,4 @@
+-- The loop keeps that no place between the start and here has a session.
 use Rattle.std.proofs.Common.{◌≡◌, ◌≤◌, ◌<◌, ℕ, None}
 use Rattle.cf_hub.specs.Hub.{attached_in}
 use Rattle.cf_hub.proofs.session_table.Sessions.next_from.Given as goal

@@ -1,3 +1,4 @@
+-- What was taken is no longer at its place, and all other places stay.
 use Rattle.std.proofs.Common.{rules, ◌<◌, ◌∙◌, ap, length}
 use Rattle.cf_hub.specs.Places.{Places, session_in, unboxed}
 use Rattle.cf_hub.proofs.Placing.{others_stay, written}

@@ -1,3 +1,4 @@
+-- The theory's `hears_sent` allows what the receiver takes over.
 use Rattle.cf_link.proofs.Rules.{hears_sent}
 use Rattle.cf_link.proofs.ends.Receiver.hear.Goals as goal
 

@@ -1,3 +1,4 @@
+-- The theory allows the take (`gets`), and what is received shows in the log (`shows_received`).
 use Rattle.cf_link.proofs.Rules.{gets, shows_received}
 use Rattle.cf_link.proofs.ends.Receiver.receive.Goals as goal
 

@@ -1,3 +1,4 @@
+-- One item more was received, behind those of before.
 use Rattle.std.proofs.Common.{◌++◌, ◌∷◌, [], ap, ◌∙◌}
 use Rattle.cf_link.proofs.ends.Receiver.receive_within.Goals as goal
 

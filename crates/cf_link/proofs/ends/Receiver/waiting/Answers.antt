@@ -1,3 +1,4 @@
+-- Within the capacity, as the queue's rule says of its length.
 use Rattle.std.proofs.Common.{◌≤◌, subst, ap, ◌∙◌}
 use Rattle.crossbeam_queue.specs.Passes.{ruled_capacity}
 use Rattle.cf_link.specs.Link.{End}

@@ -1,3 +1,4 @@
+-- The theory's `hears_received` allows what the sender takes over.
 use Rattle.cf_link.proofs.Rules.{hears_received}
 use Rattle.cf_link.proofs.ends.Sender.hear.Goals as goal
 

@@ -1,3 +1,4 @@
+-- The theory allows the send (`sends`), and what is sent shows in the log (`shows_sent`).
 use Rattle.cf_link.proofs.Rules.{sends, shows_sent}
 use Rattle.cf_link.proofs.ends.Sender.send.Goals as goal
 

@@ -1,3 +1,4 @@
+-- The theory's `tells` allows a second pass with the same view.
 use Rattle.cf_link.proofs.Rules.{tells}
 use Rattle.cf_link.proofs.ends.Sender.tell.Goals as goal
 

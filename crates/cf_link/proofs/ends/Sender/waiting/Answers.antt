@@ -1,3 +1,4 @@
+-- Within the capacity, and no more than was sent, as the queue's rule says of its length.
 use Rattle.std.proofs.Common.{◌+◌, ◌≤◌, subst, ap, ◌∙◌, length}
 use Rattle.crossbeam_queue.specs.Passes.{view, ruled_capacity}
 use Rattle.cf_link.specs.Link.{End}

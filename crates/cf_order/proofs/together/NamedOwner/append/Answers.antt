@@ -1,3 +1,4 @@
+-- If the count is full the log stays: what `follow` promises, over the view.
 use Rattle.std.proofs.Common.{ap, ◌∙◌}
 use Rattle.cf_order.proofs.together.NamedOwner.append.Goals as goal
 

@@ -1,3 +1,4 @@
+-- Whoever appends was behind the owner at most, so what it has seen is a front of the log.
 use Rattle.std.proofs.Common.{sym, ap}
 use Rattle.cf_order.proofs.Told.{is_behind}
 use Rattle.cf_order.proofs.word.ShardWord.append.Goals as goal

@@ -1,3 +1,4 @@
+-- Whoever follows was behind the owner at most (`is_behind`), so what it has seen then is all that the owner has.
 use Rattle.std.proofs.Common.{sym, ap, arith}
 use Rattle.cf_order.specs.ShardStep.{IsBehind}
 use Rattle.cf_order.proofs.Told.{is_behind}

@@ -1,3 +1,4 @@
+-- The count is the mark or less exactly if the comparison says so, and then nothing was added since (`still_that`).
 use Rattle.std.proofs.Common.{leb-true, le-leb}
 use Rattle.cf_order.proofs.Prefixes.{still_that}
 use Rattle.cf_order.proofs.word.ShardWord.is_quiet_since.Goals as goal

@@ -1,3 +1,4 @@
+-- What both passes have seen is joined in one, of the same word, by `joined`.
 use Rattle.std.proofs.Common.{◌≡◌, subst, sym, ap, ◌∙◌, arith}
 use Rattle.cf_order.specs.View.{View}
 use Rattle.cf_order.specs.ShardStep.{Knows, joined}

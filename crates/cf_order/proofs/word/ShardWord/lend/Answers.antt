@@ -1,3 +1,4 @@
+-- The pass is of this word, so it may be split in two that have seen the same.
 use Rattle.std.proofs.Common.{sym, ap, ◌∙◌, arith, add-zero}
 use Rattle.cf_order.proofs.Steps.{splits}
 use Rattle.cf_order.proofs.word.ShardWord.lend.Goals as goal

@@ -1,3 +1,4 @@
+-- The pass is of this word, so it may look at the count (`looks`).
 use Rattle.std.proofs.Common.{sym, ap, ◌∙◌, arith}
 use Rattle.cf_order.proofs.Steps.{looks}
 use Rattle.cf_order.proofs.word.ShardWord.look.Goals as goal

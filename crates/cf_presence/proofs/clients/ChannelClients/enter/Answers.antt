@@ -1,3 +1,5 @@
+-- First the entry is renewed, if it stands; else the user is counted and the entry put, and undone if that is refused: the
+-- counts stay true.
 use Rattle.std.proofs.Common.{rules, arith, ap, refl, sym, ◌∙◌}
 use Rattle.std.specs.Map.{values_of}
 use Rattle.std.specs.FinMap as fin

@@ -1,3 +1,4 @@
+-- The map's answer, carried over the view.
 use Rattle.cf_presence.proofs.Rooms.{is_empty-by_text}
 use Rattle.cf_presence.proofs.clients.ChannelClients.is_empty.Goals as goal
 

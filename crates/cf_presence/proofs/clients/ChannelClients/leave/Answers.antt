@@ -1,3 +1,4 @@
+-- The entry and one count of its user go together, so the counts stay true.
 use Rattle.std.proofs.Common.{arith, sym, ◌∙◌}
 use Rattle.std.proofs.lemmas.Map.Text.{text_keys}
 use Rattle.cf_presence.proofs.Texts.{removes}

@@ -1,3 +1,4 @@
+-- The loop keeps that what is told and what is still to come make the whole list.
 use Rattle.std.proofs.Common.{◌∙◌, ap, arith}
 use Rattle.std.proofs.lemmas.Map.Iter.{rest_more, rest_all}
 use Rattle.std.proofs.lemmas.Map.Text.{text_keys}

@@ -1,3 +1,4 @@
+-- What `retain` leaves is what the definition has stay, and the counts drop by those that went.
 use Rattle.std.proofs.Common.{rules, ap, sym, ◌∙◌}
 use Rattle.std.specs.Map.{values_of}
 use Rattle.cf_presence.specs.UserCounts.{clients_with}

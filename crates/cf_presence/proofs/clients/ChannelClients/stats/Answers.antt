@@ -1,3 +1,4 @@
+-- The count of clients is the map's length, and that of users the length of the counts, by the invariant.
 use Rattle.std.proofs.Common.{◌∙◌}
 use Rattle.cf_presence.proofs.Rooms.{len-by_text}
 use Rattle.cf_presence.proofs.UserCounts.{users_len}

@@ -1,3 +1,4 @@
+-- What `enter_in` promises of the map is carried over the view.
 use Rattle.std.proofs.lemmas.Result.{on_ok_weaker, on_err_weaker}
 use Rattle.cf_presence.proofs.Texts.{get-by_text, sets, keeps}
 use Rattle.cf_presence.proofs.presence.Presence.enter.Goals as goal

@@ -1,3 +1,4 @@
+-- What `leave_in` promises of the map is carried over the view.
 use Rattle.cf_presence.proofs.Texts.{get-by_text}
 use Rattle.cf_presence.proofs.Rooms.{puts}
 use Rattle.cf_presence.proofs.presence.Presence.leave.Goals as goal

@@ -1,3 +1,4 @@
+-- A channel with nobody lists nothing; another lists what its clients do, carried over the view.
 use Rattle.cf_presence.proofs.Texts.{get-by_text}
 use Rattle.cf_presence.proofs.Lists.{users_of-empty}
 use Rattle.cf_presence.proofs.presence.Presence.list.Goals as goal

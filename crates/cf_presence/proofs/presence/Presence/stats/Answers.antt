@@ -1,3 +1,4 @@
+-- A channel with nobody counts nothing; another counts what its clients do, carried over the view.
 use Rattle.std.proofs.Common.{sym}
 use Rattle.std.specs.Ordering.{nat_cmp}
 use Rattle.std.specs.Cmp.Lexicographic.{slice_cmp}

@@ -1,3 +1,4 @@
+-- Key by key, what `retain` leaves is each channel after the tick, without those that nobody is left in.
 use Rattle.std.proofs.Common.{◌≡◌, ◌∙◌, List, ℕ, ap, sym, not, rules}
 use Rattle.std.specs.Prelude.{◌==◌, unwrap_or}
 use Rattle.std.specs.FinMap as fin

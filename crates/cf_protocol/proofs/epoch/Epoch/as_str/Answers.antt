@@ -1,3 +1,4 @@
+-- The letters of an epoch are ASCII, so they are UTF-8, and the arm of the error is never met.
 use Rattle.std.proofs.lemmas.Str.{IsUtf8-from_ascii}
 use Rattle.cf_protocol.proofs.Epochs.{IsAscii-epoch}
 use Rattle.cf_protocol.proofs.epoch.Epoch.as_str.Goals as goal

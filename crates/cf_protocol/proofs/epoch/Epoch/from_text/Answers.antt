@@ -1,3 +1,4 @@
+-- What was copied is the text, whose letters `is_epoch` has looked at.
 use Rattle.std.proofs.Common.{◌∙◌, sym}
 use Rattle.cf_protocol.proofs.Epochs.{kept-copied, take-copied, epoch_of-epoch}
 use Rattle.cf_protocol.proofs.epoch.Epoch.from_text.Goals as goal

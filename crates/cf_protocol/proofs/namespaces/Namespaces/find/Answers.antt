@@ -1,3 +1,4 @@
+-- The settings found are those of the entry at the name, and usable, since all entries are by the invariant.
 use Rattle.std.proofs.Common.{◌∙◌, ap}
 use Rattle.cf_protocol.specs.Settings.{IsUsable, named, entry_at, settings_of}
 use Rattle.cf_protocol.proofs.Tables.{entry_at-All}

@@ -1,3 +1,4 @@
+-- Both names are copies of the texts.
 use Rattle.std.proofs.Common.{ℕ, List, ◌∙◌, ap, string_bytes}
 use Rattle.cf_protocol.specs.Datum.{Who}
 use Rattle.cf_protocol.proofs.publication.Info.copied.Goals as goal

@@ -1,3 +1,4 @@
+-- The body and the info are copies, so the whole is the definition's.
 use Rattle.std.proofs.Common.{◌≡◌, ℕ, List, Option, Some, sym, ap, ◌∙◌, string_bytes}
 use Rattle.cf_protocol.specs.Datum.{Placed, Who}
 use Rattle.cf_protocol.proofs.publication.Publication.copied.Goals.{in-None, in-Some+in_ok-copied-in-Some}

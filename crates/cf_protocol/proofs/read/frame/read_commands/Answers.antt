@@ -1,3 +1,4 @@
+-- The loop keeps that the values so far are read as commands; the one that isn't is told.
 use Rattle.std.proofs.Common.{◌≡◌, [], ◌∷◌, List, Some, map, refl, sym, ◌∙◌, arith, Vec, Global}
 use Rattle.std.proofs.lemmas.List.{map-append}
 use Rattle.std.proofs.lemmas.Result.{err_from_is_err_and}

@@ -1,3 +1,4 @@
+-- The loop keeps that the values so far are read as replies; the one that isn't is told.
 use Rattle.std.proofs.Common.{◌≡◌, List, Some, map, refl, sym, ◌∙◌, arith, Vec, Global}
 use Rattle.std.proofs.lemmas.Result.{err_from_is_err_and}
 use Rattle.cf_json.specs.Grammar.{Tree}

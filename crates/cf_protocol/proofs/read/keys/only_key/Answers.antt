@@ -1,3 +1,4 @@
+-- The loop keeps what of the keys so far is found; the first is taken, and a second one is found to be two.
 use Rattle.std.proofs.Common.{rules}
 use Rattle.cf_protocol.specs.Reading.{each_under, with_value, the_key}
 use Rattle.cf_protocol.proofs.Choices.{goes_past, finds_first, finds_second, chosen}

@@ -1,3 +1,4 @@
+-- The loop keeps that the users so far are gathered, each under its client; a value that is none is told.
 use Rattle.std.proofs.Common.{◌≡◌, ◌∙◌, ◌≤◌, sym, length, string_bytes, rules, arith}
 use Rattle.cf_protocol.specs.Reading.{IsMember}
 use Rattle.cf_protocol.proofs.ItemsRead.{beside, zip_length}

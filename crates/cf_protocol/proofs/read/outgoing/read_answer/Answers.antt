@@ -1,3 +1,4 @@
+-- By the key that says what is answered: it or its value can't be read, or the outcome is the one that stands under it.
 use Rattle.std.proofs.Common.{rules, Err, ◌≡◌, ◌∷◌, [], Some, refl, ◌∙◌}
 use Rattle.std.specs.Prelude.{option_and_then}
 use Rattle.cf_protocol.specs.Outgoing.{Answer}

@@ -1,3 +1,4 @@
+-- What has no `push` is an answer; else the push is read.
 use Rattle.std.proofs.Common.{◌≡◌, ◌≢◌, ℕ, List, [], ◌∷◌, length, None, codes, refl, sym, ap, subst, rules}
 use Rattle.std.specs.declared.string.String.{String}
 use Rattle.std.specs.declared.alloc.Global.{Global}

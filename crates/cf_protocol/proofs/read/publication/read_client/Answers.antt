@@ -1,3 +1,4 @@
+-- The two members are asked for in turn, and each that can't be read is told.
 use Rattle.std.proofs.Common.{rules}
 use Rattle.cf_protocol.proofs.Objects.{object_by}
 use Rattle.cf_protocol.proofs.read.publication.read_client.Goals as goal

@@ -1,3 +1,4 @@
+-- The loop keeps that the publications so far are read; one that can't be is told.
 use Rattle.std.proofs.Common.{refl, ap, ◌∙◌, arith, rules, codes}
 use Rattle.cf_json.specs.Spans.{IsAt}
 use Rattle.cf_protocol.specs.Fields.{◌>>=◌, object_as, read_all}

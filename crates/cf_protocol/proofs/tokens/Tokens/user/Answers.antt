@@ -1,3 +1,4 @@
+-- In an empty table any token stands for itself; else the user is the one of the token's entry, or there is none.
 use Rattle.std.proofs.Common.{sym, ◌∙◌, ap, option_map}
 use Rattle.std.specs.Option.{option_copied}
 use Rattle.std.specs.String.{string_bytes}

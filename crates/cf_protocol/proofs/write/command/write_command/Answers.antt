@@ -1,3 +1,4 @@
+-- What the members add to a new writer is the whole text.
 use Rattle.cf_protocol.specs.Written.{command_text}
 use Rattle.cf_protocol.proofs.Writings.{whole}
 use Rattle.cf_protocol.proofs.write.command.write_command.Goals as goal

@@ -1,3 +1,4 @@
+-- The members are written one behind the other, and each call says what it adds.
 use Rattle.cf_protocol.proofs.Writings.{then, inside}
 use Rattle.cf_protocol.proofs.write.command.write_history.Goals as goal
 

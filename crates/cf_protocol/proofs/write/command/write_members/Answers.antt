@@ -1,3 +1,4 @@
+-- Each kind of request is one call, whose clause is read with the variant that is matched.
 use Rattle.cf_protocol.proofs.Writings.{then, inside}
 use Rattle.cf_protocol.proofs.write.command.write_members.Goals as goal
 

@@ -1,3 +1,4 @@
+-- A position that is all zero isn't written, nor is none; another one is a member with its two parts.
 use Rattle.std.proofs.Common.{◌<◌, ◌+◌, length, arith}
 use Rattle.std.specs.Prelude.{codes}
 use Rattle.cf_protocol.proofs.Writings.{absent}

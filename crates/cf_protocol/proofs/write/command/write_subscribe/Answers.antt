@@ -1,3 +1,4 @@
+-- By whether there is a position: the members are written one behind the other, and each call says what it adds.
 use Rattle.cf_protocol.specs.Written.{from}
 use Rattle.cf_protocol.specs.Writing.{Adds}
 use Rattle.cf_protocol.proofs.Writings.{nothing, then, inside}

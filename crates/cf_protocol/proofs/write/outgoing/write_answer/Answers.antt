@@ -1,3 +1,4 @@
+-- Each kind of answer is one call, whose clause is read with the variant that is matched.
 use Rattle.cf_protocol.proofs.Writings.{then, inside}
 use Rattle.cf_protocol.proofs.write.outgoing.write_answer.Goals as goal
 

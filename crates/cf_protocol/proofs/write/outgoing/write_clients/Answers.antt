@@ -1,3 +1,4 @@
+-- The loop keeps that the clients so far are written as members; nobody is written as nothing.
 use Rattle.std.proofs.Common.{◌≡◌, ◌<◌, length, arith, map, refl, rules, subst, string_bytes}
 use Rattle.std.proofs.lemmas.Bool.{iff_false}
 use Rattle.std.proofs.lemmas.Map.Iter.{iter_end}

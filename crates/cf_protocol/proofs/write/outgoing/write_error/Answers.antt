@@ -1,3 +1,4 @@
+-- A code that isn't 0 is written with its message, by what each call adds.
 use Rattle.std.proofs.Common.{◌==◌, ap}
 use Rattle.cf_protocol.proofs.Outgoings.{error_adds}
 use Rattle.cf_protocol.proofs.write.outgoing.write_error.Goals as goal

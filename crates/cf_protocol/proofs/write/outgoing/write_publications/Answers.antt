@@ -1,3 +1,4 @@
+-- The loop keeps that the publications so far are written as items; none is written as nothing.
 use Rattle.std.proofs.Common.{◌≡◌, ◌≤◌, ℕ, ◌<◌, List, map, length, get_or, add-one, arith, rules, subst}
 use Rattle.std.proofs.lemmas.List.{take_all, length-map}
 use Rattle.cf_protocol.specs.Datum.{Placed}

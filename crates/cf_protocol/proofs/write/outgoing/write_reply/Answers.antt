@@ -1,3 +1,4 @@
+-- A ping is its own text; another one is what its members add to a new writer.
 use Rattle.cf_protocol.specs.Written.{outgoing_text}
 use Rattle.cf_protocol.proofs.Writings.{whole}
 use Rattle.cf_protocol.proofs.write.outgoing.write_reply.Goals as goal

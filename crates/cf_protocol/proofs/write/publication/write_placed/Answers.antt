@@ -1,3 +1,4 @@
+-- The members are written one behind the other, the body as it is, and the whole is one value.
 use Rattle.std.specs.Prelude.{string_bytes}
 use Rattle.cf_protocol.specs.Written.{as_it_is}
 use Rattle.cf_protocol.proofs.Writings.{then, member, as_value}

@@ -1,3 +1,4 @@
+-- An info that is all empty isn't written; another one is a member with its two parts.
 use Rattle.std.proofs.Common.{◌<◌, ◌+◌, length, arith, string_bytes}
 use Rattle.cf_protocol.specs.Datum.{Who}
 use Rattle.cf_protocol.proofs.Outgoings.{inside_inner, info_stands, nonzero}

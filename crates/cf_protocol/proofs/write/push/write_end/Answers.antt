@@ -1,3 +1,4 @@
+-- A code that isn't 0 is written with its reason, by what each call adds.
 use Rattle.cf_protocol.proofs.Outgoings.{unsubscribed_adds}
 use Rattle.cf_protocol.proofs.write.push.write_end.Goals as goal
 

@@ -1,3 +1,4 @@
+-- The publication is the member of a push, by what each call adds.
 use Rattle.cf_protocol.specs.Written.{publication, as_it_is, outgoing_text}
 use Rattle.cf_protocol.proofs.Writings.{then, member, whole}
 use Rattle.cf_protocol.proofs.Outgoings.{inside_inner, pub_stands}

@@ -1,3 +1,4 @@
+-- A text without room in an open queue is slow for it, by the lemma.
 use Rattle.std.proofs.Common.{◌≡◌, ◌∙◌, ap, refl, rules, sym, length}
 use Rattle.cf_queue.proofs.Slow.{slow}
 use Rattle.cf_queue.proofs.queue.OutQueue.push.Goals as goal

@@ -1,3 +1,4 @@
+-- A closed queue refuses each text so, and none as slow, by the lemma.
 use Rattle.std.proofs.Common.{◌∙◌, ap, refl, sym}
 use Rattle.cf_queue.proofs.Slow.{closed_not_slow}
 use Rattle.cf_queue.proofs.queue.OutQueue.push_shared.Goals as goal

@@ -1,3 +1,4 @@
+-- What the deque's front was is what waited first, and a close stays behind all texts.
 use Rattle.std.proofs.Common.{◌∙◌, ap, sym, map, ◌++◌, drop, option_to_list, slice_get}
 use Rattle.cf_queue.specs.OutQueue.{Text, Close, waiting, taken}
 use Rattle.cf_queue.proofs.queue.OutQueue.take.Goals as goal

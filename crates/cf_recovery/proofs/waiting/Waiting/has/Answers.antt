@@ -1,3 +1,4 @@
+-- Above the highest offset nothing is kept; else `find` tells.
 use Rattle.std.proofs.Common.{◌<◌, reverse, subst}
 use Rattle.cf_recovery.specs.Stored.{stored}
 use Rattle.cf_recovery.proofs.Keeping.{has-above, has-found}

@@ -1,3 +1,4 @@
+-- As many publications as the vectors have are kept, so the test of their number is the definition's.
 use Rattle.std.proofs.Common.{◌≡◌, length, rules}
 use Rattle.cf_recovery.proofs.Keeping.{full-test}
 use Rattle.cf_recovery.proofs.waiting.Waiting.is_full.Goals as goal

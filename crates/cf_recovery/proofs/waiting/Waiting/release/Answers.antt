@@ -1,3 +1,5 @@
+-- What `gather` counted is the run, what it left beside tells whether it is insufficient, and together they stand for what
+-- arrived.
 use Rattle.std.proofs.Common.{◌∙◌, ap, not}
 use Rattle.cf_recovery.specs.Stored.{stored}
 use Rattle.cf_recovery.proofs.Releasing.{run_few, none_kept, run_counted, left_over, run_is, stands_released, either_way, by_the_rest}

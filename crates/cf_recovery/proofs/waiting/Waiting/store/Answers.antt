@@ -1,3 +1,4 @@
+-- One more stands behind the others, for which there is room.
 use Rattle.std.proofs.Common.{rules}
 use Rattle.cf_recovery.proofs.Keeping.{stored_more, kept-push}
 use Rattle.cf_recovery.proofs.waiting.Waiting.store.Goals as goal

@@ -1,3 +1,4 @@
+-- The text is scanned, its depth looked at, and what `compact` leaves of it is read back as the same value.
 use Rattle.std.proofs.Common.{◌≡◌, ◌≤◌, ℕ, [], arith, sym, subst, ◌∙◌, Ok}
 use Rattle.cf_json.specs.Spans.{Span, Document}
 use Rattle.cf_schedule.proofs.Data.{document_is_at}

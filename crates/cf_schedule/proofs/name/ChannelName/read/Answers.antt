@@ -1,3 +1,4 @@
+-- The test of the text decides whether it is a name, and only memory is left as another reason.
 use Rattle.std.proofs.Common.{◌∙◌, refl, subst, sym}
 use Rattle.std.proofs.lemmas.Bool.{false≢true}
 use Rattle.std.proofs.lemmas.Result.{err_from_is_err_and}

@@ -1,3 +1,4 @@
+-- Two numerals of one text are one number, so one out of bounds is refused.
 use Rattle.std.proofs.Common.{arith, sym, ◌∙◌}
 use Rattle.std.proofs.lemmas.Fmt.{decimal_injective}
 use Rattle.cf_schedule.proofs.number.HistorySize.read.Goals as goal

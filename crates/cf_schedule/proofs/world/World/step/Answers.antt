@@ -1,3 +1,4 @@
+-- What `carry_out` promises of the parts is said of the world, one event later.
 use Rattle.std.proofs.Common.{ℕ, ◌≡◌, ◌+◌, rules, subst}
 use Rattle.std.specs.Result.{IfOk}
 use Rattle.cf_schedule.specs.Seen.{seen}

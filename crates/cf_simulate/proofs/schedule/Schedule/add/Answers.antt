@@ -1,3 +1,4 @@
+-- The line that was read is put behind the others, and the notes of epochs grow with it.
 use Rattle.std.proofs.lemmas.Result.{on_ok_weaker}
 use Rattle.cf_simulate.proofs.Reading.{line_added, one_more}
 use Rattle.cf_simulate.proofs.schedule.Schedule.add.Goals as goal

@@ -1,3 +1,4 @@
+-- Before any line nothing is read and no line is numbered.
 use Rattle.std.proofs.Common.{rules}
 use Rattle.cf_simulate.proofs.Reading.{no_lines, none_read}
 use Rattle.cf_simulate.proofs.schedule.Schedule.new.Goals as goal

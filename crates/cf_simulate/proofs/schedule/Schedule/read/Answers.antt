@@ -1,3 +1,4 @@
+-- The loop keeps that the lines so far are read, with their numbers; the one that can't be is told.
 use Rattle.std.proofs.Common.{sym, subst, ap, rules, arith, drop, suc, take, ◌+◌, ◌∙◌, get_or, List, [], ℕ}
 use Rattle.std.specs.Borrow.{Bor}
 use Rattle.std.proofs.lemmas.Result.{err_from_is_err_and}

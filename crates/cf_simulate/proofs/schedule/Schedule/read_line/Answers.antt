@@ -1,3 +1,4 @@
+-- A line that is passed over adds nothing; one that says an event is added, or refused with its reason.
 use Rattle.cf_schedule.specs.Seen.{seen}
 use Rattle.cf_schedule.specs.ScheduleLine.{Says, IsPassedOver}
 use Rattle.cf_simulate.proofs.Reading.{lines_passed, one_passed, none_given, some_given, if_err}

@@ -1,3 +1,4 @@
+-- The loop keeps that the epochs so far are read, and that each may follow those before it.
 use Rattle.std.proofs.Common.{◌∷◌, [], ◌++◌, lit<, map, sym, ap, ◌∙◌, subst}
 use Rattle.std.proofs.lemmas.Iterator.Consumers.{YieldsList-so_far, YieldsList-turn, YieldsList-end}
 use Rattle.std.proofs.lemmas.Iterator.Splits.{YieldsList-from_str_split}

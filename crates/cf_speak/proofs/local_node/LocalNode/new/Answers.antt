@@ -1,3 +1,4 @@
+-- Each part is new, so the whole is the node that the definition begins with.
 use Rattle.std.proofs.Common.{None, false}
 use Rattle.cf_speak.proofs.local_node.LocalNode.new.Goals as goal
 

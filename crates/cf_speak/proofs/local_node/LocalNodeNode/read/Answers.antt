@@ -1,3 +1,4 @@
+-- The node has a number, so the read is that of the session there.
 use Rattle.std.proofs.Common.{rules, ◌≡◌, ℕ, Option, Some, refl, sym, subst, inl}
 use Rattle.cf_protocol.specs.Position.{Position}
 use Rattle.cf_session.specs.Calls.{Answer}

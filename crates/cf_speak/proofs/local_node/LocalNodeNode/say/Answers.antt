@@ -1,3 +1,4 @@
+-- What the hub says is what the definition has the node say.
 use Rattle.std.proofs.Common.{rules, ap, option_map, subst}
 use Rattle.std.specs.String.{string_bytes}
 use Rattle.cf_speak.specs.Steps.{brings_due}

@@ -1,3 +1,4 @@
+-- The loop keeps that the channels due among those left are those due among all.
 use Rattle.std.proofs.Common.{◌≡◌, false, length, map, string_bytes}
 use Rattle.cf_stream.specs.Streams.{due_channels}
 use Rattle.cf_stream.proofs.due.DueWalkIterator.next.Given as goal

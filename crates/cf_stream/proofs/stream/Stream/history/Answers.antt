@@ -1,3 +1,4 @@
+-- The list answers what the definition does (`AnswersHistory-from`), and a list of another epoch is refused.
 use Rattle.std.proofs.Common.{◌≡◌, ap, ◌∙◌, ◌-◌, take, refl, rules}
 use Rattle.cf_model.specs.StreamAnswer.{allowed_by}
 use Rattle.cf_stream.specs.Stream.{after}

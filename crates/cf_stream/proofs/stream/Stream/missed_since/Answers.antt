@@ -1,3 +1,4 @@
+-- By whether all that was missed is held: if so it is counted from the top, and else there is none.
 use Rattle.std.proofs.Common.{ap, ◌≡◌, ◌-◌, ◌≤◌, min, length, map, arith, rules, ◌∙◌, sym}
 use Rattle.std.proofs.lemmas.List.{length-map}
 use Rattle.cf_protocol.specs.Datum.{Placed}

@@ -1,3 +1,4 @@
+-- The newest are the last of the ring, of which there are as many.
 use Rattle.std.proofs.Common.{◌≤◌, length, arith}
 use Rattle.std.proofs.lemmas.List.{length-map}
 use Rattle.cf_protocol.specs.Datum.{Placed}

@@ -1,3 +1,4 @@
+-- The recovery answers what the definition does (`AnswersRead-from`), and the stream goes on unchanged but for its use.
 use Rattle.std.proofs.Common.{ap, ◌∙◌, ◌-◌, take, rules}
 use Rattle.cf_stream.specs.Stream.{after}
 use Rattle.cf_stream.proofs.Giving.{exact_by}

@@ -1,3 +1,4 @@
+-- The stream begins as the list does that the definition starts.
 use Rattle.std.proofs.lemmas.Result.{IfOk-weaker}
 use Rattle.cf_stream.specs.Stream.{Shown}
 use Rattle.cf_stream.proofs.PublicationLists.{Shows-started}

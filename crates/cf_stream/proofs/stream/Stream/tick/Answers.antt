@@ -1,3 +1,4 @@
+-- By whether the time is over: the ring is emptied or stays, and the list goes on as ticked.
 use Rattle.std.proofs.Common.{ap, sym, ◌∙◌}
 use Rattle.cf_stream.specs.Stream.{is_over}
 use Rattle.cf_stream.specs.contracts.stream.Stream.{the_view}

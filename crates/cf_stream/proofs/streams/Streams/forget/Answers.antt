@@ -1,3 +1,4 @@
+-- The map loses the channel's stream, which the log says, and no other.
 use Rattle.std.proofs.Common.{arith, None, refl}
 use Rattle.std.proofs.lemmas.Map.Text.{btree_map_updates_text}
 use Rattle.cf_stream.proofs.Channels.{kept_by}

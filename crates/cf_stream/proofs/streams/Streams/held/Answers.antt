@@ -1,3 +1,4 @@
+-- A channel without a stream holds nothing; another holds what its stream does, carried over the view.
 use Rattle.cf_stream.proofs.Channels.{get-by_channel}
 use Rattle.cf_stream.proofs.streams.Streams.held.Goals as goal
 

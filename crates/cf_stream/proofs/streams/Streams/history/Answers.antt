@@ -1,3 +1,4 @@
+-- What `history_in` promises of the map is carried over the view, clause by clause, with the log that the use adds.
 use Rattle.std.proofs.Common.{w32}
 use Rattle.std.proofs.lemmas.Int.{to_z-of_z}
 use Rattle.std.proofs.lemmas.Result.{IfErr-weaker, IfOk-weaker, on_err_weaker}

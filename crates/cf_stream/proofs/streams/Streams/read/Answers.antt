@@ -1,3 +1,4 @@
+-- What `read_in` promises of the map is carried over the view, clause by clause, with the log that the use adds.
 use Rattle.std.proofs.lemmas.Result.{IfErr-weaker, IfOk-weaker, on_err_weaker}
 use Rattle.cf_stream.specs.declared.answer.Recovery.{Recovery}
 use Rattle.std.specs.BTreeMap.{get_by_text}

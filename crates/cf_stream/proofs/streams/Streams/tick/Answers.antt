@@ -1,3 +1,4 @@
+-- Key by key, each stream is ticked, or none is if the moment is before the next one that is due.
 use Rattle.std.proofs.Common.{◌∙◌, refl, sym}
 use Rattle.std.specs.BTreeMap.{get_by_text}
 use Rattle.cf_stream.specs.Streams.{seconds_at}

@@ -1,3 +1,4 @@
+-- The map's stream is trimmed, which the log says, and no other.
 use Rattle.std.proofs.Common.{arith}
 use Rattle.cf_stream.proofs.Channels.{get-by_channel, kept_by}
 use Rattle.cf_stream.proofs.ChannelChanges.{ChangesAt-trim}

@@ -1,3 +1,4 @@
+-- The blocks go to another thread, and are shared by threads, as the row that they hold does.
 use denote.RattleType.{RattleType}
 use denote.Param.Send.{IsSend}
 use Rattle.cf_subs.proofs.Crosses.{Blocks-send}

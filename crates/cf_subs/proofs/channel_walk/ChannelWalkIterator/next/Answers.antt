@@ -1,3 +1,4 @@
+-- One step of the walk (`session_step`): the row here, and the walk on from the next one, to its end.
 use Rattle.std.proofs.Common.{◌≡◌, ℕ, ◌<◌, List, ◌∷◌, length, map, sym, ap, ◌∙◌, subst, arith}
 use Rattle.cf_subs.specs.Seats.{IsSessionWalk, session_of, channels_onward}
 use Rattle.cf_subs.proofs.Finds.{session_step}

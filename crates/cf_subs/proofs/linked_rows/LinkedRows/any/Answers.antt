@@ -1,3 +1,4 @@
+-- By whether the channel has a first row: that one is held, or there is none.
 use Rattle.std.proofs.Common.{◌≡◌, ◌∙◌, ap}
 use Rattle.std.specs.Prelude.{is_some, nat_eq, true}
 use Rattle.std.specs.HashMap.{get}

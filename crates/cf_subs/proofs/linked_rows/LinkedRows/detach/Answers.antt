@@ -1,3 +1,4 @@
+-- The loop unlinks the session's first row again and again, and keeps that the rows of the other sessions stay.
 use Rattle.std.proofs.Common.{◌<◌, ◌∙◌, ap, sym, length, arith}
 use Rattle.cf_subs.specs.Rows.{without_session}
 use Rattle.cf_subs.specs.Seats.{rows_of, session_of}

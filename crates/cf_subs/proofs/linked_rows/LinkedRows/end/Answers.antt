@@ -1,3 +1,4 @@
+-- The loop gives back one held block after another, and keeps that the rows left are whole.
 use Rattle.std.proofs.Common.{◌<◌, ap, length, arith}
 use Rattle.cf_subs.specs.Seats.{rows_of}
 use Rattle.cf_subs.proofs.Finds.{held_less}

@@ -1,3 +1,4 @@
+-- The loop goes along the session's rows, and keeps that the place wanted is among those left exactly if it is among all.
 use Rattle.std.proofs.Common.{◌∙◌, ap, sym, subst, ◌<◌, length, Some, arith}
 use Rattle.cf_subs.specs.Seats.{session_of, place_of, of_number, onward}
 use Rattle.cf_subs.proofs.Finds.{WayTo, find_here, find_less, find_on, place-of_number}

@@ -1,3 +1,4 @@
+-- The number in the table of sessions is that of the first row, by the invariant.
 use Rattle.std.proofs.Common.{◌∙◌}
 use Rattle.cf_subs.specs.Seats.{session_of}
 use Rattle.cf_subs.proofs.Heads.{first_is}

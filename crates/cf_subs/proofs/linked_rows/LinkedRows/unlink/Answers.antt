@@ -1,3 +1,4 @@
+-- The row is taken out of both chains, and both tables know the neighbours that close them.
 use Rattle.cf_subs.specs.Seats.{channel_of, session_of}
 use Rattle.cf_subs.proofs.Heads.{headed_without}
 use Rattle.cf_subs.proofs.linked_rows.LinkedRows.unlink.Goals as goal

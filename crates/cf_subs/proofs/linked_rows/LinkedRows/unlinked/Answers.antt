@@ -1,3 +1,4 @@
+-- What stands before and behind the row in its chains is what the tables are told.
 use Rattle.std.proofs.Common.{◌∙◌, refl}
 use Rattle.cf_subs.specs.Seats.{channel_of, session_of}
 use Rattle.cf_subs.proofs.Heads.{last_is}

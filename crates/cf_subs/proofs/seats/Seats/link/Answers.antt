@@ -1,3 +1,4 @@
+-- The new block is held, so to have its two neighbours point to it keeps both chains.
 use Rattle.std.proofs.Common.{◌≡◌, List, [], ◌∷◌, ◌++◌, Some, None, refl, sym, ap, ◌∙◌, subst}
 use Rattle.lru.specs.Linked.{IsApart}
 use Rattle.cf_subs.specs.declared.seat.Seat.{Seat}

@@ -1,3 +1,4 @@
+-- Where there is a neighbour its block alone changes; where there is none nothing does.
 use Rattle.std.proofs.Common.{sym, ap, ◌∙◌}
 use Rattle.cf_subs.specs.Threads.{changed}
 use Rattle.cf_subs.specs.Seats.{before_in_session}

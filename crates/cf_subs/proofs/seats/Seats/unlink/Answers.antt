@@ -1,3 +1,4 @@
+-- The block that is taken out isn't held any more, and its four neighbours, which are, come to point past it.
 use Rattle.std.proofs.Common.{List, Some, refl, sym, ap, ◌∙◌, subst}
 use Rattle.cf_subs.specs.declared.seat.Seat.{Seat}
 use Rattle.cf_subs.specs.Held.{Held}

@@ -1,3 +1,4 @@
+-- Behind the row found, the next one of its channel is the next follower, and the walk goes on from there.
 use Rattle.std.proofs.Common.{sym, ap, ◌∙◌}
 use Rattle.cf_subs.specs.Rows.{after_in, sessions_of}
 use Rattle.cf_subs.specs.Seats.{sessions_onward}

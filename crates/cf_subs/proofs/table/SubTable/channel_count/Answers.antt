@@ -1,3 +1,4 @@
+-- The rows of a session are no more than the table's, so their count fits.
 use Rattle.std.proofs.Common.{arith, inl, ◌≤◌, length}
 use Rattle.cf_subs.specs.Rows.{AreRows, channels_of, most_rows}
 use Rattle.cf_subs.proofs.Members.{few_channels}

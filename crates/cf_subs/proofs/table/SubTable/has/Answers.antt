@@ -1,3 +1,4 @@
+-- A row is found exactly if it is followed, and that is whether it is among the channel's and the session's.
 use Rattle.std.proofs.Common.{sym, ap, ◌∙◌}
 use Rattle.std.specs.Prelude.{is_some}
 use Rattle.cf_subs.specs.Rows.{follows}

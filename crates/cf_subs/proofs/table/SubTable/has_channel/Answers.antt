@@ -1,3 +1,4 @@
+-- The channel has a first row exactly if somebody follows it.
 use Rattle.std.proofs.Common.{sym, ◌∙◌, ap}
 use Rattle.std.specs.Prelude.{is_some}
 use Rattle.cf_subs.proofs.Members.{first_is_some, no_channel, no_followers, no_sessions}

@@ -1,3 +1,4 @@
+-- Without a row nothing is counted, and the table is whole.
 use Rattle.std.proofs.Common.{ap, length, rules, sym}
 use Rattle.cf_subs.proofs.table.SubTable.new.Goals as goal
 

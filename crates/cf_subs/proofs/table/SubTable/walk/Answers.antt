@@ -1,3 +1,4 @@
+-- The walk starts at the channel's first row, and so goes through all of the channel's, each once.
 use Rattle.std.proofs.Common.{ap, ◌∙◌, map}
 use Rattle.cf_subs.specs.Rows.{sessions_of}
 use Rattle.cf_subs.specs.Seats.{channel_of}

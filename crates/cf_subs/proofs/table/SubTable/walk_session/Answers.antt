@@ -1,3 +1,4 @@
+-- The walk starts at the session's first row, and so goes through all of the session's, each once.
 use Rattle.std.proofs.Common.{ap, ◌∙◌, map}
 use Rattle.cf_subs.specs.Rows.{channels_of}
 use Rattle.cf_subs.specs.Seats.{session_of}

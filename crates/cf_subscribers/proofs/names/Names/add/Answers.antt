@@ -1,3 +1,4 @@
+-- The number is free, so to give it to the name leaves the names of the others.
 use Rattle.std.proofs.Common.{◌≡◌, ◌∙◌, ◌==◌, if◌then◌else◌, ℕ, List, Option, None, Some, sym, ap, rules, arith}
 use Rattle.std.specs.BTreeMap.{get_by_text}
 use Rattle.std.specs.Prelude.{option_map, string_bytes}

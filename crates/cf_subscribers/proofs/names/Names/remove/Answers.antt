@@ -1,3 +1,4 @@
+-- The name and its number go together, and the names of the others stay.
 use Rattle.std.proofs.Common.{◌∙◌, ℕ, List, None, sym, ap, subst, arith}
 use Rattle.std.specs.BTreeMap.{get_by_text}
 use Rattle.std.specs.Prelude.{option_map, string_bytes}

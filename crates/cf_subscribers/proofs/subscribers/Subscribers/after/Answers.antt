@@ -1,3 +1,4 @@
+-- By whether the channel has a number: what the table promises of rows is said of names.
 use Rattle.std.proofs.Common.{◌∙◌, sym, ap}
 use Rattle.cf_subs.specs.Rows as rows
 use Rattle.cf_subscribers.specs.Follows.{after_in, sessions_of}

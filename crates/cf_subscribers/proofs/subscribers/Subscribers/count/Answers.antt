@@ -1,3 +1,4 @@
+-- The table's count of the session's rows is that of its names, one for one.
 use Rattle.std.proofs.Common.{◌∙◌, sym, ap, length}
 use Rattle.cf_subscribers.specs.Follows.{channels_of}
 use Rattle.cf_subscribers.specs.Names.{name_at}

@@ -1,3 +1,5 @@
+-- The loop removes the session's first row again and again, and keeps that the rows of the other sessions stay, with their
+-- names.
 use Rattle.std.proofs.Common.{◌∙◌, [], ◌==◌, ◌&&◌, List, sym, ap, arith, not}
 use Rattle.std.specs.Prelude.{unwrap_or}
 use Rattle.std.proofs.lemmas.List.{length-map}

@@ -1,3 +1,4 @@
+-- By whether the channel has a number: what the table promises of rows is said of names.
 use Rattle.std.proofs.Common.{◌∙◌, sym, ap}
 use Rattle.std.specs.Prelude.{slice_get}
 use Rattle.cf_subscribers.specs.Follows.{sessions_of}

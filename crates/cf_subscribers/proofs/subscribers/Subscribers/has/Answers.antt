@@ -1,3 +1,4 @@
+-- By whether the channel has a number: what the table promises of rows is said of names.
 use Rattle.std.proofs.Common.{◌∙◌, sym, ap}
 use Rattle.cf_subscribers.specs.Follows.{follows}
 use Rattle.cf_subscribers.specs.Names.{name_at, number_at}

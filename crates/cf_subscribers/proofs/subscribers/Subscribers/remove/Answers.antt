@@ -1,3 +1,4 @@
+-- By whether the channel has a number: what the table promises of rows is said of names.
 use Rattle.std.proofs.Common.{◌∙◌, ◌&&◌, ◌==◌, sym, ap, not}
 use Rattle.std.specs.Prelude.{unwrap_or, []}
 use Rattle.cf_subscribers.specs.Follows.{follow, follows, without_follow}

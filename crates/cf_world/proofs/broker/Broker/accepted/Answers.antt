@@ -1,3 +1,4 @@
+-- The number is one more than the index, so what is accepted there is what the table shows.
 use Rattle.std.proofs.Common.{◌≡◌, ℕ, suc, Option, List, slice_get, arith, subst}
 use Rattle.std.specs.Option.{option_copied}
 use Rattle.cf_world.specs.BrokerTie.{Stands}

@@ -1,3 +1,4 @@
+-- What the streams list is what the machine has listed; without an epoch they refuse, as it does.
 use Rattle.std.proofs.Common.{ap, rules, None, refl}
 use Rattle.cf_stream.specs.ChannelLists.{ListsAt}
 use Rattle.std.specs.Result.{IsErrOf}

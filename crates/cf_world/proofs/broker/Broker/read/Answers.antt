@@ -1,3 +1,4 @@
+-- What the streams read is what the machine has read; without an epoch they refuse, as it does.
 use Rattle.std.proofs.Common.{ap, rules, refl}
 use Rattle.std.specs.Result.{IsErrOf}
 use Rattle.cf_stream.specs.Streams.{StreamMap}

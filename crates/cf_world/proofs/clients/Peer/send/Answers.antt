@@ -1,3 +1,4 @@
+-- In the one arm that isn't answered at once, the asked position is that of the client.
 use Rattle.std.proofs.Common.{sym, subst}
 use Rattle.cf_client.specs.ClientView.{state_of}
 use Rattle.cf_world.specs.ClientTie.{AsksFrom, request_by}

@@ -1,3 +1,4 @@
+-- An epoch that is empty or came before is left out, as the definition has it by one test.
 use Rattle.std.proofs.Common.{rules, ◌≡◌, ℕ, List, Bool, true, false, cond, ◌==◌, ◌||◌, length, refl, sym, subst, ◌∙◌, if◌then◌else◌}
 use Rattle.std.specs.BTreeSet.{contains_text}
 use Rattle.std.specs.Str.{bytes_eq}

@@ -1,3 +1,4 @@
+-- What `serve` promises holds of each ask, without a condition.
 use Rattle.std.proofs.lemmas.Result.{on_ok_weaker}
 use Rattle.cf_world.proofs.world.World.ask.Goals as goal
 

@@ -1,3 +1,4 @@
+-- By whether the client is there, has a seat, and has a hub: in each case the machine's step is the one taken.
 use Rattle.std.proofs.Common.{rules, ◌≡◌, Some, None, refl, slice_get, slice_set}
 use Rattle.std.specs.BTreeMap.{get_by_text}
 use Rattle.cf_hub.specs.Hub.{Node}

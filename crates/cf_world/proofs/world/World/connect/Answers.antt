@@ -1,3 +1,4 @@
+-- By whether the client is away, the node is there, and the hub has room: in each case the machine's step is the one taken.
 use Rattle.std.proofs.Common.{rules, ◌≡◌, ◌∙◌, ℕ, Result, Ok, Err, None, inl, inr, ap, refl, slice_get, slice_set, string_bytes}
 use Rattle.std.proofs.lemmas.Result.{on_ok_weaker}
 use Rattle.std.specs.BTreeMap.{get_by_text}

@@ -1,3 +1,4 @@
+-- By whether the publication and the node are there: in each case the machine's step is the one taken, by the hub's law.
 use Rattle.std.proofs.Common.{◌≡◌, ◌∙◌, List, ℕ, Some, None, refl, sym, subst, slice_get, slice_set, string_bytes}
 use Rattle.cf_hub.specs.Hub.{Delivers, Node}
 use Rattle.cf_machine.specs.IntervalMachine.{run}

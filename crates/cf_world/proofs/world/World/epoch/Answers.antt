@@ -1,3 +1,4 @@
+-- The broker gains one epoch, which is the machine's step.
 use Rattle.cf_machine.specs.IntervalMachine.{run}
 use Rattle.cf_machine.specs.PublicationList.{epoch_comes}
 use Rattle.cf_machine.specs.World.{World, start}

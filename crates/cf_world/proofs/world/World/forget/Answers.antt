@@ -1,3 +1,4 @@
+-- The broker's streams forget the channel, which is the machine's step.
 use Rattle.std.proofs.Common.{refl, ap}
 use Rattle.cf_machine.specs.IntervalMachine.{run}
 use Rattle.cf_machine.specs.World.{World, start}

@@ -1,3 +1,4 @@
+-- What the vector has at the node is what the definition has there.
 use Rattle.std.proofs.Common.{◌≡◌, List, sym, subst, slice_get}
 use Rattle.std.specs.Option.{option_copied}
 use Rattle.cf_hub.specs.Hub.{Node}

@@ -1,3 +1,4 @@
+-- Each part is new, so the world stands for the machine's start.
 use Rattle.std.proofs.Common.{rules}
 use Rattle.std.specs.BTreeMap.{get_by_text}
 use Rattle.cf_world.proofs.Starting.{empty-map, starts}

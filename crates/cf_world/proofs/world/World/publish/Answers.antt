@@ -1,3 +1,4 @@
+-- The broker's publish is the machine's step, and what it says grows as the hub's law has it.
 use Rattle.cf_machine.specs.IntervalMachine.{run}
 use Rattle.cf_machine.specs.World.{World, start}
 use Rattle.cf_world.proofs.Publishing.{publish-goes}

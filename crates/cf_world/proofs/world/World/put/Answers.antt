@@ -1,3 +1,4 @@
+-- What `serve` promises holds of a publish, under the condition that this call requires.
 use Rattle.std.proofs.lemmas.Result.{on_ok_weaker}
 use Rattle.cf_world.proofs.world.World.put.Goals as goal
 

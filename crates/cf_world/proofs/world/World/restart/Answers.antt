@@ -1,3 +1,4 @@
+-- By whether the node is there: a new hub with the next boot number stands in its place, which is the machine's step.
 use Rattle.std.proofs.Common.{rules, ◌≡◌, ◌+◌, refl, slice_get, slice_set}
 use Rattle.std.specs.BTreeMap.{get_by_text}
 use Rattle.cf_hub.specs.Hub.{Node, empty}

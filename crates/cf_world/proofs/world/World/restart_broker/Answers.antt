@@ -1,3 +1,4 @@
+-- The broker's streams forget all, which is the machine's step.
 use Rattle.std.proofs.Common.{refl, ap}
 use Rattle.cf_machine.specs.IntervalMachine.{run}
 use Rattle.cf_machine.specs.PublicationList.{forget_all}

@@ -1,3 +1,4 @@
+-- By whether the namespace is set up: the broker's streams are resized or stay, which is the machine's step.
 use Rattle.std.proofs.Common.{true, false, refl, sym, ◌∙◌}
 use Rattle.cf_machine.specs.IntervalMachine.{run}
 use Rattle.cf_machine.specs.World.{World, start}

@@ -1,3 +1,4 @@
+-- By what the hub has for the client: nothing, a text, or a close; what the client makes of it is what the trace says.
 use Rattle.std.proofs.Common.{rules, ◌≡◌, ◌∙◌, ℕ, List, Option, Some, None, Result, Ok, Err, OnOk, map, refl, sym, ap, subst, slice_get, slice_set}
 use Rattle.std.proofs.lemmas.Result.{IfOk-weaker}
 use Rattle.std.specs.BTreeMap.{get_by_text}

@@ -1,3 +1,4 @@
+-- The loop keeps that the pass is of this word.
 use Rattle.std.proofs.Common.{◌≡◌}
 use Rattle.tests_of_libraries.proofs.threads.order.publish_often.Given as goal
 

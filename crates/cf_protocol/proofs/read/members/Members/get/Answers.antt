@@ -1,3 +1,4 @@
+-- The value at the key is that of the member, as the table's look-up has it.
 use Rattle.std.proofs.Common.{◌∙◌, sym, subst}
 use Rattle.cf_protocol.specs.Fields.{look_up}
 use Rattle.cf_protocol.specs.Reading.{Finds}

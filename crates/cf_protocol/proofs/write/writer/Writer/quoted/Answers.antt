@@ -1,3 +1,4 @@
+-- A text of plain letters is written as it is, between two quotation marks.
 use Rattle.std.proofs.Common.{sym, ◌∙◌}
 use Rattle.cf_protocol.proofs.Plain.{between_quotes}
 use Rattle.cf_protocol.proofs.write.writer.Writer.quoted.Goals as goal

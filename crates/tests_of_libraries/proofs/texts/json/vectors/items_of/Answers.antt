@@ -1,3 +1,4 @@
+-- The value at the span is an array, as its kind says, so its items may be asked for.
 use Rattle.std.proofs.Common.{subst}
 use Rattle.cf_json.specs.Spans.{IsAt}
 use Rattle.tests_of_libraries.proofs.KindsTell.{is_array}

@@ -1,3 +1,4 @@
+-- The value at the span is a number, as its kind says, so it may be read.
 use Rattle.std.proofs.Common.{subst}
 use Rattle.cf_json.specs.Spans.{IsAt}
 use Rattle.tests_of_libraries.proofs.KindsTell.{is_number}
