@@ -13,9 +13,9 @@ import urllib.request
 
 
 def packages(*more, browser=True):
-    """Installs what is missing: websockets, Chromium, and the Debian packages of these names, each beside a program of it."""
+    """Installs what is missing: websockets, Chromium, and the Debian packages of these names, each beside a program or file of it."""
     wanted = [("chromium", "chromium")] if browser else []
-    missing = [package for program, package in (*wanted, *more) if not shutil.which(program)]
+    missing = [package for sign, package in (*wanted, *more) if not (shutil.which(sign) or os.path.exists(sign))]
     try:
         import websockets  # noqa: F401
     except ImportError:

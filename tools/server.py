@@ -70,9 +70,9 @@ class Server:
 class Service:
     """`serve` by examples/run-serve, which keeps its boot numbers in the directory `state`, on these ports one behind another."""
 
-    def __init__(self, program, state, port, nodes=1, before=(), **how):
-        words = [*before, f"{TOP}/examples/run-serve", program, state, "--nodes", str(nodes), "--port", str(port)]
-        self.process = subprocess.Popen(words, stdout=subprocess.PIPE, text=True, **how)
+    def __init__(self, program, state, port, nodes=1, words=(), before=(), **how):
+        command = [*before, f"{TOP}/examples/run-serve", program, state, "--nodes", str(nodes), "--port", str(port), *words]
+        self.process = subprocess.Popen(command, stdout=subprocess.PIPE, text=True, **how)
         lines = [self.process.stdout.readline().strip() for _ in range(nodes)]
         if lines != [f"node {node} 127.0.0.1:{port + node}" for node in range(nodes)]:
             raise Fails(f"the server at port {port} says {lines}")

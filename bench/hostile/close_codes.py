@@ -3,8 +3,9 @@
 
 A client sends a connect command with an unknown token, right behind it 2, 3, 20, 200 and 1,000 small commands in the same write, and
 one more a little later; it is told 3500 each time. A message of 200,000 bytes is told 3501. Frames that RFC 6455 doesn't allow are
-told 1002, text that isn't UTF-8 1007, each with 3,000 bytes more behind it. A code counts as seen only if no write and no read of the
-client was refused up to the end of the connection: a client whose connection is reset may lose what had come before.
+told 1002, text that isn't UTF-8 1007, each with 3,000 bytes more behind it. The client answers each close by its own. A code counts as
+seen only if no write and no read of the client was refused up to the end of the connection: a client whose connection is reset may lose
+what had come before.
 
 With `--pong 1` also a client that never answers a ping and goes on sending: it is told 3012 (35 seconds more).
 """
@@ -61,8 +62,12 @@ def told(port, data, later=frame(SMALL), seconds=10):
         time.sleep(0.02)
         socket.sendall(later)
         socket.settimeout(seconds)
+        is_answered = False
         while part := socket.recv(65_536):
             got += part
+            if not is_answered and first_close(got):
+                socket.sendall(frame(first_close(got).to_bytes(2, "big"), 0x88))
+                is_answered = True
     except TimeoutError:
         return "no end"
     except OSError as why:

@@ -2,7 +2,7 @@
 """A start into waiting clients, and standard error that nobody reads.
 
 More clients than `serve` has descriptors (64) are there before it has said where it listens, since its standard output takes nothing
-yet: it goes on all the same, two times; a connection that waits is counted once, and not once a second. Standard error is a pipe that
+yet: it goes on all the same, two times (`--times`); a connection that waits is counted once, and not once a second. Standard error is a pipe that
 is full and that nobody reads, and one whose reader is gone: it ends at the end of its input all the same. With a standard stream closed at the start no socket
 has the number of one, and it ends with status 0. It is held up for four seconds, as by a debugger: its health is `ok` as soon as it goes on.
 """
@@ -118,9 +118,9 @@ def health(port):
         return asks.recv(4096)[9:12].decode()
 
 
-def check(program, seconds):
+def check(program, seconds, times):
     faults = []
-    for _ in range(2):
+    for _ in range(times):
         fault, said = crowded(program)
         faults += [f"a start into {CLIENTS} clients {fault}"] if fault else []
     counted = said.count(" more, ")
@@ -145,8 +145,8 @@ def check(program, seconds):
         found = asks.recv(4096)[9:12].decode()
         if found != "200" or health(server.port) != "200":
             faults.append(f"the health after a pause: {found}")
-    return not faults, "; ".join(faults) or f"2 of 2 starts into {CLIENTS} waiting clients, what waits is counted once; ends with standard error full, and without a reader; no socket is a standard stream; well after a pause"
+    return not faults, "; ".join(faults) or f"{times} of {times} starts into {CLIENTS} waiting clients, what waits is counted once; ends with standard error full, and without a reader; no socket is a standard stream; well after a pause"
 
 
 if __name__ == "__main__":
-    run(check, 0)
+    run(check, 0, times=2)
