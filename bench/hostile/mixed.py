@@ -39,6 +39,7 @@ NODES, MEMBERS = 2, 20
 SETTLED = 60        # seconds of a life after which it is looked what the server holds, or a third of a shorter one
 LEAVING = 15        # seconds before a life's end at which its healthy clients leave
 MORE, SPARE, OPEN = 1.25, 16 << 20, 100
+SIZES = {"": 100, "long": 1_000}    # of streams by minutes: `recoveries` has 90 publications held
 
 
 def again(ready, attack, port, seconds):
@@ -89,6 +90,7 @@ def module_of_histories():
     loader = importlib.machinery.SourceFileLoader("histories", os.path.join(bench, "histories"))
     made = importlib.util.module_from_spec(importlib.util.spec_from_loader("histories", loader))
     loader.exec_module(made)
+    made.SIZES.update(SIZES)
     return made
 
 
@@ -108,7 +110,8 @@ class Life:
 
     def __init__(self, program, histories, members, seconds, clients, is_last):
         self.faults, self.positions, self.longest = [], None, 0
-        with Server(program, NODES, ["--ns", histories.NAMESPACES, "--stale", "25"]) as server:
+        namespaces = ";".join(f"{name}={size},2592000,phs" for name, size in SIZES.items())
+        with Server(program, NODES, ["--ns", namespaces, "--stale", "25"]) as server:
             members.server = server
             # Publishers first, while all is calm, so that each channel has its life.
             members.publishes = False

@@ -32,8 +32,8 @@ def brought_back(port, commands, pause=0):
             found = reply.get(name, {})
             if reply.get("id") != command["id"] or "error" in reply:
                 return f"{text_of(reply)[:80]} for command {command['id']}"
-            if name != "ping" and len(found["publications"]) != COUNT:
-                return f"{len(found['publications'])} publications"
+            if name != "ping" and len(found.get("publications", [])) != COUNT:
+                return f"{len(found.get('publications', []))} publications"
             if name == "subscribe" and not found.get("recovered"):
                 return "not recovered"
     except Closed as why:

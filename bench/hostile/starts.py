@@ -2,7 +2,7 @@
 """A start into waiting clients, and standard error that nobody reads.
 
 More clients than `serve` has descriptors (64) are there before it has said where it listens, since its standard output takes nothing
-yet: it goes on all the same, two times (`--times`); a connection that waits is counted once, and not once a second. Standard error is a pipe that
+yet: it goes on all the same, two times (`--starts`); a connection that waits is counted once, and not once a second. Standard error is a pipe that
 is full and that nobody reads, and one whose reader is gone: it ends at the end of its input all the same. With a standard stream closed at the start no socket
 has the number of one, and it ends with status 0. It is held up for four seconds, as by a debugger: its health is `ok` as soon as it goes on.
 """
@@ -39,7 +39,7 @@ def clients_at(port):
 
 def crowded(program):
     """Starts into more clients than there are descriptors, while standard output takes nothing: what is wrong, and what was said on
-    standard error."""
+    standard error until they leave. (Then others may come for whom there is no descriptor yet.)"""
     port, (reads, writes) = free_port(), full_pipe()
     command = [program, "serve", "--boot", str(next(BOOTS)), "--port", str(port)]
     process = subprocess.Popen(command, stdin=subprocess.PIPE, stdout=writes, stderr=subprocess.PIPE, text=True,
@@ -49,14 +49,25 @@ def crowded(program):
     time.sleep(0.5)
     line = os.read(reads, FULL + 100)[FULL:] or os.read(reads, 100)
     time.sleep(2.2)
-    status = process.poll()
+    status, said = process.poll(), so_far(process.stderr)
     for made in sockets:
         made.close()
-    said = process.communicate(timeout=20)[1]
+    more = process.communicate(timeout=20)[1]
     os.close(reads)
     if not line.startswith(b"node 0") or status is not None:
-        return f"ended with status {process.returncode}: {said[-80:]!r}", said
+        return f"ended with status {process.returncode}: {(said + more)[-80:]!r}", said
     return "", said
+
+
+def so_far(pipe):
+    """What was written to a pipe that nobody has read yet."""
+    os.set_blocking(pipe.fileno(), False)
+    try:
+        return os.read(pipe.fileno(), FULL).decode()
+    except BlockingIOError:
+        return ""
+    finally:
+        os.set_blocking(pipe.fileno(), True)
 
 
 def full_pipe():
@@ -118,14 +129,14 @@ def health(port):
         return asks.recv(4096)[9:12].decode()
 
 
-def check(program, seconds, times):
+def check(program, seconds, starts):
     faults = []
-    for _ in range(times):
+    for _ in range(starts):
         fault, said = crowded(program)
         faults += [f"a start into {CLIENTS} clients {fault}"] if fault else []
-    counted = said.count(" more, ")
-    if counted > 1:
-        faults.append(f"what waits was counted {counted} times")
+        counted = said.count(" more, ")
+        if counted > 1:
+            faults.append(f"what waits was counted {counted} times")
     reads, writes = full_pipe()
     for words, end, pipe in [("full", reads, writes), ("without a reader", *os.pipe())]:
         if words == "without a reader":
@@ -145,8 +156,8 @@ def check(program, seconds, times):
         found = asks.recv(4096)[9:12].decode()
         if found != "200" or health(server.port) != "200":
             faults.append(f"the health after a pause: {found}")
-    return not faults, "; ".join(faults) or f"{times} of {times} starts into {CLIENTS} waiting clients, what waits is counted once; ends with standard error full, and without a reader; no socket is a standard stream; well after a pause"
+    return not faults, "; ".join(faults) or f"{starts} of {starts} starts into {CLIENTS} waiting clients, what waits is counted once; ends with standard error full, and without a reader; no socket is a standard stream; well after a pause"
 
 
 if __name__ == "__main__":
-    run(check, 0, times=2)
+    run(check, 0, starts=2)
