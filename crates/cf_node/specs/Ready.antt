@@ -30,10 +30,10 @@ pub AllAsk-prop : (t : NamespaceTable) (s : Script) → IsProp (AllAsk (HasStrea
 AllAsk-prop t (Served who) = Unit-prop
 AllAsk-prop t Over = Unit-prop
 AllAsk-prop t (Close code) = Unit-prop
-AllAsk-prop t (Say id o after) = AllAsk-prop t after
+AllAsk-prop t (Say id o after) = ×_prop (Bool-set _ _) (AllAsk-prop t after)
 AllAsk-prop t (Pong after) = AllAsk-prop t after
-AllAsk-prop t (Ask call after) = ×_prop (HasStream-prop t call) (Π_prop (λ a. AllAsk-prop t (after a)))
+AllAsk-prop t (Ask call after) = ×_prop (HasStream-prop t call) (Π_prop (λ a. Π_prop (λ own. AllAsk-prop t (after a))))
 
 pub AskStreams-prop : (t : NamespaceTable) (p : Progress) → IsProp (AskStreams t p)
 AskStreams-prop t (Todo s) = AllAsk-prop t s
-AskStreams-prop t (Out kind after) = Π_prop (λ a. AllAsk-prop t (after a))
+AskStreams-prop t (Out kind after) = Π_prop (λ a. Π_prop (λ own. AllAsk-prop t (after a)))

@@ -9,8 +9,10 @@ use cf_presence::Stats;
 use cf_protocol::{CloseCode, ErrorCode, Info, Position};
 use cf_queue::Out;
 use cf_session::Node;
-use cf_stream::{History, Published};
+use cf_shard::Naming;
+use cf_stream::{Epochs, History, Published};
 use std::collections::{BTreeMap, VecDeque};
+use std::sync::Wait;
 
 /// A client that wasn't heard for more seconds than these was idle.
 const SECONDS_IDLE: u64 = 2;
@@ -23,9 +25,9 @@ const TURNS_TO_KNOW: u32 = 8;
 
 /// Who carries out what one session asks for: it knows the client, and goes to hub and broker.
 #[derive(Drop)]
-pub(crate) struct CommandHandler<'a, B> {
-    pub(crate) backend: &'a B,
-    pub(crate) client: AttachedClient,
+pub(crate) struct CommandHandler<'a, R, N: Naming, E: Epochs + Drop> {
+    pub(crate) backend: &'a Backend<'a, R, N, E>,
+    pub(crate) client: AttachedClient<N>,
     /// The moment of the turn, in seconds.
     pub(crate) now: u64,
     /// It published something for which nobody was woken yet.
@@ -42,8 +44,8 @@ pub(crate) struct CommandHandler<'a, B> {
     pub(crate) heard: u64,
 }
 
-impl<'a, B: Backend> Node for CommandHandler<'a, B> {
-    ghost namespaces = { λ _. B.namespaces };
+impl<'a, R: Wait, N: Naming, E: Epochs + Drop> Node for CommandHandler<'a, R, N, E> {
+    ghost namespaces = { λ _. N.namespaces };
 
     // It is over as far as the handler has seen: the hub is asked before each call, and what it says
     // of a text is remembered.
@@ -60,7 +62,7 @@ impl<'a, B: Backend> Node for CommandHandler<'a, B> {
         if self.sees_end() {
             return Err(ErrorCode::Internal);
         }
-        let alloc = self.backend.alloc();
+        let alloc = self.backend.alloc;
         self.client
             .attach(&mut self.backend.hub(), alloc, user, self.now)
     }
@@ -69,22 +71,20 @@ impl<'a, B: Backend> Node for CommandHandler<'a, B> {
         if self.sees_end() {
             return Err(ErrorCode::Internal);
         }
-        self.client
-            .begin(&mut self.backend.hub(), channel, id, since)
+        self.client.begin(self.backend, channel, id, since)
     }
 
     fn read(&mut self, channel: &str, since: Option<Position>) -> Result<(), ErrorCode> {
         if self.sees_end() {
             return Err(ErrorCode::Internal);
         }
-        let Some(number) = self.client.standing.number() else {
+        let Some(mut begun) = self.client.take_begun(channel, since) else {
             return Err(ErrorCode::Internal);
         };
-        match self.backend.read(channel, since, self.now) {
-            Ok(answer) => {
-                self.backend
-                    .hub()
-                    .read_done(number, channel, answer.recovery);
+        match self.backend.read(&mut begun, self.now) {
+            Ok((recovery, pass)) => {
+                let words = self.backend.broker;
+                self.backend.hub().read_done(words, begun, recovery, pass);
                 Ok(())
             }
             Err(refused) => Err(broker_error(refused)),
@@ -213,7 +213,7 @@ impl<'a, B: Backend> Node for CommandHandler<'a, B> {
     }
 }
 
-impl<'a, B: Backend> CommandHandler<'a, B> {
+impl<'a, R: Wait, N: Naming, E: Epochs + Drop> CommandHandler<'a, R, N, E> {
     /// A turn in which its client is heard is to come from this moment on, in seconds.
     pub(crate) fn is_owed(&mut self, now: u64) {
         if now.saturating_sub(self.heard) > SECONDS_IDLE {
@@ -304,7 +304,7 @@ impl<'a, B: Backend> CommandHandler<'a, B> {
     // The session is over.
     fn end(&mut self) {
         self.client.standing.end();
-        self.client.ended = self.now;
+        self.client.refreshed = self.now;
         self.leave_all();
     }
 

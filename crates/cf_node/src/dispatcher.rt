@@ -2,13 +2,16 @@
 ghost use Rattle.std.specs.Prelude.{◌≡◌};
 ghost use Rattle.cf_dispatch.specs.Dispatch.{Dispatches};
 
-use crate::costs::Reach;
+use crate::costs::{Reach, slot_of};
 use crate::gate::{DISPATCHER, Gate};
 use crate::shared::{MANY, Shared};
+use cf_broker::Broker;
 use cf_dispatch::{Mailbox, pass_on};
-use cf_hub::{Delivered, Hub};
+use cf_hub::Delivered;
 use cf_link::Receiver;
+use cf_node_hub::NodeHub;
 use cf_shard::{Delivery, Naming};
+use cf_stream::Epochs;
 use std::sync::atomic::{AtomicU64, Ordering};
 use std::sync::{MutexGuard, Wait};
 use std::thread;
@@ -20,13 +23,14 @@ const LONGEST_SLEEP: u64 = 500;
 
 /// The dispatcher's end of the node's link, and the hub under its lock.
 #[derive(Drop)]
-pub(crate) struct NodeMailbox<'a, R, G, N: Naming> {
+pub(crate) struct NodeMailbox<'a, R, G, N: Naming, E: Epochs + Drop> {
     rt: &'a R,
     gate: &'a G,
     receiver: Receiver<Delivery<N>>,
-    shared: &'a Shared,
+    broker: &'a Broker<N, E>,
+    shared: &'a Shared<N>,
     // The hub, while more waits to be brought to it.
-    hub: Option<MutexGuard<'a, Hub>>,
+    hub: Option<MutexGuard<'a, NodeHub<N>>>,
     // How many publications were brought under this lock, and sessions met them.
     met: u32,
     node: u8,
@@ -34,18 +38,20 @@ pub(crate) struct NodeMailbox<'a, R, G, N: Naming> {
     reach: Option<&'a Reach>,
 }
 
-impl<'a, R: Wait, G, N: Naming> NodeMailbox<'a, R, G, N> {
+impl<'a, R: Wait, G, N: Naming, E: Epochs + Drop> NodeMailbox<'a, R, G, N, E> {
     /// The mailbox of a node, at its end of the node's link.
     pub(crate) fn new(
         rt: &'a R,
         gate: &'a G,
         receiver: Receiver<Delivery<N>>,
-        shared: &'a Shared,
-    ) -> NodeMailbox<'a, R, G, N> {
+        broker: &'a Broker<N, E>,
+        shared: &'a Shared<N>,
+    ) -> NodeMailbox<'a, R, G, N, E> {
         NodeMailbox {
             rt,
             gate,
             receiver,
+            broker,
             shared,
             hub: None,
             met: 0,
@@ -55,7 +61,11 @@ impl<'a, R: Wait, G, N: Naming> NodeMailbox<'a, R, G, N> {
     }
 
     /// The same of the node of this number, which notes there how many clients publications reach.
-    pub(crate) fn noting(mut self, node: u8, reach: Option<&'a Reach>) -> NodeMailbox<'a, R, G, N> {
+    pub(crate) fn noting(
+        mut self,
+        node: u8,
+        reach: Option<&'a Reach>,
+    ) -> NodeMailbox<'a, R, G, N, E> {
         self.node = node;
         self.reach = reach;
         self
@@ -71,7 +81,8 @@ impl<'a, R: Wait, G, N: Naming> NodeMailbox<'a, R, G, N> {
     }
 }
 
-impl<'a, R: Wait + Clock, G: Gate, N: Naming> Mailbox for NodeMailbox<'a, R, G, N> {
+impl<'a, R: Wait + Clock, G: Gate, N: Naming, E: Epochs + Drop> Mailbox
+    for NodeMailbox<'a, R, G, N, E> {
     type Letter = Delivery<N>;
 
     ghost use Rattle.std.specs.Prelude.{◌≡◌, ◌++◌, ◌∷◌, [], MatchOption};
@@ -103,10 +114,11 @@ impl<'a, R: Wait + Clock, G: Gate, N: Naming> Mailbox for NodeMailbox<'a, R, G, 
             }
         };
         let bytes = delivery.publication().body.len();
-        let delivered = hub.deliver(delivery.channel(), delivery.epoch(), delivery.publication());
+        let slot = slot_of(delivery.channel());
+        let delivered = hub.deliver(self.broker, delivery);
         self.shared.note_brought(delivered.passed, bytes);
         if let Some(reach) = self.reach {
-            reach.note(self.node, delivery.channel(), delivered.passed);
+            reach.note(self.node, slot, delivered.passed);
         }
         if self.goes_on(&delivered) {
             self.hub = Some(hub);

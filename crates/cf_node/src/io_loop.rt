@@ -16,6 +16,8 @@ use cf_health::health_ask;
 use cf_protocol::CloseCode;
 use cf_queue::Out;
 use cf_session::Wire;
+use cf_shard::Naming;
+use cf_stream::Epochs;
 use cf_wire::Gather;
 use mio::Events;
 use mio::event::Event;
@@ -81,10 +83,10 @@ struct Named {
 }
 
 #[derive(Drop)]
-struct IoLoop<'a, B: Backend> {
-    backend: &'a B,
+struct IoLoop<'a, R, N: Naming, E: Epochs + Drop> {
+    backend: &'a Backend<'a, R, N, E>,
     acceptor: Acceptor,
-    places: Vec<Connection<'a, B>>,
+    places: Vec<Connection<'a, R, N, E>>,
     // The places that stand empty.
     free: Vec<usize>,
     // At which place each session of the hub is.
@@ -117,16 +119,15 @@ struct IoLoop<'a, B: Backend> {
 }
 
 /// Serves until `stop` isn't 0, and then closes all sessions with 3001.
-pub(crate) fn serve<R: Wait + Clock, B: Backend, G: Gate>(
-    rt: &R,
+pub(crate) fn serve<R: Wait + Clock, N: Naming, E: Epochs + Drop, G: Gate>(
     node: u8,
-    backend: &B,
+    backend: &Backend<'_, R, N, E>,
     acceptor: Acceptor,
     stale: u64,
     gate: &G,
     stop: &AtomicU64,
 ) -> io::Result<()> {
-    let alloc = backend.alloc();
+    let alloc = backend.alloc;
     let mut io_loop = IoLoop {
         backend,
         acceptor,
@@ -147,17 +148,17 @@ pub(crate) fn serve<R: Wait + Clock, B: Backend, G: Gate>(
         resumed: 0,
         stale,
     };
-    io_loop.run(rt, node, gate, stop)
+    io_loop.run(node, gate, stop)
 }
 
 // A connection whose head is whole: the handshake is answered, or the question whether the node
 // lives. One that speaks gets a desk of its own. Empty where there is no answer, or memory is refused.
-fn opened<'a, B: Backend>(
-    backend: &'a B,
-    connection: Connection<'a, B>,
+fn opened<'a, R: Wait, N: Naming, E: Epochs + Drop>(
+    backend: &'a Backend<'a, R, N, E>,
+    connection: Connection<'a, R, N, E>,
     is_well: bool,
     now: u64,
-) -> Connection<'a, B> {
+) -> Connection<'a, R, N, E> {
     let head = match connection {
         Connection::Head(head) => head,
         other => {
@@ -167,18 +168,18 @@ fn opened<'a, B: Backend>(
     };
     // Those who ask by `GET` are answered as who wants a WebSocket.
     let asks = health_ask(head.socket.early.as_slice());
-    let gather = Gather::new(backend.alloc(), head.socket, GATHERED);
+    let gather = Gather::new(backend.alloc, head.socket, GATHERED);
     if let Some(ask) = asks {
         return leaves(Leaving::told(gather, ask.answer(is_well), now));
     }
-    match Wire::accept(backend.alloc(), gather) {
+    match Wire::accept(backend.alloc, gather) {
         Ok(wire) => {
             let open = Open {
                 wire,
                 desk: SessionDesk::new(backend, now),
                 is_spent: false,
             };
-            match Box::new(backend.alloc(), open) {
+            match Box::new(backend.alloc, open) {
                 Ok(open) => Connection::Open(open),
                 Err(_) => Connection::Empty,
             }
@@ -188,7 +189,9 @@ fn opened<'a, B: Backend>(
 }
 
 // A connection that is let go, if there is somebody to read what it is told.
-fn leaves<'a, B: Backend>(leaving: Option<Leaving>) -> Connection<'a, B> {
+fn leaves<'a, R: Wait, N: Naming, E: Epochs + Drop>(
+    leaving: Option<Leaving>,
+) -> Connection<'a, R, N, E> {
     match leaving {
         Some(leaving) => Connection::Leaving(leaving),
         None => Connection::Empty,
@@ -209,16 +212,14 @@ fn next_of(queue: &mut FairQueue, holds: bool) -> Option<usize> {
     }
 }
 
-impl<'a, B: Backend> IoLoop<'a, B> {
+impl<'a, R: Wait, N: Naming, E: Epochs + Drop> IoLoop<'a, R, N, E> {
     // Takes turns until `stop` isn't 0, and then closes all sessions.
-    fn run<R: Wait + Clock, G: Gate>(
-        &mut self,
-        rt: &R,
-        node: u8,
-        gate: &G,
-        stop: &AtomicU64,
-    ) -> io::Result<()> {
-        let mut events = Events::with_capacity(self.backend.alloc(), MOST_EVENTS)?;
+    fn run<G: Gate>(&mut self, node: u8, gate: &G, stop: &AtomicU64) -> io::Result<()>
+    where
+        R: Clock,
+    {
+        let mut events = Events::with_capacity(self.backend.alloc, MOST_EVENTS)?;
+        let rt = self.backend.rt;
         let mut turn: u64 = 0;
         for _ in rt.forever() {
             if stop.load(Ordering::SeqCst) != 0 {
@@ -272,7 +273,7 @@ impl<'a, B: Backend> IoLoop<'a, B> {
             self.resumed = now;
         }
         self.now = now;
-        self.backend.shared().look();
+        self.backend.shared.look();
         let mut count: usize = 0;
         for event in events {
             count = count.saturating_add(1);
@@ -287,7 +288,7 @@ impl<'a, B: Backend> IoLoop<'a, B> {
         self.serve_dear();
         self.serve_fresh();
         if !self.is_behind {
-            self.backend.shared().catch_up();
+            self.backend.shared.catch_up();
         }
         if self.seconds.turn_ends(now, count >= MOST_EVENTS) {
             self.on_second();
@@ -443,7 +444,7 @@ impl<'a, B: Backend> IoLoop<'a, B> {
         match self.places.get_mut(place) {
             Some(connection) if is_registered => {
                 let head = Connection::Head(Head {
-                    socket: Socket::new(self.backend.alloc(), stream),
+                    socket: Socket::new(self.backend.alloc, stream),
                     accepted: self.seconds.done(),
                 });
                 drop(mem::replace(connection, head));
@@ -555,7 +556,7 @@ impl<'a, B: Backend> IoLoop<'a, B> {
             return;
         };
         let head = mem::replace(connection, Connection::Empty);
-        let is_well = self.backend.shared().is_well(self.now)
+        let is_well = self.backend.shared.is_well(self.now)
             || self.now.saturating_sub(self.resumed) <= SECONDS_HELD_UP;
         let answered = opened(self.backend, head, is_well, self.now);
         drop(mem::replace(connection, answered));
@@ -736,7 +737,7 @@ fn place_of(owners: &[usize], session: u32) -> usize {
     owners.get(session as usize).copied().unwrap_or(0)
 }
 
-impl<'a, B: Backend> Outlets for IoLoop<'a, B> {
+impl<'a, R: Wait, N: Naming, E: Epochs + Drop> Outlets for IoLoop<'a, R, N, E> {
     // What a socket has room for is nothing that a contract can name.
     ghost frees = { λ _ _ _. Unit {0} };
 
@@ -755,7 +756,7 @@ impl<'a, B: Backend> Outlets for IoLoop<'a, B> {
     }
 
     fn lend(&mut self, session: u32) -> VecDeque<Out> {
-        let nothing = VecDeque::new(self.backend.alloc());
+        let nothing = VecDeque::new(self.backend.alloc);
         let place = place_of(&self.owners, session);
         match self.places.get_mut(place) {
             Some(Connection::Open(open)) => mem::replace(&mut open.desk.taken, nothing),

@@ -18,7 +18,6 @@ mod fault_counts;
 mod gate;
 mod io_loop;
 mod leaving;
-mod live_backend;
 mod node;
 mod rounds;
 mod shared;

@@ -1,15 +1,17 @@
 //! What is looked after every 25 seconds for each client: where its subscriptions stand, and that
 //! it is present.
 use crate::attached_client::Present;
-use crate::backend::Backend;
 use crate::command_handler::CommandHandler;
 use cf_dispatch::{goes_on, is_close_over, mark_after};
 use cf_protocol::CloseCode;
+use cf_shard::Naming;
+use cf_stream::Epochs;
+use std::sync::Wait;
 
 /// How many seconds lie between two rounds of a client.
 const ROUND: u64 = 25;
 
-impl<'a, B: Backend> CommandHandler<'a, B> {
+impl<'a, R: Wait, N: Naming, E: Epochs + Drop> CommandHandler<'a, R, N, E> {
     /// What a second brings: where the session is over, whether its connection still stands; else a
     /// round, where the client's last was 25 seconds ago: the position of each of its subscriptions
     /// is checked, and it is present again in each channel that it still has.
@@ -17,7 +19,7 @@ impl<'a, B: Backend> CommandHandler<'a, B> {
         self.now = now;
         if self.looks_for_end() {
             // Its socket may take what waits for it for a while.
-            let is_over = is_close_over(self.client.ended, now);
+            let is_over = is_close_over(self.client.refreshed, now);
             if is_over {
                 self.note_slow();
             }

@@ -1,9 +1,9 @@
--- What a node's sessions may say: notes whose publications stand in the logs that the node has seen, and texts that say none.
--- (This project's own profile.)
-use Rattle.std.specs.Prelude.{⊤, ℕ, List, Option, Some, None}
-use Rattle.cf_protocol.specs.Note.{Lists, Note}
-use Rattle.cf_queue.specs.OutQueue.{Text}
-use Rattle.cf_hub.specs.InNotes.{SaysNote}
+-- What a node's sessions may say: notes whose publications stand in the logs that the node has seen, and replies that
+-- their own scripts give. (This project's own profile.)
+use Rattle.std.specs.Prelude.{◌≡◌, ⊤, ℕ, Bool, true, false, List, Option, Some, None}
+use Rattle.cf_protocol.specs.Note.{Lists}
+use Rattle.cf_protocol.specs.Outgoing.{Answer, Outcome, Subscribed}
+use Rattle.cf_protocol.specs.Written.{outgoing_text}
 use Rattle.cf_hub.specs.AlikeMoves.{Notes}
 use Rattle.cf_hub.specs.Hub.{Node, attached_at}
 use Rattle.cf_hub.specs.Session.{Attached}
@@ -25,6 +25,11 @@ SaysSome A lists (Some a) = (b : Notes) × SaysAmong A lists a.state b
 abbrev pub SpeaksOf : (List ℕ → Type 0) → List PassState → Node → Type 0
 SpeaksOf A seen node = IsSound seen → (k : ℕ) → SaysSome A (seen_lists seen) (attached_at node k)
 
--- the text says a note that brings no publication, whatever is listed
-abbrev pub SaysNoData : List ℕ → Type 0
-SaysNoData t = (n : Note) × ((lists : Lists) → SaysNote lists (Text t) n)
+-- a reply that a session gives itself: any but that to a subscribe, which its hub gives
+abbrev pub is_own : Outcome → Bool
+is_own (Subscribed position publications recovered was_recovering) = false
+is_own other = true
+
+-- the text is one
+abbrev pub IsReply : List ℕ → Type 0
+IsReply text = (id : ℕ) × (o : Outcome) × (is_own o ≡ true) × (text ≡ outgoing_text (Answer id o))

@@ -5,6 +5,7 @@
 mod begun;
 mod node_hub;
 mod queries;
+mod replies;
 mod telling;
 
 pub use begun::Begun;

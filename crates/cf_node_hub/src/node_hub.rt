@@ -13,8 +13,8 @@ ghost use Rattle.cf_node_hub.specs.Asking.{IsBegun};
 ghost use Rattle.cf_node_hub.specs.Seen.{SeesOn, log_at};
 
 use crate::begun::Begun;
+use crate::replies::moves_are_among;
 use cf_hub::{Delivered, Hub, HubRefusal};
-use cf_hub_moves::laws::moves_are_among;
 use cf_order::Pass;
 use cf_protocol::Position;
 use cf_queue::Out;
@@ -23,7 +23,7 @@ use std::alloc::Global;
 use std::marker::{Model, PhantomData};
 
 /// The sessions of one node, and what it has seen of the shards' logs: each session says notes whose publications stand in what was
-/// seen, and other texts that carry none. Its calls are those of its hub, and say what the hub's own say.
+/// seen, and replies of its own. Its calls are those of its hub, and say what the hub's own say.
 #[derive(Drop)]
 pub struct NodeHub<N: Naming> {
     pub(crate) hub: Hub,
@@ -31,14 +31,13 @@ pub struct NodeHub<N: Naming> {
 }
 
 impl<N: Naming> Model for NodeHub<N> {
-    ghost use Rattle.cf_hub_moves.specs.Asides.{SaysAside};
-    ghost use Rattle.cf_node_hub.specs.Told.{Knowing, SpeaksOf};
+    ghost use Rattle.cf_node_hub.specs.Told.{IsReply, Knowing, SpeaksOf};
 
     ghost Value = { Knowing };
 
     ghost view = { λ h. record { node = h.hub; seen = h.seen } };
 
-    ghost invariant = { λ h. SpeaksOf SaysAside h.seen h.hub };
+    ghost invariant = { λ h. SpeaksOf IsReply h.seen h.hub };
 }
 
 // A pass of a shard that has seen what these have, with no share of its own.

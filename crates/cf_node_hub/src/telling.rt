@@ -1,5 +1,5 @@
 //! What a node's sessions are told: reads, replies, texts, checks and pings.
-ghost use Rattle.std.specs.Prelude.{◌≡◌, ◌≢◌, ◌↔◌, ◌⊎◌, ℕ, [], IfSome, IsFalse, IsTrue, not, option_map, string_bytes};
+ghost use Rattle.std.specs.Prelude.{◌≡◌, ◌≢◌, ◌↔◌, ℕ, [], IfSome, IsFalse, IsTrue, not, option_map, string_bytes};
 ghost use Rattle.cf_model.specs.SessionState.{checks, is_ready, push, reads};
 ghost use Rattle.cf_queue.specs.OutQueue.{Text};
 ghost use Rattle.cf_hub.specs.Checked.{check_answer};
@@ -11,16 +11,15 @@ ghost use Rattle.cf_hub.specs.Turns.{gets_turn};
 ghost use Rattle.cf_hub.specs.WantOfMemory.{OrCloses};
 ghost use Rattle.cf_hub.specs.Wordings.{plain, reading};
 ghost use Rattle.cf_shard.specs.Shards.{number_of};
-ghost use Rattle.cf_hub_moves.specs.Asides.{SaysAside};
 ghost use Rattle.cf_node_hub.specs.Asking.{Answers, IsAskedFrom};
 ghost use Rattle.cf_node_hub.specs.Seen.{SeesOn};
-ghost use Rattle.cf_node_hub.specs.Told.{SaysNoData};
+ghost use Rattle.cf_node_hub.specs.Told.{IsReply};
 
 use crate::begun::Begun;
 use crate::node_hub::NodeHub;
+use crate::replies::moves_are_among;
 use cf_hub::laws::what_is_said_stays;
 use cf_hub::{Asked, Checked, Hub, Queued};
-use cf_hub_moves::laws::moves_are_among;
 use cf_order::Pass;
 use cf_protocol::Position;
 use cf_shard::{Naming, ShardWords, shard_of};
@@ -84,10 +83,10 @@ impl<N: Naming> NodeHub<N> {
         self.hub.finish(session, channel)
     }
 
-    /// Queues a text that says no note, or a note that brings no publication. Where the client is too slow or memory is refused,
+    /// Queues a reply that the session gives itself, and not that to a subscribe. Where the client is too slow or memory is refused,
     /// the session is closed in place of it.
     pub fn say(&mut self, session: u32, text: String) -> Queued
-        requires { SaysAside (string_bytes text) ⊎ SaysNoData (string_bytes text) }
+        requires { IsReply (string_bytes text) }
         ensures said { result ≡ queued_in (attached_at self.new.node session) }
         ensures session { Meets session
             (λ hit. OrCloses hit plain (push plain (Text (string_bytes text))))

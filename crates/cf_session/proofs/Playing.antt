@@ -1,10 +1,17 @@
 -- A script played step by step.
 use Rattle.std.proofs.Common.{◌≡◌, ◌≢◌, ◌∙◌, ◌||◌, ◌==◌, ℕ, Bool, true, false, not, Option, Some, None, List, [], ◌∷◌, arith, refl, sym, ap, subst, inl, inr}
+use Rattle.std.specs.Prelude.{Ok, Err}
+use Rattle.cf_protocol.specs.Codes.{code_of}
+use Rattle.cf_protocol.specs.Outgoing as outgoing
+use Rattle.cf_protocol.specs.declared.codes.ErrorCode.TheVariants as error
+use Rattle.cf_session.specs.Shown.{shown_answer}
+use Rattle.cf_session.specs.declared.action.Answer.{Answer as CodeAnswer}
+use Rattle.cf_session.specs.declared.action.Answer.TheVariants as answer
 use Rattle.cf_session.specs.Calls.{Answer}
 use Rattle.cf_session.specs.Script.{Script, Served, Over, Close, Say, Pong, Ask}
 use Rattle.cf_protocol.specs.Datum.{Who}
 use Rattle.cf_protocol.specs.Settings.{NamespaceTable}
-use Rattle.cf_session.specs.Asking.{AllAsk, HasStream, FramesHaveStreams}
+use Rattle.cf_session.specs.Asking.{AllAsk, HasStream, FramesHaveStreams, finds_own}
 use Rattle.cf_session.specs.CommandScripts.{Tables, Brings}
 use Rattle.cf_session.specs.SessionMachine.{Act, Calls, Says, PassesPong, Closes, Progress, Todo, Out, Does, Hears, HearsText, HearsAt, reply_text, awaits, next_progress, answered_progress, GoesOn, Acts, AtHand, at_start, at_reply, GivesUp, fails, falls_silent, stays_out}
 use Rattle.cf_session.specs.Standing.{tables_of, commands_left, progress_of, progress_at, is_idle, idle_at}
@@ -237,7 +244,7 @@ pub act_asks : (t : Tables) (p : Progress) (act : Option Act) (q : Progress) (a 
 act_asks t (Todo (Served who)) act q a d e h = absurd (cc (d.acts, e))
 act_asks t (Todo Over) act q a d e h = absurd (cc (d.acts, e))
 act_asks t (Todo (Close code)) act q a d e h = subst (ActHasStream t.namespaces) (same_act _ a (sym d.acts ∙ e)) tt
-act_asks t (Todo (Say id o after)) act q a d e h = subst (ActHasStream t.namespaces) (same_act _ a (sym d.acts ∙ e)) tt
+act_asks t (Todo (Say id o after)) act q a d e h = subst (ActHasStream t.namespaces) (same_act _ a (sym d.acts ∙ e)) (id, o, h.0, refl)
 act_asks t (Todo (Pong after)) act q a d e h = subst (ActHasStream t.namespaces) (same_act _ a (sym d.acts ∙ e)) tt
 act_asks t (Todo (Ask call after)) act q a d e h = subst (ActHasStream t.namespaces) (same_act _ a (sym d.acts ∙ e)) h.0
 act_asks t (Out kind after) act q a d e h = absurd (cc (d.acts, e))
@@ -246,14 +253,14 @@ next_asks : (t : Tables) (p : Progress) → AskStreams t.namespaces p → AskStr
 next_asks t (Todo (Served who)) h = h
 next_asks t (Todo Over) h = h
 next_asks t (Todo (Close code)) h = tt
-next_asks t (Todo (Say id o after)) h = h
+next_asks t (Todo (Say id o after)) h = h.1
 next_asks t (Todo (Pong after)) h = h
 next_asks t (Todo (Ask call after)) h = h.1
 next_asks t (Out kind after) h = h
 
 hand_asks : (t : Tables) (id : ℕ) (script after : Script) → FramesHaveStreams → AtHand t id script after → AllAsk (HasStream t.namespaces) script → AllAsk (HasStream t.namespaces) after
 hand_asks t id script after law (at_start who k ks) h = law t ks (Some who)
-hand_asks t id script after law (at_reply id' o after' other) h = h
+hand_asks t id script after law (at_reply id' o after' other) h = h.1
 
 given_asks : (t : Tables) (p : Progress) (act : Option Act) (q : Progress) (n : ℕ) → FramesHaveStreams → GivesUp t p act q n → AskStreams t.namespaces p → AskStreams t.namespaces q
 given_asks t p act q n law (fails id script after at) h = hand_asks t id script after law at h
@@ -261,7 +268,7 @@ given_asks t p act q n law (falls_silent id script after at) h = tt
 given_asks t p act q n law (stays_out script at) h = tt
 
 given_act : (t : Tables) (p : Progress) (act : Option Act) (q : Progress) (n : ℕ) (a : Act) → GivesUp t p act q n → act ≡ Some a → ActHasStream t.namespaces a
-given_act t p act q n a (fails id script after at) e = subst (ActHasStream t.namespaces) (same_act _ a e) tt
+given_act t p act q n a (fails id script after at) e = subst (ActHasStream t.namespaces) (same_act _ a e) (id, outgoing.Failed (code_of error.Internal), refl, refl)
 given_act t p act q n a (falls_silent id script after at) e = subst (ActHasStream t.namespaces) (same_act _ a e) tt
 given_act t p act q n a (stays_out script at) e = subst (ActHasStream t.namespaces) (same_act _ a e) tt
 
@@ -293,13 +300,31 @@ pub hears_asks : (t : Tables) (p : Progress) (text : List ℕ) (q : Progress) (n
 hears_asks t p text q n law (inl h) = heard_asks t p text q law h.0
 hears_asks t p text q n law (inr h) = subst (AskStreams t.namespaces) (sym h.1.closes) tt
 
-answered_asks : (t : NamespaceTable) (a : Answer) (p : Progress) → AskStreams t p → AskStreams t (answered_progress a p)
-answered_asks t a (Todo s) h = h
-answered_asks t a (Out kind after) h = h a
+answered_asks : (t : NamespaceTable) (a : Answer) (p : Progress) → finds_own a ≡ true → AskStreams t p → AskStreams t (answered_progress a p)
+answered_asks t a (Todo s) own h = h
+answered_asks t a (Out kind after) own h = h a own
 
-pub answer_asks : (t : NamespaceTable) (a : Answer) (p q : Progress) (n : ℕ) → GoesOn a p q n → AskStreams t p → AskStreams t q
-answer_asks t a p q n (inl e) h = subst (AskStreams t) (sym e.0) (answered_asks t a p h)
-answer_asks t a p q n (inr g) h = subst (AskStreams t) (sym g.1.closes) tt
+pub answer_asks : (t : NamespaceTable) (a : Answer) (p q : Progress) (n : ℕ) → finds_own a ≡ true → GoesOn a p q n → AskStreams t p → AskStreams t q
+answer_asks t a p q n own (inl e) h = subst (AskStreams t) (sym e.0) (answered_asks t a p own h)
+answer_asks t a p q n own (inr g) h = subst (AskStreams t) (sym g.1.closes) tt
+
+-- what the code's calls answer is none that the hub gives
+pub answers_own : (a : CodeAnswer) → finds_own (shown_answer a) ≡ true
+answers_own (answer.Attach (Ok client)) = refl
+answers_own (answer.Attach (Err e)) = refl
+answers_own (answer.Begin (Ok u)) = refl
+answers_own (answer.Begin (Err e)) = refl
+answers_own (answer.Read (Ok u)) = refl
+answers_own (answer.Read (Err e)) = refl
+answers_own answer.Finish = refl
+answers_own answer.Leave = refl
+answers_own (answer.Publish (Ok u)) = refl
+answers_own (answer.Publish (Err e)) = refl
+answers_own (answer.History (Ok h)) = refl
+answers_own (answer.History (Err e)) = refl
+answers_own (answer.Presence (Ok users)) = refl
+answers_own (answer.Presence (Err e)) = refl
+answers_own (answer.Stats s) = refl
 
 -- ---- idle sessions
 

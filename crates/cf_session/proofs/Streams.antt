@@ -1,4 +1,4 @@
--- Frames ask for streams only where a namespace is set up.
+-- Frames ask for streams only where a namespace is set up, and say only replies that a session gives itself.
 use Rattle.std.proofs.Common.{◌≡◌, ℕ, Bool, true, false, not, ◌||◌, is_some, Option, Some, None, List, [], ◌∷◌, refl}
 use Rattle.cf_protocol.specs.Position.{Position}
 use Rattle.cf_protocol.specs.Datum.{Who}
@@ -11,7 +11,7 @@ use Rattle.cf_session.specs.Calls.{Answer, Refused, Done, Found, Attached}
 use Rattle.cf_session.specs.Script.{Script}
 use Rattle.cf_protocol.specs.Checks.{Check, first_failed, is_bad_channel, is_bad_key, is_bad_data, may_publish, may_list, checks}
 use Rattle.cf_session.specs.CommandScripts.{Tables, granted, unless_failed, connect_script, first_script, frame_script, replies, after_read, after_begin, after_attach, client_of}
-use Rattle.cf_session.specs.Asking.{AllAsk, HasStream, FramesHaveStreams}
+use Rattle.cf_session.specs.Asking.{AllAsk, HasStream, FramesHaveStreams, finds_own}
 
 -- what a request needs
 Needs : NamespaceTable → Request → Type 0
@@ -54,34 +54,34 @@ passed t request.Pong h = tt
 passed t Other h = tt
 passed t (Connect token) h = tt
 
-replies_ask : (t : NamespaceTable) (id : ℕ) (after : Script) → AllAsk (HasStream t) after → (a : Answer) → AllAsk (HasStream t) (replies id after a)
-replies_ask t id after h (Refused e) = h
-replies_ask t id after h Done = h
-replies_ask t id after h (Found o) = h
-replies_ask t id after h (Attached client) = h
+replies_ask : (t : NamespaceTable) (id : ℕ) (after : Script) → AllAsk (HasStream t) after → (a : Answer) → finds_own a ≡ true → AllAsk (HasStream t) (replies id after a)
+replies_ask t id after h (Refused e) g = (refl, h)
+replies_ask t id after h Done g = h
+replies_ask t id after h (Found o) g = (g, h)
+replies_ask t id after h (Attached client) g = h
 
-read_asks : (t : NamespaceTable) (id : ℕ) (c : List ℕ) (after : Script) → AllAsk (HasStream t) after → (a : Answer) → AllAsk (HasStream t) (after_read id c after a)
-read_asks t id c after h (Refused e) = (tt, λ b. h)
-read_asks t id c after h Done = (tt, λ b. h)
-read_asks t id c after h (Found o) = (tt, λ b. h)
-read_asks t id c after h (Attached client) = (tt, λ b. h)
+read_asks : (t : NamespaceTable) (id : ℕ) (c : List ℕ) (after : Script) → AllAsk (HasStream t) after → (a : Answer) → finds_own a ≡ true → AllAsk (HasStream t) (after_read id c after a)
+read_asks t id c after h (Refused e) g = (tt, λ b k. (refl, h))
+read_asks t id c after h Done g = (tt, λ b k. h)
+read_asks t id c after h (Found o) g = (tt, λ b k. h)
+read_asks t id c after h (Attached client) g = (tt, λ b k. h)
 
 begin_asks : (t : NamespaceTable) (id : ℕ) (c : List ℕ) (since : Option Position) (after : Script)
-    → is_some (settings_of t c) ≡ true → AllAsk (HasStream t) after → (a : Answer) → AllAsk (HasStream t) (after_begin id c c since after a)
-begin_asks t id c since after up h (Refused e) = h
-begin_asks t id c since after up h Done = (up, read_asks t id c after h)
-begin_asks t id c since after up h (Found o) = (up, read_asks t id c after h)
-begin_asks t id c since after up h (Attached client) = (up, read_asks t id c after h)
+    → is_some (settings_of t c) ≡ true → AllAsk (HasStream t) after → (a : Answer) → finds_own a ≡ true → AllAsk (HasStream t) (after_begin id c c since after a)
+begin_asks t id c since after up h (Refused e) g = (refl, h)
+begin_asks t id c since after up h Done g = (up, read_asks t id c after h)
+begin_asks t id c since after up h (Found o) g = (up, read_asks t id c after h)
+begin_asks t id c since after up h (Attached client) g = (up, read_asks t id c after h)
 
 granted_asks : (t : NamespaceTable) (who : Who) (id : ℕ) (r : Request) (after : Script) → Needs t r → AllAsk (HasStream t) after → AllAsk (HasStream t) (granted who id r after)
 unfolding Needs
 granted_asks t who id (Subscribe c since) after up h = (tt, begin_asks t id c since after up h)
-granted_asks t who id (Unsubscribe c) after up h = (tt, λ a. h)
+granted_asks t who id (Unsubscribe c) after up h = (tt, λ a g. (refl, h))
 granted_asks t who id (request.Publish c key d) after up h = (up, replies_ask t id after h)
 granted_asks t who id (request.Presence c) after up h = (tt, replies_ask t id after h)
 granted_asks t who id (PresenceStats c) after up h = (tt, replies_ask t id after h)
 granted_asks t who id (request.History c limit since reverse) after up h = (up, replies_ask t id after h)
-granted_asks t who id Ping after up h = h
+granted_asks t who id Ping after up h = (refl, h)
 granted_asks t who id Send after up h = h
 granted_asks t who id request.Pong after up h = h
 granted_asks t who id Other after up h = h
@@ -90,13 +90,13 @@ granted_asks t who id (Connect token) after up h = tt
 unless_asks : (t : NamespaceTable) (o : Option ErrorCode) (id : ℕ) (after script : Script)
     → AllAsk (HasStream t) after → (o ≡ None → AllAsk (HasStream t) script) → AllAsk (HasStream t) (unless_failed o id after script)
 unless_asks t None id after script h g = g refl
-unless_asks t (Some e) id after script h g = h
+unless_asks t (Some e) id after script h g = (refl, h)
 
-attach_asks : (t : NamespaceTable) (id : ℕ) (user : List ℕ) (after : Who → Script) → ((w : Who) → AllAsk (HasStream t) (after w)) → (a : Answer) → AllAsk (HasStream t) (after_attach id user after a)
-attach_asks t id user after h (Attached client) = h (client_of user client)
-attach_asks t id user after h (Refused e) = tt
-attach_asks t id user after h Done = tt
-attach_asks t id user after h (Found o) = tt
+attach_asks : (t : NamespaceTable) (id : ℕ) (user : List ℕ) (after : Who → Script) → ((w : Who) → AllAsk (HasStream t) (after w)) → (a : Answer) → finds_own a ≡ true → AllAsk (HasStream t) (after_attach id user after a)
+attach_asks t id user after h (Attached client) g = (refl, h (client_of user client))
+attach_asks t id user after h (Refused e) g = tt
+attach_asks t id user after h Done g = tt
+attach_asks t id user after h (Found o) g = tt
 
 connect_asks : (t : NamespaceTable) (o : Option (List ℕ)) (id : ℕ) (after : Who → Script) → ((w : Who) → AllAsk (HasStream t) (after w)) → AllAsk (HasStream t) (connect_script o id after)
 connect_asks t None id after h = tt

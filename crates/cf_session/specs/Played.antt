@@ -3,8 +3,9 @@ use Rattle.std.specs.Prelude.{◌≡◌, ◌⊎◌, List, ℕ, Option, Some, Non
 use Rattle.cf_session.specs.Calls.{Answer, Call, kind_of}
 use Rattle.cf_session.specs.Script.{Script, Served, Over, Close, Say, Pong, Ask}
 use Rattle.cf_session.specs.CommandScripts.{Tables}
+use Rattle.cf_protocol.specs.Outgoing.{Outcome}
 use Rattle.cf_protocol.specs.Settings.{NamespaceTable}
-use Rattle.cf_session.specs.Asking.{AllAsk, HasStream}
+use Rattle.cf_session.specs.Asking.{AllAsk, HasStream, finds_own, is_own}
 use Rattle.cf_session.specs.SessionMachine.{Act, Calls, Says, PassesPong, Closes, Progress, Todo, Out, reply_text}
 use Rattle.cf_session.specs.SessionMachine.{HearsAt, HearsText}
 use Rattle.cf_session.specs.Shown.{shown_answer}
@@ -18,17 +19,21 @@ asked_kind (Says text) = None
 asked_kind PassesPong = None
 asked_kind (Closes code) = None
 
--- a call of a stream is of a channel whose namespace is set up
+-- the text is a reply that a session gives itself
+abbrev pub IsReply : List ℕ → Type 0
+IsReply text = (id : ℕ) × (o : Outcome) × (is_own o ≡ true) × (text ≡ reply_text id o)
+
+-- a call of a stream is of a channel whose namespace is set up, and what is said is a reply
 abbrev pub ActHasStream : NamespaceTable → Act → Type 0
 ActHasStream t (Calls call) = HasStream t call
-ActHasStream t (Says text) = Unit {0}
+ActHasStream t (Says text) = IsReply text
 ActHasStream t PassesPong = Unit {0}
 ActHasStream t (Closes code) = Unit {0}
 
 -- so is each that is still to come
 abbrev pub AskStreams : NamespaceTable → Progress → Type 0
 AskStreams t (Todo s) = AllAsk (HasStream t) s
-AskStreams t (Out kind after) = (a : Answer) → AllAsk (HasStream t) (after a)
+AskStreams t (Out kind after) = (a : Answer) → finds_own a ≡ true → AllAsk (HasStream t) (after a)
 
 -- a node carries out a call, and gives this answer
 abbrev pub Gives : {N : Type 0} → (N → Act → Option Answer → N → Type 0) → N → Call → CodeAnswer → N

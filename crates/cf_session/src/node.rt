@@ -19,6 +19,7 @@ pub trait Node {
     ghost use Rattle.std.specs.Prelude.{Option, Bool};
     ghost use Rattle.cf_protocol.specs.Settings.{NamespaceTable};
     ghost use Rattle.cf_session.specs.Calls.{Answer as Given};
+    ghost use Rattle.cf_session.specs.Played.{IsReply};
     ghost use Rattle.cf_session.specs.SessionMachine.{Act};
 
     /// The namespaces that are set up.
@@ -101,8 +102,9 @@ pub trait Node {
         ensures does { Gives does self.old (call.Stats channel.now) (Answer.Stats result) self.new }
         ensures namespaces { namespaces self.new ≡ namespaces self.old };
 
-    /// This text, a reply, goes to the client.
+    /// This text, a reply that a session gives itself, goes to the client.
     fn say(&mut self, text: String)
+        requires { IsReply (string_bytes text) }
         ensures does { does self.old (Says (string_bytes text)) None self.new }
         ensures namespaces { namespaces self.new ≡ namespaces self.old };
 

@@ -2,7 +2,7 @@ use Rattle.std.proofs.Common.{◌≡◌, ◌∙◌, Some, sym}
 use Rattle.cf_session.specs.Shown.{shown_action, shown_answer, answer_kind}
 use Rattle.cf_session.specs.Standing.{progress_of, is_short, refusals}
 use Rattle.cf_session.specs.Played.{asked_kind}
-use Rattle.cf_session.proofs.Playing.{answered_none, answered_long, next_call_done, long_now, short_stays, answer_asks}
+use Rattle.cf_session.proofs.Playing.{answered_none, answered_long, next_call_done, long_now, short_stays, answer_asks, answers_own}
 use Rattle.cf_session.proofs.turn.carry_out.Goals as goal
 
 pub answered-requires : goal.answered-requires
@@ -25,7 +25,7 @@ returns-in-Some-clause-awaits g c =
 
 pub returns-in-Some-clause-asks : goal.returns-in-Some-clause-asks
 returns-in-Some-clause-asks g c =
-    answer_asks _ (shown_answer c.in-Some.answer) (progress_of c.args.session.now) (progress_of c.answered.new.self) (refusals c.answered.new.self) c.answered.ensures.goes c.requires.asks
+    answer_asks _ (shown_answer c.in-Some.answer) (progress_of c.args.session.now) (progress_of c.answered.new.self) (refusals c.answered.new.self) (answers_own c.in-Some.answer) c.answered.ensures.goes c.requires.asks
 
 pub returns-in-Some-clause-keeps : goal.returns-in-Some-clause-keeps
 returns-in-Some-clause-keeps g c =

@@ -1,10 +1,10 @@
 use Rattle.cf_queue.specs.OutQueue.{Close}
 use Rattle.cf_model.specs.SessionState.{closes_now}
-use Rattle.cf_hub_moves.specs.Asides.{SaysAside}
+use Rattle.cf_node_hub.specs.Told.{IsReply}
 use Rattle.cf_node_hub.proofs.Calls.{one_kept}
 use Rattle.cf_node_hub.proofs.Speaking.{closes-keep}
 use Rattle.cf_node_hub.proofs.node_hub.NodeHub.close.Goals as goal
 
 pub invariant_of-self : goal.invariant_of-self
 invariant_of-self g c =
-    one_kept _ c.args.session (closes_now (Close c.args.code)) _ _ (λ lists. closes-keep SaysAside lists (c.moves_are_among.ensures lists) c.args.code) c.close.ensures.sessions c.self.invariant
+    one_kept _ c.args.session (closes_now (Close c.args.code)) _ _ (λ lists. closes-keep IsReply lists (c.moves_are_among.ensures lists) c.args.code) c.close.ensures.sessions c.self.invariant
