@@ -1,16 +1,13 @@
 //! What the node keeps of a client, and what is done in the hub for it, while the hub is lent.
 ghost use Rattle.std.specs.Prelude.{◌≡◌, IfSome};
 
-use crate::backend::Backend;
 use cf_dispatch::{PongWatch, Standing};
 use cf_node_hub::{Begun, NodeHub};
 use cf_protocol::{ErrorCode, Position};
 use cf_session::hub_error;
-use cf_shard::Naming;
-use cf_stream::Epochs;
+use cf_shard::{Naming, ShardWords};
 use std::alloc::Global;
 use std::collections::VecDeque;
-use std::sync::Wait;
 
 /// A channel in which a client is present.
 #[derive(Drop)]
@@ -41,7 +38,7 @@ pub(crate) struct AttachedClient<N: Naming> {
     /// When its presence and positions were refreshed last, in seconds; once its session is over, when
     /// that was seen.
     pub(crate) refreshed: u64,
-    // The subscription that has begun, until what is read for it comes.
+    // What its session has begun, until what is read for that comes.
     begun: Option<Box<Option<Begun<N>>>>,
 }
 
@@ -104,47 +101,50 @@ impl<N: Naming> AttachedClient<N> {
         }
     }
 
-    /// A subscription begins, for the command of this id; none has the id 0.
-    pub(crate) fn begin<R: Wait, E: Epochs + Drop>(
+    /// A subscription to a channel begins, for the command of this id; none has the id 0.
+    pub(crate) fn begin<W: ShardWords<N>>(
         &mut self,
-        backend: &Backend<'_, R, N, E>,
-        channel: &str,
+        hub: &mut NodeHub<N>,
+        words: &W,
+        channel: String,
         id: u32,
         since: Option<Position>,
     ) -> Result<(), ErrorCode> {
-        let (Some(number), 1..) = (self.standing.number(), id) else {
+        let Some(number) = self.standing.number() else {
             return Err(ErrorCode::Internal);
         };
+        if id == 0 {
+            return Err(ErrorCode::Internal);
+        }
         // Most clients have one channel, so the first brings no room for more.
         let room = if self.channels.is_empty() {
             self.channels.reserve_exact(1)
         } else {
             self.channels.reserve(1)
         };
-        let (Ok(()), Ok(mut kept), Ok(channel)) = (
-            room,
-            Box::new(backend.alloc, None),
-            String::from_str(backend.alloc, channel),
-        ) else {
+        if room.is_err() {
+            return Err(ErrorCode::Internal);
+        }
+        let Ok(mut kept) = Box::new(*channel.allocator(), None) else {
             return Err(ErrorCode::Internal);
         };
-        match backend
-            .hub()
-            .begin(backend.broker, number, channel, id, since)
-        {
-            Ok(begun) => *kept = Some(begun),
-            Err(refusal) => return Err(hub_error(&refusal)),
+        match hub.begin(words, number, channel, id, since) {
+            Ok(begun) => {
+                *kept = Some(begun);
+                self.begun = Some(kept);
+                Ok(())
+            }
+            Err(refusal) => Err(hub_error(&refusal)),
         }
-        self.begun = Some(kept);
-        Ok(())
     }
 
-    /// What has begun, once, where it is of this channel, from this position.
+    /// What the client's session has begun, once, where it is of this channel, from this position.
     pub(crate) fn take_begun(&mut self, channel: &str, since: Option<Position>) -> Option<Begun<N>>
         ensures { IfSome result (λ b. b.channel ≡ channel.now) }
     {
         let begun = Box::into_inner(self.begun.take()?)?;
-        if begun.channel() == channel && begun.since() == since {
+        let is_own = self.standing.number() == Some(begun.session());
+        if is_own && begun.channel() == channel && begun.since() == since {
             Some(begun)
         } else {
             None

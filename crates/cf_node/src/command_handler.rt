@@ -9,10 +9,8 @@ use cf_presence::Stats;
 use cf_protocol::{CloseCode, ErrorCode, Info, Position};
 use cf_queue::Out;
 use cf_session::Node;
-use cf_shard::Naming;
-use cf_stream::{Epochs, History, Published};
+use cf_stream::{History, Published};
 use std::collections::{BTreeMap, VecDeque};
-use std::sync::Wait;
 
 /// A client that wasn't heard for more seconds than these was idle.
 const SECONDS_IDLE: u64 = 2;
@@ -25,9 +23,9 @@ const TURNS_TO_KNOW: u32 = 8;
 
 /// Who carries out what one session asks for: it knows the client, and goes to hub and broker.
 #[derive(Drop)]
-pub(crate) struct CommandHandler<'a, R, N: Naming, E: Epochs + Drop> {
-    pub(crate) backend: &'a Backend<'a, R, N, E>,
-    pub(crate) client: AttachedClient<N>,
+pub(crate) struct CommandHandler<'a, B: Backend> {
+    pub(crate) backend: &'a B,
+    pub(crate) client: AttachedClient<B::Of>,
     /// The moment of the turn, in seconds.
     pub(crate) now: u64,
     /// It published something for which nobody was woken yet.
@@ -44,8 +42,8 @@ pub(crate) struct CommandHandler<'a, R, N: Naming, E: Epochs + Drop> {
     pub(crate) heard: u64,
 }
 
-impl<'a, R: Wait, N: Naming, E: Epochs + Drop> Node for CommandHandler<'a, R, N, E> {
-    ghost namespaces = { λ _. N.namespaces };
+impl<'a, B: Backend> Node for CommandHandler<'a, B> {
+    ghost namespaces = { λ _. B.Of.Naming.namespaces };
 
     // It is over as far as the handler has seen: the hub is asked before each call, and what it says
     // of a text is remembered.
@@ -62,7 +60,7 @@ impl<'a, R: Wait, N: Naming, E: Epochs + Drop> Node for CommandHandler<'a, R, N,
         if self.sees_end() {
             return Err(ErrorCode::Internal);
         }
-        let alloc = self.backend.alloc;
+        let alloc = self.backend.alloc();
         self.client
             .attach(&mut self.backend.hub(), alloc, user, self.now)
     }
@@ -71,7 +69,12 @@ impl<'a, R: Wait, N: Naming, E: Epochs + Drop> Node for CommandHandler<'a, R, N,
         if self.sees_end() {
             return Err(ErrorCode::Internal);
         }
-        self.client.begin(self.backend, channel, id, since)
+        let Ok(channel) = String::from_str(self.backend.alloc(), channel) else {
+            return Err(ErrorCode::Internal);
+        };
+        let words = self.backend.words();
+        self.client
+            .begin(&mut self.backend.hub(), words, channel, id, since)
     }
 
     fn read(&mut self, channel: &str, since: Option<Position>) -> Result<(), ErrorCode> {
@@ -83,7 +86,7 @@ impl<'a, R: Wait, N: Naming, E: Epochs + Drop> Node for CommandHandler<'a, R, N,
         };
         match self.backend.read(&mut begun, self.now) {
             Ok((recovery, pass)) => {
-                let words = self.backend.broker;
+                let words = self.backend.words();
                 self.backend.hub().read_done(words, begun, recovery, pass);
                 Ok(())
             }
@@ -213,7 +216,7 @@ impl<'a, R: Wait, N: Naming, E: Epochs + Drop> Node for CommandHandler<'a, R, N,
     }
 }
 
-impl<'a, R: Wait, N: Naming, E: Epochs + Drop> CommandHandler<'a, R, N, E> {
+impl<'a, B: Backend> CommandHandler<'a, B> {
     /// A turn in which its client is heard is to come from this moment on, in seconds.
     pub(crate) fn is_owed(&mut self, now: u64) {
         if now.saturating_sub(self.heard) > SECONDS_IDLE {

@@ -1,28 +1,26 @@
 //! One connection: a socket whose head is collected, and then a wire and its session.
+use crate::backend::Backend;
 use crate::desk::SessionDesk;
 use crate::leaving::Leaving;
 use crate::socket::Socket;
 use cf_dispatch::is_head_over;
 use cf_queue::Out;
 use cf_session::{TurnEnd, Wire};
-use cf_shard::Naming;
-use cf_stream::Epochs;
 use cf_wire::Gather;
 use std::collections::VecDeque;
 use std::io::ErrorKind;
 use std::mem;
-use std::sync::Wait;
 
 /// The most bytes that a head may have.
 const LONGEST_HEAD: usize = 16_384;
 
 /// What stands at one place of the IO loop.
 #[derive(Drop)]
-pub(crate) enum Connection<'a, R, N: Naming, E: Epochs + Drop> {
+pub(crate) enum Connection<'a, B: Backend> {
     Empty,
     /// The head has not come whole.
     Head(Head),
-    Open(Box<Open<'a, R, N, E>>),
+    Open(Box<Open<'a, B>>),
     /// The last was said to it.
     Leaving(Leaving),
 }
@@ -46,9 +44,9 @@ pub(crate) enum HeadStage {
 
 /// A connection that speaks: its wire, and the desk at which its session sits.
 #[derive(Drop)]
-pub(crate) struct Open<'a, R, N: Naming, E: Epochs + Drop> {
+pub(crate) struct Open<'a, B: Backend> {
     pub(crate) wire: Wire<Gather<Socket>>,
-    pub(crate) desk: SessionDesk<'a, R, N, E>,
+    pub(crate) desk: SessionDesk<'a, B>,
     /// Its last turn in which texts were heard spent the bounds of one.
     pub(crate) is_spent: bool,
 }
@@ -86,7 +84,7 @@ impl Head {
     }
 }
 
-impl<'a, R: Wait, N: Naming, E: Epochs + Drop> Connection<'a, R, N, E> {
+impl<'a, B: Backend> Connection<'a, B> {
     /// What a second brings: whether the connection still stands. One that has sent no connect command
     /// for `stale` seconds doesn't, where that isn't 0.
     pub(crate) fn refresh(&mut self, now: u64, stale: u64) -> bool {
@@ -112,7 +110,7 @@ pub(crate) enum Turned {
     Over,
 }
 
-impl<'a, R: Wait, N: Naming, E: Epochs + Drop> Open<'a, R, N, E> {
+impl<'a, B: Backend> Open<'a, B> {
     // Whether it has no session, so many seconds after it was opened.
     fn is_stale(&self, now: u64, stale: u64) -> bool {
         let client = &self.desk.handler.client;
@@ -132,7 +130,7 @@ impl<'a, R: Wait, N: Naming, E: Epochs + Drop> Open<'a, R, N, E> {
         }
         self.wire.stream_mut().lend(buffer);
         // What the connection kept for what waited is let go, since that is written.
-        drop(mem::replace(buffer, Vec::new(self.desk.handler.backend.alloc)));
+        drop(mem::replace(buffer, Vec::new(self.desk.handler.backend.alloc())));
         self.desk.begin(now, hears);
         let end = self.wire.turn(&mut self.desk);
         let stands = drains(&mut self.wire);

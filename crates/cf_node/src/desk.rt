@@ -12,12 +12,9 @@ use crate::command_handler::CommandHandler;
 use cf_queue::Out;
 use cf_session::laws::idle_can_go_on;
 use cf_session::{Budget, Desk, Node, Session, carry_on, hear_text};
-use cf_shard::Naming;
-use cf_stream::Epochs;
 use std::collections::VecDeque;
 use std::marker::PhantomData;
 use std::mem;
-use std::sync::Wait;
 
 /// What a turn may carry out of a client's texts, in the units of `cf_session::Budget`.
 const UNITS: usize = 96;
@@ -46,18 +43,18 @@ const MOST_TAKES: usize = 32;
 
 /// A client's session between two turns.
 #[derive(Drop)]
-struct Talk<'a, N: Naming> {
+struct Talk<'a, B: Backend> {
     session: Session<'a>,
-    of: PhantomData<N>,
-    ghost tables: { (tables_of session).namespaces ≡ N.namespaces },
+    of: PhantomData<B>,
+    ghost tables: { (tables_of session).namespaces ≡ B.Of.Naming.namespaces },
     ghost between: { is_out (progress_of session) ≡ false },
     ghost asks: { AskStreams (tables_of session).namespaces (progress_of session) } by { AskStreams-prop (tables_of session).namespaces (progress_of session) },
 }
 
-impl<'a, N: Naming> Talk<'a, N> {
+impl<'a, B: Backend> Talk<'a, B> {
     ghost use Rattle.cf_node.specs.Desk.{CarriesOn, Hears};
 
-    fn new<R: Wait, E: Epochs + Drop>(backend: &'a Backend<'a, R, N, E>) -> Talk<'a, N> {
+    fn new(backend: &'a B) -> Talk<'a, B> {
         idle_can_go_on();
         Talk {
             session: backend.session(),
@@ -76,10 +73,7 @@ impl<'a, N: Naming> Talk<'a, N> {
     }
 
     // Carries on what is on its way, by one part. What that takes of a turn's units.
-    fn go_on<R: Wait, E: Epochs + Drop>(
-        &mut self,
-        handler: &mut CommandHandler<'a, R, N, E>,
-    ) -> usize
+    fn go_on(&mut self, handler: &mut CommandHandler<'a, B>) -> usize
         ensures goes { CarriesOn (λ h. h.client.standing.is_over) self.old.session handler.old
             self.new.session handler.new }
         ensures short { is_short self.old.session ≡ true → is_short self.new.session ≡ true }
@@ -92,9 +86,9 @@ impl<'a, N: Naming> Talk<'a, N> {
 
 /// The desk of one connection.
 #[derive(Drop)]
-pub(crate) struct SessionDesk<'a, R, N: Naming, E: Epochs + Drop> {
-    pub(crate) handler: CommandHandler<'a, R, N, E>,
-    talk: Talk<'a, N>,
+pub(crate) struct SessionDesk<'a, B: Backend> {
+    pub(crate) handler: CommandHandler<'a, B>,
+    talk: Talk<'a, B>,
     /// What was taken from the hub for the client and isn't sent yet.
     pub(crate) taken: VecDeque<Out>,
     /// Something may wait in the hub that was not taken.
@@ -109,7 +103,7 @@ pub(crate) struct SessionDesk<'a, R, N: Naming, E: Epochs + Drop> {
     heard_bytes: usize,
 }
 
-impl<'a, R: Wait, N: Naming, E: Epochs + Drop> Desk for SessionDesk<'a, R, N, E> {
+impl<'a, B: Backend> Desk for SessionDesk<'a, B> {
     ghost use Rattle.cf_node.specs.Desk.{Hears, is_ready};
 
     ghost ready = { λ d.
@@ -145,11 +139,11 @@ impl<'a, R: Wait, N: Naming, E: Epochs + Drop> Desk for SessionDesk<'a, R, N, E>
     }
 }
 
-impl<'a, R: Wait, N: Naming, E: Epochs + Drop> SessionDesk<'a, R, N, E> {
+impl<'a, B: Backend> SessionDesk<'a, B> {
     ghost use Rattle.cf_node.specs.Desk.{CarriesOn};
 
-    pub(crate) fn new(backend: &'a Backend<'a, R, N, E>, now: u64) -> SessionDesk<'a, R, N, E> {
-        let alloc = backend.alloc;
+    pub(crate) fn new(backend: &'a B, now: u64) -> SessionDesk<'a, B> {
+        let alloc = backend.alloc();
         SessionDesk {
             handler: CommandHandler {
                 backend,
@@ -256,10 +250,7 @@ impl<'a, R: Wait, N: Naming, E: Epochs + Drop> SessionDesk<'a, R, N, E> {
 }
 
 // Takes what waits in the hub for a client. How many bytes of text that is.
-fn take_over<R: Wait, N: Naming, E: Epochs + Drop>(
-    handler: &CommandHandler<'_, R, N, E>,
-    taken: &mut VecDeque<Out>,
-) -> usize {
+fn take_over<B: Backend>(handler: &CommandHandler<'_, B>, taken: &mut VecDeque<Out>) -> usize {
     let known = taken.len();
     for _ in 0..MOST_TAKES {
         if !handler.take(taken) {

@@ -5,13 +5,11 @@ ghost use Rattle.cf_dispatch.specs.Dispatch.{Dispatches};
 use crate::costs::{Reach, slot_of};
 use crate::gate::{DISPATCHER, Gate};
 use crate::shared::{MANY, Shared};
-use cf_broker::Broker;
 use cf_dispatch::{Mailbox, pass_on};
 use cf_hub::Delivered;
 use cf_link::Receiver;
 use cf_node_hub::NodeHub;
-use cf_shard::{Delivery, Naming};
-use cf_stream::Epochs;
+use cf_shard::{Delivery, Naming, ShardWords};
 use std::sync::atomic::{AtomicU64, Ordering};
 use std::sync::{MutexGuard, Wait};
 use std::thread;
@@ -23,11 +21,11 @@ const LONGEST_SLEEP: u64 = 500;
 
 /// The dispatcher's end of the node's link, and the hub under its lock.
 #[derive(Drop)]
-pub(crate) struct NodeMailbox<'a, R, G, N: Naming, E: Epochs + Drop> {
+pub(crate) struct NodeMailbox<'a, R, G, N: Naming, W> {
     rt: &'a R,
     gate: &'a G,
     receiver: Receiver<Delivery<N>>,
-    broker: &'a Broker<N, E>,
+    words: &'a W,
     shared: &'a Shared<N>,
     // The hub, while more waits to be brought to it.
     hub: Option<MutexGuard<'a, NodeHub<N>>>,
@@ -38,20 +36,20 @@ pub(crate) struct NodeMailbox<'a, R, G, N: Naming, E: Epochs + Drop> {
     reach: Option<&'a Reach>,
 }
 
-impl<'a, R: Wait, G, N: Naming, E: Epochs + Drop> NodeMailbox<'a, R, G, N, E> {
-    /// The mailbox of a node, at its end of the node's link.
+impl<'a, R: Wait, G, N: Naming, W> NodeMailbox<'a, R, G, N, W> {
+    /// The mailbox of a node, at its end of the node's link, and who has the words of the broker's shards.
     pub(crate) fn new(
         rt: &'a R,
         gate: &'a G,
         receiver: Receiver<Delivery<N>>,
-        broker: &'a Broker<N, E>,
+        words: &'a W,
         shared: &'a Shared<N>,
-    ) -> NodeMailbox<'a, R, G, N, E> {
+    ) -> NodeMailbox<'a, R, G, N, W> {
         NodeMailbox {
             rt,
             gate,
             receiver,
-            broker,
+            words,
             shared,
             hub: None,
             met: 0,
@@ -65,7 +63,7 @@ impl<'a, R: Wait, G, N: Naming, E: Epochs + Drop> NodeMailbox<'a, R, G, N, E> {
         mut self,
         node: u8,
         reach: Option<&'a Reach>,
-    ) -> NodeMailbox<'a, R, G, N, E> {
+    ) -> NodeMailbox<'a, R, G, N, W> {
         self.node = node;
         self.reach = reach;
         self
@@ -81,8 +79,8 @@ impl<'a, R: Wait, G, N: Naming, E: Epochs + Drop> NodeMailbox<'a, R, G, N, E> {
     }
 }
 
-impl<'a, R: Wait + Clock, G: Gate, N: Naming, E: Epochs + Drop> Mailbox
-    for NodeMailbox<'a, R, G, N, E> {
+impl<'a, R: Wait + Clock, G: Gate, N: Naming, W: ShardWords<N>> Mailbox
+    for NodeMailbox<'a, R, G, N, W> {
     type Letter = Delivery<N>;
 
     ghost use Rattle.std.specs.Prelude.{◌≡◌, ◌++◌, ◌∷◌, [], MatchOption};
@@ -115,7 +113,7 @@ impl<'a, R: Wait + Clock, G: Gate, N: Naming, E: Epochs + Drop> Mailbox
         };
         let bytes = delivery.publication().body.len();
         let slot = slot_of(delivery.channel());
-        let delivered = hub.deliver(self.broker, delivery);
+        let delivered = hub.deliver(self.words, delivery);
         self.shared.note_brought(delivered.passed, bytes);
         if let Some(reach) = self.reach {
             reach.note(self.node, slot, delivered.passed);

@@ -16,8 +16,6 @@ use cf_health::health_ask;
 use cf_protocol::CloseCode;
 use cf_queue::Out;
 use cf_session::Wire;
-use cf_shard::Naming;
-use cf_stream::Epochs;
 use cf_wire::Gather;
 use mio::Events;
 use mio::event::Event;
@@ -83,10 +81,10 @@ struct Named {
 }
 
 #[derive(Drop)]
-struct IoLoop<'a, R, N: Naming, E: Epochs + Drop> {
-    backend: &'a Backend<'a, R, N, E>,
+struct IoLoop<'a, B: Backend> {
+    backend: &'a B,
     acceptor: Acceptor,
-    places: Vec<Connection<'a, R, N, E>>,
+    places: Vec<Connection<'a, B>>,
     // The places that stand empty.
     free: Vec<usize>,
     // At which place each session of the hub is.
@@ -119,15 +117,16 @@ struct IoLoop<'a, R, N: Naming, E: Epochs + Drop> {
 }
 
 /// Serves until `stop` isn't 0, and then closes all sessions with 3001.
-pub(crate) fn serve<R: Wait + Clock, N: Naming, E: Epochs + Drop, G: Gate>(
+pub(crate) fn serve<R: Wait + Clock, B: Backend, G: Gate>(
+    rt: &R,
     node: u8,
-    backend: &Backend<'_, R, N, E>,
+    backend: &B,
     acceptor: Acceptor,
     stale: u64,
     gate: &G,
     stop: &AtomicU64,
 ) -> io::Result<()> {
-    let alloc = backend.alloc;
+    let alloc = backend.alloc();
     let mut io_loop = IoLoop {
         backend,
         acceptor,
@@ -148,38 +147,35 @@ pub(crate) fn serve<R: Wait + Clock, N: Naming, E: Epochs + Drop, G: Gate>(
         resumed: 0,
         stale,
     };
-    io_loop.run(node, gate, stop)
+    io_loop.run(rt, node, gate, stop)
 }
 
 // A connection whose head is whole: the handshake is answered, or the question whether the node
 // lives. One that speaks gets a desk of its own. Empty where there is no answer, or memory is refused.
-fn opened<'a, R: Wait, N: Naming, E: Epochs + Drop>(
-    backend: &'a Backend<'a, R, N, E>,
-    connection: Connection<'a, R, N, E>,
+fn opened<'a, B: Backend>(
+    backend: &'a B,
+    connection: Connection<'a, B>,
     is_well: bool,
     now: u64,
-) -> Connection<'a, R, N, E> {
+) -> Connection<'a, B> {
     let head = match connection {
         Connection::Head(head) => head,
-        other => {
-            drop(other);
-            return Connection::Empty;
-        }
+        _ => return Connection::Empty,
     };
     // Those who ask by `GET` are answered as who wants a WebSocket.
     let asks = health_ask(head.socket.early.as_slice());
-    let gather = Gather::new(backend.alloc, head.socket, GATHERED);
+    let gather = Gather::new(backend.alloc(), head.socket, GATHERED);
     if let Some(ask) = asks {
         return leaves(Leaving::told(gather, ask.answer(is_well), now));
     }
-    match Wire::accept(backend.alloc, gather) {
+    match Wire::accept(backend.alloc(), gather) {
         Ok(wire) => {
             let open = Open {
                 wire,
                 desk: SessionDesk::new(backend, now),
                 is_spent: false,
             };
-            match Box::new(backend.alloc, open) {
+            match Box::new(backend.alloc(), open) {
                 Ok(open) => Connection::Open(open),
                 Err(_) => Connection::Empty,
             }
@@ -189,9 +185,7 @@ fn opened<'a, R: Wait, N: Naming, E: Epochs + Drop>(
 }
 
 // A connection that is let go, if there is somebody to read what it is told.
-fn leaves<'a, R: Wait, N: Naming, E: Epochs + Drop>(
-    leaving: Option<Leaving>,
-) -> Connection<'a, R, N, E> {
+fn leaves<'a, B: Backend>(leaving: Option<Leaving>) -> Connection<'a, B> {
     match leaving {
         Some(leaving) => Connection::Leaving(leaving),
         None => Connection::Empty,
@@ -212,14 +206,16 @@ fn next_of(queue: &mut FairQueue, holds: bool) -> Option<usize> {
     }
 }
 
-impl<'a, R: Wait, N: Naming, E: Epochs + Drop> IoLoop<'a, R, N, E> {
+impl<'a, B: Backend> IoLoop<'a, B> {
     // Takes turns until `stop` isn't 0, and then closes all sessions.
-    fn run<G: Gate>(&mut self, node: u8, gate: &G, stop: &AtomicU64) -> io::Result<()>
-    where
-        R: Clock,
-    {
-        let mut events = Events::with_capacity(self.backend.alloc, MOST_EVENTS)?;
-        let rt = self.backend.rt;
+    fn run<R: Wait + Clock, G: Gate>(
+        &mut self,
+        rt: &R,
+        node: u8,
+        gate: &G,
+        stop: &AtomicU64,
+    ) -> io::Result<()> {
+        let mut events = Events::with_capacity(self.backend.alloc(), MOST_EVENTS)?;
         let mut turn: u64 = 0;
         for _ in rt.forever() {
             if stop.load(Ordering::SeqCst) != 0 {
@@ -273,7 +269,7 @@ impl<'a, R: Wait, N: Naming, E: Epochs + Drop> IoLoop<'a, R, N, E> {
             self.resumed = now;
         }
         self.now = now;
-        self.backend.shared.look();
+        self.backend.shared().look();
         let mut count: usize = 0;
         for event in events {
             count = count.saturating_add(1);
@@ -288,7 +284,7 @@ impl<'a, R: Wait, N: Naming, E: Epochs + Drop> IoLoop<'a, R, N, E> {
         self.serve_dear();
         self.serve_fresh();
         if !self.is_behind {
-            self.backend.shared.catch_up();
+            self.backend.shared().catch_up();
         }
         if self.seconds.turn_ends(now, count >= MOST_EVENTS) {
             self.on_second();
@@ -444,10 +440,10 @@ impl<'a, R: Wait, N: Naming, E: Epochs + Drop> IoLoop<'a, R, N, E> {
         match self.places.get_mut(place) {
             Some(connection) if is_registered => {
                 let head = Connection::Head(Head {
-                    socket: Socket::new(self.backend.alloc, stream),
+                    socket: Socket::new(self.backend.alloc(), stream),
                     accepted: self.seconds.done(),
                 });
-                drop(mem::replace(connection, head));
+                *connection = head;
             }
             _ => {
                 let _ = self.free.push(place);
@@ -556,10 +552,10 @@ impl<'a, R: Wait, N: Naming, E: Epochs + Drop> IoLoop<'a, R, N, E> {
             return;
         };
         let head = mem::replace(connection, Connection::Empty);
-        let is_well = self.backend.shared.is_well(self.now)
+        let is_well = self.backend.shared().is_well(self.now)
             || self.now.saturating_sub(self.resumed) <= SECONDS_HELD_UP;
         let answered = opened(self.backend, head, is_well, self.now);
-        drop(mem::replace(connection, answered));
+        *connection = answered;
         if matches!(connection, Connection::Empty) {
             self.vacate(place);
         } else {
@@ -617,10 +613,10 @@ impl<'a, R: Wait, N: Naming, E: Epochs + Drop> IoLoop<'a, R, N, E> {
             Connection::Open(open) => {
                 let Open { wire, mut desk, .. } = Box::into_inner(open);
                 let leaving = Leaving::new(wire.into_stream(), self.now);
-                drop(mem::replace(connection, Connection::Leaving(leaving)));
+                *connection = Connection::Leaving(leaving);
                 desk.handler.give_up();
             }
-            other => drop(mem::replace(connection, other)),
+            other => *connection = other,
         }
         self.owe(place);
     }
@@ -637,7 +633,7 @@ impl<'a, R: Wait, N: Naming, E: Epochs + Drop> IoLoop<'a, R, N, E> {
                 drop(wire);
                 desk.handler.give_up();
             }
-            unheard => drop(unheard),
+            Connection::Head(_) | Connection::Leaving(_) => {}
         }
         self.vacate(place);
     }
@@ -737,7 +733,7 @@ fn place_of(owners: &[usize], session: u32) -> usize {
     owners.get(session as usize).copied().unwrap_or(0)
 }
 
-impl<'a, R: Wait, N: Naming, E: Epochs + Drop> Outlets for IoLoop<'a, R, N, E> {
+impl<'a, B: Backend> Outlets for IoLoop<'a, B> {
     // What a socket has room for is nothing that a contract can name.
     ghost frees = { λ _ _ _. Unit {0} };
 
@@ -756,7 +752,7 @@ impl<'a, R: Wait, N: Naming, E: Epochs + Drop> Outlets for IoLoop<'a, R, N, E> {
     }
 
     fn lend(&mut self, session: u32) -> VecDeque<Out> {
-        let nothing = VecDeque::new(self.backend.alloc);
+        let nothing = VecDeque::new(self.backend.alloc());
         let place = place_of(&self.owners, session);
         match self.places.get_mut(place) {
             Some(Connection::Open(open)) => mem::replace(&mut open.desk.taken, nothing),

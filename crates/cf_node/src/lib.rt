@@ -18,6 +18,7 @@ mod fault_counts;
 mod gate;
 mod io_loop;
 mod leaving;
+mod live_backend;
 mod node;
 mod rounds;
 mod shared;

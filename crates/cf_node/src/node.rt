@@ -2,12 +2,12 @@
 ghost use Rattle.std.specs.Prelude.{◌≡◌};
 
 use crate::acceptor::Acceptor;
-use crate::backend::Backend;
 use crate::costs::Reach;
 use crate::dispatcher::{NodeMailbox, dispatch};
 use crate::fault_counts::FaultCounts;
 use crate::gate::Gate;
 use crate::io_loop::serve;
+use crate::live_backend::LiveBackend;
 use crate::shared::Shared;
 use crate::window::Window;
 use cf_broker::{Broker, Passes};
@@ -150,7 +150,7 @@ impl<'a, N: Naming> Node<'a, N> {
         let shared = Shared::new(rt.alloc(), node, setup.boot, waker, seen);
         let shared = &shared;
         let window = Window::new(rt.alloc(), broker.nodes())?;
-        let backend = Backend {
+        let backend = LiveBackend {
             rt,
             alloc: rt.alloc(),
             setup,
@@ -167,7 +167,7 @@ impl<'a, N: Naming> Node<'a, N> {
                 dispatch(rt, node, &mut mailbox, gate, stop);
             };
             let served = match scope.spawn(brings) {
-                Ok(_) => serve(node, backend, acceptor, stale, gate, stop),
+                Ok(_) => serve(rt, node, backend, acceptor, stale, gate, stop),
                 Err(refused) => Err(io::Error::from(refused)),
             };
             stop.store(1, Ordering::SeqCst);

@@ -1,17 +1,15 @@
 //! What is looked after every 25 seconds for each client: where its subscriptions stand, and that
 //! it is present.
 use crate::attached_client::Present;
+use crate::backend::Backend;
 use crate::command_handler::CommandHandler;
 use cf_dispatch::{goes_on, is_close_over, mark_after};
 use cf_protocol::CloseCode;
-use cf_shard::Naming;
-use cf_stream::Epochs;
-use std::sync::Wait;
 
 /// How many seconds lie between two rounds of a client.
 const ROUND: u64 = 25;
 
-impl<'a, R: Wait, N: Naming, E: Epochs + Drop> CommandHandler<'a, R, N, E> {
+impl<'a, B: Backend> CommandHandler<'a, B> {
     /// What a second brings: where the session is over, whether its connection still stands; else a
     /// round, where the client's last was 25 seconds ago: the position of each of its subscriptions
     /// is checked, and it is present again in each channel that it still has.
