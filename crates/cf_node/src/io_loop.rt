@@ -9,6 +9,7 @@ use crate::desk::SessionDesk;
 use crate::fault_counts::Fault;
 use crate::gate::{Gate, IO_LOOP};
 use crate::leaving::Leaving;
+use crate::live_backend::LiveBackend;
 use crate::socket::Socket;
 use cf_dispatch::{Outlets, SESSIONS_AT_ONCE, Seconds, take_batch};
 use cf_fair::FairQueue;
@@ -16,6 +17,8 @@ use cf_health::health_ask;
 use cf_protocol::CloseCode;
 use cf_queue::Out;
 use cf_session::Wire;
+use cf_shard::Naming;
+use cf_stream::Epochs;
 use cf_wire::Gather;
 use mio::Events;
 use mio::event::Event;
@@ -117,10 +120,10 @@ struct IoLoop<'a, B: Backend> {
 }
 
 /// Serves until `stop` isn't 0, and then closes all sessions with 3001.
-pub(crate) fn serve<R: Wait + Clock, B: Backend, G: Gate>(
+pub(crate) fn serve<R: Wait + Clock, N: Naming, E: Epochs + Drop, G: Gate>(
     rt: &R,
     node: u8,
-    backend: &B,
+    backend: &LiveBackend<'_, R, N, E>,
     acceptor: Acceptor,
     stale: u64,
     gate: &G,
