@@ -2,15 +2,17 @@
 //!
 //! `attach` gives the number of a session; `begin N C` begins with a channel, `read N C` and `finish N C` go on, and `leave N C` ends
 //! it; `on N C` asks whether it is finished. `deliver O` brings publication O of `news`; `check N C O` looks whether a stream that
-//! stands at O is followed. `say N TEXT COUNT` says a text so often; `take N` is what the client gets next; `turn` is whose turn it
-//! is. `tick T` and `pong N` are done at their moment, and so are `close N` and `detach N`, which answers how many channels went.
+//! stands at O is followed. `say N TEXT COUNT` says a text so often; `take N` is what the client gets next, and `take_all N` how much
+//! it gets at once, in a list that has no room yet, and why no more; `turn` is whose turn it is. `tick T` and `pong N` are done at their moment, and so are `close N` and `detach N`, which answers how many channels went.
 use crate::publications::place;
 use crate::rows::{Subject, Table, Told, call_of};
+use cf_dispatch::take_for;
 use cf_hub::Hub;
 use cf_protocol::{Epoch, Publication};
 use cf_queue::Out;
 use cf_stream::Recovery;
 use std::alloc::{AllocError, Global};
+use std::collections::VecDeque;
 use std::process::Abort;
 
 /// A step, `WORD NUMBER NAME SIZE`, of which what isn't needed is left out at the end.
@@ -74,6 +76,14 @@ fn tell_taken(told: &mut Told, hub: &mut Hub, session: u32) {
     if is_closed {
         told.tell(" closed");
     }
+}
+
+/// Tells how much is taken for a client at once, in a list that has no room yet, and why no more.
+fn tell_all_taken(told: &mut Told, hub: &mut Hub, alloc: Global, session: u32) {
+    let mut taken = VecDeque::new(alloc);
+    let why = take_for(hub, session, true, &mut taken);
+    told.tell(taken.len());
+    told.tell(format_args!(" {why:?}"));
 }
 
 /// A client of ann comes.
@@ -142,6 +152,7 @@ fn tell_outcome(told: &mut Told, hub: &mut Hub, alloc: Global, step: Step<'_>) {
         "deliver" => deliver(told, hub, alloc, u64::from(step.number)),
         "say" => say(told, hub, alloc, step),
         "take" => tell_taken(told, hub, step.number),
+        "take_all" => tell_all_taken(told, hub, alloc, step.number),
         "detach" => told.tell(hub.detach(step.number)),
         "turn" => told.tell(format_args!("{:?}", hub.next_with_output())),
         "close" | "pong" | "tick" => tell_done(told, hub, step),
@@ -226,6 +237,10 @@ check 1 chat 1 => Nothing
 check 1 news 1; check 1 news 0; check 1 news 1; check 1 news 1; take 1 => Behind; Fine; Behind; Ended; end
 deliver 2; take 0 => Delivered { passed: 0, kept: 0, dropped: 0, ended: 1, closed: 0 }; end
 deliver 3 => Delivered { passed: 0, kept: 0, dropped: 0, ended: 0, closed: 0 }
+
+# taken_into_an_empty_list: memory is asked for where what waits is taken at once
+attach; begin 0 news; read 0 news; finish 0 news; deliver 1 => 0; begun; yes; yes; Delivered { passed: 1, kept: 0, dropped: 0, ended: 0, closed: 0 }
+take_all 0; take 0; take_all 0; take_all 9 => 2 All; nothing; 0 All; 0 All
 
 # as much waits for session 0 as may
 attach; begin 0 news; read 0 news; finish 0 news; take 0 => 0; begun; yes; yes; reply
