@@ -2,6 +2,7 @@
 use std::alloc::Global;
 use std::io::{Read, Write};
 use std::net::{Net, SocketAddr, TcpStream};
+use std::str;
 
 const HANDSHAKE: &[u8] =
     b"GET / HTTP/1.1\r\nHost: localhost\r\nUpgrade: websocket\r\nConnection: Upgrade\r\n\
@@ -91,6 +92,17 @@ impl<S: Read + Write> Peer<S> {
             }
         }
         false
+    }
+
+    /// The next text.
+    pub(super) fn next_text(&mut self) -> &str {
+        if !self.read_frame() {
+            return "the stream failed";
+        }
+        match str::from_utf8(self.bytes.get(2..).unwrap_or(&[])) {
+            Ok(text) => text,
+            Err(_) => "no UTF-8",
+        }
     }
 
     /// The next text is this one.

@@ -1,8 +1,9 @@
-//! What two nodes do, as rows: ann and cat are clients of node 0, and bob is one of node 1.
+//! What two nodes do, as rows `DONE => COMES`: ann and cat are clients of node 0, and bob is one of node 1.
 //!
-//! `ann > TEXT` is what she says, and `ann < TEXT` what she gets next. `hold` holds the dispatcher of node 0 until `let go`, `at NOW`
+//! `ann says TEXT` gives nothing, and `ann hears` what she gets next. `hold` holds the dispatcher of node 0 until `let go`, `at NOW`
 //! is the moment from then on, and `turns` waits until the IO loop of node 0 has begun two turns more. `well` waits until node 0
-//! says that it is, and `health WORD` is what it answers to who asks.
+//! says that it is, and `health` is what it answers to who asks. A row that isn't so ends the test, since what comes behind it might
+//! be waited for without end.
 use super::hand::Hand;
 use super::nodes::default_settings;
 use super::peer::{Peer, answer_to, connect};
@@ -58,51 +59,75 @@ fn connect_all<R: Net + AllocGlobal>(
     Some(peers)
 }
 
-// Whether a client says a text, or gets it.
-fn is_spoken<S: Read + Write>(peers: &mut [Peer<S>], name: &str, row: &str) -> bool {
+// Yes or no.
+fn word_of(is_so: bool) -> &'static str {
+    if is_so { "yes" } else { "no" }
+}
+
+// What the node answers to who asks whether it lives.
+fn health_of<R: Net>(rt: &R, alloc: Global, address: SocketAddr) -> &'static str {
+    match answer_to(rt, alloc, address, HEALTH) {
+        Some(told) if told.as_slice() == WELL => "ok",
+        Some(told) if told.as_slice() == STUCK => "stuck",
+        Some(_) => "another answer",
+        None => "no answer",
+    }
+}
+
+// What comes of what a client does.
+fn spoken<'p, S: Read + Write>(peer: &'p mut Peer<S>, done: &str) -> &'p str {
+    if done == "hears" {
+        return peer.next_text();
+    }
+    match done.strip_prefix("says ") {
+        Some(text) if peer.say(text) => "nothing",
+        Some(_) => "the stream failed",
+        None => "no such row",
+    }
+}
+
+// What comes of a moment, or of what a client does.
+fn said<'p, S: Read + Write>(hand: &Hand, peers: &'p mut [Peer<S>], done: &str) -> &'p str {
+    let Some((name, rest)) = done.split_once(' ') else {
+        return "no such row";
+    };
+    if name == "at" {
+        let Ok(moment) = rest.parse::<u64>() else {
+            return "no moment";
+        };
+        hand.set_moment(moment);
+        return "nothing";
+    }
     let number = match name {
         "ann" => 0,
         "cat" => 1,
         _ => 2,
     };
-    match (peers.get_mut(number), row.split_once(' ')) {
-        (Some(peer), Some((">", text))) => peer.say(text),
-        (Some(peer), Some(("<", text))) => peer.hears(text),
-        _ => false,
+    match peers.get_mut(number) {
+        Some(peer) => spoken(peer, rest),
+        None => "nobody",
     }
 }
 
-// Whether a row is so.
-fn is_row<R: Net + Clock + AllocGlobal>(
+// What comes of what a row does.
+fn outcome<'p, R: Net + Clock + AllocGlobal>(
     rt: &R,
     hand: &Hand,
     address: SocketAddr,
-    peers: &mut [Peer<R::Stream>],
-    row: &str,
-) -> bool {
-    match row {
-        "hold" => return hand.hold(),
-        "let go" => hand.let_go(),
-        "turns" => return hand.two_turns(),
-        "well" => return becomes_well(rt, rt.alloc(), address),
-        "health ok" => return is_told(rt, rt.alloc(), address, WELL),
-        "health stuck" => return is_told(rt, rt.alloc(), address, STUCK),
-        _ => return is_said(hand, peers, row),
+    peers: &'p mut [Peer<R::Stream>],
+    done: &str,
+) -> &'p str {
+    match done {
+        "hold" => word_of(hand.hold()),
+        "let go" => {
+            hand.let_go();
+            "nothing"
+        }
+        "turns" => word_of(hand.two_turns()),
+        "well" => word_of(becomes_well(rt, rt.alloc(), address)),
+        "health" => health_of(rt, rt.alloc(), address),
+        _ => said(hand, peers, done),
     }
-    true
-}
-
-// Whether it is a moment from now on, or a client says a text or gets it.
-fn is_said<S: Read + Write>(hand: &Hand, peers: &mut [Peer<S>], row: &str) -> bool {
-    match row.split_once(' ') {
-        Some(("at", now)) => match now.parse::<u64>() {
-            Ok(moment) => hand.set_moment(moment),
-            Err(_) => return false,
-        },
-        Some((name, spoken)) => return is_spoken(peers, name, spoken),
-        None => return false,
-    }
-    true
 }
 
 /// The rows are so, in their order, once the three clients are connected.
@@ -113,22 +138,26 @@ pub(super) fn play<R: Net + Clock + Abort + AllocGlobal>(
     addresses: (SocketAddr, SocketAddr),
 ) {
     let mut peers = connect_all(rt, addresses).expect(rt, "connections");
+    let mut number = 0_u32;
     for row in rows.lines() {
+        number = number.saturating_add(1);
+        let (done, wanted) = row.split_once(" => ").unwrap_or((row, "an arrow"));
+        let got = outcome(rt, hand, addresses.0, peers.as_mut_slice(), done);
         assert!(rt;
-            is_row(rt, hand, addresses.0, peers.as_mut_slice(), row),
-            "{row}"
+            got == wanted,
+            "tests/script row {number}, {done}: wanted {wanted}, got {got}"
         );
     }
 }
 
-const MEETING: &str = r#"ann > {"id":2,"subscribe":{"channel":"news"}}
-ann < {"id":2,"subscribe":{"epoch":"7x13x1","positioned":true,"recoverable":true}}
-bob > {"id":2,"subscribe":{"channel":"news"}}
-bob < {"id":2,"subscribe":{"epoch":"7x13x1","positioned":true,"recoverable":true}}
-cat > {"id":3,"publish":{"channel":"news","data":"hello"}}
-cat < {"id":3,"publish":{}}
-bob < {"push":{"channel":"news","pub":{"data":"hello","info":{"client":"0-7-2"},"offset":1}}}
-ann < {"push":{"channel":"news","pub":{"data":"hello","info":{"client":"0-7-2"},"offset":1}}}"#;
+const MEETING: &str = r#"ann says {"id":2,"subscribe":{"channel":"news"}} => nothing
+ann hears => {"id":2,"subscribe":{"epoch":"7x13x1","positioned":true,"recoverable":true}}
+bob says {"id":2,"subscribe":{"channel":"news"}} => nothing
+bob hears => {"id":2,"subscribe":{"epoch":"7x13x1","positioned":true,"recoverable":true}}
+cat says {"id":3,"publish":{"channel":"news","data":"hello"}} => nothing
+cat hears => {"id":3,"publish":{}}
+bob hears => {"push":{"channel":"news","pub":{"data":"hello","info":{"client":"0-7-2"},"offset":1}}}
+ann hears => {"push":{"channel":"news","pub":{"data":"hello","info":{"client":"0-7-2"},"offset":1}}}"#;
 
 // Each of the four workers waits inside its first turn for the other three; then a publish reaches a client on each node.
 #[test]
@@ -140,46 +169,46 @@ fn gate_two_nodes(rt: HostRuntime) {
     two_nodes::<Brand, HostRuntime>(&rt, words, &settings, 1024, &hand, task);
 }
 
-const SECONDS: &str = r#"ann > {"id":2,"subscribe":{"channel":"news"}}
-ann < {"id":2,"subscribe":{"epoch":"7x13x1","positioned":true,"recoverable":true}}
-ann > {"id":3,"subscribe":{"channel":"b"}}
-ann < {"id":3,"subscribe":{"epoch":"7x2x1","positioned":true,"recoverable":true}}
-hold
-cat > {"id":2,"publish":{"channel":"news","data":1}}
-cat < {"id":2,"publish":{}}
-cat > {"id":3,"publish":{"channel":"news","data":2}}
-cat < {"id":3,"publish":{}}
-let go
-ann < {"push":{"channel":"news","pub":{"data":1,"info":{"client":"0-7-2"},"offset":1}}}
-turns
-at 25
-ann < {}
-ann > {}
-ann > {"id":9,"ping":{}}
-ann < {"id":9,"ping":{}}
-turns
-at 50
-ann < {}
-ann > {}
-ann < {"push":{"channel":"news","unsubscribe":{"code":2500,"reason":"insufficient state"}}}
-ann > {"id":9,"ping":{}}
-ann < {"id":9,"ping":{}}
-turns
-at 70
-ann > {"id":9,"ping":{}}
-ann < {"id":9,"ping":{}}
-turns
-ann > {"id":4,"presence":{"channel":"b"}}
-ann < {"id":4,"presence":{"presence":{"0-7-1":{"client":"0-7-1"}}}}
-well
-hold
-at 72
-turns
-health ok
-at 73
-turns
-health stuck
-let go"#;
+const SECONDS: &str = r#"ann says {"id":2,"subscribe":{"channel":"news"}} => nothing
+ann hears => {"id":2,"subscribe":{"epoch":"7x13x1","positioned":true,"recoverable":true}}
+ann says {"id":3,"subscribe":{"channel":"b"}} => nothing
+ann hears => {"id":3,"subscribe":{"epoch":"7x2x1","positioned":true,"recoverable":true}}
+hold => yes
+cat says {"id":2,"publish":{"channel":"news","data":1}} => nothing
+cat hears => {"id":2,"publish":{}}
+cat says {"id":3,"publish":{"channel":"news","data":2}} => nothing
+cat hears => {"id":3,"publish":{}}
+let go => nothing
+ann hears => {"push":{"channel":"news","pub":{"data":1,"info":{"client":"0-7-2"},"offset":1}}}
+turns => yes
+at 25 => nothing
+ann hears => {}
+ann says {} => nothing
+ann says {"id":9,"ping":{}} => nothing
+ann hears => {"id":9,"ping":{}}
+turns => yes
+at 50 => nothing
+ann hears => {}
+ann says {} => nothing
+ann hears => {"push":{"channel":"news","unsubscribe":{"code":2500,"reason":"insufficient state"}}}
+ann says {"id":9,"ping":{}} => nothing
+ann hears => {"id":9,"ping":{}}
+turns => yes
+at 70 => nothing
+ann says {"id":9,"ping":{}} => nothing
+ann hears => {"id":9,"ping":{}}
+turns => yes
+ann says {"id":4,"presence":{"channel":"b"}} => nothing
+ann hears => {"id":4,"presence":{"presence":{"0-7-1":{"client":"0-7-1"}}}}
+well => yes
+hold => yes
+at 72 => nothing
+turns => yes
+health => ok
+at 73 => nothing
+turns => yes
+health => stuck
+let go => nothing"#;
 
 // Over a link with room for one a client misses the second of two publications. It is pinged every 25 seconds, told at its second
 // check what it missed, and present 70 seconds on. The node is well for two seconds after its dispatcher's last turn.
