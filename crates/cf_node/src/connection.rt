@@ -93,7 +93,7 @@ impl<'a, B: Backend> Connection<'a, B> {
             Connection::Head(head) => !is_head_over(head.accepted, now),
             Connection::Open(open) if open.is_stale(now, stale) => false,
             Connection::Open(open) => open.desk.handler.refresh(now),
-            Connection::Leaving(leaving) => !leaving.is_over(now),
+            Connection::Leaving(leaving) => leaving.refresh(now),
         }
     }
 }

@@ -615,7 +615,7 @@ impl<'a, B: Backend> IoLoop<'a, B> {
         match mem::replace(connection, Connection::Empty) {
             Connection::Open(open) => {
                 let Open { wire, mut desk, .. } = Box::into_inner(open);
-                let leaving = Leaving::new(wire.into_stream(), self.now);
+                let leaving = Leaving::closed(wire, self.now);
                 drop(mem::replace(connection, Connection::Leaving(leaving)));
                 desk.handler.give_up();
             }

@@ -1,5 +1,6 @@
 //! A WebSocket, turn by turn.
 ghost use Rattle.std.specs.Prelude.{◌≡◌, ◌<◌, true, false, None, Some, Ok, OnOk, IfErr};
+ghost use Rattle.tungstenite.specs.Connection.{can_read};
 ghost use Rattle.tungstenite.specs.Content.{close};
 ghost use Rattle.tungstenite.specs.Socket.{Flushed, Reads, Socket, close_of};
 ghost use Rattle.cf_queue.specs.declared.queue.Out.TheVariants as out;
@@ -155,6 +156,13 @@ impl<S: Read + Write + Drop> Wire<S> {
             Stage::Unflushed(_) => true,
             _ => false,
         }
+    }
+
+    /// Whether the peer may still send: its close wasn't read, and nothing that is no frame.
+    pub fn may_hear(&self) -> bool
+        ensures { result ≡ can_read self.now.socket.conn.state }
+    {
+        self.socket.can_read()
     }
 
     /// The stream.
