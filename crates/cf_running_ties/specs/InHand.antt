@@ -7,7 +7,7 @@ use Rattle.cf_protocol.specs.LogEntry.Entry.{Publish as PublishEntry}
 use Rattle.cf_protocol.specs.Note.{Fails, Left, Listed, Lists, Note, Put}
 use Rattle.cf_protocol.specs.Outgoing.{Answer as Reply, Outcome}
 use Rattle.cf_protocol.specs.declared.codes.ErrorCode.{ErrorCode}
-use Rattle.cf_model.specs.SessionState.{is_off}
+use Rattle.cf_model.specs.Sessions.{is_off}
 use Rattle.cf_session.specs.Calls.{Answer, History as ListCall, Leave, Publish as PublishCall}
 use Rattle.cf_session.specs.CommandScripts.{after_lost, after_read, replies, to_finish, to_read}
 use Rattle.cf_session.specs.Script.{Ask, Say, Script}

@@ -5,9 +5,9 @@ use Rattle.std.specs.Cmp.Lexicographic.{bytes_decides}
 use Rattle.std.specs.Str.{bytes_eq}
 use Rattle.cf_protocol.specs.Note.{Note, Reading}
 use Rattle.cf_protocol.specs.Position.{Position}
-use Rattle.cf_model.specs.Verdict.{Verdict, Drop, Pass, Insufficient, verdict}
-use Rattle.cf_model.specs.PositionCheck.{Checked, Fine, Behind, Ended, position_check}
-use Rattle.cf_model.specs.SessionState.{Off, Asked, Ready, On, by_check, by_verdict, check_at, checks, closes, closes_now, come_at, comes, finish_at, finish_notes, finished, finishes, is_off, leaves, most_waiting, push, put_sub, read_at, reads, says, slow, takes_front}
+use Rattle.cf_model.specs.Recovery.{Verdict, Drop, Pass, Insufficient, verdict}
+use Rattle.cf_model.specs.Recovery.{Checked, Fine, Behind, Ended, position_check}
+use Rattle.cf_model.specs.Sessions.{Off, Asked, Ready, On, by_check, by_verdict, check_at, checks, closes, closes_now, come_at, comes, finish_at, finish_notes, finished, finishes, is_off, leaves, most_waiting, push, put_sub, read_at, reads, says, slow, takes_front}
 use Rattle.cf_machine.specs.Session.{Session, Sub, Words}
 use Rattle.cf_world.specs.NodesTie.{IsShutOff}
 

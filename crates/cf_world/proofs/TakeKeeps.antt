@@ -7,7 +7,7 @@ use Rattle.cf_protocol.specs.Note.{Note, Reply, Pub, End, Fails, Put as PutDone,
 use Rattle.cf_protocol.specs.Outgoing.{Outcome, Connected, Subscribed, Unsubscribed, Published, Present, Counted, Past, Pinged, Failed, Publication, Unsubscribe, Outgoing, Ping, Answer, Push}
 use Rattle.cf_client.specs.AppItem.{AppItem}
 use Rattle.cf_client.specs.ClientCalls.{Call, State, Takes, TakesAnswer, TakesEnd, TakesPublication, answered, channel_under, moves}
-use Rattle.cf_model.specs.ClientState.{Mode, Idle, Asking, Live}
+use Rattle.cf_model.specs.Clients.{Mode, Idle, Asking, Live}
 use Rattle.cf_client.specs.OneMeaning.{CallsAt}
 use Rattle.cf_world.specs.ClientTie.{IsOwn}
 
