@@ -9,7 +9,6 @@ use crate::desk::SessionDesk;
 use crate::fault_counts::Fault;
 use crate::gate::{Gate, IO_LOOP};
 use crate::leaving::Leaving;
-use crate::live_backend::LiveBackend;
 use crate::socket::Socket;
 use cf_dispatch::{Outlets, SESSIONS_AT_ONCE, Seconds, take_batch};
 use cf_fair::FairQueue;
@@ -17,8 +16,6 @@ use cf_health::health_ask;
 use cf_protocol::CloseCode;
 use cf_queue::Out;
 use cf_session::Wire;
-use cf_shard::Naming;
-use cf_stream::Epochs;
 use cf_wire::Gather;
 use mio::Events;
 use mio::event::Event;
@@ -120,10 +117,10 @@ struct IoLoop<'a, B: Backend> {
 }
 
 /// Serves until `stop` isn't 0, and then closes all sessions with 3001.
-pub(crate) fn serve<R: Wait + Clock, N: Naming, E: Epochs + Drop, G: Gate>(
+pub(crate) fn serve<R: Wait + Clock, B: Backend, G: Gate>(
     rt: &R,
     node: u8,
-    backend: &LiveBackend<'_, R, N, E>,
+    backend: &B,
     acceptor: Acceptor,
     stale: u64,
     gate: &G,
@@ -150,7 +147,21 @@ pub(crate) fn serve<R: Wait + Clock, N: Naming, E: Epochs + Drop, G: Gate>(
         resumed: 0,
         stale,
     };
-    io_loop.run(rt, node, gate, stop)
+    let served = io_loop.run(rt, node, gate, stop);
+    let IoLoop { places, .. } = io_loop;
+    let_go(places);
+    served
+}
+
+// The connections of a loop that has ended are over.
+fn let_go<B: Backend>(mut places: Vec<Connection<'_, B>>) {
+    while let Some(connection) = places.pop() {
+        match connection {
+            Connection::Empty => {}
+            Connection::Head(_) | Connection::Open(_) | Connection::Leaving(_) => {}
+        }
+    }
+    places.destroy_empty();
 }
 
 // A connection whose head is whole: the handshake is answered, or the question whether the node

@@ -1,5 +1,6 @@
 //! A node, and what it is set up with.
 ghost use Rattle.std.specs.Prelude.{◌≡◌};
+ghost use denote.Param.Send.{IsSend, IsSync};
 
 use crate::acceptor::Acceptor;
 use crate::costs::Reach;
@@ -160,18 +161,27 @@ impl<'a, N: Naming> Node<'a, N> {
             window: RefCell::new(window),
         };
         let backend = &backend;
-        thread::scope(thread::scope_env(), rt, |scope| {
-            let brings = move || {
-                let mailbox = NodeMailbox::new(rt, gate, receiver, broker, shared);
-                let mut mailbox = mailbox.noting(node, reach);
-                dispatch(rt, node, &mut mailbox, gate, stop);
-            };
-            let served = match scope.spawn(brings) {
-                Ok(_) => serve(rt, node, backend, acceptor, stale, gate, stop),
-                Err(refused) => Err(io::Error::from(refused)),
-            };
-            stop.store(1, Ordering::SeqCst);
-            served
-        })
+        thread::scope(
+            thread::scope_env(),
+            rt,
+            // What it calls requires these, which the prover doesn't take from its body.
+            |scope|
+                requires send { IsSend N.row }
+                requires sync { IsSync N.row }
+                requires epochs { IsSend E.row }
+            {
+                let brings = move || {
+                    let mailbox = NodeMailbox::new(rt, gate, receiver, broker, shared);
+                    let mut mailbox = mailbox.noting(node, reach);
+                    dispatch(rt, node, &mut mailbox, gate, stop);
+                };
+                let served = match scope.spawn(brings) {
+                    Ok(_) => serve(rt, node, backend, acceptor, stale, gate, stop),
+                    Err(refused) => Err(io::Error::from(refused)),
+                };
+                stop.store(1, Ordering::SeqCst);
+                served
+            },
+        )
     }
 }
