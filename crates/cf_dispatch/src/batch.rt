@@ -2,8 +2,9 @@
 ghost use Rattle.cf_dispatch.specs.Batch.{TakesAt, TakesBatch, most_at_once};
 
 use crate::outlet::take_for;
-use cf_hub::Hub;
+use cf_node_hub::NodeHub;
 use cf_queue::Out;
+use cf_shard::Naming;
 use std::collections::VecDeque;
 
 /// For so many sessions what waits is taken under one lock of the hub.
@@ -38,8 +39,8 @@ pub trait Outlets {
 
 /// Takes what waits for up to 64 sessions, in the order in which the hub names them: the first first, behind what was taken
 /// before, and nothing for a client whose wire isn't free.
-pub fn take_batch<O: Outlets>(hub: &mut Hub, outlets: &mut O)
-    ensures { TakesBatch O.frees O.lends O.gets most_at_once hub.old hub.new outlets.old
+pub fn take_batch<N: Naming, O: Outlets>(hub: &mut NodeHub<N>, outlets: &mut O)
+    ensures { TakesBatch O.frees O.lends O.gets most_at_once hub.old.node hub.new.node outlets.old
         outlets.new }
 {
     for _named in 0..SESSIONS_AT_ONCE {
@@ -51,8 +52,9 @@ pub fn take_batch<O: Outlets>(hub: &mut Hub, outlets: &mut O)
 }
 
 // Takes what waits for one session, where its client's wire is free.
-fn take_at<O: Outlets>(hub: &mut Hub, outlets: &mut O, session: u32)
-    ensures { TakesAt O.frees O.lends O.gets session hub.old hub.new outlets.old outlets.new }
+fn take_at<N: Naming, O: Outlets>(hub: &mut NodeHub<N>, outlets: &mut O, session: u32)
+    ensures { TakesAt O.frees O.lends O.gets session hub.old.node hub.new.node outlets.old
+        outlets.new }
 {
     let is_free = outlets.is_free(session);
     let mut taken = outlets.lend(session);

@@ -3,8 +3,9 @@ ghost use Rattle.std.specs.Prelude.{◌≡◌, ◌≤◌, ◌<◌, ◌↔◌, []
 ghost use Rattle.std.specs.VecDeque.{deque_capacity, deque_len};
 ghost use Rattle.cf_dispatch.specs.Outlet.{IsAtLimit, IsFull, KeepsRoom, Takes, bytes_in, leaves_more, waits_at};
 
-use cf_hub::Hub;
+use cf_node_hub::NodeHub;
 use cf_queue::Out;
+use cf_shard::Naming;
 use std::collections::VecDeque;
 
 /// So many bytes of texts are taken from the hub at once, what the gathering stream takes without a write, or as many items.
@@ -37,11 +38,16 @@ impl Taken {
 
 /// Takes what waits for a session, the first first, and puts it behind what was taken for it before, until nothing waits or
 /// 65,536 bytes of texts, or as many items, were taken. Where its wire isn't free nothing is taken.
-pub fn take_for(hub: &mut Hub, session: u32, is_free: bool, taken: &mut VecDeque<Out>) -> Taken
-    ensures takes { Takes session hub.old hub.new taken.old.items taken.new.items }
+pub fn take_for<N: Naming>(
+    hub: &mut NodeHub<N>,
+    session: u32,
+    is_free: bool,
+    taken: &mut VecDeque<Out>,
+) -> Taken
+    ensures takes { Takes session hub.old.node hub.new.node taken.old.items taken.new.items }
     ensures nothing { IsFalse is_free → (hub.new ≡ hub.old) × (taken.new.items ≡ taken.old.items) }
     ensures blocked { (result ≡ Taken.Blocked) ↔ IsFalse is_free }
-    ensures all { result ≡ Taken.All → waits_at hub.new session ≡ [] }
+    ensures all { result ≡ Taken.All → waits_at hub.new.node session ≡ [] }
     ensures limit { result ≡ Taken.Limit → IsAtLimit taken.old.items taken.new.items }
     ensures memory { result ≡ Taken.Memory → IsFull taken.new }
     ensures room { KeepsRoom taken.old taken.new }

@@ -23,9 +23,9 @@ const TURNS_TO_KNOW: u32 = 8;
 
 /// Who carries out what one session asks for: it knows the client, and goes to hub and broker.
 #[derive(Drop)]
-pub(crate) struct CommandHandler<'a, B> {
+pub(crate) struct CommandHandler<'a, B: Backend> {
     pub(crate) backend: &'a B,
-    pub(crate) client: AttachedClient,
+    pub(crate) client: AttachedClient<B::Of>,
     /// The moment of the turn, in seconds.
     pub(crate) now: u64,
     /// It published something for which nobody was woken yet.
@@ -43,7 +43,7 @@ pub(crate) struct CommandHandler<'a, B> {
 }
 
 impl<'a, B: Backend> Node for CommandHandler<'a, B> {
-    ghost namespaces = { λ _. B.namespaces };
+    ghost namespaces = { λ _. B.Of.Naming.namespaces };
 
     // It is over as far as the handler has seen: the hub is asked before each call, and what it says
     // of a text is remembered.
@@ -69,22 +69,25 @@ impl<'a, B: Backend> Node for CommandHandler<'a, B> {
         if self.sees_end() {
             return Err(ErrorCode::Internal);
         }
+        let Ok(channel) = String::from_str(self.backend.alloc(), channel) else {
+            return Err(ErrorCode::Internal);
+        };
+        let words = self.backend.words();
         self.client
-            .begin(&mut self.backend.hub(), channel, id, since)
+            .begin(&mut self.backend.hub(), words, channel, id, since)
     }
 
     fn read(&mut self, channel: &str, since: Option<Position>) -> Result<(), ErrorCode> {
         if self.sees_end() {
             return Err(ErrorCode::Internal);
         }
-        let Some(number) = self.client.standing.number() else {
+        let Some(mut begun) = self.client.take_begun(channel, since) else {
             return Err(ErrorCode::Internal);
         };
-        match self.backend.read(channel, since, self.now) {
-            Ok(answer) => {
-                self.backend
-                    .hub()
-                    .read_done(number, channel, answer.recovery);
+        match self.backend.read(&mut begun, self.now) {
+            Ok((recovery, pass)) => {
+                let words = self.backend.words();
+                self.backend.hub().read_done(words, begun, recovery, pass);
                 Ok(())
             }
             Err(refused) => Err(broker_error(refused)),
@@ -304,7 +307,7 @@ impl<'a, B: Backend> CommandHandler<'a, B> {
     // The session is over.
     fn end(&mut self) {
         self.client.standing.end();
-        self.client.ended = self.now;
+        self.client.refreshed = self.now;
         self.leave_all();
     }
 

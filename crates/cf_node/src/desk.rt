@@ -46,7 +46,7 @@ const MOST_TAKES: usize = 32;
 struct Talk<'a, B: Backend> {
     session: Session<'a>,
     of: PhantomData<B>,
-    ghost tables: { (tables_of session).namespaces ≡ B.namespaces },
+    ghost tables: { (tables_of session).namespaces ≡ B.Of.Naming.namespaces },
     ghost between: { is_out (progress_of session) ≡ false },
     ghost asks: { AskStreams (tables_of session).namespaces (progress_of session) } by { AskStreams-prop (tables_of session).namespaces (progress_of session) },
 }

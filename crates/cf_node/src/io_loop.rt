@@ -147,7 +147,21 @@ pub(crate) fn serve<R: Wait + Clock, B: Backend, G: Gate>(
         resumed: 0,
         stale,
     };
-    io_loop.run(rt, node, gate, stop)
+    let served = io_loop.run(rt, node, gate, stop);
+    let IoLoop { places, .. } = io_loop;
+    let_go(places);
+    served
+}
+
+// The connections of a loop that has ended are over.
+fn let_go<B: Backend>(mut places: Vec<Connection<'_, B>>) {
+    while let Some(connection) = places.pop() {
+        match connection {
+            Connection::Empty => {}
+            Connection::Head(_) | Connection::Open(_) | Connection::Leaving(_) => {}
+        }
+    }
+    places.destroy_empty();
 }
 
 // A connection whose head is whole: the handshake is answered, or the question whether the node
@@ -160,10 +174,7 @@ fn opened<'a, B: Backend>(
 ) -> Connection<'a, B> {
     let head = match connection {
         Connection::Head(head) => head,
-        other => {
-            drop(other);
-            return Connection::Empty;
-        }
+        _ => return Connection::Empty,
     };
     // Those who ask by `GET` are answered as who wants a WebSocket.
     let asks = health_ask(head.socket.early.as_slice());
@@ -446,7 +457,7 @@ impl<'a, B: Backend> IoLoop<'a, B> {
                     socket: Socket::new(self.backend.alloc(), stream),
                     accepted: self.seconds.done(),
                 });
-                drop(mem::replace(connection, head));
+                *connection = head;
             }
             _ => {
                 let _ = self.free.push(place);
@@ -558,7 +569,7 @@ impl<'a, B: Backend> IoLoop<'a, B> {
         let is_well = self.backend.shared().is_well(self.now)
             || self.now.saturating_sub(self.resumed) <= SECONDS_HELD_UP;
         let answered = opened(self.backend, head, is_well, self.now);
-        drop(mem::replace(connection, answered));
+        *connection = answered;
         if matches!(connection, Connection::Empty) {
             self.vacate(place);
         } else {
@@ -616,10 +627,10 @@ impl<'a, B: Backend> IoLoop<'a, B> {
             Connection::Open(open) => {
                 let Open { wire, mut desk, .. } = Box::into_inner(open);
                 let leaving = Leaving::new(wire.into_stream(), self.now);
-                drop(mem::replace(connection, Connection::Leaving(leaving)));
+                *connection = Connection::Leaving(leaving);
                 desk.handler.give_up();
             }
-            other => drop(mem::replace(connection, other)),
+            other => *connection = other,
         }
         self.owe(place);
     }
@@ -636,7 +647,7 @@ impl<'a, B: Backend> IoLoop<'a, B> {
                 drop(wire);
                 desk.handler.give_up();
             }
-            unheard => drop(unheard),
+            Connection::Head(_) | Connection::Leaving(_) => {}
         }
         self.vacate(place);
     }

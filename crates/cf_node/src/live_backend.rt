@@ -9,13 +9,13 @@ use crate::shared::Shared;
 use crate::window::Window;
 use cf_broker::{Broker, Passes, SHARDS, shard_of};
 use cf_dispatch::keeps_presence;
-use cf_hub::Hub;
+use cf_node_hub::{Begun, NodeHub};
 use cf_order::Pass;
 use cf_presence::Stats;
 use cf_protocol::{Info, Position};
 use cf_session::Session;
-use cf_shard::{Naming, ReadAnswer, Refused};
-use cf_stream::{Epochs, History, Published};
+use cf_shard::{Naming, Refused};
+use cf_stream::{Epochs, History, Published, Recovery};
 use std::alloc::Global;
 use std::cell::RefCell;
 use std::collections::BTreeMap;
@@ -27,7 +27,7 @@ pub(crate) struct LiveBackend<'a, R, N: Naming, E: Epochs + Drop> {
     pub(crate) rt: &'a R,
     pub(crate) alloc: Global,
     pub(crate) setup: Setup<'a, N>,
-    pub(crate) shared: &'a Shared,
+    pub(crate) shared: &'a Shared<N>,
     pub(crate) broker: &'a Broker<N, E>,
     /// What the node knows of the logs of the broker's shards.
     pub(crate) passes: RefCell<Passes<N>>,
@@ -74,7 +74,9 @@ fn put_back<N: Naming>(passes: &RefCell<Passes<N>>, shard: usize, pass: Pass)
 }
 
 impl<'a, R: Wait, N: Naming, E: Epochs + Drop> Backend for LiveBackend<'a, R, N, E> {
-    ghost namespaces = { N.namespaces };
+    type Of = N;
+
+    type Words = Broker<N, E>;
 
     fn alloc(&self) -> Global {
         self.alloc
@@ -84,11 +86,15 @@ impl<'a, R: Wait, N: Naming, E: Epochs + Drop> Backend for LiveBackend<'a, R, N,
         Session::new(self.alloc, self.setup.namespaces, self.setup.tokens)
     }
 
-    fn hub(&self) -> MutexGuard<'_, Hub> {
+    fn hub(&self) -> MutexGuard<'_, NodeHub<N>> {
         self.shared.hub(self.rt)
     }
 
-    fn shared(&self) -> &Shared {
+    fn words(&self) -> &Broker<N, E> {
+        self.broker
+    }
+
+    fn shared(&self) -> &Shared<N> {
         self.shared
     }
 
@@ -152,19 +158,15 @@ impl<'a, R: Wait, N: Naming, E: Epochs + Drop> Backend for LiveBackend<'a, R, N,
         answer
     }
 
-    fn read(
-        &self,
-        channel: &str,
-        since: Option<Position>,
-        now: u64,
-    ) -> Result<ReadAnswer, Refused> {
-        let shard = shard_of(channel);
-        let Some(mut pass) = taken(&self.passes, self.broker, shard) else {
-            return Err(Refused::NoEpoch);
-        };
-        let answer = self.broker.read(self.rt, &mut pass, channel, since, now);
-        put_back(&self.passes, shard, pass);
-        answer
+    fn read(&self, begun: &mut Begun<N>, now: u64) -> Result<(Recovery, Pass), Refused> {
+        let mut pass = begun.lend(self.broker);
+        match self
+            .broker
+            .read(self.rt, &mut pass, begun.channel(), begun.since(), now)
+        {
+            Ok(answer) => Ok((answer.recovery, pass)),
+            Err(refused) => Err(refused),
+        }
     }
 
     fn history(

@@ -1,4 +1,5 @@
-use Rattle.std.proofs.Common.{Bool, subst}
+use Rattle.std.proofs.Common.{Bool, ap, subst}
+use Rattle.cf_node_hub.specs.Told.{Knowing}
 use Rattle.cf_dispatch.proofs.batch.take_at.Goals as goal
 
 pub returns : goal.returns
@@ -13,7 +14,7 @@ returns g c =
       freeing = c.is_free-is_free.ensures;
       lending = c.lend-taken.ensures;
       taking = took.takes;
-      nothing = took.nothing;
+      nothing = λ still. (ap (λ (h : Knowing). h.node) (took.nothing still).0, (took.nothing still).1);
       blocked = took.blocked;
       all = took.all;
       limit = took.limit;
