@@ -5,13 +5,14 @@
 //
 // It does what client.py does, and prints the same: a line for each publication, its offset and its data, and on standard error how
 // each subscription began and that it was away: no server, a proxy that answers 502 and a handshake that is cut short are one to it,
-// since node tells no more. It ends if the server tells it not to come back.
+// since node tells no more. A connection of which nothing comes for 35 seconds is given up. It ends if the server tells it not to
+// come back.
 "use strict";
 
 // So many publications fit one reply, 1,048,576 bytes, however long they are: each came in a frame of 65,536 bytes at most.
 const PAGE = 15;
-// How long a connection may take to open, in milliseconds.
-const PATIENCE = 10000;
+// How many seconds a connection may take to open, and may be silent: a ping comes every 25.
+const OPENING = 10, SILENT = 35;
 
 const say = text => process.stderr.write(`${text}\n`);
 
@@ -28,7 +29,7 @@ class Follower {
 
   // One connection, until it is lost; then the next one.
   connect() {
-    let isOver = false;
+    let isOver = false, patience = null;
     const socket = new WebSocket(this.server);
     const lost = how => {
       if (isOver) return;
@@ -40,22 +41,29 @@ class Follower {
       setTimeout(() => this.connect(), this.delay * (0.5 + Math.random()));
       this.delay = Math.min(this.delay * 2, 5000);
     };
-    const patience = setTimeout(() => { lost("no answer to the handshake"); socket.close(); }, PATIENCE);
+    const waits = (seconds, what) => {
+      clearTimeout(patience);
+      patience = setTimeout(() => { lost(`${what} for ${seconds} seconds`); socket.close(); }, seconds * 1000);
+    };
+    waits(OPENING, "no answer to the handshake");
     this.socket = socket;
     this.lastId = 0;           // ids of commands count from 1 on each connection
     this.waiting = new Map();  // what to do with the answer to each command
     socket.onopen = () => {
       if (isOver) return;
-      clearTimeout(patience);
+      waits(SILENT, "nothing came");
       this.ask({ connect: {} }, () => {
         if (this.behind) this.catchUp(0);
         else this.subscribe();
       });
     };
     socket.onmessage = event => {
-      if (!isOver) for (const line of event.data.split("\n")) if (line) this.heard(JSON.parse(line));
+      if (isOver) return;
+      waits(SILENT, "nothing came");
+      for (const line of event.data.split("\n")) if (line) this.heard(JSON.parse(line));
     };
     socket.onclose = event => {
+      if (isOver) return;
       if (event.code >= 3500 && event.code < 4000) fail(`closed with ${event.code} ${event.reason}`);
       this.behind = this.behind || (this.asks && event.code === 3008);
       lost(`closed with ${event.code} ${event.reason}`.trimEnd());
@@ -128,6 +136,11 @@ class Follower {
 }
 
 const words = process.argv.slice(2);
+if (["-h", "--help"].includes(words[0])) {
+  console.log("client.js ws://127.0.0.1:8000 news follows a channel through losses of its connection, and prints a line for each\n" +
+    "publication: its offset and its data. On standard error it says how each subscription began, and that it was away.");
+  process.exit();
+}
 if (words.length !== 2 || !/^wss?:\/\//.test(words[0])) fail("give a server and a channel: client.js ws://127.0.0.1:8000 news");
 if (typeof WebSocket === "undefined") fail("this node has no WebSocket: node 20 has it by --experimental-websocket, node 22 as it is");
 try {

@@ -17,7 +17,10 @@ import json
 import random
 import sys
 
-import websockets
+try:
+    import websockets
+except ImportError:
+    sys.exit("client.py: this python has no websockets: apt-get install python3-websockets, and run it by /usr/bin/python3")
 
 
 # So many publications fit one reply, 1,048,576 bytes, however long they are: each came in a frame of 65,536 bytes at most.
@@ -144,6 +147,8 @@ class Follower:
 
 
 if __name__ == "__main__":
+    if sys.argv[1:] in (["-h"], ["--help"]):
+        sys.exit(print(__doc__.strip()))
     if len(sys.argv) != 3:
         sys.exit(__doc__)
     try:

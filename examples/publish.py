@@ -1,6 +1,11 @@
 #!/usr/bin/python3
 """Publishes from a backend, by Debian's python3-websockets: examples/publish.py ws://127.0.0.1:8000 news '{"text": "hello"}'"""
-import asyncio, json, sys, uuid, websockets
+import asyncio, json, sys, uuid
+
+try:
+    import websockets
+except ImportError:
+    sys.exit("publish.py: this python has no websockets: apt-get install python3-websockets, and run it by /usr/bin/python3")
 
 async def publish(server, channel, data):
     key = uuid.uuid4().hex    # one for each thing to say: however often it is sent, it counts once
@@ -18,6 +23,8 @@ async def publish(server, channel, data):
     return "no server answered"
 
 if __name__ == "__main__":
+    if sys.argv[1:] in (["-h"], ["--help"]):
+        sys.exit(print(__doc__))
     if len(sys.argv) != 4:
         sys.exit(__doc__)
     try:

@@ -4,7 +4,7 @@ import asyncio
 
 class Relay:
     """Passes connections on to the server, cuts all of them on demand, takes no new ones while it is away, and brings nothing back to
-    the clients while it is deaf."""
+    the clients while it is deaf, not even an end."""
 
     def __init__(self, port):
         self.to = port
@@ -38,7 +38,8 @@ class Relay:
                 await writer.drain()
         except OSError:
             pass
-        writer.close()
+        if not (is_back and self.is_deaf):
+            writer.close()
 
     def cut(self):
         for writer in list(self.open):

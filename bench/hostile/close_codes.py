@@ -93,24 +93,33 @@ def attack(ready, port, seconds):
 
 
 def unanswered(port):
-    """A client that answers no ping, and sends a small command every tenth of a second: what it is told within 40 seconds."""
+    """A client that answers no ping, and sends a small command every tenth of a second: what it is told within 40 seconds. (Of one that sends
+    16,384 bytes in a second the answer may have had no room in the socket, and so it isn't late.)"""
     socket = connected(port)
-    got = b""
+    got, due = b"", time.monotonic()
     socket.sendall(handshake() + frame(text_of({"id": 1, "connect": {"token": "right"}})))
-    socket.settimeout(0.1)
-    until = time.monotonic() + 40
-    while time.monotonic() < until:
-        try:
+    until = due + 40
+    try:
+        while due < until:
             socket.sendall(frame(SMALL))
-            part = socket.recv(65_536)
-            if not part:
-                return first_close(got)
-            got += part
-        except TimeoutError:
-            continue
-        except OSError as why:
-            return f"{type(why).__name__} behind {first_close(got)}"
+            due += 0.1
+            while (left := due - time.monotonic()) > 0:
+                part = heard(socket, left)
+                if part == b"":
+                    return first_close(got)
+                got += part or b""
+    except OSError as why:
+        return f"{type(why).__name__} behind {first_close(got)}"
     return "no end"
+
+
+def heard(socket, seconds):
+    """What comes within so many seconds; None if nothing does."""
+    socket.settimeout(seconds)
+    try:
+        return socket.recv(65_536)
+    except TimeoutError:
+        return None
 
 
 def check(program, seconds, tries, pong):

@@ -5,7 +5,9 @@
 1,000 bytes to 1,000 readers, half of the seconds each (`--kind 1` or `2`: one of both alone). Beside them 40 healthy clients publish 60 bytes
 every 50 ms, one at a time, each to itself. None of these is closed, and none waits over 2 seconds for a reply. All answer their pings, so
 none is closed with 3012, the publishers neither. Then the publishers go, all at once and without a word, by a reset, which comes to the
-node also while it hasn't read what they sent before: a second and a half later none of them is present any more. (`--bytes`, `--readers`, `--healthy` and `--gap` are for a slower program, as one that is built without proof.)
+node also while it hasn't read what they sent before: a second and a half later none of them is present any more, as a client is told
+that was there all the time. How long two wait for their first two replies, one that comes amid the flood and one as the publishers go,
+is said and not judged. (`--bytes`, `--readers`, `--healthy` and `--gap` are for a slower program, as one that is built without proof.)
 
 The clients are of C (crowd.c, which `cc` makes into a folder of its own), since those of Python are closed as slow before a flood is one.
 The server has two processors, 0 and 1 (`--processors`), the clients all.
@@ -16,7 +18,7 @@ import subprocess
 import tempfile
 import time
 
-from peers import Closed, Fails, Peer, Server, run
+from peers import FORK, Apart, Closed, Fails, Peer, Server, run
 
 KINDS = {1: (20_000, 300), 2: (1_000, 1_000)}   # bytes of a text, and how many read it
 IN_FLIGHT = 16
@@ -50,6 +52,14 @@ class Crowd:
         self.process.wait()
 
 
+def asks(asker, seconds):
+    """Has a client ask a little for so long, so that it is known to cost little."""
+    until = time.monotonic() + seconds
+    while time.monotonic() < until:
+        asker.ask({"ping": {}}, 30)
+        time.sleep(0.1)
+
+
 def left_after(asker):
     """The seconds until nobody is present among the publishers, or None."""
     began = time.monotonic()
@@ -59,6 +69,26 @@ def left_after(asker):
                 return time.monotonic() - began
             time.sleep(0.05)
     return None
+
+
+def newcomer(ready, port, comes):
+    """The seconds that a client that comes at an event waits for the answer to its connect, and then for its first reply: none of what
+    doesn't come."""
+    ready()
+    comes.wait()
+    found, began = [], time.monotonic()
+    with contextlib.suppress(Closed, Fails):
+        peer = Peer(port, waits=False)
+        peer.introduce(60)
+        peer.greet(60)
+        found.append(time.monotonic() - began)
+        peer.ask({"ping": {}}, 60)
+        found.append(time.monotonic() - began - found[0])
+    return found
+
+
+def waits_in_words(found):
+    return " and ".join([f"{wait:.2f} s" for wait in found] + ["none within 60 s"] * (2 - len(found)))
 
 
 def flood(program, crowd, size, reading, seconds, publishers, processors, asking, gap):
@@ -73,26 +103,33 @@ def flood(program, crowd, size, reading, seconds, publishers, processors, asking
             stack.callback(made.kill)
             return made
 
+        # (before the crowds, whose ends are told by pipes that a process made later would hold)
+        comes = [FORK.Event(), FORK.Event()]
+        amid, behind = (Apart(newcomer, server.port, event) for event in comes)
         readers = start("reads", server.ports, "crowd", reading)
         healthy = start("asks", server.ports, "healthy", asking, SMALL, 1, gap)
         floods = start("floods", server.ports, "crowd", publishers, size, IN_FLIGHT)
         healthy.begin()
-        time.sleep(1)
+        asker = Peer(server.port)
+        asks(asker, 2)
         began = server.seconds()
         floods.begin()
-        time.sleep(seconds)
+        asks(asker, seconds / 2)
+        comes[0].set()
+        asks(asker, seconds / 2)
         busy = (server.seconds() - began) / seconds
         replies, longest, ended, codes, _, errors = healthy.end()
-        asker = Peer(server.port)
         _, _, out, out_codes, _, _ = floods.end()
+        comes[1].set()
         gone = left_after(asker)
+        waited = [waits_in_words(it.result(150)) for it in (amid, behind)]
         _, _, lost, lost_codes, texts, _ = readers.end()
         is_heard = NO_PONG not in codes + out_codes
         holds = not ended and not errors and longest <= LONGEST and is_heard and gone is not None and gone <= WITHIN
         said = (f"{size} bytes to {reading}: of {asking} healthy {ended} closed {codes if ended else ''}, {replies} replies, {errors} errors, "
                 f"longest wait {longest} ms; {lost} readers closed {lost_codes if lost else ''}, {out} publishers {out_codes if out else ''}; "
                 f"{texts} pushes in {seconds:.0f} s, {busy:.1f} processors; publishers gone from presence "
-                + (f"{gone:.2f} s later" if gone is not None else "not within 30 s"))
+                + (f"{gone:.2f} s later" if gone is not None else "not within 30 s") + f", who came amid it and as they went waited for connect and reply {waited[0]}, {waited[1]}")
         server.end = server.process.kill    # what still waits for readers is nobody's any more
         return holds, said
 

@@ -4,9 +4,12 @@
 Opens 600,000 channels by history commands. Each takes at most 200 bytes beside its name, the server at most 1 % of a processor while
 nobody does anything, and beside them a push comes at most 50 ms after its publish. Other work on the machine only makes that longer,
 so of three tries the best counts; all are said.
+
+The server takes its memory as examples/run-serve has it: from libjemalloc2, if that is installed and ALLOCATOR isn't `libc`.
 """
 import time
 
+from memory_back import is_given_back
 from peers import FRAME, TURN, Apart, Peer, Server, faults_in_words, frame, healthy, millis, run
 
 CHANNEL = 200    # bytes of a channel at most
@@ -53,6 +56,7 @@ def attack(ready, port, seconds):
 
 
 def check(program, seconds, channels):
+    library = "libjemalloc2" if is_given_back() else "the C library"
     with Server(program) as server:
         before, began = server.bytes(), time.monotonic()
         opened(server.port, 0, channels)
@@ -65,7 +69,7 @@ def check(program, seconds, channels):
             found, longest = Apart(healthy, server.ports, 20, seconds).result()
             faults, waits = faults + found, waits + [longest]
     holds = not faults and each <= CHANNEL + NAME and idle <= IDLE and min(waits) <= TURN
-    return holds, (f"{channels:,} channels in {took:.1f} s, {each - NAME:.0f} bytes each beside the name's {NAME}, {idle * 100:.2f} % of a processor "
+    return holds, (f"{channels:,} channels in {took:.1f} s, {each - NAME:.0f} bytes of {library}'s each beside the name's {NAME}, {idle * 100:.2f} % of a processor "
                    f"while idle, publish to push at most {', '.join(map(millis, waits))}, of 20 clients {faults_in_words(faults)}")
 
 

@@ -49,7 +49,7 @@ def say(server, line):
 
 
 def judged(words, before, most, after, known=0):
-    """Whether it holds where so many bytes are known to stay, and what it was, in words."""
+    """Whether it holds if so many bytes are known to stay, and what it was, in words."""
     holds = after <= 2 * before + SPARE + known
     beside = f", of which up to {known >> 20} are known to stay" if known else ""
     return holds, f"{words}: {before >> 20} MiB before, {most >> 20} under the load, {after >> 20} after {AFTER} s{beside}"

@@ -8,7 +8,11 @@ With `--minutes N` for so long, and beside twenty of `bench/histories`' clients 
 got is judged. The server is started anew every ten minutes (`--restart`), to a graceful end before: the healthy clients of a life leave
 before its end, and others come after. After the first minute of a life and at its end it is looked for five seconds what memory and how
 many descriptors it has: at the end it is no more than a quarter over the first, and 16 MiB and 100 descriptors, since what the hostile
-clients have open varies.
+clients have open varies. Channels stay once they are there, so the 200,000 of `many_channels` are opened before a life's hostile clients
+begin, while all is calm: what is looked at later has them both times. If a healthy client waits over two seconds, it is said when in the
+life that was, and what ran then: the server's threads, the other clients, and the machine.
+
+The server takes its memory as examples/run-serve has it: from libjemalloc2, if that is installed and ALLOCATOR isn't `libc`.
 """
 import importlib.machinery
 import importlib.util
@@ -31,7 +35,9 @@ import silent_connections
 import slow_leaves
 import stale
 import turn_budget
-from peers import Apart, Closed, Fails, Healthy, Server, faults_in_words, healthy, longest_ping, millis, run
+from memory_back import is_given_back
+from peers import Apart, Closed, Fails, Healthy, Server, faults_in_words, longest_ping, millis, run
+from watch import healthy_and_late, in_words, looks
 
 HOSTILE = [burst_own_node, close_codes, closed_goes_on, fast_sender, half_reader, heads, late_pong, many_channels, presence_storm, recoveries,
            silent_connections, slow_leaves, stale, turn_budget]
@@ -40,6 +46,7 @@ SETTLED = 60        # seconds of a life after which it is looked what the server
 LEAVING = 15        # seconds before a life's end at which its healthy clients leave
 MORE, SPARE, OPEN = 1.25, 16 << 20, 100
 SIZES = {"": 100, "long": 1_000}    # of streams by minutes: `recoveries` has 90 publications held
+CHANNELS = 200_000  # of `many_channels`
 
 
 def again(ready, attack, port, seconds):
@@ -106,26 +113,31 @@ def held(members, server):
 
 
 class Life:
-    """One life of the server: what went wrong in it, and what it held."""
+    """One life of the server: what went wrong in it, what it held, and which waits were long."""
 
     def __init__(self, program, histories, members, seconds, clients, is_last):
         self.faults, self.positions, self.longest = [], None, 0
         namespaces = ";".join(f"{name}={size},2592000,phs" for name, size in SIZES.items())
         with Server(program, NODES, ["--ns", namespaces, "--stale", "25"]) as server:
-            members.server = server
+            many_channels.opened(server.port, 0, CHANNELS)
+            members.server, began = server, time.monotonic()
             # Publishers first, while all is calm, so that each channel has its life.
             members.publishes = False
             for publisher in members.publishers:
                 publisher.due = 0
                 publisher.turn()
-            others = Apart(healthy, server.ports, clients, max(5, seconds - LEAVING))
+            others = Apart(healthy_and_late, server.ports, clients, max(5, seconds - LEAVING))
             attacks = attacks_on(server, seconds + 600)
             self.faults += [f"{it.early}" for it in attacks if it.early is not None]
+            beside = {it.__name__: attack.process.pid for it, attack in zip(HOSTILE, attacks)}
+            beside.update({"the healthy clients": others.process.pid, "who come and go": os.getpid()})
+            watch = Apart(looks, server.process.pid, beside, seconds)
             self.follow(histories, members, server, seconds)
             for attack in attacks:
                 attack.kill()
-            found, self.longest = others.result(120)
+            found, self.longest, late = others.result(120)
             self.faults += found
+            self.late = list(in_words(late, watch.result(120), began))
             if server.process.poll() is not None:
                 raise Fails(f"serve ended with {server.process.returncode}")
             if is_last:
@@ -157,6 +169,8 @@ def tell(lives, judge):
     life = lives[-1]
     print(f"life {len(lives)}: {faults_in_words(life.faults)}; until now {judge.recovered + judge.lost} recoveries, "
           f"{len(judge.faults)} faults; the longest wait {millis(life.longest)}; {life.held}", file=sys.stderr, flush=True)
+    for late in life.late:
+        print(f"life {len(lives)}: {late}", file=sys.stderr, flush=True)
 
 
 def judge_life(judge, members):
@@ -171,6 +185,7 @@ def judge_life(judge, members):
 def long_run(program, seconds, clients, restart):
     """Lives of the server, one after another, and what all clients got."""
     signal.alarm(int(2 * seconds) + 600)
+    library = "libjemalloc2" if is_given_back() else "the C library"
     histories = module_of_histories()
     members = histories.Run(program, NODES, MEMBERS)
     judge, lives, count = histories.Judge(members.history()), [], max(1, round(seconds / restart))
@@ -184,7 +199,8 @@ def long_run(program, seconds, clients, restart):
     acknowledged = sum(life["acked"] for known in history["lives"].values() for life in known)
     return not faults, (f"{len(HOSTILE)} hostile clients for {seconds / 60:.0f} minutes, {count} lives, beside {clients} healthy ones and {MEMBERS} who come and "
                         f"go: {faults_in_words(faults)}; {acknowledged:,} publications, {judge.recovered + judge.lost} recoveries ({judge.lost} lost), "
-                        f"{judge.ended} times 2500; the longest wait from publish to push {millis(max(life.longest for life in lives))}; "
+                        f"{judge.ended} times 2500; the longest wait from publish to push {millis(max(life.longest for life in lives))}, "
+                        f"{sum(len(life.late) for life in lives)} times over two seconds; memory from {library}: "
                         + "; ".join(life.held for life in lives))
 
 

@@ -139,9 +139,12 @@ class Healthy:
 
     def __init__(self, ports, count, channel="healthy"):
         self.channel = channel
-        self.peers = [peer for at, port in enumerate(ports) for peer in crowd(port, len(range(at, count, len(ports))), channel)]
+        self.node = {peer: at for at, port in enumerate(ports) for peer in crowd(port, len(range(at, count, len(ports))), channel)}
+        self.peers = list(self.node)
         self.last = dict.fromkeys(self.peers, 0)
         self.sent, self.longest, self.faults = 0, 0.0, []
+        self.asked = {}     # of each publish without a reply: when it was sent
+        self.waits = {}     # of each publication, by when it was sent: the wait for its reply, and for the last push on each node
         self.selector = selectors.DefaultSelector()
         for peer in self.peers:
             self.selector.register(peer, selectors.EVENT_READ)
@@ -149,7 +152,9 @@ class Healthy:
     def publish(self):
         """The next of them publishes the moment."""
         self.sent += 1
-        self.peers[self.sent % len(self.peers)].send({"publish": {"channel": self.channel, "data": time.monotonic()}})
+        peer, moment = self.peers[self.sent % len(self.peers)], time.monotonic()
+        self.waits[moment] = [0.0] * (1 + len(set(self.node.values())))
+        self.asked[peer, peer.send({"publish": {"channel": self.channel, "data": moment}})] = moment
 
     def look(self, timeout):
         for key, _ in self.selector.select(timeout):
@@ -167,9 +172,17 @@ class Healthy:
             if found["offset"] != self.last[peer] + 1:
                 self.faults.append(f"offset {found['offset']} after {self.last[peer]}")
             self.last[peer] = found["offset"]
-            self.longest = max(self.longest, time.monotonic() - found["data"])
+            self.longest = max(self.longest, self.waited(found["data"], 1 + self.node[peer]))
         elif "error" in message or "push" in message:
             self.faults.append(text_of(message))
+        elif "publish" in message:
+            self.waited(self.asked.pop((peer, message["id"])), 0)
+
+    def waited(self, moment, place):
+        """Notes what came of a publication in this place of its waits, and gives how long it took."""
+        wait = time.monotonic() - moment
+        self.waits[moment][place] = wait
+        return wait
 
     def follow(self, seconds, gap=0.02):
         """Publishes and reads for so long, and then until each has all, or five seconds passed."""

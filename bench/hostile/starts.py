@@ -102,7 +102,7 @@ def ends(program, words, **streams):
 
 
 def closed(program, words):
-    """What is wrong where `serve` is started with a standard stream closed; nothing where all is well."""
+    """What is wrong if `serve` is started with a standard stream closed; nothing if all is well."""
     port = free_port()
     command = [program, "serve", "--boot", str(next(BOOTS)), "--port", str(port)]
     process = subprocess.Popen(["sh", "-c", f'exec "$@" {words}', "sh", *command], stdin=subprocess.PIPE, stdout=subprocess.DEVNULL,

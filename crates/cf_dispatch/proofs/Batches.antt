@@ -4,7 +4,7 @@ use Rattle.std.proofs.Common.{◌≡◌, ◌≤◌, ◌==◌, ℕ, ◌+◌, Bool
 use Rattle.std.proofs.lemmas.List.Sums.{sum_by-cons}
 use Rattle.cf_hub.specs.Hub.{Node, attached_at, is_waiting, waits_in}
 use Rattle.cf_hub.specs.Turns.{first_turn, turns_left}
-use Rattle.cf_dispatch.specs.Outlet.{Outs}
+use Rattle.cf_dispatch.specs.Outlet.{Boxed}
 use Rattle.cf_dispatch.specs.Batch.{Names, TakesAt, TakesFor, times}
 
 cons_times : (j k : ℕ) (ks : List ℕ) → times j (k ∷ ks) ≡ cond (k == j) 1 0 + times j ks
@@ -24,7 +24,7 @@ left_times p (i ∷ ks) k j e = by_value (p i) (left_times p ks k j) e
         let left = rest f in
         omega (arith, left, cons_times j i ks)
 
-module _ {S : Type 0} (frees : S → ℕ → Bool → Type 0) (lends : S → ℕ → Outs → S → Type 0) (gets : S → ℕ → Outs → Bool → S → Type 0) where
+module _ {S : Type 0} (frees : S → ℕ → Bool → Type 0) (lends : S → ℕ → Boxed → S → Type 0) (gets : S → ℕ → Boxed → Bool → S → Type 0) where
   pub begins : (h : Node) (p : S) → TakesFor frees lends gets 0 h h p p
   begins h p = record { sessions = []; counted = refl; turns = (refl, refl); once = λ k. omega arith }
 

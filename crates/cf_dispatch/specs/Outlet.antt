@@ -1,5 +1,5 @@
 -- What is taken from a node's hub for a client. (This project's own profile.)
-use Rattle.std.specs.Prelude.{◌≡◌, ◌≤◌, ◌+◌, ◌⊎◌, ℕ, Bool, true, false, ◌++◌, List, length, map, option_map}
+use Rattle.std.specs.Prelude.{◌≡◌, ◌≤◌, ◌==◌, ◌+◌, ◌&&◌, ◌⊎◌, ℕ, Bool, true, false, ◌++◌, List, length, map, Option, Some, None, option_map}
 use Rattle.std.specs.Prelude.{sum_by}
 use Rattle.std.specs.Global.{Global}
 use Rattle.std.specs.VecDeque.{deque_capacity, deque_len}
@@ -48,6 +48,23 @@ IsAtLimit had has =
 -- what was taken for a client and isn't sent yet, with the room that there is for it
 abbrev pub Outs : Type 0
 Outs = VecDeque Out Global
+
+-- the session of which that is, once something was taken for one, and what was taken
+pub record Boxed : Type 0 where
+  pub session : Option ℕ
+  pub outs : Outs
+
+-- it is of session k, or of none yet
+abbrev pub is_own : ℕ → Option ℕ → Bool
+is_own k None = true
+is_own k (Some own) = own == k
+
+abbrev pub is_for : ℕ → Boxed → Bool
+is_for k b = is_own k b.session
+
+-- what waits for session k is taken into it where the wire is free and it isn't another's
+abbrev pub may_take : ℕ → Bool → Boxed → Bool
+may_take k is_free b = is_free && is_for k b
 
 -- there is no room for one more
 abbrev pub IsFull : Outs → Type 0

@@ -1,10 +1,12 @@
 //! What is taken from the hub for a client whose wire takes more.
-ghost use Rattle.std.specs.Prelude.{◌≡◌, ◌≤◌, ◌<◌, ◌↔◌, [], IsFalse, IsTrue};
+ghost use Rattle.std.specs.Prelude.{◌≡◌, ◌≢◌, ◌≤◌, ◌<◌, ◌↔◌, [], IsFalse, IsTrue, Some};
 ghost use Rattle.std.specs.VecDeque.{deque_capacity, deque_len};
-ghost use Rattle.cf_dispatch.specs.Outlet.{IsAtLimit, IsFull, KeepsRoom, Takes, bytes_in, leaves_more, waits_at};
+ghost use Rattle.cf_dispatch.specs.Outlet.{IsAtLimit, IsFull, KeepsRoom, Takes, bytes_in, leaves_more, may_take, waits_at};
 
-use cf_hub::Hub;
+use crate::outbox::Outbox;
+use cf_node_hub::NodeHub;
 use cf_queue::Out;
+use cf_shard::Naming;
 use std::collections::VecDeque;
 
 /// So many bytes of texts are taken from the hub at once, what the gathering stream takes without a write, or as many items.
@@ -36,19 +38,43 @@ impl Taken {
 }
 
 /// Takes what waits for a session, the first first, and puts it behind what was taken for it before, until nothing waits or
-/// 65,536 bytes of texts, or as many items, were taken. Where its wire isn't free nothing is taken.
-pub fn take_for(hub: &mut Hub, session: u32, is_free: bool, taken: &mut VecDeque<Out>) -> Taken
-    ensures takes { Takes session hub.old hub.new taken.old.items taken.new.items }
-    ensures nothing { IsFalse is_free → (hub.new ≡ hub.old) × (taken.new.items ≡ taken.old.items) }
-    ensures blocked { (result ≡ Taken.Blocked) ↔ IsFalse is_free }
-    ensures all { result ≡ Taken.All → waits_at hub.new session ≡ [] }
+/// 65,536 bytes of texts, or as many items, were taken. Where its wire isn't free, or what was taken is another session's, nothing
+/// is taken.
+pub fn take_for<N: Naming>(
+    hub: &mut NodeHub<N>,
+    session: u32,
+    is_free: bool,
+    outbox: &mut Outbox,
+) -> Taken
+    ensures takes { Takes session hub.old.node hub.new.node outbox.old.outs.items
+        outbox.new.outs.items }
+    ensures nothing { IsFalse (may_take session is_free outbox.old) →
+        (hub.new ≡ hub.old) × (outbox.new ≡ outbox.old) }
+    ensures own { IsTrue (may_take session is_free outbox.old) → outbox.new.session ≡ Some session }
+    ensures blocked { (result ≡ Taken.Blocked) ↔ IsFalse (may_take session is_free outbox.old) }
+    ensures all { result ≡ Taken.All → waits_at hub.new.node session ≡ [] }
+    ensures limit { result ≡ Taken.Limit →
+        IsAtLimit outbox.old.outs.items outbox.new.outs.items }
+    ensures memory { result ≡ Taken.Memory → IsFull outbox.new.outs }
+    ensures room { KeepsRoom outbox.old.outs outbox.new.outs }
+{
+    let may_take = is_free && outbox.is_for(session);
+    if !may_take {
+        return Taken::Blocked;
+    }
+    outbox.session = Some(session);
+    fill(hub, session, &mut outbox.items)
+}
+
+// Takes what waits for a session, as far as that is taken at once.
+fn fill<N: Naming>(hub: &mut NodeHub<N>, session: u32, taken: &mut VecDeque<Out>) -> Taken
+    ensures takes { Takes session hub.old.node hub.new.node taken.old.items taken.new.items }
+    ensures free { result ≢ Taken.Blocked }
+    ensures all { result ≡ Taken.All → waits_at hub.new.node session ≡ [] }
     ensures limit { result ≡ Taken.Limit → IsAtLimit taken.old.items taken.new.items }
     ensures memory { result ≡ Taken.Memory → IsFull taken.new }
     ensures room { KeepsRoom taken.old taken.new }
 {
-    if !is_free {
-        return Taken::Blocked;
-    }
     let mut bytes: usize = 0;
     for _count in 0..MOST_TAKEN {
         // Nothing is taken that could be lost.

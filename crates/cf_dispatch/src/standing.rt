@@ -1,5 +1,6 @@
 //! What a node knows of a client's session in its hub, so that nothing is carried out for one that is over.
-use cf_hub::Hub;
+use cf_node_hub::NodeHub;
+use cf_shard::Naming;
 use std::marker::Model;
 
 /// What the node knows of one client's session in its hub: its number there, and whether it is over.
@@ -53,8 +54,8 @@ impl Standing {
     }
 
     /// Looks whether the hub has closed the session, or doesn't have it any more: then it is over. Once over it stays so.
-    pub fn look(&mut self, hub: &Hub)
-        ensures { self.new ≡ looked hub.now self.old }
+    pub fn look<N: Naming>(&mut self, hub: &NodeHub<N>)
+        ensures { self.new ≡ looked hub.now.node self.old }
     {
         let is_gone = match self.number {
             Some(number) => hub.is_closed(number),

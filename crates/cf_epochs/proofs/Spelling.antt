@@ -141,7 +141,7 @@ given s t (e ∷ es) g =
     let step = g.1.1 in
     let first : Given s t e = record {
       at = g.0;
-      is = g.1.0;
+      is = g.1.0.0;
       boot = ap (λ u. u.boot) step;
       shard = ap (λ u. u.shard) step;
       above = let counted : g.0.count ≡ s.count + 1 = ap (λ u. u.count) step in omega arith;
@@ -165,7 +165,7 @@ never_twice s t (e ∷ es) h g =
     let here = between g.0 t h (sym on.boot) (sym on.shard) on.count in
     let differs : All (λ f. e ≢ f) es = λ k d l twice.
     let later = given g.0 t es g.2 k d l in
-    let same = told_apart g.0 later.at here (is_source g.0 t es _ h g.2 later) (sym g.1.0 ∙ twice ∙ later.is) in
+    let same = told_apart g.0 later.at here (is_source g.0 t es _ h g.2 later) (sym g.1.0.0 ∙ twice ∙ later.is) in
     let counted : g.0.count ≡ later.at.count = ap (λ u. u.count) same in
     let above = later.above in
     absurd (omega arith) in

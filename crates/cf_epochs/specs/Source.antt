@@ -34,10 +34,11 @@ epoch_at s = decimal s.boot ++ (120 ∷ (decimal s.shard ++ (120 ∷ decimal s.c
 abbrev pub next : Source → Source
 next s = record { boot = s.boot; shard = s.shard; count = s.count + 1 }
 
--- a draw gives the epoch of the next count; after the last count it gives none, and nothing changes
+-- a draw gives the epoch of the next count, which is in its range; after the last count it gives none, and nothing
+-- changes
 abbrev pub draws_next : Source → Option (List ℕ) → Source → Type 0
 draws_next old None new = (old.count ≡ last_count) × (new ≡ old)
-draws_next old (Some e) new = (e ≡ epoch_at new) × (new ≡ next old)
+draws_next old (Some e) new = ((e ≡ epoch_at new) × IsSource new) × (new ≡ next old)
 
 -- the epochs that a source gave from one state to another, in order
 abbrev pub Gives : Source → List (List ℕ) → Source → Type 0

@@ -1,6 +1,6 @@
 //! Where the epochs of a running server's streams come from.
 ghost use Rattle.std.specs.Prelude.{◌≡◌};
-ghost use Rattle.cf_epochs.specs.Source.{AreOfShards, IsBoot, epoch_at, unused};
+ghost use Rattle.cf_epochs.specs.Source.{AreOfShards, IsBoot, IsSource, epoch_at, unused};
 
 use crate::boot::Boot;
 use arrayvec::ArrayString;
@@ -70,7 +70,8 @@ impl BootEpochs {
 
     // The epoch of the count.
     fn last(&self) -> Epoch
-        ensures { result ≡ epoch_at self.now }
+        ensures text { result ≡ epoch_at self.now }
+        ensures source { IsSource self.now }
     {
         let mut digits = Buffer::new();
         let mut text = ArrayString::<32>::new();

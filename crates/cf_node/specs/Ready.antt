@@ -18,7 +18,7 @@ is_out (Out kind after) = true
 pub HasStream-prop : (t : NamespaceTable) (call : Call) → IsProp (HasStream t call)
 HasStream-prop t (Read c since) = Bool-set _ _
 HasStream-prop t (Publish c key body info) = Bool-set _ _
-HasStream-prop t (History c limit since) = Bool-set _ _
+HasStream-prop t (History c id limit since) = Bool-set _ _
 HasStream-prop t (Attach user) = Unit-prop
 HasStream-prop t (Begin c id since) = Unit-prop
 HasStream-prop t (Finish c) = Unit-prop

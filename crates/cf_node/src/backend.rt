@@ -1,16 +1,21 @@
 //! What the connections of a node are served with.
-ghost use Rattle.std.specs.Prelude.{◌≡◌, true, IsSome};
+ghost use Rattle.std.specs.Prelude.{◌≡◌, true, IfOk, IfSome, IsSome, string_bytes};
 ghost use Rattle.cf_protocol.specs.Settings.{settings_of};
 ghost use Rattle.cf_session.specs.Standing.{is_idle, tables_of};
+ghost use Rattle.cf_shard.specs.Shards.{number_of};
+ghost use Rattle.cf_node_hub.specs.Asking.{Answers};
+ghost use Rattle.cf_node_hub.specs.Histories.{IsListedIn};
+ghost use Rattle.cf_node.specs.Answered.{StoodAt, WasPublished};
 
 use crate::fault_counts::Fault;
 use crate::shared::Shared;
-use cf_hub::Hub;
+use cf_node_hub::{Begun, NodeHub};
+use cf_order::Pass;
 use cf_presence::Stats;
 use cf_protocol::{Info, Position};
 use cf_session::Session;
-use cf_shard::{ReadAnswer, Refused};
-use cf_stream::{History, Published};
+use cf_shard::{Naming, Refused, ShardWords};
+use cf_stream::{History, Published, Recovery};
 use std::alloc::Global;
 use std::collections::BTreeMap;
 use std::sync::MutexGuard;
@@ -18,10 +23,11 @@ use std::sync::MutexGuard;
 /// The node's hub, and the broker with the node's own passes. Each call may wait for a lock, and
 /// leaves none taken but the hub's while it is lent.
 pub(crate) trait Backend {
-    ghost use Rattle.cf_protocol.specs.Settings.{NamespaceTable};
+    /// Which namespaces are set up, and which word counts which shard's log.
+    type Of: Naming;
 
-    /// The namespaces that are set up.
-    ghost namespaces: { NamespaceTable };
+    /// Who has the words of the shards.
+    type Words: ShardWords<Self::Of>;
 
     /// What allocates.
     fn alloc(&self) -> Global;
@@ -29,13 +35,16 @@ pub(crate) trait Backend {
     /// A session for a new client.
     fn session(&self) -> Session<'_>
         ensures idle { is_idle result ≡ true }
-        ensures tables { (tables_of result).namespaces ≡ namespaces };
+        ensures tables { (tables_of result).namespaces ≡ Self.Of.Naming.namespaces };
 
     /// The hub, under its lock.
-    fn hub(&self) -> MutexGuard<'_, Hub>;
+    fn hub(&self) -> MutexGuard<'_, NodeHub<Self::Of>>;
+
+    /// The words of the broker's shards.
+    fn words(&self) -> &Self::Words;
 
     /// What is shared with the worker that brings publications.
-    fn shared(&self) -> &Shared;
+    fn shared(&self) -> &Shared<Self::Of>;
 
     /// Whether some node is behind with what was published, with some of what this node published last too, so that who publishes is
     /// to wait.
@@ -64,25 +73,38 @@ pub(crate) trait Backend {
         info: Info,
         now: u64,
     ) -> Result<Published, Refused>
-        requires { IsSome (settings_of namespaces channel.now) };
+        requires { IsSome (settings_of Self.Of.Naming.namespaces channel.now) }
+        ensures { IfOk result (WasPublished Self.Of.Naming.namespaces channel.now (string_bytes key)
+            (string_bytes body) info) };
 
-    /// A read of a channel's stream.
-    fn read(&self, channel: &str, since: Option<Position>, now: u64) -> Result<ReadAnswer, Refused>
-        requires { IsSome (settings_of namespaces channel.now) };
+    /// A read of the channel's stream for a subscription that has begun, from where it asked: what it answers, and a pass by which it
+    /// was read, which has seen what its hub had seen as it began.
+    fn read(&self, begun: &mut Begun<Self::Of>, now: u64) -> Result<(Recovery, Pass), Refused>
+        requires { IsSome (settings_of Self.Of.Naming.namespaces begun.old.channel) }
+        ensures same { begun.new ≡ begun.old }
+        ensures word { IfOk result
+            (λ r. r.1.word ≡ Self.Of.Naming.words (number_of begun.old.channel)) }
+        ensures read { IfOk result
+            (λ r. Answers Self.Of.Naming.namespaces begun.old r.1.log r.0) };
 
-    /// A history of a channel's stream.
+    /// A history of a channel's stream: what it answers, and a pass by which it was answered.
     fn history(
         &self,
         channel: &str,
         since: Option<Position>,
         limit: i32,
         now: u64,
-    ) -> Result<History, Refused>
-        requires { IsSome (settings_of namespaces channel.now) };
+    ) -> Result<(History, Pass), Refused>
+        requires { IsSome (settings_of Self.Of.Naming.namespaces channel.now) }
+        ensures word { IfOk result
+            (λ r. r.1.word ≡ Self.Of.Naming.words (number_of channel.now)) }
+        ensures listed { IfOk result
+            (λ r. IsListedIn Self.Of.Naming.namespaces r.1.log channel.now r.0) };
 
     /// Where a channel's stream stands, and the length of its shard's log. `None` where nothing
     /// happened in the shard since its log had as many entries as a mark says; that takes no lock.
-    fn position_since(&self, channel: &str, mark: Option<u64>) -> Option<(Option<Position>, u64)>;
+    fn position_since(&self, channel: &str, mark: Option<u64>) -> Option<(Option<Position>, u64)>
+        ensures { IfSome result (StoodAt Self.Of.Naming.namespaces channel.now) };
 
     /// Brings a moment to all shards of the broker, where this is the node that does.
     fn tick(&self, now: u64);

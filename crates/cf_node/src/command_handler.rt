@@ -1,16 +1,21 @@
 //! What a session asks for, done on hub and broker.
+ghost use Rattle.std.specs.Prelude.{◌≡◌, ◌≤◌};
+ghost use Rattle.cf_shard.specs.Shards.{number_of};
+ghost use Rattle.cf_node_hub.specs.Histories.{IsListedIn};
+
 use crate::attached_client::AttachedClient;
 use crate::backend::Backend;
 use crate::costs::{CALL, LOOP_BUDGET, TEXT, cost_of};
 use crate::fault_counts::Fault;
-use cf_dispatch::{broker_error, take_for};
+use cf_dispatch::{Outbox, broker_error, take_for};
 use cf_hub::Queued;
+use cf_node_hub::history_reply;
+use cf_order::Pass;
 use cf_presence::Stats;
 use cf_protocol::{CloseCode, ErrorCode, Info, Position};
-use cf_queue::Out;
 use cf_session::Node;
 use cf_stream::{History, Published};
-use std::collections::{BTreeMap, VecDeque};
+use std::collections::BTreeMap;
 
 /// A client that wasn't heard for more seconds than these was idle.
 const SECONDS_IDLE: u64 = 2;
@@ -23,9 +28,9 @@ const TURNS_TO_KNOW: u32 = 8;
 
 /// Who carries out what one session asks for: it knows the client, and goes to hub and broker.
 #[derive(Drop)]
-pub(crate) struct CommandHandler<'a, B> {
+pub(crate) struct CommandHandler<'a, B: Backend> {
     pub(crate) backend: &'a B,
-    pub(crate) client: AttachedClient,
+    pub(crate) client: AttachedClient<B::Of>,
     /// The moment of the turn, in seconds.
     pub(crate) now: u64,
     /// It published something for which nobody was woken yet.
@@ -43,14 +48,16 @@ pub(crate) struct CommandHandler<'a, B> {
 }
 
 impl<'a, B: Backend> Node for CommandHandler<'a, B> {
-    ghost namespaces = { λ _. B.namespaces };
+    ghost use Rattle.cf_node.specs.Answered.{IsDone};
+
+    ghost namespaces = { λ _. B.Of.Naming.namespaces };
 
     // It is over as far as the handler has seen: the hub is asked before each call, and what it says
     // of a text is remembered.
     ghost closed = { λ handler. handler.client.standing.is_over };
 
-    // Between two workers no more can be said of hub and broker.
-    ghost does = { λ _ _ _ _. Unit {0} };
+    // Between two workers no more can be said of hub and broker than what they answered.
+    ghost does = { λ _ act answer _. IsDone B.Of.Naming.namespaces act answer };
 
     fn is_closed(&self) -> bool {
         self.client.standing.is_over()
@@ -69,22 +76,25 @@ impl<'a, B: Backend> Node for CommandHandler<'a, B> {
         if self.sees_end() {
             return Err(ErrorCode::Internal);
         }
+        let Ok(channel) = String::from_str(self.backend.alloc(), channel) else {
+            return Err(ErrorCode::Internal);
+        };
+        let words = self.backend.words();
         self.client
-            .begin(&mut self.backend.hub(), channel, id, since)
+            .begin(&mut self.backend.hub(), words, channel, id, since)
     }
 
     fn read(&mut self, channel: &str, since: Option<Position>) -> Result<(), ErrorCode> {
         if self.sees_end() {
             return Err(ErrorCode::Internal);
         }
-        let Some(number) = self.client.standing.number() else {
+        let Some(mut begun) = self.client.take_begun(channel, since) else {
             return Err(ErrorCode::Internal);
         };
-        match self.backend.read(channel, since, self.now) {
-            Ok(answer) => {
-                self.backend
-                    .hub()
-                    .read_done(number, channel, answer.recovery);
+        match self.backend.read(&mut begun, self.now) {
+            Ok((recovery, pass)) => {
+                let words = self.backend.words();
+                self.backend.hub().read_done(words, begun, recovery, pass);
                 Ok(())
             }
             Err(refused) => Err(broker_error(refused)),
@@ -150,14 +160,18 @@ impl<'a, B: Backend> Node for CommandHandler<'a, B> {
     fn history(
         &mut self,
         channel: &str,
+        id: u32,
         limit: i32,
         since: Option<Position>,
-    ) -> Result<History, ErrorCode> {
+    ) -> Result<(), ErrorCode> {
         if self.sees_end() {
             return Err(ErrorCode::Internal);
         }
+        if id == 0 {
+            return Err(ErrorCode::Internal);
+        }
         match self.backend.history(channel, since, limit, self.now) {
-            Ok(history) => Ok(history),
+            Ok((history, pass)) => self.say_history(channel, id, history, pass),
             Err(refused) => Err(broker_error(refused)),
         }
     }
@@ -187,8 +201,7 @@ impl<'a, B: Backend> Node for CommandHandler<'a, B> {
         let Some(number) = self.client.standing.number() else {
             return;
         };
-        let bytes = TEXT.saturating_add(text.len() as u64);
-        self.cost = self.cost.saturating_add(bytes);
+        self.pay_for(text.as_str());
         let said = self.backend.hub().say(number, text);
         if said != Queued::Kept {
             self.stop();
@@ -214,6 +227,45 @@ impl<'a, B: Backend> Node for CommandHandler<'a, B> {
 }
 
 impl<'a, B: Backend> CommandHandler<'a, B> {
+    ghost use Rattle.cf_node.specs.Desk.{TakesOwn};
+
+    // A text costs what it weighs.
+    fn pay_for(&mut self, text: &str) {
+        let bytes = TEXT.saturating_add(text.len() as u64);
+        self.cost = self.cost.saturating_add(bytes);
+    }
+
+    // The reply to a history waits for the client, or its session is closed. It is written before the
+    // hub is locked.
+    fn say_history(
+        &mut self,
+        channel: &str,
+        id: u32,
+        history: History,
+        pass: Pass,
+    ) -> Result<(), ErrorCode>
+        requires id { 1 ≤ id }
+        requires word { pass.word ≡ B.Of.Naming.words (number_of channel.now) }
+        requires listed { IsListedIn B.Of.Naming.namespaces pass.log channel.now history }
+    {
+        let Some(number) = self.client.standing.number() else {
+            return Err(ErrorCode::Internal);
+        };
+        let Ok(text) = history_reply(self.backend.alloc(), id, history) else {
+            return Err(ErrorCode::Internal);
+        };
+        self.pay_for(text.as_str());
+        let words = self.backend.words();
+        let said = self
+            .backend
+            .hub()
+            .say_history(words, number, channel, text, pass);
+        if said != Queued::Kept {
+            self.stop();
+        }
+        Ok(())
+    }
+
     /// A turn in which its client is heard is to come from this moment on, in seconds.
     pub(crate) fn is_owed(&mut self, now: u64) {
         if now.saturating_sub(self.heard) > SECONDS_IDLE {
@@ -241,11 +293,15 @@ impl<'a, B: Backend> CommandHandler<'a, B> {
         self.turns < TURNS_TO_KNOW && !self.is_dear()
     }
 
-    /// Takes what waits for the client, and puts it behind what was taken for it before. Whether
-    /// more may wait.
-    pub(crate) fn take(&self, taken: &mut VecDeque<Out>) -> bool {
+    /// Takes what waits for the client's session, and puts it behind what was taken for it before.
+    /// Whether more may wait.
+    pub(crate) fn take(&self, outbox: &mut Outbox) -> bool
+        ensures { TakesOwn self.entry.now.client.standing.number outbox.old outbox.new }
+    {
         match self.client.standing.number() {
-            Some(number) => { take_for(&mut self.backend.hub(), number, true, taken).leaves_more() }
+            Some(number) => {
+                take_for(&mut self.backend.hub(), number, true, outbox).leaves_more()
+            }
             None => false,
         }
     }
@@ -304,7 +360,7 @@ impl<'a, B: Backend> CommandHandler<'a, B> {
     // The session is over.
     fn end(&mut self) {
         self.client.standing.end();
-        self.client.ended = self.now;
+        self.client.refreshed = self.now;
         self.leave_all();
     }
 

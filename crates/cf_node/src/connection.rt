@@ -3,11 +3,9 @@ use crate::backend::Backend;
 use crate::desk::SessionDesk;
 use crate::leaving::Leaving;
 use crate::socket::Socket;
-use cf_dispatch::is_head_over;
-use cf_queue::Out;
+use cf_dispatch::{Outbox, is_head_over};
 use cf_session::{TurnEnd, Wire};
 use cf_wire::Gather;
-use std::collections::VecDeque;
 use std::io::ErrorKind;
 use std::mem;
 
@@ -162,7 +160,7 @@ impl<'a, B: Backend> Open<'a, B> {
 
     // Whether there is more to do at once.
     fn has_more(&self) -> bool {
-        takes_more(&self.wire, &self.desk.taken) && (self.desk.goes_on() || self.desk.owed)
+        takes_more(&self.wire, &self.desk.outbox) && (self.desk.goes_on() || self.desk.owed)
     }
 }
 
@@ -179,6 +177,6 @@ fn has_blank_line(bytes: &[u8]) -> bool {
 }
 
 /// Whether what is taken for a client can be sent at once.
-pub(crate) fn takes_more(wire: &Wire<Gather<Socket>>, taken: &VecDeque<Out>) -> bool {
-    taken.is_empty() && !wire.is_unflushed() && wire.stream().is_drained()
+pub(crate) fn takes_more(wire: &Wire<Gather<Socket>>, outbox: &Outbox) -> bool {
+    outbox.is_empty() && !wire.is_unflushed() && wire.stream().is_drained()
 }

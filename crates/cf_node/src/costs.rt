@@ -58,13 +58,13 @@ impl Reach {
         }
     }
 
-    /// A publication in a channel was brought to a node's hub, and went to so many of its clients.
-    pub(crate) fn note(&self, node: u8, channel: &str, clients: u32) {
+    /// A publication in a channel whose name falls on this slot was brought to a node's hub, and went to so many of its clients.
+    pub(crate) fn note(&self, node: u8, slot: usize, clients: u32) {
         if let Some(count) = self.brought.get(usize::from(node)) {
             count.fetch_add(1, Ordering::SeqCst);
         }
         let at = usize::from(node).saturating_mul(SLOTS);
-        if let Some(count) = self.counts.get(at.saturating_add(slot_of(channel))) {
+        if let Some(count) = self.counts.get(at.saturating_add(slot)) {
             count.store(clients as u64, Ordering::Relaxed);
         }
     }
@@ -91,8 +91,8 @@ fn zeros(alloc: Global, count: usize) -> Result<Vec<AtomicU64>, AllocError> {
     Ok(counts)
 }
 
-// The slot on which a channel's name falls (FNV-1a).
-fn slot_of(channel: &str) -> usize {
+/// The slot on which a channel's name falls (FNV-1a).
+pub(crate) fn slot_of(channel: &str) -> usize {
     let mut hash: u64 = 0xcbf2_9ce4_8422_2325;
     for byte in channel.as_bytes() {
         hash = (hash ^ u64::from(*byte)).wrapping_mul(0x100_0000_01b3);

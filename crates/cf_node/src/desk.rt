@@ -1,6 +1,6 @@
 //! What stands between a wire and its session: texts are heard, and what the hub has for the client
 //! is handed out.
-ghost use Rattle.std.specs.Prelude.{◌≡◌, true, false};
+ghost use Rattle.std.specs.Prelude.{◌≡◌, ◌≢◌, true, false};
 ghost use Rattle.cf_session.specs.SessionMachine.{HearsText};
 ghost use Rattle.cf_session.specs.Standing.{is_idle, is_short, progress_of, tables_of};
 ghost use Rattle.cf_session.specs.Played.{AskStreams};
@@ -9,10 +9,10 @@ ghost use Rattle.cf_node.specs.Ready.{AskStreams-prop, is_out};
 use crate::attached_client::AttachedClient;
 use crate::backend::Backend;
 use crate::command_handler::CommandHandler;
+use cf_dispatch::Outbox;
 use cf_queue::Out;
 use cf_session::laws::idle_can_go_on;
 use cf_session::{Budget, Desk, Node, Session, carry_on, hear_text};
-use std::collections::VecDeque;
 use std::marker::PhantomData;
 use std::mem;
 
@@ -46,7 +46,7 @@ const MOST_TAKES: usize = 32;
 struct Talk<'a, B: Backend> {
     session: Session<'a>,
     of: PhantomData<B>,
-    ghost tables: { (tables_of session).namespaces ≡ B.namespaces },
+    ghost tables: { (tables_of session).namespaces ≡ B.Of.Naming.namespaces },
     ghost between: { is_out (progress_of session) ≡ false },
     ghost asks: { AskStreams (tables_of session).namespaces (progress_of session) } by { AskStreams-prop (tables_of session).namespaces (progress_of session) },
 }
@@ -74,8 +74,8 @@ impl<'a, B: Backend> Talk<'a, B> {
 
     // Carries on what is on its way, by one part. What that takes of a turn's units.
     fn go_on(&mut self, handler: &mut CommandHandler<'a, B>) -> usize
-        ensures goes { CarriesOn (λ h. h.client.standing.is_over) self.old.session handler.old
-            self.new.session handler.new }
+        ensures goes { CarriesOn B.Of.Naming.namespaces (λ h. h.client.standing.is_over)
+            self.old.session handler.old self.new.session handler.new }
         ensures short { is_short self.old.session ≡ true → is_short self.new.session ≡ true }
     {
         let mut budget = Budget::new(PART);
@@ -90,7 +90,7 @@ pub(crate) struct SessionDesk<'a, B: Backend> {
     pub(crate) handler: CommandHandler<'a, B>,
     talk: Talk<'a, B>,
     /// What was taken from the hub for the client and isn't sent yet.
-    pub(crate) taken: VecDeque<Out>,
+    pub(crate) outbox: Outbox,
     /// Something may wait in the hub that was not taken.
     pub(crate) owed: bool,
     // Texts are heard in this turn.
@@ -104,17 +104,17 @@ pub(crate) struct SessionDesk<'a, B: Backend> {
 }
 
 impl<'a, B: Backend> Desk for SessionDesk<'a, B> {
-    ghost use Rattle.cf_node.specs.Desk.{Hears, is_ready};
+    ghost use Rattle.cf_node.specs.Desk.{Hears, HandsOut, is_ready};
 
     ghost ready = { λ d.
         is_ready d.hears d.left d.handler.client.standing.is_over d.talk.session };
 
     ghost hears = { λ old text new.
-        Hears (λ h. h.client.standing.is_over) old.talk.session old.handler text new.talk.session
-        new.handler };
+        Hears B.Of.Naming.namespaces (λ h. h.client.standing.is_over) old.talk.session old.handler
+        text new.talk.session new.handler };
 
-    // What waits in the hub lies under its lock.
-    ghost gives = { λ _ _ _. Unit {0} };
+    ghost gives = { λ old out new.
+        HandsOut old.outbox.outs.items old.handler.client.refused out new.outbox.outs.items };
 
     fn is_ready(&self) -> bool {
         self.hears && self.left != 0 && !self.handler.is_closed() && self.talk.session.is_idle()
@@ -140,7 +140,8 @@ impl<'a, B: Backend> Desk for SessionDesk<'a, B> {
 }
 
 impl<'a, B: Backend> SessionDesk<'a, B> {
-    ghost use Rattle.cf_node.specs.Desk.{CarriesOn};
+    ghost use Rattle.std.specs.Prelude.{[]};
+    ghost use Rattle.cf_node.specs.Desk.{CarriesOn, HandsOut};
 
     pub(crate) fn new(backend: &'a B, now: u64) -> SessionDesk<'a, B> {
         let alloc = backend.alloc();
@@ -157,7 +158,7 @@ impl<'a, B: Backend> SessionDesk<'a, B> {
                 heard: now,
             },
             talk: Talk::new(backend),
-            taken: VecDeque::new(alloc),
+            outbox: Outbox::new(alloc),
             owed: false,
             hears: false,
             has_heard: false,
@@ -177,7 +178,7 @@ impl<'a, B: Backend> SessionDesk<'a, B> {
             self.left = if is_slowed { FEW_UNITS } else { UNITS };
             self.handler.is_held = false;
             // What was taken for the client goes out before.
-            if !self.talk.session.is_idle() && self.taken.is_empty() {
+            if !self.talk.session.is_idle() && self.outbox.is_empty() {
                 self.go_on();
                 self.owed = true;
                 self.has_heard = true;
@@ -205,8 +206,8 @@ impl<'a, B: Backend> SessionDesk<'a, B> {
     // for the client. What waits for it is taken over before each part, so that a reply finds its
     // session's queue empty.
     fn go_on(&mut self)
-        ensures goes { CarriesOn (λ h. h.client.standing.is_over) self.old.talk.session
-            self.old.handler self.new.talk.session self.new.handler }
+        ensures goes { CarriesOn B.Of.Naming.namespaces (λ h. h.client.standing.is_over)
+            self.old.talk.session self.old.handler self.new.talk.session self.new.handler }
         ensures short { is_short self.old.talk.session ≡ true
             → is_short self.new.talk.session ≡ true }
     {
@@ -215,7 +216,7 @@ impl<'a, B: Backend> SessionDesk<'a, B> {
             if self.left == 0 || self.handler.is_closed() || self.talk.session.is_idle() {
                 return;
             }
-            let came = take_over(&self.handler, &mut self.taken);
+            let came = take_over(&self.handler, &mut self.outbox);
             // What waited before the first part isn't what this text brings.
             said = if part == 0 {
                 0
@@ -231,39 +232,66 @@ impl<'a, B: Backend> SessionDesk<'a, B> {
         }
     }
 
-    // What goes out next.
-    fn take(&mut self) -> Option<Out> {
-        if self.taken.is_empty() {
-            if let Some(code) = self.handler.client.refused.take() {
-                return Some(Out::Close(code));
-            }
-            if self.owed {
-                self.owed = self.handler.take(&mut self.taken);
-            }
-            if self.taken.is_empty() {
-                // An idle connection keeps room for what comes one by one, so that this takes no memory.
-                self.taken.shrink_to(2);
-            }
+    /// Lends what was taken for the client, to be given back with what is taken for it since.
+    pub(crate) fn lend(&mut self) -> Outbox
+        ensures lent { result ≡ self.old.outbox }
+        ensures left { self.new.outbox.outs.items ≡ [] }
+    {
+        mem::replace(&mut self.outbox, Outbox::new(self.handler.backend.alloc()))
+    }
+
+    /// What was lent comes back with what was taken since, where it is of the client's own session; and more may wait for it in the
+    /// hub, or not.
+    pub(crate) fn give(&mut self, outbox: Outbox, more: bool)
+        ensures own { outbox.session ≡ self.old.handler.client.standing.number
+            → self.new.outbox ≡ outbox }
+        ensures other { outbox.session ≢ self.old.handler.client.standing.number
+            → self.new.outbox ≡ self.old.outbox }
+    {
+        self.owed = more;
+        if outbox.session() != self.handler.client.standing.number() {
+            return;
         }
-        self.taken.pop_front()
+        self.outbox = outbox;
+    }
+
+    // What goes out next.
+    fn take(&mut self) -> Option<Out>
+        ensures hands { HandsOut self.old.outbox.outs.items self.old.handler.client.refused result
+            self.new.outbox.outs.items }
+    {
+        if !self.outbox.is_empty() {
+            return self.outbox.next();
+        }
+        if let Some(code) = self.handler.client.refused.take() {
+            return Some(Out::Close(code));
+        }
+        if self.owed {
+            self.owed = self.handler.take(&mut self.outbox);
+        }
+        if self.outbox.is_empty() {
+            // An idle connection keeps room for what comes one by one, so that this takes no memory.
+            self.outbox.shrink_to(2);
+        }
+        self.outbox.next()
     }
 }
 
 // Takes what waits in the hub for a client. How many bytes of text that is.
-fn take_over<B: Backend>(handler: &CommandHandler<'_, B>, taken: &mut VecDeque<Out>) -> usize {
-    let known = taken.len();
+fn take_over<B: Backend>(handler: &CommandHandler<'_, B>, outbox: &mut Outbox) -> usize {
+    let known = outbox.items().len();
     for _ in 0..MOST_TAKES {
-        if !handler.take(taken) {
+        if !handler.take(outbox) {
             break;
         }
     }
-    bytes_behind(taken, known)
+    bytes_behind(outbox, known)
 }
 
 // The bytes of the texts behind the first so many.
-fn bytes_behind(taken: &VecDeque<Out>, known: usize) -> usize {
+fn bytes_behind(outbox: &Outbox, known: usize) -> usize {
     let mut bytes: usize = 0;
-    for out in taken.iter().skip(known) {
+    for out in outbox.items().iter().skip(known) {
         if let Out::Text(text) = out {
             bytes = bytes.saturating_add(text.len());
         }

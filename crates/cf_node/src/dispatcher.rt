@@ -2,13 +2,14 @@
 ghost use Rattle.std.specs.Prelude.{◌≡◌};
 ghost use Rattle.cf_dispatch.specs.Dispatch.{Dispatches};
 
-use crate::costs::Reach;
+use crate::costs::{Reach, slot_of};
 use crate::gate::{DISPATCHER, Gate};
 use crate::shared::{MANY, Shared};
 use cf_dispatch::{Mailbox, pass_on};
-use cf_hub::{Delivered, Hub};
+use cf_hub::Delivered;
 use cf_link::Receiver;
-use cf_shard::{Delivery, Naming};
+use cf_node_hub::NodeHub;
+use cf_shard::{Delivery, Naming, ShardWords};
 use std::sync::atomic::{AtomicU64, Ordering};
 use std::sync::{MutexGuard, Wait};
 use std::thread;
@@ -20,13 +21,14 @@ const LONGEST_SLEEP: u64 = 500;
 
 /// The dispatcher's end of the node's link, and the hub under its lock.
 #[derive(Drop)]
-pub(crate) struct NodeMailbox<'a, R, G, N: Naming> {
+pub(crate) struct NodeMailbox<'a, R, G, N: Naming, W> {
     rt: &'a R,
     gate: &'a G,
     receiver: Receiver<Delivery<N>>,
-    shared: &'a Shared,
+    words: &'a W,
+    shared: &'a Shared<N>,
     // The hub, while more waits to be brought to it.
-    hub: Option<MutexGuard<'a, Hub>>,
+    hub: Option<MutexGuard<'a, NodeHub<N>>>,
     // How many publications were brought under this lock, and sessions met them.
     met: u32,
     node: u8,
@@ -34,18 +36,20 @@ pub(crate) struct NodeMailbox<'a, R, G, N: Naming> {
     reach: Option<&'a Reach>,
 }
 
-impl<'a, R: Wait, G, N: Naming> NodeMailbox<'a, R, G, N> {
-    /// The mailbox of a node, at its end of the node's link.
+impl<'a, R: Wait, G, N: Naming, W> NodeMailbox<'a, R, G, N, W> {
+    /// The mailbox of a node, at its end of the node's link, and who has the words of the broker's shards.
     pub(crate) fn new(
         rt: &'a R,
         gate: &'a G,
         receiver: Receiver<Delivery<N>>,
-        shared: &'a Shared,
-    ) -> NodeMailbox<'a, R, G, N> {
+        words: &'a W,
+        shared: &'a Shared<N>,
+    ) -> NodeMailbox<'a, R, G, N, W> {
         NodeMailbox {
             rt,
             gate,
             receiver,
+            words,
             shared,
             hub: None,
             met: 0,
@@ -55,7 +59,11 @@ impl<'a, R: Wait, G, N: Naming> NodeMailbox<'a, R, G, N> {
     }
 
     /// The same of the node of this number, which notes there how many clients publications reach.
-    pub(crate) fn noting(mut self, node: u8, reach: Option<&'a Reach>) -> NodeMailbox<'a, R, G, N> {
+    pub(crate) fn noting(
+        mut self,
+        node: u8,
+        reach: Option<&'a Reach>,
+    ) -> NodeMailbox<'a, R, G, N, W> {
         self.node = node;
         self.reach = reach;
         self
@@ -71,7 +79,8 @@ impl<'a, R: Wait, G, N: Naming> NodeMailbox<'a, R, G, N> {
     }
 }
 
-impl<'a, R: Wait + Clock, G: Gate, N: Naming> Mailbox for NodeMailbox<'a, R, G, N> {
+impl<'a, R: Wait + Clock, G: Gate, N: Naming, W: ShardWords<N>> Mailbox
+    for NodeMailbox<'a, R, G, N, W> {
     type Letter = Delivery<N>;
 
     ghost use Rattle.std.specs.Prelude.{◌≡◌, ◌++◌, ◌∷◌, [], MatchOption};
@@ -103,10 +112,11 @@ impl<'a, R: Wait + Clock, G: Gate, N: Naming> Mailbox for NodeMailbox<'a, R, G, 
             }
         };
         let bytes = delivery.publication().body.len();
-        let delivered = hub.deliver(delivery.channel(), delivery.epoch(), delivery.publication());
+        let slot = slot_of(delivery.channel());
+        let delivered = hub.deliver(self.words, delivery);
         self.shared.note_brought(delivered.passed, bytes);
         if let Some(reach) = self.reach {
-            reach.note(self.node, delivery.channel(), delivered.passed);
+            reach.note(self.node, slot, delivered.passed);
         }
         if self.goes_on(&delivered) {
             self.hub = Some(hub);

@@ -10,18 +10,16 @@ use crate::fault_counts::Fault;
 use crate::gate::{Gate, IO_LOOP};
 use crate::leaving::Leaving;
 use crate::socket::Socket;
-use cf_dispatch::{Outlets, SESSIONS_AT_ONCE, Seconds, take_batch};
+use cf_dispatch::{Outbox, Outlets, SESSIONS_AT_ONCE, Seconds, take_batch};
 use cf_fair::FairQueue;
 use cf_health::health_ask;
 use cf_protocol::CloseCode;
-use cf_queue::Out;
 use cf_session::Wire;
 use cf_wire::Gather;
 use mio::Events;
 use mio::event::Event;
 use mio::net::TcpStream;
 use std::alloc::AllocError;
-use std::collections::VecDeque;
 use std::io::ErrorKind;
 use std::sync::Wait;
 use std::sync::atomic::{AtomicU64, Ordering};
@@ -147,7 +145,21 @@ pub(crate) fn serve<R: Wait + Clock, B: Backend, G: Gate>(
         resumed: 0,
         stale,
     };
-    io_loop.run(rt, node, gate, stop)
+    let served = io_loop.run(rt, node, gate, stop);
+    let IoLoop { places, .. } = io_loop;
+    let_go(places);
+    served
+}
+
+// The connections of a loop that has ended are over.
+fn let_go<B: Backend>(mut places: Vec<Connection<'_, B>>) {
+    while let Some(connection) = places.pop() {
+        match connection {
+            Connection::Empty => {}
+            Connection::Head(_) | Connection::Open(_) | Connection::Leaving(_) => {}
+        }
+    }
+    places.destroy_empty();
 }
 
 // A connection whose head is whole: the handshake is answered, or the question whether the node
@@ -160,10 +172,7 @@ fn opened<'a, B: Backend>(
 ) -> Connection<'a, B> {
     let head = match connection {
         Connection::Head(head) => head,
-        other => {
-            drop(other);
-            return Connection::Empty;
-        }
+        _ => return Connection::Empty,
     };
     // Those who ask by `GET` are answered as who wants a WebSocket.
     let asks = health_ask(head.socket.early.as_slice());
@@ -446,7 +455,7 @@ impl<'a, B: Backend> IoLoop<'a, B> {
                     socket: Socket::new(self.backend.alloc(), stream),
                     accepted: self.seconds.done(),
                 });
-                drop(mem::replace(connection, head));
+                *connection = head;
             }
             _ => {
                 let _ = self.free.push(place);
@@ -558,7 +567,7 @@ impl<'a, B: Backend> IoLoop<'a, B> {
         let is_well = self.backend.shared().is_well(self.now)
             || self.now.saturating_sub(self.resumed) <= SECONDS_HELD_UP;
         let answered = opened(self.backend, head, is_well, self.now);
-        drop(mem::replace(connection, answered));
+        *connection = answered;
         if matches!(connection, Connection::Empty) {
             self.vacate(place);
         } else {
@@ -616,10 +625,10 @@ impl<'a, B: Backend> IoLoop<'a, B> {
             Connection::Open(open) => {
                 let Open { wire, mut desk, .. } = Box::into_inner(open);
                 let leaving = Leaving::new(wire.into_stream(), self.now);
-                drop(mem::replace(connection, Connection::Leaving(leaving)));
+                *connection = Connection::Leaving(leaving);
                 desk.handler.give_up();
             }
-            other => drop(mem::replace(connection, other)),
+            other => *connection = other,
         }
         self.owe(place);
     }
@@ -636,7 +645,7 @@ impl<'a, B: Backend> IoLoop<'a, B> {
                 drop(wire);
                 desk.handler.give_up();
             }
-            unheard => drop(unheard),
+            Connection::Head(_) | Connection::Leaving(_) => {}
         }
         self.vacate(place);
     }
@@ -748,29 +757,27 @@ impl<'a, B: Backend> Outlets for IoLoop<'a, B> {
         match self.places.get(place_of(&self.owners, session)) {
             Some(Connection::Open(open)) => {
                 open.desk.handler.client.standing.number() == Some(session)
-                    && takes_more(&open.wire, &open.desk.taken)
+                    && takes_more(&open.wire, &open.desk.outbox)
             }
             _ => false,
         }
     }
 
-    fn lend(&mut self, session: u32) -> VecDeque<Out> {
-        let nothing = VecDeque::new(self.backend.alloc());
+    fn lend(&mut self, session: u32) -> Outbox {
         let place = place_of(&self.owners, session);
         match self.places.get_mut(place) {
-            Some(Connection::Open(open)) => mem::replace(&mut open.desk.taken, nothing),
-            _ => nothing,
+            Some(Connection::Open(open)) => open.desk.lend(),
+            _ => Outbox::new(self.backend.alloc()),
         }
     }
 
-    fn give(&mut self, session: u32, taken: VecDeque<Out>, more: bool) {
+    fn give(&mut self, session: u32, outbox: Outbox, more: bool) {
         let place = place_of(&self.owners, session);
         let Some(Connection::Open(open)) = self.places.get_mut(place) else {
             return;
         };
-        let is_free = takes_more(&open.wire, &open.desk.taken);
-        open.desk.taken = taken;
-        open.desk.owed = more;
+        let is_free = takes_more(&open.wire, &open.desk.outbox);
+        open.desk.give(outbox, more);
         // There is room for it.
         let _ = self.batch.push(Named { place, is_free });
     }

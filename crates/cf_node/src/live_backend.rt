@@ -1,6 +1,8 @@
 //! A node's hub and the broker, each under its locks. Only the IO loop calls the broker, so no pass
 //! is ever out when it is asked for.
 ghost use Rattle.std.specs.Prelude.{◌≡◌, ◌<◌, IfSome};
+ghost use Rattle.cf_shard.specs.Shards.{number_of};
+ghost use Rattle.cf_node.specs.Answered.{StoodAt};
 
 use crate::backend::Backend;
 use crate::fault_counts::Fault;
@@ -9,13 +11,13 @@ use crate::shared::Shared;
 use crate::window::Window;
 use cf_broker::{Broker, Passes, SHARDS, shard_of};
 use cf_dispatch::keeps_presence;
-use cf_hub::Hub;
+use cf_node_hub::{Begun, NodeHub};
 use cf_order::Pass;
 use cf_presence::Stats;
 use cf_protocol::{Info, Position};
 use cf_session::Session;
-use cf_shard::{Naming, ReadAnswer, Refused};
-use cf_stream::{Epochs, History, Published};
+use cf_shard::{Naming, Refused};
+use cf_stream::{Epochs, History, Published, Recovery};
 use std::alloc::Global;
 use std::cell::RefCell;
 use std::collections::BTreeMap;
@@ -27,7 +29,7 @@ pub(crate) struct LiveBackend<'a, R, N: Naming, E: Epochs + Drop> {
     pub(crate) rt: &'a R,
     pub(crate) alloc: Global,
     pub(crate) setup: Setup<'a, N>,
-    pub(crate) shared: &'a Shared,
+    pub(crate) shared: &'a Shared<N>,
     pub(crate) broker: &'a Broker<N, E>,
     /// What the node knows of the logs of the broker's shards.
     pub(crate) passes: RefCell<Passes<N>>,
@@ -73,8 +75,31 @@ fn put_back<N: Naming>(passes: &RefCell<Passes<N>>, shard: usize, pass: Pass)
     }
 }
 
+// Where a channel's stream stands, and how long its shard's log is, unless nothing happened there since that had so many entries.
+fn stands_since<R: Wait, N: Naming, E: Epochs + Drop>(
+    rt: &R,
+    broker: &Broker<N, E>,
+    pass: &mut Pass,
+    channel: &str,
+    mark: Option<u64>,
+) -> Option<(Option<Position>, u64)>
+    requires { pass.old.word ≡ N.words (number_of channel.now) }
+    ensures stood { IfSome result (StoodAt N.namespaces channel.now) }
+    ensures word { pass.new.word ≡ pass.old.word }
+{
+    let Some(mark) = mark else {
+        return Some(broker.position(rt, pass, channel));
+    };
+    if broker.quiet_since(pass, channel, mark) {
+        return None;
+    }
+    Some(broker.position(rt, pass, channel))
+}
+
 impl<'a, R: Wait, N: Naming, E: Epochs + Drop> Backend for LiveBackend<'a, R, N, E> {
-    ghost namespaces = { N.namespaces };
+    type Of = N;
+
+    type Words = Broker<N, E>;
 
     fn alloc(&self) -> Global {
         self.alloc
@@ -84,11 +109,15 @@ impl<'a, R: Wait, N: Naming, E: Epochs + Drop> Backend for LiveBackend<'a, R, N,
         Session::new(self.alloc, self.setup.namespaces, self.setup.tokens)
     }
 
-    fn hub(&self) -> MutexGuard<'_, Hub> {
+    fn hub(&self) -> MutexGuard<'_, NodeHub<N>> {
         self.shared.hub(self.rt)
     }
 
-    fn shared(&self) -> &Shared {
+    fn words(&self) -> &Broker<N, E> {
+        self.broker
+    }
+
+    fn shared(&self) -> &Shared<N> {
         self.shared
     }
 
@@ -152,19 +181,15 @@ impl<'a, R: Wait, N: Naming, E: Epochs + Drop> Backend for LiveBackend<'a, R, N,
         answer
     }
 
-    fn read(
-        &self,
-        channel: &str,
-        since: Option<Position>,
-        now: u64,
-    ) -> Result<ReadAnswer, Refused> {
-        let shard = shard_of(channel);
-        let Some(mut pass) = taken(&self.passes, self.broker, shard) else {
-            return Err(Refused::NoEpoch);
-        };
-        let answer = self.broker.read(self.rt, &mut pass, channel, since, now);
-        put_back(&self.passes, shard, pass);
-        answer
+    fn read(&self, begun: &mut Begun<N>, now: u64) -> Result<(Recovery, Pass), Refused> {
+        let mut pass = begun.lend(self.broker);
+        match self
+            .broker
+            .read(self.rt, &mut pass, begun.channel(), begun.since(), now)
+        {
+            Ok(answer) => Ok((answer.recovery, pass)),
+            Err(refused) => Err(refused),
+        }
     }
 
     fn history(
@@ -173,7 +198,7 @@ impl<'a, R: Wait, N: Naming, E: Epochs + Drop> Backend for LiveBackend<'a, R, N,
         since: Option<Position>,
         limit: i32,
         now: u64,
-    ) -> Result<History, Refused> {
+    ) -> Result<(History, Pass), Refused> {
         let shard = shard_of(channel);
         let Some(mut pass) = taken(&self.passes, self.broker, shard) else {
             return Err(Refused::NoEpoch);
@@ -181,8 +206,12 @@ impl<'a, R: Wait, N: Naming, E: Epochs + Drop> Backend for LiveBackend<'a, R, N,
         let answer = self
             .broker
             .history(self.rt, &mut pass, channel, since, limit, now);
+        let lent = self.broker.word(shard).lend(&mut pass);
         put_back(&self.passes, shard, pass);
-        answer
+        match answer {
+            Ok(history) => Ok((history, lent)),
+            Err(refused) => Err(refused),
+        }
     }
 
     fn position_since(&self, channel: &str, mark: Option<u64>) -> Option<(Option<Position>, u64)> {
@@ -190,10 +219,7 @@ impl<'a, R: Wait, N: Naming, E: Epochs + Drop> Backend for LiveBackend<'a, R, N,
         let Some(mut pass) = taken(&self.passes, self.broker, shard) else {
             return Some((None, 0));
         };
-        let answer = match mark {
-            Some(mark) if self.broker.quiet_since(&mut pass, channel, mark) => None,
-            _ => Some(self.broker.position(self.rt, &mut pass, channel)),
-        };
+        let answer = stands_since(self.rt, self.broker, &mut pass, channel, mark);
         put_back(&self.passes, shard, pass);
         answer
     }

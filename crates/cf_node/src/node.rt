@@ -1,5 +1,6 @@
 //! A node, and what it is set up with.
 ghost use Rattle.std.specs.Prelude.{◌≡◌};
+ghost use denote.Param.Send.{IsSend, IsSync};
 
 use crate::acceptor::Acceptor;
 use crate::costs::Reach;
@@ -15,6 +16,7 @@ use cf_link::Receiver;
 use cf_protocol::{Namespaces, Tokens};
 use cf_shard::{Delivery, Naming};
 use cf_stream::Epochs;
+use mio::Waker;
 use mio::net::TcpListener;
 use std::cell::RefCell;
 use std::marker::PhantomData;
@@ -97,7 +99,7 @@ pub struct Node<'a, N: Naming> {
     setup: Setup<'a, N>,
     acceptor: Acceptor,
     receiver: Receiver<Delivery<N>>,
-    shared: Shared,
+    waker: Waker,
 }
 
 impl<'a, N: Naming> Node<'a, N> {
@@ -110,12 +112,11 @@ impl<'a, N: Naming> Node<'a, N> {
         listener: TcpListener,
     ) -> io::Result<Node<'a, N>> {
         let (acceptor, waker) = Acceptor::open(rt, listener)?;
-        let shared = Shared::new(rt.alloc(), setup.node, setup.boot, waker);
         Ok(Node {
             setup,
             acceptor,
             receiver,
-            shared,
+            waker,
         })
     }
 
@@ -127,7 +128,7 @@ impl<'a, N: Naming> Node<'a, N> {
         self,
         rt: &'a R,
         broker: &'a Broker<N, E>,
-        passes: Passes<N>,
+        mut passes: Passes<N>,
         gate: &'a G,
         stop: &'a AtomicU64,
     ) -> io::Result<()>
@@ -141,11 +142,13 @@ impl<'a, N: Naming> Node<'a, N> {
             setup,
             acceptor,
             receiver,
-            shared,
+            waker,
         } = self;
         let node = setup.node;
         let stale = setup.stale;
         let reach = setup.reach;
+        let seen = passes.lend(rt.alloc(), broker)?;
+        let shared = Shared::new(rt.alloc(), node, setup.boot, waker, seen);
         let shared = &shared;
         let window = Window::new(rt.alloc(), broker.nodes())?;
         let backend = LiveBackend {
@@ -158,17 +161,27 @@ impl<'a, N: Naming> Node<'a, N> {
             window: RefCell::new(window),
         };
         let backend = &backend;
-        thread::scope(thread::scope_env(), rt, |scope| {
-            let brings = move || {
-                let mut mailbox = NodeMailbox::new(rt, gate, receiver, shared).noting(node, reach);
-                dispatch(rt, node, &mut mailbox, gate, stop);
-            };
-            let served = match scope.spawn(brings) {
-                Ok(_) => serve(rt, node, backend, acceptor, stale, gate, stop),
-                Err(refused) => Err(io::Error::from(refused)),
-            };
-            stop.store(1, Ordering::SeqCst);
-            served
-        })
+        thread::scope(
+            thread::scope_env(),
+            rt,
+            // What it calls requires these, which the prover doesn't take from its body.
+            |scope|
+                requires send { IsSend N.row }
+                requires sync { IsSync N.row }
+                requires epochs { IsSend E.row }
+            {
+                let brings = move || {
+                    let mailbox = NodeMailbox::new(rt, gate, receiver, broker, shared);
+                    let mut mailbox = mailbox.noting(node, reach);
+                    dispatch(rt, node, &mut mailbox, gate, stop);
+                };
+                let served = match scope.spawn(brings) {
+                    Ok(_) => serve(rt, node, backend, acceptor, stale, gate, stop),
+                    Err(refused) => Err(io::Error::from(refused)),
+                };
+                stop.store(1, Ordering::SeqCst);
+                served
+            },
+        )
     }
 }

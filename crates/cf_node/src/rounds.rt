@@ -17,7 +17,7 @@ impl<'a, B: Backend> CommandHandler<'a, B> {
         self.now = now;
         if self.looks_for_end() {
             // Its socket may take what waits for it for a while.
-            let is_over = is_close_over(self.client.ended, now);
+            let is_over = is_close_over(self.client.refreshed, now);
             if is_over {
                 self.note_slow();
             }

@@ -1,7 +1,8 @@
 //! What a node's two workers share.
 ghost use Rattle.std.specs.Prelude.{◌≤◌, ◌+◌, ◌↔◌, IsTrue};
 
-use cf_hub::Hub;
+use cf_node_hub::NodeHub;
+use cf_shard::{Naming, Passes};
 use mio::Waker;
 use std::alloc::Global;
 use std::sync::atomic::{AtomicU64, Ordering};
@@ -33,8 +34,8 @@ const SECONDS_FOR_TURN: u64 = 2;
 
 /// The hub, and what wakes the IO loop when there is something to send.
 #[derive(Drop)]
-pub(crate) struct Shared {
-    hub: Mutex<Hub>,
+pub(crate) struct Shared<N: Naming> {
+    hub: Mutex<NodeHub<N>>,
     waker: Waker,
     // Not 0 from a wake on until the loop looks.
     woken: AtomicU64,
@@ -57,11 +58,17 @@ fn lives(turned: u64, now: u64) -> bool
     now.saturating_sub(turned) <= SECONDS_FOR_TURN
 }
 
-impl Shared {
-    /// The hub of a node of this number, at this start of the program, with no session yet.
-    pub(crate) fn new(alloc: Global, node: u8, boot: u64, waker: Waker) -> Shared {
+impl<N: Naming> Shared<N> {
+    /// The hub of a node of this number, at this start of the program, with no session yet, beside what it has seen of the logs.
+    pub(crate) fn new(
+        alloc: Global,
+        node: u8,
+        boot: u64,
+        waker: Waker,
+        seen: Passes<N>,
+    ) -> Shared<N> {
         Shared {
-            hub: Mutex::new(Hub::new(alloc, node, boot)),
+            hub: Mutex::new(NodeHub::new(alloc, node, boot, seen)),
             waker,
             woken: AtomicU64::new(0),
             behind: AtomicU64::new(0),
@@ -101,12 +108,12 @@ impl Shared {
     }
 
     /// The hub for the dispatcher.
-    pub(crate) fn lock<R: Wait>(&self, rt: &R) -> MutexGuard<'_, Hub> {
+    pub(crate) fn lock<R: Wait>(&self, rt: &R) -> MutexGuard<'_, NodeHub<N>> {
         self.hub.lock(rt)
     }
 
     /// The hub for the IO loop, before whom the dispatcher gives way.
-    pub(crate) fn hub<R: Wait>(&self, rt: &R) -> MutexGuard<'_, Hub> {
+    pub(crate) fn hub<R: Wait>(&self, rt: &R) -> MutexGuard<'_, NodeHub<N>> {
         self.wanted.store(1, Ordering::SeqCst);
         let hub = self.hub.lock(rt);
         self.wanted.store(0, Ordering::SeqCst);

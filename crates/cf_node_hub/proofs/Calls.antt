@@ -26,9 +26,11 @@ use Rattle.cf_hub_moves.specs.HubAsides.{MovesAmong}
 use Rattle.cf_node_hub.specs.Seen.{SeesOn, log_at, seen_lists}
 use Rattle.cf_node_hub.specs.Told.{IsReply, SaysSome, SpeaksOf}
 use Rattle.cf_node_hub.proofs.Seen.{stands-listed}
-use Rattle.cf_node_hub.proofs.Speaking.{Keeps, begins-keep, delivers-says, asides-keep, is-same, meets-says, one-says, opens-says, reads-keep, speaks_on}
+use Rattle.cf_node_hub.proofs.Speaking.{Keeps, begins-keep, delivers-says, asides-keep, is-same, meets-says, notes-keep, one-says, opens-says, reads-keep, speaks_on}
 use Rattle.cf_hub_moves.specs.Readings.{answered}
 use Rattle.cf_node_hub.proofs.ReadAnswers.{missed_of}
+use Rattle.cf_node_hub.specs.Histories.{RepliesHistory}
+use Rattle.cf_node_hub.proofs.Listings.{says}
 
 -- one shard's pass goes on, and the others stay
 pub sees_on : (n : ℕ) (old new : List PassState) → IsSameBut n old new → IsPrefix (pass_at old n).log (pass_at new n).log → SeesOn old new
@@ -90,6 +92,17 @@ pub say_kept : (moves : (lists : Lists) → MovesAmong IsReply lists) (seen : Li
     → Meets k (λ hit. OrCloses hit plain (push plain (Text t))) before after → SpeaksOf IsReply seen before → SpeaksOf IsReply seen after
 say_kept moves seen k t before after is m h sound =
     meets-says IsReply (seen_lists seen) k (push plain (Text t)) before after (asides-keep IsReply (seen_lists seen) (moves (seen_lists seen)) t is) m (h sound)
+
+-- the reply to a history is said, which brings what stands in the pass that is taken in
+pub history_kept
+    : (moves : (lists : Lists) → MovesAmong IsReply lists) (t : NamespaceTable) (n : ℕ) (old new : List PassState) (pass : PassState) (k : ℕ) (c text : List ℕ) (before after : Node)
+    → n ≡ number_of c → IsSameBut n old new → IsPrefix (pass_at old n).log (pass_at new n).log → IsPrefix pass.log (pass_at new n).log → RepliesHistory t pass.log c text
+    → Meets k (λ hit. OrCloses hit plain (push plain (Text text))) before after → SpeaksOf IsReply old before → SpeaksOf IsReply new after
+history_kept moves t n old new pass k c text before after number others here theirs replies m h sound =
+    let begins : IsPrefix pass.log (log_at new c) = subst (λ (j : ℕ). IsPrefix pass.log (pass_at new j).log) number theirs in
+    let said = says t new pass.log c text sound begins replies in
+    meets-says IsReply (seen_lists new) k (push plain (Text text)) before after (notes-keep IsReply (seen_lists new) (moves (seen_lists new)) text said.0 said.1) m
+    (speaks_on IsReply old new before (sees_on n old new others here) h sound)
 
 -- a pass more is taken in, and no session changes
 pub learned_kept : (n : ℕ) (old new : List PassState) (node : Node) → IsSameBut n old new → IsPrefix (pass_at old n).log (pass_at new n).log → SpeaksOf IsReply old node → SpeaksOf IsReply new node

@@ -22,7 +22,7 @@ use Rattle.cf_hub_moves.proofs.Readings.{life-opened, reading-is}
 use Rattle.cf_node_hub.specs.Seen.{IsSound, listed_in, log_at, seen_lists}
 use Rattle.cf_node_hub.proofs.Seen.{listed-on}
 
-then-on : {X : Type 0} (xs ys zs : List X) → (a : List X) → ys ≡ xs ++ a → (b : List X) → zs ≡ ys ++ b → zs ≡ xs ++ (a ++ b)
+pub then-on : {X : Type 0} (xs ys zs : List X) → (a : List X) → ys ≡ xs ++ a → (b : List X) → zs ≡ ys ++ b → zs ≡ xs ++ (a ++ b)
 then-on xs ys zs a e b f = f ∙ (ap (λ l. l ++ b) e ∙ append_assoc xs a b)
 
 pub missed_of

@@ -1,3 +1,4 @@
 pub mod Asking
+pub mod Histories
 pub mod Seen
 pub mod Told

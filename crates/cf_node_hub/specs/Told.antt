@@ -1,8 +1,8 @@
 -- What a node's sessions may say: notes whose publications stand in the logs that the node has seen, and replies that
--- their own scripts give. (This project's own profile.)
+-- bring none. (This project's own profile.)
 use Rattle.std.specs.Prelude.{◌≡◌, ⊤, ℕ, Bool, true, false, List, Option, Some, None}
 use Rattle.cf_protocol.specs.Note.{Lists}
-use Rattle.cf_protocol.specs.Outgoing.{Answer, Outcome, Subscribed}
+use Rattle.cf_protocol.specs.Outgoing.{Answer, Outcome, Past, Subscribed}
 use Rattle.cf_protocol.specs.Written.{outgoing_text}
 use Rattle.cf_hub.specs.AlikeMoves.{Notes}
 use Rattle.cf_hub.specs.Hub.{Node, attached_at}
@@ -25,9 +25,10 @@ SaysSome A lists (Some a) = (b : Notes) × SaysAmong A lists a.state b
 abbrev pub SpeaksOf : (List ℕ → Type 0) → List PassState → Node → Type 0
 SpeaksOf A seen node = IsSound seen → (k : ℕ) → SaysSome A (seen_lists seen) (attached_at node k)
 
--- a reply that a session gives itself: any but that to a subscribe, which its hub gives
+-- a reply that a session gives itself: any that brings no publications
 abbrev pub is_own : Outcome → Bool
 is_own (Subscribed position publications recovered was_recovering) = false
+is_own (Past position publications) = false
 is_own other = true
 
 -- the text is one

@@ -3,10 +3,12 @@
 #![tactic(auto)]
 
 mod begun;
+mod histories;
 mod node_hub;
 mod queries;
 mod replies;
 mod telling;
 
 pub use begun::Begun;
+pub use histories::history_reply;
 pub use node_hub::NodeHub;

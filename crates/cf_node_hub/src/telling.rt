@@ -12,6 +12,7 @@ ghost use Rattle.cf_hub.specs.WantOfMemory.{OrCloses};
 ghost use Rattle.cf_hub.specs.Wordings.{plain, reading};
 ghost use Rattle.cf_shard.specs.Shards.{number_of};
 ghost use Rattle.cf_node_hub.specs.Asking.{Answers, IsAskedFrom};
+ghost use Rattle.cf_node_hub.specs.Histories.{RepliesHistory};
 ghost use Rattle.cf_node_hub.specs.Seen.{SeesOn};
 ghost use Rattle.cf_node_hub.specs.Told.{IsReply};
 
@@ -83,8 +84,8 @@ impl<N: Naming> NodeHub<N> {
         self.hub.finish(session, channel)
     }
 
-    /// Queues a reply that the session gives itself, and not that to a subscribe. Where the client is too slow or memory is refused,
-    /// the session is closed in place of it.
+    /// Queues a reply that brings no publications. Where the client is too slow or memory is refused, the session is closed in place
+    /// of it.
     pub fn say(&mut self, session: u32, text: String) -> Queued
         requires { IsReply (string_bytes text) }
         ensures said { result ≡ queued_in (attached_at self.new.node session) }
@@ -96,6 +97,33 @@ impl<N: Naming> NodeHub<N> {
         ensures seen { self.new.seen ≡ self.old.seen }
     {
         moves_are_among();
+        self.hub.say(session, text)
+    }
+
+    /// Queues the reply to a history of a channel, with the pass by which it was answered. It takes no other text than one that says
+    /// what the channel's shard answered, at a point of its log that the pass has seen. Where the client is too slow or memory is
+    /// refused, the session is closed in place of it.
+    pub fn say_history<W: ShardWords<N>>(
+        &mut self,
+        words: &W,
+        session: u32,
+        channel: &str,
+        text: String,
+        pass: Pass,
+    ) -> Queued
+        requires word { pass.word ≡ N.words (number_of channel.now) }
+        requires replies { RepliesHistory N.namespaces pass.log channel.now (string_bytes text) }
+        ensures said { result ≡ queued_in (attached_at self.new.node session) }
+        ensures session { Meets session
+            (λ hit. OrCloses hit plain (push plain (Text (string_bytes text))))
+            self.old.node self.new.node }
+        ensures rest { SameNode self.old.node self.new.node }
+        ensures turns { self.new.node.turns ≡ gets_turn session self.old.node.turns }
+        ensures seen { SeesOn self.old.seen self.new.seen }
+    {
+        moves_are_among();
+        let shard = shard_of(channel);
+        self.seen.learn(words, shard, pass);
         self.hub.say(session, text)
     }
 

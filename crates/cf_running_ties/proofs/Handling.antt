@@ -6,7 +6,7 @@ use Rattle.cf_protocol.specs.Datum.{Datum, Placed, Who}
 use Rattle.cf_protocol.specs.LogEntry.Entry.{Publish as PublishEntry}
 use Rattle.cf_protocol.specs.Note.{Close, End, Fails, Left, Listed, Lists, Note, PingDue, Pub, Put}
 use Rattle.cf_protocol.specs.Note as note
-use Rattle.cf_protocol.specs.Outgoing.{Answer as Reply, Failed, Past, Published, Unsubscribed}
+use Rattle.cf_protocol.specs.Outgoing.{Answer as Reply, Failed, Published, Unsubscribed}
 use Rattle.cf_protocol.specs.Position.{Position}
 use Rattle.cf_protocol.specs.declared.codes.ErrorCode.{ErrorCode}
 use Rattle.cf_stream.specs.PublicationList.{state_of}
@@ -22,7 +22,7 @@ use Rattle.cf_running.specs.Server as server
 use Rattle.cf_running.specs.Server.{AsksShard, Began, Begins, Calls, Connection, Errs, Finishes, FinishesOver, Free, GivesUp, HasRead, IsRefused, Leaves, Publishes, ReadDone, Refuses, Says, Server, Site, ToFinish, ToGiveUp, ToList, ToPublish, ToSay, Work, accepts, after, answers, can_gain, change, life_of, lists_of, ran, repeats, words_of}
 use Rattle.cf_machine.proofs.Names.{by_test}
 use Rattle.cf_running.proofs.Beside.{at-same}
-use Rattle.cf_running_ties.specs.InHand.{AsksBroker, HasInHand, Hears, InHand, MayBeRefused, by_answer, id_of, is_published}
+use Rattle.cf_running_ties.specs.InHand.{AsksBroker, HasInHand, Hears, InHand, ListsFor, MayBeRefused, by_answer, id_of, is_published}
 use Rattle.cf_running_ties.specs.Reads.{IsListing, SaysLater}
 
 module _ (site : Site) (s : Server) (k : ℕ) (who : Who) (next : Script) where
@@ -164,14 +164,6 @@ module _ (site : Site) (s : Server) (k : ℕ) (who : Who) (next : Script) where
           subst (λ z. InHand (lists_of site t) who next z (replies id next (Found Published)))
           (sym (ap (λ (y : Connection). y.work) (at-same t.connections k (answers c id (t.connections k))))) (id, Published, λ later g. refl, refl)
 
-  pub listed : (c : List ℕ) (id : ℕ) (limit : ℤ) (p : Position) (items : List Placed) → x.work ≡ ToList c id limit → IsListing site s c limit p items
-      → HasInHand site (after site (AsksShard k) s) k who next (replies id next (Found (Past p items)))
-  listed c id limit p items w h =
-      let found = listed_above 0 limit (state_of h.life) in
-      goes (server.asks_shard site s x.work) (ToSay c (Listed c id found.at found.low found.count)) (replies id next (Found (Past p items)))
-      (ap (λ z. (server.asks_shard site s z x).work) w ∙ ap (λ o. (server.listing_by c id limit o x).work) h.stands)
-      (id, Past p items, h.says id, refl)
-
   pub gives_up : (c : List ℕ) (id : ℕ) (e : ErrorCode) (a : Answer) → x.work ≡ ToGiveUp c id (code_of e) → HasInHand site (after site (GivesUp k) s) k who next (after_lost id e next a)
   gives_up c id e a w =
       goes (server.gives_up x.work) (ToSay c (Fails c id (code_of e))) (after_lost id e next a) (ap (λ z. (server.gives_up z x).work) w)
@@ -206,3 +198,22 @@ module _ (site : Site) (s : Server) (k : ℕ) (who : Who) (next : Script) where
       by_note (End d) h later g = absurd (cc)
       by_note PingDue h later g = absurd (cc)
       by_note (Close code) h later g = absurd (cc)
+
+-- the stream is listed, and the reply is said or an error in its place
+pub listed : (site : Site) (s : Server) (k : ℕ) (who : Who) (next : Script) (c : List ℕ) (id : ℕ) (limit : ℤ) (p : Position) (items : List Placed)
+    → (s.connections k).work ≡ ToList c id limit → IsListing site s c limit p items → ListsFor site s k who next c id p items
+listed site s k who next c id limit p items w h =
+    let t : Server = after site (AsksShard k) s in
+    let y : Connection = s.connections k in
+    let found = listed_above 0 limit (state_of h.life) in
+    let note : Note = Listed c id found.at found.low found.count in
+    let work : (t.connections k).work ≡ ToSay c note =
+    ap (λ (z : Connection). z.work) (at-same s.connections k (server.asks_shard site s y.work y))
+    ∙ (ap (λ z. (server.asks_shard site s z y).work) w ∙ ap (λ o. (server.listing_by c id limit o y).work) h.stands) in
+    record {
+      note = note;
+      in_hand = work;
+      says = h.says id;
+      said = said site t k who next c note work;
+      fails = λ e. errs site t k who next c note id e work refl;
+    }

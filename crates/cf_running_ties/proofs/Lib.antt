@@ -13,3 +13,4 @@ pub mod ShardLife
 pub mod ShardReads
 pub mod ShardTicks
 pub mod WholeNodes
+pub mod Sources

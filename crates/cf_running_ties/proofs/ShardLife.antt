@@ -75,7 +75,7 @@ stream_on None e s t h = next_on s t h.0.1
 stream_on (Some x) e s t h = same_on s t h.1
 
 last_given : (s t : Source) (e : List ℕ) → draws_next s (Some e) t → WasGiven t e
-last_given s t e h = record { at = t; is = h.0; boot = refl; shard = refl; before = omega arith }
+last_given s t e h = record { at = t; is = h.0.0; boot = refl; shard = refl; before = omega arith }
 
 -- ---- the epochs of a log were given
 
@@ -162,7 +162,7 @@ module _ (told : (s t : Source) → IsSource s → IsSource t → epoch_at s ≡
   not_given s t e (x ∷ es) h d g =
       elim (text_tells x e) [
         | inl same ↦ absurd (
-            let one : g.0.at ≡ t = told g.0.at t (was_source s t x h d.1 g.0) h (sym g.0.is ∙ same.1 ∙ d.0) in
+            let one : g.0.at ≡ t = told g.0.at t (was_source s t x h d.1 g.0) h (sym g.0.is ∙ same.1 ∙ d.0.0) in
             let counted : g.0.at.count ≡ t.count = ap (λ (u : Source). u.count) one in
             let more : t.count ≡ s.count + 1 = ap (λ (u : Source). u.count) d.1 in
             let before = g.0.before in

@@ -1,5 +1,6 @@
 //! What ties the contracts of hub and shard to the sections of the running server.
 ghost use Rattle.std.specs.Prelude.{◌≡◌, ◌⊎◌, ◌+◌, ◌++◌, ◌∷◌, [], length, Bool, IsSome, false, true, ℕ, ℤ, List, Option, None, Some};
+ghost use mathlib.Core.List.{IsPrefix};
 ghost use Rattle.cf_protocol.specs.Datum.{Datum, Placed};
 ghost use Rattle.cf_protocol.specs.Frame.{IsCommands};
 ghost use Rattle.cf_protocol.specs.LogEntry.{Entry};
@@ -10,7 +11,7 @@ ghost use Rattle.cf_protocol.specs.Request.{Command};
 ghost use Rattle.cf_protocol.specs.Settings.{NamespaceTable, settings_of};
 ghost use Rattle.cf_stream.specs.ChannelLists.{PublishesAt, ReadsAt};
 ghost use Rattle.cf_stream.specs.declared.answer.Published.{Published};
-ghost use Rattle.cf_stream.specs.LogState.{IsState, life_in};
+ghost use Rattle.cf_stream.specs.LogState.{IsState, epoch_in, life_in, list_in};
 ghost use Rattle.cf_stream.specs.PublicationList.{state_of};
 ghost use Rattle.cf_model.specs.Life.{Life};
 ghost use Rattle.cf_model.specs.StreamAnswer.{read_of};
@@ -21,6 +22,7 @@ ghost use Rattle.cf_link.specs.Link.{AreLeft};
 ghost use Rattle.cf_order.specs.Passes.{PassState};
 ghost use Rattle.cf_shard.specs.Delivery.{AreLeft as AreHandedOut, Carried, Left, carried};
 ghost use Rattle.cf_shard.specs.LogAnswer.{IsHistoryAnswer, IsReadAnswer};
+ghost use Rattle.cf_shard.specs.Opening.{GivesNoneTwice, StaysFresh};
 ghost use Rattle.cf_shard.specs.Shard.{DrawsFor, Lent};
 ghost use Rattle.cf_shard.specs.ShardLog.{entries_of_forget, entries_of_publish, entries_of_size, entries_of_tick, entries_of_trim, entries_of_use};
 ghost use Rattle.cf_machine.specs.Config.{Config};
@@ -31,7 +33,7 @@ ghost use Rattle.cf_hub_moves.specs.Readings.{answered};
 ghost use Rattle.cf_running_ties.specs.Heard.{AreHeard, SayTheirNotes};
 ghost use Rattle.cf_running_ties.specs.Links.{AddsNothing, IsAnswered, IsFirst, IsNumbered, Lines, OffersCopies, Waits, is_at_link};
 ghost use Rattle.cf_running_ties.specs.Reads.{AllReadBack, IsListing, IsReading, SectionHas};
-ghost use Rattle.cf_node_hub.specs.Seen.{IsSound, log_at};
+ghost use Rattle.cf_node_hub.specs.Seen.{IsSound, listed_in, log_at};
 ghost use Rattle.cf_running_ties.specs.Seen.{IsGood};
 ghost use Rattle.cf_running_ties.specs.ShardCalls.{IsDrawn, IsGained, IsNotLast, MayAll};
 ghost use Rattle.cf_running_ties.specs.ShardLife.{AreMade, Call};
@@ -104,6 +106,19 @@ pub fn drawn_epochs_are_new()
         → IsDrawn (stream_of old.streams channel) old.log channel epoch }
     ensures gained { (config : Config) (calls : List Call) (first now : Lent Source)
         → first.log ≡ [] → AreMade config.namespaces calls first now → IsGained config now.log }
+{
+    told_apart();
+}
+
+/// What a shard's type keeps of its epochs (`StaysFresh`) needs no premise if they come from a source of `cf_epochs`, which gives
+/// none twice. Then no epoch of its log opens again, and at each point of it a stream of an epoch has all that was ever
+/// published to its channel in that epoch.
+pub fn no_epoch_opens_again()
+    ensures sources { GivesNoneTwice draws_next }
+    ensures once { (source : Source) (log before : List Entry) (channel epoch : List ℕ)
+        → StaysFresh draws_next source log → IsPrefix before log
+        → epoch_in before channel ≡ Some epoch
+        → list_in before channel ≡ listed_in before channel epoch }
 {
     told_apart();
 }

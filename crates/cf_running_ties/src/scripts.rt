@@ -3,7 +3,7 @@ ghost use Rattle.std.specs.Prelude.{◌≡◌, ◌∷◌, [], false, true, Some,
 ghost use Rattle.cf_protocol.specs.Codes.{code_of};
 ghost use Rattle.cf_protocol.specs.Datum.{Datum, Placed, Who};
 ghost use Rattle.cf_protocol.specs.Note.{Note};
-ghost use Rattle.cf_protocol.specs.Outgoing.{Past, Published};
+ghost use Rattle.cf_protocol.specs.Outgoing.{Published};
 ghost use Rattle.cf_protocol.specs.Position.{Position};
 ghost use Rattle.cf_protocol.specs.declared.codes.ErrorCode.{ErrorCode};
 ghost use Rattle.cf_model.specs.Life.{Life};
@@ -13,7 +13,7 @@ ghost use Rattle.cf_session.specs.CommandScripts.{after_begin, after_finish, aft
 ghost use Rattle.cf_session.specs.Script.{Script};
 ghost use Rattle.cf_machine.specs.ClientRequest.{SentCommand, Subscribe, Unsubscribe, request_of};
 ghost use Rattle.cf_running.specs.Server.{AsksShard, Began, Begins, Calls, Errs, Finishes, FinishesOver, GivesUp, IsRefused, Leaves, Publishes, ReadDone, Refuses, Says, Server, Site, ToFinish, ToGiveUp, ToList, ToPublish, ToSay, after, life_of, ran};
-ghost use Rattle.cf_running_ties.specs.InHand.{AsksBroker, HasInHand, Hears, MayBeRefused, by_answer, id_of, is_published};
+ghost use Rattle.cf_running_ties.specs.InHand.{AsksBroker, HasInHand, Hears, ListsFor, MayBeRefused, by_answer, id_of, is_published};
 ghost use Rattle.cf_running_ties.specs.Reads.{IsListing};
 
 /// If a session's script begins a command, a section takes it in hand: what the script goes on with,
@@ -65,8 +65,7 @@ pub fn work_goes_as_the_script()
         (channel : List ℕ) (id : ℕ) (limit : ℤ) (position : Position) (publications : List Placed)
         → (server.connections k).work ≡ ToList channel id limit
         → IsListing site server channel limit position publications
-        → HasInHand site (after site (AsksShard k) server) k who next
-        (replies id next (Found (Past position publications))) }
+        → ListsFor site server k who next channel id position publications }
     ensures gives_up { (site : Site) (server : Server) (k : ℕ) (who : Who) (next : Script)
         (channel : List ℕ) (id : ℕ) (e : ErrorCode) (answer : Answer)
         → (server.connections k).work ≡ ToGiveUp channel id (code_of e)

@@ -308,7 +308,7 @@ pub answer_asks : (t : NamespaceTable) (a : Answer) (p q : Progress) (n : ℕ) �
 answer_asks t a p q n own (inl e) h = subst (AskStreams t) (sym e.0) (answered_asks t a p own h)
 answer_asks t a p q n own (inr g) h = subst (AskStreams t) (sym g.1.closes) tt
 
--- what the code's calls answer is none that the hub gives
+-- what the code's calls answer is none that the node gives itself
 pub answers_own : (a : CodeAnswer) → finds_own (shown_answer a) ≡ true
 answers_own (answer.Attach (Ok client)) = refl
 answers_own (answer.Attach (Err e)) = refl
@@ -320,7 +320,7 @@ answers_own answer.Finish = refl
 answers_own answer.Leave = refl
 answers_own (answer.Publish (Ok u)) = refl
 answers_own (answer.Publish (Err e)) = refl
-answers_own (answer.History (Ok h)) = refl
+answers_own (answer.History (Ok u)) = refl
 answers_own (answer.History (Err e)) = refl
 answers_own (answer.Presence (Ok users)) = refl
 answers_own (answer.Presence (Err e)) = refl

@@ -29,7 +29,7 @@ pub record Tables : Type 0 where
 abbrev pub refuses : ℕ → ErrorCode → Script → Script
 refuses id e after = Say id (Failed (code_of e)) after
 
--- the reply is what the one call found, or its refusal
+-- the reply is what the one call found, or its refusal; nothing is left to say if the node gave it
 abbrev pub replies : ℕ → Script → Answer → Script
 replies id after (Refused e) = refuses id e after
 replies id after (Found outcome) = Say id outcome after
@@ -91,7 +91,7 @@ granted who id (Unsubscribe c) after = Ask (Leave c) (after_leave id after)
 granted who id (request.Publish c key d) after = Ask (Publish c key (body_of d) who) (replies id after)
 granted who id (request.Presence c) after = Ask (Presence c) (replies id after)
 granted who id (PresenceStats c) after = Ask (Stats c) (replies id after)
-granted who id (request.History c limit since reverse) after = Ask (History c limit since) (replies id after)
+granted who id (request.History c limit since reverse) after = Ask (History c id limit since) (replies id after)
 granted who id Ping after = Say id Pinged after
 granted who id request.Pong after = Pong after
 granted who id Send after = after

@@ -21,7 +21,7 @@ shown_action (action.Finish c) = Calls (call.Finish (string_bytes c))
 shown_action (action.Leave c) = Calls (call.Leave (string_bytes c))
 shown_action (action.Publish c key body info) =
     Calls (call.Publish (string_bytes c) (string_bytes key) (string_bytes body) info)
-shown_action (action.History c limit since) = Calls (call.History (string_bytes c) limit since)
+shown_action (action.History c id limit since) = Calls (call.History (string_bytes c) id limit since)
 shown_action (action.Presence c) = Calls (call.Presence (string_bytes c))
 shown_action (action.Stats c) = Calls (call.Stats (string_bytes c))
 shown_action (action.Say text) = Says (string_bytes text)
@@ -39,7 +39,7 @@ shown_answer answer.Finish = Done
 shown_answer answer.Leave = Done
 shown_answer (answer.Publish (Ok u)) = Found outgoing.Published
 shown_answer (answer.Publish (Err e)) = Refused e
-shown_answer (answer.History (Ok h)) = Found (outgoing.Past h.position h.publications.items)
+shown_answer (answer.History (Ok u)) = Done
 shown_answer (answer.History (Err e)) = Refused e
 shown_answer (answer.Presence (Ok users)) = Found (outgoing.Present (shown_users users))
 shown_answer (answer.Presence (Err e)) = Refused e

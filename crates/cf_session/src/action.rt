@@ -1,7 +1,6 @@
 //! What a session asks its node for, and what it is answered.
 use cf_presence::Stats;
 use cf_protocol::{CloseCode, ErrorCode, Info, Position};
-use cf_stream::History;
 use std::collections::BTreeMap;
 
 /// What a session wants done by its node. All but `Say`, `Pong` and `Close` are calls, whose answer it waits for; the fields of a
@@ -38,9 +37,11 @@ pub enum Action {
         body: String,
         info: Info,
     },
-    /// The publications that the channel's stream holds, after `since` where it is there.
+    /// The publications that the channel's stream holds, after `since` where it is there, are listed in the reply to the command of
+    /// this id, which the node gives.
     History {
         channel: String,
+        id: u32,
         limit: i32,
         since: Option<Position>,
     },
@@ -70,7 +71,7 @@ pub enum Answer {
     Finish,
     Leave,
     Publish(Result<(), ErrorCode>),
-    History(Result<History, ErrorCode>),
+    History(Result<(), ErrorCode>),
     /// The user of each client, by the client's id.
     Presence(Result<BTreeMap<String, String>, ErrorCode>),
     Stats(Stats),

@@ -9,7 +9,6 @@ ghost use Rattle.cf_session.specs.Shown.{answer_kind, shown_action, shown_answer
 use crate::action::{Action, Answer};
 use cf_presence::Stats;
 use cf_protocol::{CloseCode, ErrorCode, Info, Position};
-use cf_stream::History;
 use std::collections::BTreeMap;
 
 /// What carries out the actions of one session: a hub, the streams, presence, and what the client is sent. It has a method for each
@@ -79,15 +78,17 @@ pub trait Node {
             (Answer.Publish result) self.new }
         ensures namespaces { namespaces self.new ≡ namespaces self.old };
 
-    /// The publications that the channel's stream holds, after `since` where it is there.
+    /// The channel's stream is listed, after `since` where it is there, and the reply with its publications is given for the command
+    /// of this id.
     fn history(
         &mut self,
         channel: &str,
+        id: u32,
         limit: i32,
         since: Option<Position>,
-    ) -> Result<History, ErrorCode>
+    ) -> Result<(), ErrorCode>
         requires { IsSome (settings_of (namespaces self.old) channel.now) }
-        ensures does { Gives does self.old (call.History channel.now limit since)
+        ensures does { Gives does self.old (call.History channel.now id limit since)
             (Answer.History result) self.new }
         ensures namespaces { namespaces self.new ≡ namespaces self.old };
 
@@ -102,7 +103,7 @@ pub trait Node {
         ensures does { Gives does self.old (call.Stats channel.now) (Answer.Stats result) self.new }
         ensures namespaces { namespaces self.new ≡ namespaces self.old };
 
-    /// This text, a reply that a session gives itself, goes to the client.
+    /// This text, a reply that a session gives itself and that brings no publications, goes to the client.
     fn say(&mut self, text: String)
         requires { IsReply (string_bytes text) }
         ensures does { does self.old (Says (string_bytes text)) None self.new }
@@ -148,9 +149,13 @@ pub fn act<N: Node>(node: &mut N, action: Action) -> Option<Answer>
         } => Some(Answer::Publish(node.publish(channel, key, body, info))),
         Action::History {
             channel,
+            id,
             limit,
             since,
-        } => Some(Answer::History(node.history(channel.as_str(), limit, since))),
+        } => {
+            let listed = node.history(channel.as_str(), id, limit, since);
+            Some(Answer::History(listed))
+        }
         Action::Presence { channel } => Some(Answer::Presence(node.presence(channel.as_str()))),
         Action::Stats { channel } => Some(Answer::Stats(node.stats(channel.as_str()))),
         Action::Say(text) => {

@@ -112,13 +112,6 @@ fn replied(id: u32, answer: Answer) -> Stage
             id,
             outcome: Outcome::Published,
         },
-        Answer::History(Ok(past)) => Stage::Says {
-            id,
-            outcome: Outcome::Past {
-                position: past.position,
-                publications: past.publications,
-            },
-        },
         Answer::Presence(Ok(users)) => Stage::Says {
             id,
             outcome: Outcome::Present { users },

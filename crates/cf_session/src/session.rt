@@ -408,6 +408,7 @@ impl<'a> Session<'a> {
             } => {
                 let action = Action::History {
                     channel,
+                    id,
                     limit,
                     since,
                 };
@@ -605,7 +606,7 @@ fn frame_of(alloc: Global, text: &str) -> Result<Vec<Command>, ReadFault>
 }
 
 /// The text of the reply to a command.
-fn reply_of(alloc: Global, id: u32, outcome: Outcome) -> Result<String, AllocError>
+pub fn reply_of(alloc: Global, id: u32, outcome: Outcome) -> Result<String, AllocError>
     ensures { IfOk result (λ text. string_bytes text ≡ reply_text id (shown_outcome outcome)) }
 {
     write_reply(alloc, &Outgoing::Answer { id, outcome })

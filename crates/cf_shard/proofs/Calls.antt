@@ -76,6 +76,10 @@ pub kept : (t : NamespaceTable) (w : TableId) (old new : StreamMap) (o o' : Owne
     → o'.log ≡ o.log ++ es → IsShard t w new o'
 kept t w old new o o' es h adds word log = record { named = word ∙ h.named; state = subst (IsState t new) (sym log) (adds.state t o.log h.state) }
 
+-- and as they are if neither changed
+pub still : (t : NamespaceTable) (w : TableId) (old new : StreamMap) (o o' : OwnerState) → IsShard t w old o → new ≡ old → o' ≡ o → IsShard t w new o'
+still t w old new o o' h same is = subst (λ (k : StreamMap). IsShard t w k o') (sym same) (subst (λ (x : OwnerState). IsShard t w old x) (sym is) h)
+
 -- where a channel's stream stands, read off the log
 pub position_by_log : (t : NamespaceTable) (w : TableId) (k : StreamMap) (o : OwnerState) (c : List ℕ) (p : Option Position) → IsShard t w k o → StandsAt k c p → IsPosition t o.log c p
 position_by_log t w k o c p h s = s.off (life_in t o.log) h.state.lists

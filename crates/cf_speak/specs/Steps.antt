@@ -32,7 +32,7 @@ use Rattle.cf_hub.specs.declared.refusal.HubRefusal.TheVariants as hub
 use Rattle.cf_session.specs.Calls as call
 use Rattle.cf_session.specs.Calls.{Answer, Refused, Done, Found, Call}
 use Rattle.cf_session.specs.Refusals.{of_hub}
-use Rattle.cf_session.specs.SessionMachine.{Act, Calls, Says, PassesPong, Closes}
+use Rattle.cf_session.specs.SessionMachine.{Act, Calls, Says, PassesPong, Closes, reply_text}
 use Rattle.cf_speak.specs.Drawing.{draws_front}
 use Rattle.cf_speak.specs.Scene.{Scene, fell_short}
 
@@ -154,61 +154,6 @@ abbrev pub leave_at : Option ℕ → List ℕ → Scene → Scene → Type 0
 leave_at None c s m = m ≡ s
 leave_at (Some k) c s m = Leaves k c s m
 
--- ---- streams
-
--- what is due after a publish to a channel: a repeat brings nothing
-abbrev pub due_after : Bool → List ℕ → Option (List ℕ) → Option (List ℕ)
-due_after repeated c due = if repeated then due else Some c
-
--- the datum is published under the key, or repeats what was
-pub record Publishes (c key : List ℕ) (d : Datum) (s m : Scene) (a : Answer) : Type 0 where
-  pub epoch : List ℕ
-  pub drawn : Draws draws_front (stream_of s.streams c) epoch s.epochs m.epochs
-  pub streams : m.streams ≡ put_at s.streams c (Some (given (used s c epoch) key d 0))
-  pub answer : a ≡ Found outgoing.Published
-  pub rest : m ≡ record s {
-    streams = m.streams;
-    epochs = m.epochs;
-    due = due_after (is_some (repeated_by (used s c epoch) key)) c s.due;
-  }
-
-pub record IsAtLast (c key : List ℕ) (s m : Scene) (a : Answer) : Type 0 where
-  pub last : IsSomeAnd (stream_of s.streams c) (λ x. IsStuck x key)
-  pub denies : Denies (refusal_code AtLastOffset) s m a
-
-abbrev pub publish_at : (channel key : List ℕ) → Datum → Scene → Scene → Answer → Type 0
-publish_at c key d s m a = Publishes c key d s m a ⊎ IsAtLast c key s m a ⊎ HasNoEpoch c s m a
-
-pub record Lists (c : List ℕ) (limit : ℤ) (since : Option Position) (s m : Scene) (a : Answer) : Type 0 where
-  pub position : Position
-  pub publications : List Placed
-  pub history : IsHistory (used s c position.epoch) since limit position publications
-  pub drawn : Draws draws_front (stream_of s.streams c) position.epoch s.epochs m.epochs
-  pub streams : m.streams ≡ put_at s.streams c (Some (used_at (used s c position.epoch) 0))
-  pub answer : a ≡ Found (outgoing.Past position publications)
-  pub rest : m ≡ record s { streams = m.streams; epochs = m.epochs }
-
-pub record IsOfAnotherEpoch (c : List ℕ) (since : Option Position) (s m : Scene) (a : Answer) : Type 0 where
-  pub another : IsOfAnother (stream_of s.streams c) since
-  pub denies : Denies (refusal_code OtherEpoch) s m a
-
-abbrev pub history_at : List ℕ → ℤ → Option Position → Scene → Scene → Answer → Type 0
-history_at c limit since s m a = Lists c limit since s m a ⊎ IsOfAnotherEpoch c since s m a ⊎ HasNoEpoch c s m a
-
--- ---- every call
-
-abbrev pub CallStep : Scene → Call → Answer → Scene → Type 0
-CallStep s (call.Attach user) a m = attach_at s.number user s m a
-CallStep s (call.Begin c id since) a m = begin_at s.number c id since s m a
-CallStep s (call.Read c since) a m = read_at s.number c since s m a
-CallStep s (call.Finish c) a m = finish_at s.number c s m × (a ≡ Done)
-CallStep s (call.Leave c) a m = leave_at s.number c s m × (a ≡ Done)
-CallStep s (call.Publish c key body info) a m = publish_at c key (record { body = body; info = Some info }) s m a
-CallStep s (call.History c limit since) a m = history_at c limit since s m a
-CallStep s (call.Presence c) a m = (m ≡ s) × (a ≡ Found (outgoing.Present (users_of (clients_of s.people c))))
-CallStep s (call.Stats c) a m =
-    (m ≡ s) × (a ≡ Found (outgoing.Counted (fin.len (clients_of s.people c)) (user_count (clients_of s.people c))))
-
 -- ---- what is said
 
 abbrev pub said_at : Option ℕ → List ℕ → Node → Node → Type 0
@@ -241,6 +186,67 @@ pub record SaysAndBrings (text : List ℕ) (s m : Scene) : Type 0 where
   pub says : said_at s.number text s.hub between
   pub brings : brings_due s.due s.streams between m.hub
   pub rest : m ≡ record s { hub = m.hub; due = None }
+
+-- ---- streams
+
+-- what is due after a publish to a channel: a repeat brings nothing
+abbrev pub due_after : Bool → List ℕ → Option (List ℕ) → Option (List ℕ)
+due_after repeated c due = if repeated then due else Some c
+
+-- the datum is published under the key, or repeats what was
+pub record Publishes (c key : List ℕ) (d : Datum) (s m : Scene) (a : Answer) : Type 0 where
+  pub epoch : List ℕ
+  pub drawn : Draws draws_front (stream_of s.streams c) epoch s.epochs m.epochs
+  pub streams : m.streams ≡ put_at s.streams c (Some (given (used s c epoch) key d 0))
+  pub answer : a ≡ Found outgoing.Published
+  pub rest : m ≡ record s {
+    streams = m.streams;
+    epochs = m.epochs;
+    due = due_after (is_some (repeated_by (used s c epoch) key)) c s.due;
+  }
+
+pub record IsAtLast (c key : List ℕ) (s m : Scene) (a : Answer) : Type 0 where
+  pub last : IsSomeAnd (stream_of s.streams c) (λ x. IsStuck x key)
+  pub denies : Denies (refusal_code AtLastOffset) s m a
+
+abbrev pub publish_at : (channel key : List ℕ) → Datum → Scene → Scene → Answer → Type 0
+publish_at c key d s m a = Publishes c key d s m a ⊎ IsAtLast c key s m a ⊎ HasNoEpoch c s m a
+
+-- the stream is listed in the reply to a command
+pub record Lists (c : List ℕ) (id : ℕ) (limit : ℤ) (since : Option Position) (s m : Scene) (a : Answer) : Type 0 where
+  pub position : Position
+  pub publications : List Placed
+  pub between : Scene
+  pub history : IsHistory (used s c position.epoch) since limit position publications
+  pub drawn : Draws draws_front (stream_of s.streams c) position.epoch s.epochs between.epochs
+  pub streams : between.streams ≡ put_at s.streams c (Some (used_at (used s c position.epoch) 0))
+  pub rest : between ≡ record s { streams = between.streams; epochs = between.epochs }
+  pub says : SaysAndBrings (reply_text id (outgoing.Past position publications)) between m
+  pub answer : a ≡ Done
+
+pub record IsOfAnotherEpoch (c : List ℕ) (since : Option Position) (s m : Scene) (a : Answer) : Type 0 where
+  pub another : IsOfAnother (stream_of s.streams c) since
+  pub denies : Denies (refusal_code OtherEpoch) s m a
+
+abbrev pub history_at : List ℕ → ℕ → ℤ → Option Position → Scene → Scene → Answer → Type 0
+history_at c id limit since s m a =
+    Lists c id limit since s m a ⊎ IsOfAnotherEpoch c since s m a ⊎ HasNoEpoch c s m a
+
+-- ---- every call
+
+abbrev pub CallStep : Scene → Call → Answer → Scene → Type 0
+CallStep s (call.Attach user) a m = attach_at s.number user s m a
+CallStep s (call.Begin c id since) a m = begin_at s.number c id since s m a
+CallStep s (call.Read c since) a m = read_at s.number c since s m a
+CallStep s (call.Finish c) a m = finish_at s.number c s m × (a ≡ Done)
+CallStep s (call.Leave c) a m = leave_at s.number c s m × (a ≡ Done)
+CallStep s (call.Publish c key body info) a m = publish_at c key (record { body = body; info = Some info }) s m a
+CallStep s (call.History c id limit since) a m = history_at c id limit since s m a
+CallStep s (call.Presence c) a m = (m ≡ s) × (a ≡ Found (outgoing.Present (users_of (clients_of s.people c))))
+CallStep s (call.Stats c) a m =
+    (m ≡ s) × (a ≡ Found (outgoing.Counted (fin.len (clients_of s.people c)) (user_count (clients_of s.people c))))
+
+-- ---- a pong, and a close
 
 abbrev pub pong_at : Option ℕ → Scene → Scene → Type 0
 pong_at None s m = m ≡ s

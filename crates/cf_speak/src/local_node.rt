@@ -1,19 +1,21 @@
 //! One client's session on a node of its own.
-ghost use Rattle.std.specs.Prelude.{◌≡◌, IfOk, OnOk, option_map, slice_get, string_bytes};
+ghost use Rattle.std.specs.Prelude.{◌≡◌, false, true, IfOk, OnErr, OnOk, option_map, slice_get, string_bytes};
+ghost use Rattle.cf_protocol.specs.Outgoing.{Past};
 ghost use Rattle.cf_hub.specs.Hub.{attached_at};
 ghost use Rattle.cf_queue.specs.Meaning.{meaning};
 ghost use Rattle.cf_stream.specs.Streams.{stream_of};
+ghost use Rattle.cf_session.specs.SessionMachine.{reply_text};
 ghost use Rattle.cf_speak.specs.Scene.{fell_short, member, notes_in, opening};
 ghost use Rattle.cf_speak.specs.Conversation.{Takes};
 ghost use Rattle.cf_speak.specs.Shown.{is_memory, scene_of};
-ghost use Rattle.cf_speak.specs.Steps.{brings_due, brings_newest, client_in, enters_now};
+ghost use Rattle.cf_speak.specs.Steps.{SaysAndBrings, brings_due, brings_newest, client_in, enters_now};
 
 use crate::epochs::GivenEpochs;
 use cf_hub::Hub;
 use cf_presence::{Presence, PresenceRefusal, Stats};
-use cf_protocol::{CloseCode, ErrorCode, Info, Namespaces, Position};
+use cf_protocol::{CloseCode, ErrorCode, Info, Namespaces, Outcome, Position};
 use cf_queue::Out;
-use cf_session::{Node, hub_error, presence_error, stream_error};
+use cf_session::{Node, hub_error, presence_error, reply_of, stream_error};
 use cf_stream::{History, StreamRefusal, Streams};
 use std::alloc::{AllocError, Global};
 use std::collections::BTreeMap;
@@ -82,6 +84,49 @@ impl LocalNode {
         match self.number {
             Some(number) => self.hub.take(number),
             None => None,
+        }
+    }
+
+    // A text goes to the client, and then what it published.
+    fn tell(&mut self, text: String)
+        ensures short { fell_short (scene_of self.old) ≡ true
+            → fell_short (scene_of self.new) ≡ true }
+        ensures says { fell_short (scene_of self.new) ≡ false
+            → SaysAndBrings (string_bytes text) (scene_of self.old) (scene_of self.new) }
+        ensures streams { (scene_of self.new).streams ≡ (scene_of self.old).streams }
+    {
+        let due = self.due.take();
+        let Some(number) = self.number else {
+            bring_due(&mut self.hub, &self.streams, due);
+            return;
+        };
+        self.hub.say(number, text);
+        bring_due(&mut self.hub, &self.streams, due);
+    }
+
+    // So does the reply to a history.
+    fn tell_history(&mut self, id: u32, history: History) -> Result<(), ErrorCode>
+        ensures short { fell_short (scene_of self.old) ≡ true
+            → fell_short (scene_of self.new) ≡ true }
+        ensures says { OnOk result (fell_short (scene_of self.new) ≡ false
+            → SaysAndBrings (reply_text id (Past history.position history.publications.items))
+            (scene_of self.old) (scene_of self.new)) }
+        ensures err { OnErr result (fell_short (scene_of self.new) ≡ true) }
+        ensures streams { (scene_of self.new).streams ≡ (scene_of self.old).streams }
+    {
+        let outcome = Outcome::Past {
+            position: history.position,
+            publications: history.publications,
+        };
+        match reply_of(self.alloc, id, outcome) {
+            Ok(text) => {
+                self.tell(text);
+                Ok(())
+            }
+            Err(_) => {
+                self.is_short = true;
+                Err(ErrorCode::Internal)
+            }
         }
     }
 }
@@ -270,14 +315,15 @@ impl Node for LocalNode {
     fn history(
         &mut self,
         channel: &str,
+        id: u32,
         limit: i32,
         since: Option<Position>,
-    ) -> Result<History, ErrorCode> {
+    ) -> Result<(), ErrorCode> {
         match self
             .streams
             .history(&mut self.epochs, channel, since, limit, NOW)
         {
-            Ok(history) => Ok(history),
+            Ok(history) => self.tell_history(id, history),
             Err(refusal) => {
                 self.is_short |= is_memory(&refusal);
                 Err(stream_error(&refusal))
@@ -299,15 +345,8 @@ impl Node for LocalNode {
         self.presence.stats(channel)
     }
 
-    // The text goes to the client, and then what it published.
     fn say(&mut self, text: String) {
-        let due = self.due.take();
-        let Some(number) = self.number else {
-            bring_due(&mut self.hub, &self.streams, due);
-            return;
-        };
-        self.hub.say(number, text);
-        bring_due(&mut self.hub, &self.streams, due);
+        self.tell(text);
     }
 
     fn pong(&mut self) {

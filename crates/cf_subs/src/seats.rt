@@ -84,7 +84,7 @@ impl Seats {
         }
     }
 
-    /// Links a row in behind all others, where its neighbours before it are the last of its channel and of its session.
+    /// Links a row in behind all others, if its neighbours before it are the last of its channel and of its session.
     pub(crate) fn link(&mut self, block: Box<Seat>) -> At
         requires linked { AreLinked self.old.blocks.held }
         requires unlinked { IsUnlinked self.old.blocks.held block.value }

@@ -152,7 +152,7 @@ fn refuse<S: Write>(mut stream: S, refusal: Refusal) -> Refused<S>
 impl<S: Read + Write + Drop> Wire<S> {
     /// Reads the head of a request, and answers it: a WebSocket is opened by 101, and what came behind the head is the wire's
     /// first input; what is no opening handshake is refused by 400 or 426. A head of more than 16,384 bytes, and who asks whether
-    /// the node lives, is not answered here. The stream is given back where there is no wire.
+    /// the node lives, is not answered here. The stream is given back if there is no wire.
     pub fn accept(alloc: Global, mut stream: S) -> Result<Wire<S>, Refused<S>>
         ensures open { IfOk result (λ wire. wire.stage ≡ stage.Open) }
         ensures fresh { IfOk result (λ wire.

@@ -9,7 +9,7 @@ pub enum TurnEnd {
     Idle,
     /// There may be more to read or to send: the next turn goes on.
     More,
-    /// The connection was closed with this code, by either side; 1005 where the peer's close has none.
+    /// The connection was closed with this code, by either side; 1005 if the peer's close has none.
     Closed(u16),
     /// The stream failed or ended, or what came on it is no WebSocket.
     StreamFault,

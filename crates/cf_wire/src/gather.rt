@@ -53,7 +53,7 @@ impl<S> Gather<S> {
         &self.stream
     }
 
-    /// Exchanges the buffer of what waits for one that others share, where both are empty, so that a quiet stream keeps none.
+    /// Exchanges the buffer of what waits for one that others share, if both are empty, so that a quiet stream keeps none.
     pub fn lend(&mut self, buffer: &mut Vec<u8>)
         ensures same { self.new ≡ self.old }
         ensures buffer { buffer.new.items ≡ buffer.old.items }
@@ -70,7 +70,7 @@ impl<S> Gather<S> {
 }
 
 impl<S: Write> Gather<S> {
-    /// Writes what waits, in order. Where a write of the stream fails or would block, what it didn't take waits on.
+    /// Writes what waits, in order. If a write of the stream fails or would block, what it didn't take waits on.
     pub fn drain(&mut self) -> io::Result<()>
         ensures bytes { Keeps (written S.contents self.old) (written S.contents self.new) }
         ensures empty { OnOk result (self.new.waiting ≡ []) }

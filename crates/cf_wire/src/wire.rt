@@ -93,7 +93,7 @@ fn code_of_cause(cause: &ProtocolError) -> Option<u16>
     }
 }
 
-/// The code of the close that a peer is told after a read with this error, where it made the error.
+/// The code of the close that a peer is told after a read with this error, if it made the error.
 fn code_of_fault(error: &Error) -> Option<u16>
     ensures { result ≡ code_of_fault error.now }
 {
@@ -127,7 +127,7 @@ fn code_of(frame: &Option<CloseFrame>) -> u16
 impl<S: Read + Write + Drop> Wire<S> {
     /// Reads what the peer sent, at most 64 messages and none once 65,536 bytes of text were heard, and sends what the desk
     /// gives: before the first, after each, and at the end. While the desk isn't ready nothing is read. A text is heard by the desk, a ping or pong is passed over, and a binary message, or one of more than 131,072
-    /// bytes, closes with 3501. Where what came is no frame, or no UTF-8, the turn ends as `StreamFault`, and the peer is told 1002 or 1007.
+    /// bytes, closes with 3501. If what came is no frame, or no UTF-8, the turn ends as `StreamFault`, and the peer is told 1002 or 1007.
     /// Of a spent wire each turn ends as the one did by which it was.
     pub fn turn<D: Desk>(&mut self, desk: &mut D) -> TurnEnd
         ensures turns { is_over self.old.stage ≡ false →
@@ -314,7 +314,7 @@ impl<S: Read + Write + Drop> Wire<S> {
         self.settle(answer, Some(code))
     }
 
-    /// A read failed. The peer is told where it made the error, as far as its socket takes it.
+    /// A read failed. The peer is told if it made the error, as far as its socket takes it.
     fn fail(&mut self, error: Error) -> TurnEnd
         ensures told { TellsIf S.contents self.old.socket (code_of_fault error) self.new.socket }
         ensures left { self.new.stage ≡ after error Stage.Open }
@@ -355,7 +355,7 @@ impl<S: Read + Write + Drop> Wire<S> {
         self.settle(answer, close)
     }
 
-    /// What a `send`, a `close` or a `flush` answered, where a close waits with this code.
+    /// Settles what a `send`, a `close` or a `flush` answered: behind Ok a wire whose close waits is over with its code.
     fn settle(&mut self, answer: Result<(), Error>, close: Option<u16>) -> Result<(), TurnEnd>
         ensures same { self.new.socket ≡ self.old.socket }
         ensures ok { OnOk answer (self.new.stage ≡ settled close) }
@@ -375,7 +375,7 @@ impl<S: Read + Write + Drop> Wire<S> {
         }
     }
 
-    /// The socket failed: where the stream would block the wire is left at this stage, else it is spent.
+    /// The socket failed: if the stream would block the wire is left at this stage, else it is spent.
     fn pause(&mut self, error: Error, stage: Stage) -> TurnEnd
         requires { is_over stage ≡ false }
         ensures same { self.new.socket ≡ self.old.socket }

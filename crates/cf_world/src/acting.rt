@@ -9,9 +9,8 @@ use crate::broker::{Broker, Published};
 use crate::short::Short;
 use cf_hub::{Hub, HubRefusal};
 use cf_presence::Stats;
-use cf_protocol::{ErrorCode, Info, Position};
-use cf_session::{Action, Answer, hub_error};
-use cf_stream::History;
+use cf_protocol::{ErrorCode, Info, Outcome, Position};
+use cf_session::{Action, Answer, hub_error, reply_of};
 
 /// Carries out an action of the session of this number. The answer, if it is a call.
 pub(crate) fn perform(
@@ -51,9 +50,14 @@ pub(crate) fn perform(
             let published = publish(broker, channel.as_str(), key.as_str(), body.as_str(), &info)?;
             Ok(Some(Answer::Publish(published)))
         }
-        Action::History { channel, limit, .. } => {
-            let found = history(broker, channel.as_str(), limit)?;
-            Ok(Some(Answer::History(found)))
+        Action::History {
+            channel,
+            id,
+            limit,
+            ..
+        } => {
+            let listed = history(broker, hub, number, channel.as_str(), id, limit)?;
+            Ok(Some(Answer::History(listed)))
         }
         Action::Say(text) => {
             say(hub, number, text)?;
@@ -145,19 +149,28 @@ fn publish(
     }
 }
 
-// The history of a channel is listed.
+// The history of a channel is listed in the reply to the command `id`.
 fn history(
     broker: &mut Broker,
+    hub: &mut Hub,
+    number: u32,
     channel: &str,
+    id: u32,
     limit: i32,
-) -> Result<Result<History, ErrorCode>, Short>
-    ensures { IfOk result (λ r. ListsAs channel.now limit (shown_answer (Answer.History r))
-        broker.old broker.new) }
+) -> Result<Result<(), ErrorCode>, Short>
+    ensures { IfOk result (λ r. ListsAs number channel.now id limit
+        (shown_answer (Answer.History r)) broker.old broker.new hub.old hub.new) }
 {
-    match broker.history(channel, limit)? {
-        Some(history) => Ok(Ok(history)),
-        None => Ok(Err(ErrorCode::Internal)),
-    }
+    let Some(history) = broker.history(channel, limit)? else {
+        return Ok(Err(ErrorCode::Internal));
+    };
+    let outcome = Outcome::Past {
+        position: history.position,
+        publications: history.publications,
+    };
+    let text = reply_of(broker.alloc, id, outcome)?;
+    say(hub, number, text)?;
+    Ok(Ok(()))
 }
 
 // A text is queued for a session's client.

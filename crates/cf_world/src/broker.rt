@@ -43,7 +43,7 @@ pub(crate) struct Broker {
     pub(crate) epochs: WaitingEpochs,
     pub(crate) streams: Streams,
     accepted: Vec<Accepted>,
-    alloc: Global,
+    pub(crate) alloc: Global,
 }
 
 impl Broker {

@@ -6,7 +6,7 @@
 //! 1,000 on in the place of each `#`, and `␊` is a line feed. An empty line is no row, nor is one that begins with `//`, a remark; an
 //! empty line and `# TITLE: SETTING` begin a part, which is played on a subject of its own.
 //!
-//! A row that isn't so is told as `texts/json/grammar row 14 (line 37): wanted NotJson(3), got NotJson(4)`, the line being the table's;
+//! A row that isn't so is told as `texts/json/grammar row 31 (line 54): wanted NotJson(3), got NotJson(4)`, the line being the table's;
 //! so is one without an arrow, or with a word that is no number. The rows behind it are played, and the test fails at the table's end.
 use std::alloc::Global;
 use std::fmt::{Display, Write};

@@ -69,7 +69,7 @@ fn listen(rt: &(impl Net + Abort)) -> TcpListener {
 }
 
 /// A broker that sends to nodes over these links, and two passes of each shard. It lies in a box, since a function that lends a
-/// broker of its own is dear to prove.
+/// broker of its own is costly to prove.
 pub(super) fn broker_to<N: Naming, R: Abort + AllocGlobal>(
     rt: &R,
     words: Words,

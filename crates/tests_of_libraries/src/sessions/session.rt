@@ -3,23 +3,12 @@
 ghost use Rattle.std.specs.Prelude.{◌≡◌, IfSome};
 ghost use Rattle.cf_session.specs.Shown.{answer_kind};
 
-use crate::publications::{place, publication};
 use crate::rows::{Subject, Table, Told};
 use cf_protocol::{ErrorCode, Namespaces, Tokens, close_reason, read_namespaces, read_tokens};
 use cf_session::{Action, Answer, Kind, Session, stream_error};
-use cf_stream::{History, StreamRefusal};
+use cf_stream::StreamRefusal;
 use std::alloc::Global;
 use std::process::Abort;
-
-/// A history of one publication of ann, at offset 3.
-fn past(alloc: Global) -> Option<History> {
-    let mut publications = Vec::new(alloc);
-    publications.push(publication(alloc, 3, "{}")?).ok()?;
-    Some(History {
-        position: place(3),
-        publications,
-    })
-}
 
 /// What the streams answer to a call on this channel.
 fn or_refused(channel: &str) -> Result<(), ErrorCode> {
@@ -41,7 +30,7 @@ fn answer_to(alloc: Global, kind: Kind, channel: &str) -> Option<Answer>
         Kind::Finish => Answer::Finish,
         Kind::Leave => Answer::Leave,
         Kind::Publish => Answer::Publish(or_refused(channel)),
-        Kind::History => Answer::History(Ok(past(alloc)?)),
+        Kind::History => Answer::History(or_refused(channel)),
         _ => return None,
     })
 }
@@ -51,6 +40,7 @@ fn channel_of(action: &Action) -> &str {
     match action {
         Action::Read { channel, .. } => channel.as_str(),
         Action::Publish { channel, .. } => channel.as_str(),
+        Action::History { channel, .. } => channel.as_str(),
         _ => "",
     }
 }
@@ -89,7 +79,7 @@ fn tell(told: &mut Told, action: &Action) {
             info,
             ..
         } => told.tell(format_args!("publish {key}: {body} {}", info.client)),
-        Action::History { limit, .. } => told.tell(format_args!("history {limit}")),
+        Action::History { id, limit, .. } => told.tell(format_args!("history {id} {limit}")),
         Action::Say(text) => told.tell(text),
         Action::Pong => told.tell("pong"),
         Action::Close(code) => {
@@ -167,7 +157,8 @@ const TALKS: &str = r#"# each_command
 {"id":2,"subscribe":{"channel":"news"}} => begin 2 / read / finish
 {"id":2,"subscribe":{"channel":"a","recover":true,"epoch":"zz","offset":7}} => begin 2 / read zz 7 / finish
 {"id":3,"publish":{"channel":"news","data":{ "t" : 1.50 }}} => publish {"t":1.50} 0-1-1 / {"id":3,"publish":{}}
-{"id":4,"history":{"channel":"news","limit":-1}} => history -1 / {"history":{"epoch":"aaaa","offset":3,"publications":[{"data":{},"info":{"client":"0-1-1","user":"ann"},"offset":3}]},"id":4}
+{"id":4,"history":{"channel":"news","limit":-1}} => history 4 -1
+{"id":5,"history":{"channel":"spent","limit":-1}} => history 5 -1 / {"error":{"code":100,"message":"internal server error","temporary":true},"id":5}
 
 # keys_of_publishes, which are looked at with the data, behind the channel's name and before the namespace
 {"id":1,"connect":{}} => attach  / {"connect":{"client":"0-1-1","ping":25,"pong":true,"version":"1.0.0"},"id":1}
@@ -260,12 +251,13 @@ fn talk(rt: HostRuntime) {
 }
 
 /// Behind what a text does otherwise stands what it may do when memory is refused: a connect closes, the other commands are
-/// answered 100, at once or after the call, and each text may close as it is read. A subscribe asks for nothing then.
+/// answered 100, at once or after the call, and each text may close as it is read. A subscribe asks for nothing then, and the reply
+/// to a history is its node's.
 const OR_GIVEN_UP: &str =
     r#"{"id":1,"connect":{}} => attach  / {"connect":{"client":"0-1-1","ping":25,"pong":true,"version":"1.0.0"},"id":1} | close 3004 internal server error | attach  / close 3004 internal server error
 {"id":2,"subscribe":{"channel":"news"}} => begin 2 / read / finish | close 3004 internal server error | {"error":{"code":100,"message":"internal server error","temporary":true},"id":2}
 {"id":2,"publish":{"channel":"news","data":1,"key":"k"}} => publish k: 1 0-1-1 / {"id":2,"publish":{}} | close 3004 internal server error | {"error":{"code":100,"message":"internal server error","temporary":true},"id":2} | publish k: 1 0-1-1 / {"error":{"code":100,"message":"internal server error","temporary":true},"id":2}
-{"id":2,"history":{"channel":"news","limit":-1}} => history -1 / {"history":{"epoch":"aaaa","offset":3,"publications":[{"data":{},"info":{"client":"0-1-1","user":"ann"},"offset":3}]},"id":2} | close 3004 internal server error | {"error":{"code":100,"message":"internal server error","temporary":true},"id":2} | history -1 / {"error":{"code":100,"message":"internal server error","temporary":true},"id":2}"#;
+{"id":2,"history":{"channel":"news","limit":-1}} => history 2 -1 | close 3004 internal server error"#;
 
 /// Whether this is the first of these, or any of the others if memory was refused.
 fn is_one_of(done: &str, allowed: &str, was_refused: bool) -> bool {

@@ -199,7 +199,7 @@ fn is_limited(table: &mut SubTable) -> bool {
         && put(table, 5, 0) == Ok(())
 }
 
-/// Whether each row of a full table goes, where the next one is so many further.
+/// Whether each row of a full table goes, if each next one is so many further.
 fn all_go(alloc: Global, step: u32) -> Option<bool> {
     let mut table = full(alloc)?;
     if !is_limited(&mut table) {

@@ -9,8 +9,11 @@ push_str-requires-5 c =
     let short = length-epoch_at c.args.self.now known in
     search (rules, length-append)
 
-pub returns : goal.returns
-returns c =
+pub returns-clause-source : goal.returns-clause-source
+returns-clause-source c = rw (← c.self.view_is) (search rules)
+
+pub returns-clause-text : goal.returns-clause-text
+returns-clause-text c =
     let known : IsSource c.args.self.now = rw (← c.self.view_is) (search rules) in
     let text : c.as_str.result.now ≡ epoch_at c.args.self.now =
     rw (c.as_str.ensures.value, c.push_str-5.ensures.bytes, c.push_str-4.ensures.bytes, c.push_str-3.ensures.bytes, c.push_str-2.ensures.bytes, c.push_str.ensures.bytes, c.new-text.ensures) (search (rules, spelled)) in

@@ -1,4 +1,3 @@
-use Rattle.std.proofs.Common.{true, false}
 use Rattle.cf_session.specs.Standing.{is_short, progress_of}
 use Rattle.cf_node.proofs.Carrying.{still_long}
 use Rattle.cf_node.proofs.desk.SessionDeskDesk.heard.Goals as goal

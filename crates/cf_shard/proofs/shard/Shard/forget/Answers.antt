@@ -1,6 +1,8 @@
-use Rattle.std.proofs.Common.{◌≡◌, ◌++◌, ap, ◌∙◌}
+use Rattle.std.proofs.Common.{◌≡◌, ◌++◌, refl, ap, ◌∙◌}
+use Rattle.cf_stream.specs.Streams.{stream_of}
 use Rattle.cf_shard.specs.Shard.{Lent}
 use Rattle.cf_shard.specs.ShardLog.{entries_of_forget}
+use Rattle.cf_shard.proofs.Opening.{fresh-more, none-if_stands}
 use Rattle.cf_shard.proofs.Calls.{if_stands_stood, noted, kept, one_by_log, follows}
 use Rattle.cf_shard.proofs.shard.Shard.forget.Given.{Over}
 use Rattle.cf_shard.proofs.shard.Shard.forget.Goals as goal
@@ -13,8 +15,10 @@ made g c =
     noted _ _ _ _ _ c.follow.ensures.owner c.note_on.ensures.owner (if_stands_stood c.self.inside.streams c.args.channel.now _ _ _ c.position.ensures.position c.top_of-stood.ensures)
 
 pub invariant_of-self-2 : goal.invariant_of-self-2
-invariant_of-self-2 g c =
-    kept _ _ _ _ _ _ _ c.self.invariant c.forget.ensures.log (made g c).0 (made g c).1
+invariant_of-self-2 g c = (
+  kept _ _ _ _ _ _ _ c.self.invariant.0 c.forget.ensures.log (made g c).0 (made g c).1,
+  fresh-more g.E.Epochs.draws _ _ _ _ _ (λ _ w. w) (made g c).1 (none-if_stands (stream_of c.self.inside.streams c.args.channel.now) _ refl) c.self.invariant.1,
+)
 
 pub returns-clause-makes : goal.returns-clause-makes
 returns-clause-makes g c = record {
@@ -25,7 +29,7 @@ returns-clause-makes g c = record {
 
 pub returns-clause-by_log : goal.returns-clause-by_log
 returns-clause-by_log g c =
-    one_by_log _ _ _ _ _ _ _ _ c.self.invariant c.follow.ensures.seen.0 (c.note_on.ensures.whole.0 ∙ (made g c).1)
+    one_by_log _ _ _ _ _ _ _ _ c.self.invariant.0 c.follow.ensures.seen.0 (c.note_on.ensures.whole.0 ∙ (made g c).1)
 
 pub returns-clause-seen : goal.returns-clause-seen
 returns-clause-seen g c =
@@ -35,5 +39,5 @@ pub returns-clause-stays : goal.returns-clause-stays
 returns-clause-stays g c = record {
   presence = ap (λ (s : Lent g.row.E.Denot). s.presence) c.self.view_is;
   whole = c.note_on.ensures.whole.0;
-  state = rw (← c.self.view_is) c.self.invariant.state;
+  state = rw (← c.self.view_is) c.self.invariant.0.state;
 }

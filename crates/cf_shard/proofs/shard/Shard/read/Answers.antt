@@ -1,7 +1,8 @@
 use Rattle.std.proofs.Common.{sym, ◌≡◌, ◌++◌, [], ap, ◌∙◌}
 use Rattle.std.proofs.lemmas.Result.{err_from_is_err_and}
 use Rattle.cf_shard.specs.Shard.{Lent}
-use Rattle.cf_shard.proofs.Calls.{opening_stood, noted, kept, read_by_log, follows}
+use Rattle.cf_shard.proofs.Opening.{call-leads, fresh-opened, fresh-still}
+use Rattle.cf_shard.proofs.Calls.{opening_stood, noted, kept, still, read_by_log, follows}
 use Rattle.cf_shard.proofs.Refusals.{left_by}
 use Rattle.cf_shard.proofs.Resizing.{stays_up}
 use Rattle.cf_stream.specs.LogState.{opening}
@@ -17,7 +18,7 @@ made g c =
     noted _ _ _ _ _ c.follow.ensures.owner c.note_opening.ensures.owner (opening_stood c.self.inside.streams c.args.channel.now _ _ _ _ c.position.ensures.position c.top_of-stood.ensures)
 
 pub read-requires : goal.read-requires
-read-requires g c = stays_up _ _ _ c.args.channel.now c.self.invariant.state c.requires.set_up
+read-requires g c = stays_up _ _ _ c.args.channel.now c.self.invariant.0.state c.requires.set_up
 
 pub returns-in_err-recovery-clause-err : goal.returns-in_err-recovery-clause-err
 returns-in_err-recovery-clause-err g c =
@@ -25,8 +26,10 @@ returns-in_err-recovery-clause-err g c =
     left_by _ _ _ _ p.0 _ c.self.view_is p.1 p.2 c.in_err-recovery.ensures.err (ap (λ o. o.log) c.follow.ensures.owner) (λ other. c.in_err-recovery.ensures.epochs.undrawn other ∙ c.deref_mut.ensures.value)
 
 pub invariant_of-self-2 : goal.invariant_of-self-2
-invariant_of-self-2 g c =
-    kept _ _ _ _ _ _ _ c.self.invariant c.in_ok-recovery.ensures.log (made g c).0 (made g c).1
+invariant_of-self-2 g c = (
+  kept _ _ _ _ _ _ _ c.self.invariant.0 c.in_ok-recovery.ensures.log (made g c).0 (made g c).1,
+  fresh-opened g.E.Epochs.draws _ _ _ [] _ _ _ _ (rw c.deref_mut.ensures.value at c.in_ok-recovery.ensures.epochs.drawn) (made g c).1 tt c.self.invariant.1,
+)
 
 pub returns-clause-makes : goal.returns-clause-makes
 returns-clause-makes g c = record {
@@ -40,7 +43,7 @@ returns-clause-answer g c = rw (← c.self.view_is) c.in_ok-recovery.ensures.lis
 
 pub returns-clause-by_log : goal.returns-clause-by_log
 returns-clause-by_log g c =
-    read_by_log _ _ _ _ _ _ _ _ _ _ _ c.self.invariant c.in_ok-recovery.ensures.lists.answer c.follow.ensures.seen.0 (c.note_opening.ensures.whole.0 ∙ (made g c).1)
+    read_by_log _ _ _ _ _ _ _ _ _ _ _ c.self.invariant.0 c.in_ok-recovery.ensures.lists.answer c.follow.ensures.seen.0 (c.note_opening.ensures.whole.0 ∙ (made g c).1)
 
 pub returns-clause-seen : goal.returns-clause-seen
 returns-clause-seen g c =
@@ -50,19 +53,25 @@ pub returns-clause-stays : goal.returns-clause-stays
 returns-clause-stays g c = record {
   presence = ap (λ (s : Lent g.row.E.Denot). s.presence) c.self.view_is;
   whole = c.note_opening.ensures.whole.0;
-  state = rw (← c.self.view_is) c.self.invariant.state;
+  state = rw (← c.self.view_is) c.self.invariant.0.state;
 }
 
 pub returns-in_err-recovery-clause-stays : goal.returns-in_err-recovery-clause-stays
 returns-in_err-recovery-clause-stays g c = record {
   presence = ap (λ (s : Lent g.row.E.Denot). s.presence) c.self.view_is;
   whole = ap (λ p. p.log) c.follow.ensures.pass ∙ sym (ap (λ o. o.log) c.follow.ensures.owner);
-  state = rw (← c.self.view_is) c.self.invariant.state;
+  state = rw (← c.self.view_is) c.self.invariant.0.state;
 }
 
 pub returns-then-not-has_room-clause-stays : goal.returns-then-not-has_room-clause-stays
 returns-then-not-has_room-clause-stays g c = record {
   presence = ap (λ (s : Lent g.row.E.Denot). s.presence) c.self.view_is;
   whole = ap (λ p. p.log) c.follow.ensures.pass ∙ sym (ap (λ o. o.log) c.follow.ensures.owner);
-  state = rw (← c.self.view_is) c.self.invariant.state;
+  state = rw (← c.self.view_is) c.self.invariant.0.state;
 }
+
+pub invariant_of-self-in_err-recovery : goal.invariant_of-self-in_err-recovery
+invariant_of-self-in_err-recovery g c = (
+  still _ _ _ _ _ _ c.self.invariant.0 c.in_err-recovery.ensures.err c.follow.ensures.owner,
+  fresh-still g.E.Epochs.draws _ _ _ _ (call-leads g.E.Epochs.draws _ _ _ _ _ (rw c.deref_mut.ensures.value at c.read.ensures.epochs)) (ap (λ o. o.log) c.follow.ensures.owner) c.self.invariant.1,
+)

@@ -1,17 +1,20 @@
-use Rattle.std.proofs.Common.{ap, refl, ◌∙◌}
+use Rattle.std.proofs.Common.{ap, refl, [], ◌∷◌, ◌∙◌}
 use Rattle.cf_protocol.specs.LogEntry.Entry.{Size}
 use Rattle.cf_shard.specs.Shard.{Lent}
+use Rattle.cf_shard.proofs.Opening.{fresh-more}
 use Rattle.cf_shard.proofs.Calls.{noted, kept, passed, follows}
 use Rattle.cf_shard.proofs.Resizing.{name_stays_up}
 use Rattle.cf_shard.proofs.shard.Shard.set_size.Goals as goal
 
 pub set_size-requires-clause-set_up : goal.set_size-requires-clause-set_up
-set_size-requires-clause-set_up g c = name_stays_up _ _ _ c.args.name.now c.self.invariant.state c.requires.set_up
+set_size-requires-clause-set_up g c = name_stays_up _ _ _ c.args.name.now c.self.invariant.0.state c.requires.set_up
 
 pub invariant_of-self-2 : goal.invariant_of-self-2
 invariant_of-self-2 g c =
-    let owner = noted _ _ _ _ _ c.follow.ensures.owner c.append.ensures.owner refl in
-    kept _ _ _ _ _ _ _ c.self.invariant c.set_size.ensures.log owner.0 owner.1
+    let owner = noted _ _ _ _ _ c.follow.ensures.owner c.append.ensures.owner refl in (
+      kept _ _ _ _ _ _ _ c.self.invariant.0 c.set_size.ensures.log owner.0 owner.1,
+      fresh-more g.E.Epochs.draws _ _ _ _ (Size c.args.name.now c.args.size ∷ []) (λ _ w. w) owner.1 (refl, tt) c.self.invariant.1,
+    )
 
 pub returns-clause-makes : goal.returns-clause-makes
 returns-clause-makes g c =
@@ -41,5 +44,5 @@ pub returns-clause-stays : goal.returns-clause-stays
 returns-clause-stays g c = record {
   presence = ap (λ (s : Lent g.row.E.Denot). s.presence) c.self.view_is;
   whole = (passed c.follow.new.pass c.append.new.pass c.append.new.owner.log (Size c.args.name.now c.args.size) c.append.ensures.pass).0.0;
-  state = rw (← c.self.view_is) c.self.invariant.state;
+  state = rw (← c.self.view_is) c.self.invariant.0.state;
 }

@@ -3,6 +3,7 @@ use Rattle.cf_stream.specs.LogState.{due_entries}
 use Rattle.cf_stream.specs.Streams.{after_tick, all_due, stream_of}
 use Rattle.cf_shard.specs.Shard.{Lent}
 use Rattle.cf_shard.specs.ShardLog.{entries_of_tick}
+use Rattle.cf_shard.proofs.Opening.{fresh-more, none-due}
 use Rattle.cf_shard.proofs.Calls.{noted, kept, follows}
 use Rattle.cf_shard.proofs.Resizing.{seconds_stay}
 use Rattle.cf_shard.proofs.shard.Shard.tick.Given.{Over}
@@ -15,15 +16,17 @@ made : (g : Over) (c : goal.After-tick-2 g)
 made g c = noted _ _ _ _ _ c.follow.ensures.owner c.note_due.ensures.owner (ap due_entries c.due-2.ensures.walk)
 
 pub invariant_of-self-2 : goal.invariant_of-self-2
-invariant_of-self-2 g c =
-    kept _ _ _ _ _ _ _ c.self.invariant c.tick.ensures.log (made g c).0 (made g c).1
+invariant_of-self-2 g c = (
+  kept _ _ _ _ _ _ _ c.self.invariant.0 c.tick.ensures.log (made g c).0 (made g c).1,
+  fresh-more g.E.Epochs.draws _ _ _ _ _ (λ _ w. w) (made g c).1 (none-due _) c.self.invariant.1,
+)
 
 pub returns-clause-makes : goal.returns-clause-makes
 returns-clause-makes g c =
     let old = c.self.inside.streams in record {
       streams =
           rw (← c.self.view_is)
-          (λ q. c.tick.ensures.streams q ∙ ap (λ n. after_tick c.args.now n (stream_of old q)) (seconds_stay _ old _ q c.self.invariant.state));
+          (λ q. c.tick.ensures.streams q ∙ ap (λ n. after_tick c.args.now n (stream_of old q)) (seconds_stay _ old _ q c.self.invariant.0.state));
       log = rw (← c.self.view_is) (made g c).1;
       undrawn = ap (λ (s : Lent g.row.E.Denot). s.epochs) c.self.view_is;
       presence = rw (← c.self.view_is) c.tick-2.ensures.left;

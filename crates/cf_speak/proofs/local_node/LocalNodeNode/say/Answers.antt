@@ -1,17 +1,9 @@
--- What the hub says is what the definition has the node say.
-use Rattle.std.proofs.Common.{rules, ap, option_map, subst}
-use Rattle.std.specs.String.{string_bytes}
-use Rattle.cf_speak.specs.Steps.{brings_due}
+use Rattle.std.proofs.Common.{ap}
+use Rattle.cf_stream.specs.Streams.{StreamMap}
 use Rattle.cf_speak.proofs.local_node.LocalNodeNode.say.Goals as goal
 
 pub returns-clause-does : goal.returns-clause-does
-returns-clause-does c = record {
-  remembered = search rules;
-  step = λ long. record {
-    between = c.say.new.self;
-    says = search (rules, long);
-    brings = subst (λ d. brings_due d c.args.self.now.streams c.say.new.self c.bring_due-2.new.hub) (ap (option_map string_bytes) c.take-due.ensures.value)
-        (c.bring_due-2.ensures.brings (search (rules, long)));
-    rest = search (rules, long);
-  };
-}
+returns-clause-does c = record { remembered = c.tell.ensures.short; step = c.tell.ensures.says }
+
+pub returns-clause-namespaces : goal.returns-clause-namespaces
+returns-clause-namespaces c = ap (λ (k : StreamMap). k.namespaces) c.tell.ensures.streams

@@ -5,7 +5,7 @@ use Rattle.cf_queue.specs.Meaning.{meaning}
 use Rattle.cf_queue.specs.declared.queue.Out.{Out}
 use Rattle.cf_dispatch.specs.Outlet.{bytes_in}
 use Rattle.cf_dispatch.proofs.Taking.{takes_more}
-use Rattle.cf_dispatch.proofs.outlet.take_for.Goals as goal
+use Rattle.cf_dispatch.proofs.outlet.fill.Goals as goal
 
 -- room was made, and one more stands in the list
 module _ (had room has : List Out) (out : Out) (same : room ≡ had) (pushed : has ≡ room ++ out ∷ []) where
@@ -19,14 +19,14 @@ module _ (had room has : List Out) (out : Out) (same : room ≡ had) (pushed : h
   heavier = ap (sum_by bytes_in) gains ∙ sum_by-append bytes_in had (out ∷ [])
 
 pub loop-count-preserved : goal.loop-count-preserved
-loop-count-preserved c =
+loop-count-preserved g c =
     let before = c.loop-count.invariant in
     let out = c.in-Some.out in
     let had = c.loop-count.taken.items in
     let has = c.push_back_reserved.new.self.items in
     record {
       takes =
-          takes_more c.args.session c.args.hub.now c.loop-count.hub c.take.new.self c.args.taken.now.items had has out before.takes
+          takes_more c.args.session c.args.hub.now.node c.loop-count.hub.node c.take.new.self.node c.args.taken.now.items had has out before.takes
           (ap (option_map meaning) (sym c.in-Some.is) ∙ c.take.ensures.front) c.take.ensures.sessions c.take.ensures.turns
           (gains had c.has_room.new.taken.items has out c.has_room.ensures.same c.push_back_reserved.ensures.items);
       counted = omega (arith, longer had c.has_room.new.taken.items has out c.has_room.ensures.same c.push_back_reserved.ensures.items, before.counted);
@@ -35,17 +35,17 @@ loop-count-preserved c =
     }
 
 pub returns-then-bytes-ge-MOST_TAKEN-clause-takes : goal.returns-then-bytes-ge-MOST_TAKEN-clause-takes
-returns-then-bytes-ge-MOST_TAKEN-clause-takes c =
+returns-then-bytes-ge-MOST_TAKEN-clause-takes g c =
     let before = c.loop-count.invariant in
     let out = c.in-Some.out in
     let had = c.loop-count.taken.items in
     let has = c.push_back_reserved.new.self.items in
-    takes_more c.args.session c.args.hub.now c.loop-count.hub c.take.new.self c.args.taken.now.items had has out before.takes
+    takes_more c.args.session c.args.hub.now.node c.loop-count.hub.node c.take.new.self.node c.args.taken.now.items had has out before.takes
     (ap (option_map meaning) (sym c.in-Some.is) ∙ c.take.ensures.front) c.take.ensures.sessions c.take.ensures.turns
     (gains had c.has_room.new.taken.items has out c.has_room.ensures.same c.push_back_reserved.ensures.items)
 
 pub returns-then-bytes-ge-MOST_TAKEN-clause-limit : goal.returns-then-bytes-ge-MOST_TAKEN-clause-limit
-returns-then-bytes-ge-MOST_TAKEN-clause-limit c =
+returns-then-bytes-ge-MOST_TAKEN-clause-limit g c =
     let before = c.loop-count.invariant in
     let had = c.loop-count.taken.items in
     let has = c.push_back_reserved.new.self.items in

@@ -1,8 +1,8 @@
 #!/usr/bin/env python3
-"""Follows a channel through losses of its connection, by Python's standard library alone. A client in forty lines, beside WebSocket's
-own: it was written from docs/PROTOCOL.md and RFC 6455, with nothing else at hand. Prints offset and data of each publication.
+"""Follows a channel through losses of its connection, by Python's standard library alone. A client in some fifty lines, beside
+WebSocket's own: it was written from docs/PROTOCOL.md and RFC 6455, with nothing else at hand. Prints offset and data of each publication.
 
-    examples/forty.py 127.0.0.1 8000 news
+    examples/small.py 127.0.0.1 8000 news
 """
 import base64
 import json
@@ -106,6 +106,8 @@ class Follower:
             self.wait = min(2 * self.wait, 5)
 
 
+if sys.argv[1:] in (["-h"], ["--help"]):
+    sys.exit(print(__doc__.strip()))
 if len(sys.argv) != 4:
     sys.exit(__doc__)
 Follower().follow(sys.argv[1], int(sys.argv[2]), sys.argv[3])

@@ -1,5 +1,0 @@
-use Rattle.cf_dispatch.proofs.Taking.{TakesSoFar}
-use Rattle.cf_dispatch.proofs.outlet.take_for.Given as goal
-
-abbrev pub invariant-loop-count : goal.invariant-loop-count
-invariant-loop-count l = TakesSoFar l.session l._count l.bytes l.initial.hub l.hub l.initial.taken l.taken
