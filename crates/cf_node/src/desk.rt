@@ -97,6 +97,8 @@ pub(crate) struct SessionDesk<'a, B: Backend> {
     hears: bool,
     // Something was heard in it, or carried on.
     has_heard: bool,
+    // What was heard last was put off.
+    has_put_off: bool,
     // How many units of work are left in it.
     left: usize,
     // How many bytes of text were heard since it was last asked.
@@ -122,6 +124,10 @@ impl<'a, B: Backend> Desk for SessionDesk<'a, B> {
 
     fn heard(&mut self, text: &str) {
         self.talk.hear(text);
+        self.has_put_off = self.handler.puts_off(text);
+        if self.has_put_off {
+            self.left = 0;
+        }
         self.go_on();
         self.owed = true;
         self.has_heard = true;
@@ -152,6 +158,7 @@ impl<'a, B: Backend> SessionDesk<'a, B> {
                 now,
                 has_published: false,
                 is_held: false,
+                is_barred: false,
                 cost: 0,
                 expected: 0,
                 turns: 0,
@@ -162,6 +169,7 @@ impl<'a, B: Backend> SessionDesk<'a, B> {
             owed: false,
             hears: false,
             has_heard: false,
+            has_put_off: false,
             left: 0,
             heard_bytes: 0,
         }
@@ -174,7 +182,7 @@ impl<'a, B: Backend> SessionDesk<'a, B> {
         self.hears = hears;
         self.has_heard = false;
         if hears {
-            let is_slowed = self.handler.is_held || self.handler.backend.is_crowded();
+            let is_slowed = self.is_held() || self.handler.backend.is_crowded();
             self.left = if is_slowed { FEW_UNITS } else { UNITS };
             self.handler.is_held = false;
             // What was taken for the client goes out before.
@@ -186,15 +194,27 @@ impl<'a, B: Backend> SessionDesk<'a, B> {
         }
     }
 
+    /// Whether the client waits until nobody has to who is held: it published while some node was behind, or what it sent was put
+    /// off and isn't done.
+    pub(crate) fn is_held(&self) -> bool {
+        self.handler.is_held || self.puts_off()
+    }
+
+    /// Whether what was put off isn't done.
+    pub(crate) fn puts_off(&self) -> bool {
+        self.has_put_off && !self.talk.session.is_idle()
+    }
+
     /// Whether a turn in which texts were heard left something to do at once.
     pub(crate) fn goes_on(&self) -> bool {
         self.hears && !self.handler.is_closed() && (self.left == 0 || !self.talk.session.is_idle())
     }
 
     /// Whether a turn in which texts were heard spent the bounds of one, where it left off before all
-    /// was heard.
+    /// was heard. One that put a text off didn't.
     pub(crate) fn is_spent(&self, left_off: bool) -> bool {
-        self.goes_on() || left_off && self.has_heard
+        let is_put_off = self.handler.is_barred && self.puts_off();
+        !is_put_off && (self.goes_on() || left_off && self.has_heard)
     }
 
     /// Whether so much was heard since this was last asked that something which was sent by now may have had no room in the socket.
