@@ -7,9 +7,9 @@ every 50 ms, one at a time, each to itself. None of these is closed, and none wa
 none is closed with 3012, the publishers neither. Then the publishers go, all at once and without a word, by a reset, which comes to the
 node also while it hasn't read what they sent before: a second and a half later none of them is present any more, as a client is told
 that was there all the time. Two newcomers, one that comes amid the flood and one as the publishers go, wait no longer than 2 seconds for
-the reply to their connect, and for the first one behind it. With `--anew N` so many more come, publish once, and come anew: then how long
-newcomers wait is said and not judged, since no more is known of them than of these N. (`--bytes`, `--readers`, `--healthy` and `--gap` are
-for a slower program, as one that is built without proof.)
+the reply to their connect, and for the first one behind it; how long for their first publish, is said. With `--anew N` so many more come,
+publish once, and come anew: then no more is known of newcomers than of these N, and how long they wait is said and not judged.
+(`--bytes`, `--readers`, `--healthy` and `--gap` are for a slower program, as one that is built without proof.)
 
 The clients are of C (crowd.c, which `cc` makes into a folder of its own), since those of Python are closed as slow before a flood is one.
 The server has two processors, 0 and 1 (`--processors`), the clients all.
@@ -74,8 +74,8 @@ def left_after(asker):
 
 
 def newcomer(ready, port, comes):
-    """The seconds that a client that comes at an event waits for the answer to its connect, and then for its first reply: none of what
-    doesn't come."""
+    """The seconds that a client that comes at an event waits for the answer to its connect, then for its first reply, and then for that
+    to its first publish: none of what doesn't come."""
     ready()
     comes.wait()
     found, began = [], time.monotonic()
@@ -84,17 +84,18 @@ def newcomer(ready, port, comes):
         peer.introduce(60)
         peer.greet(60)
         found.append(time.monotonic() - began)
-        peer.ask({"ping": {}}, 60)
-        found.append(time.monotonic() - began - found[0])
+        for asked in {"ping": {}}, {"publish": {"channel": "newcomers", "data": "x" * SMALL}}:
+            peer.ask(asked, 60)
+            found.append(time.monotonic() - began - sum(found))
     return found
 
 
 def is_prompt(found):
-    return len(found) == 2 and all(wait * 1000 <= LONGEST for wait in found)
+    return len(found) > 1 and all(wait * 1000 <= LONGEST for wait in found[:2])
 
 
 def waits_in_words(found):
-    return " and ".join([f"{wait:.2f} s" for wait in found] + ["none within 60 s"] * (2 - len(found)))
+    return " and ".join([f"{wait:.2f} s" for wait in found] + ["none within 60 s"] * (3 - len(found)))
 
 
 def flood(program, crowd, size, reading, seconds, publishers, processors, asking, gap, anew):
@@ -142,7 +143,7 @@ def flood(program, crowd, size, reading, seconds, publishers, processors, asking
                 f"{f'{returned} publishes from new connections; ' if anew else ''}"
                 f"{texts} pushes in {seconds:.0f} s, {busy:.1f} processors; publishers gone from presence "
                 + (f"{gone:.2f} s later" if gone is not None else "not within 30 s")
-                + ", who came amid it and as they went waited for connect and reply " + ", ".join(map(waits_in_words, waited)))
+                + ", who came amid it and as they went waited for connect, reply and first publish " + ", ".join(map(waits_in_words, waited)))
         server.end = server.process.kill    # what still waits for readers is nobody's any more
         return holds, said
 
