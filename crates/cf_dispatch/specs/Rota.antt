@@ -1,5 +1,5 @@
--- In which order a turn of the IO loop comes to those who wait for theirs. (This project's own profile.)
-use Rattle.std.specs.Prelude.{◌≡◌, ◌&&◌, ◌||◌, Bool, true, false, not, if◌then◌else◌, ℕ, suc, zero, nat_lt}
+-- To which of those who wait a turn of the IO loop comes first. (This project's own profile.)
+use Rattle.std.specs.Prelude.{◌≡◌, ◌+◌, ◌==◌, ◌||◌, Bool, true, not, if◌then◌else◌, ℕ, suc, zero}
 use Rattle.cf_dispatch.specs.declared.rota.Group.{Group}
 use Rattle.cf_dispatch.specs.declared.rota.Group.TheVariants as group
 
@@ -9,53 +9,47 @@ behind group.Cheap = group.Dear
 behind group.Dear = group.Fresh
 behind group.Fresh = group.Cheap
 
--- to which group the next turn comes first, to which one this turn comes next, and whether something held in this turn
+-- in how many turns that count the cheap ones still come first, and which of the two others does then
 pub record Order : Type 0 where
-  pub first : Group
-  pub next : Group
-  pub has_held : Bool
+  pub left : ℕ
+  pub is_fresh : Bool
 
 abbrev pub new_order : Order
-new_order = record { first = group.Cheap; next = group.Cheap; has_held = false }
+new_order = record { left = 15; is_fresh = true }
 
--- a turn begins
-abbrev pub begun : Order → Order
-begun o = record { first = o.first; next = o.first; has_held = false }
+abbrev pub first_at : ℕ → Bool → Group
+first_at zero fresh = if fresh then group.Fresh else group.Dear
+first_at (suc k) fresh = group.Cheap
 
--- the turn has come to a group, and something held then, or nothing did
-abbrev pub after : Bool → Order → Order
-after holds o = record {
-  first = if o.has_held || holds then o.first else behind o.next;
-  next = behind o.next;
-  has_held = o.has_held || holds;
-}
+abbrev pub first : Order → Group
+first o = first_at o.left o.is_fresh
 
--- a turn that comes to each group, as something holds then or nothing does
-abbrev pub turn : Bool → Bool → Bool → Order → Order
-turn a b c o = after c (after b (after a (begun o)))
+-- a turn counts: of sixteen the cheap ones come first in fifteen, and each of the others in its turn
+abbrev pub counted_at : ℕ → Bool → Order
+counted_at zero fresh = record { left = 15; is_fresh = not fresh }
+counted_at (suc k) fresh = record { left = k; is_fresh = fresh }
 
--- how many groups come before one, where a turn comes to this one first
-abbrev pub place : Group → ℕ
-place group.Cheap = 0
-place group.Dear = 1
-place group.Fresh = 2
+abbrev pub counted : Order → Order
+counted o = counted_at o.left o.is_fresh
 
-abbrev pub before : Group → Group → ℕ
-before group.Cheap g = place g
-before group.Dear g = place (behind (behind g))
-before group.Fresh g = place (behind g)
+-- a turn counts in which some groups had their chance, and some of the three had none
+abbrev pub after : ℕ → Order → Order
+after chances o = if chances == 0 || chances == 3 then o else counted o
 
--- a group before which so many come has its chance: nothing holds as the turn comes to it, nor did before
-abbrev pub has_chance : ℕ → Bool → Bool → Bool → Bool
-has_chance zero a b c = not a
-has_chance (suc zero) a b c = not a && not b
-has_chance (suc (suc k)) a b c = not a && not b && not c
+-- behind how many turns that count a group comes first
+abbrev pub turns_at : Group → ℕ → Bool → ℕ
+turns_at group.Cheap zero fresh = 1
+turns_at group.Cheap (suc k) fresh = 0
+turns_at group.Dear k fresh = if fresh then k + 16 else k
+turns_at group.Fresh k fresh = if fresh then k else k + 16
 
--- Where the first group has its chance, each other has its own, or fewer come before it in the next turn.
+abbrev pub turns_to : Group → Order → ℕ
+turns_to g o = turns_at g o.left o.is_fresh
+
+-- with each turn that counts these are one less, until it comes first
+pub record IsNext (g : Group) (o : Order) : Type 0 where
+  pub now : turns_to g o ≡ 0 → first o ≡ g
+  pub sooner : (k : ℕ) → turns_to g o ≡ suc k → turns_to g (counted o) ≡ k
+
 abbrev pub NobodyIsPassedOver : Type 0
-NobodyIsPassedOver = (o : Order) → (g : Group) → (b c : Bool)
-    → (has_chance (before o.first g) false b c || nat_lt (before (turn false b c o).first g) (before o.first g)) ≡ true
-
--- Where no group has its chance, the next turn comes first to the same one.
-abbrev pub FirstStays : Type 0
-FirstStays = (o : Order) → (b c : Bool) → (turn true b c o).first ≡ o.first
+NobodyIsPassedOver = (g : Group) → (o : Order) → IsNext g o

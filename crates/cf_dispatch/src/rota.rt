@@ -1,6 +1,6 @@
-//! In which order a turn of the IO loop comes to those who wait for theirs.
+//! To which of those who wait a turn of the IO loop comes first.
 ghost use Rattle.std.specs.Prelude.{◌≡◌};
-ghost use Rattle.cf_dispatch.specs.Rota.{FirstStays, NobodyIsPassedOver, after, behind, begun, new_order};
+ghost use Rattle.cf_dispatch.specs.Rota.{NobodyIsPassedOver, after, behind, first, new_order};
 
 use std::marker::Model;
 
@@ -18,9 +18,12 @@ pub enum Group {
 /// So many groups there are.
 pub const GROUPS: usize = 3;
 
+/// In so many turns of sixteen those whose turns are cheap come first.
+const CHEAP_FIRST: u32 = 15;
+
 impl Group {
-    // The group behind it, round and round.
-    fn behind(self) -> Group
+    /// The group behind it, round and round.
+    pub fn behind(self) -> Group
         ensures { result ≡ behind self }
     {
         match self {
@@ -31,16 +34,17 @@ impl Group {
     }
 }
 
-/// To which group a turn of the loop comes next, and to which one the next turn comes first.
+/// To which group a turn of the loop comes first, and from there on round and round.
 ///
-/// A turn comes to each group once, round and round. A group has its chance where nothing holds up those who may be held as the turn
-/// comes to it, nor did before in this turn. The first one that has none comes first in the next turn: so who fills the links
-/// in one turn leaves the next to those behind it.
+/// A group has its chance where nothing holds up those who may be held as the turn comes to it. Who comes first may fill the links, and
+/// leave none to the others: so turns are counted in which some groups had their chance and some had none. Of sixteen of these the cheap
+/// ones come first in fifteen, and then one of the two others, each in its turn.
 #[derive(Drop)]
 pub struct Rota {
-    first: Group,
-    next: Group,
-    has_held: bool,
+    // In so many turns the cheap ones still come first.
+    left: u32,
+    // Whether of the others those come first next of whom nothing is known.
+    is_fresh: bool,
 }
 
 impl Model for Rota {
@@ -48,46 +52,50 @@ impl Model for Rota {
 
     ghost Value = { Order };
 
-    ghost view = { λ r. record { first = r.first; next = r.next; has_held = r.has_held } };
+    ghost view = { λ r. record { left = r.left; is_fresh = r.is_fresh } };
 }
 
 impl Rota {
-    /// Before the first turn, which comes first to those whose turns are cheap.
+    /// Before the first turn.
     pub fn new() -> Rota
         ensures { result ≡ new_order }
     {
         Rota {
-            first: Group::Cheap,
-            next: Group::Cheap,
-            has_held: false,
+            left: CHEAP_FIRST,
+            is_fresh: true,
         }
     }
 
-    /// A turn begins.
-    pub fn begins(&mut self)
-        ensures { self.new ≡ begun self.old }
+    /// The group to which the turn comes first.
+    pub fn first(&self) -> Group
+        ensures { result ≡ first self.now }
     {
-        self.next = self.first;
-        self.has_held = false;
+        if self.left > 0 {
+            Group::Cheap
+        } else if self.is_fresh {
+            Group::Fresh
+        } else {
+            Group::Dear
+        }
     }
 
-    /// The group to which the turn comes, where just then something holds up those who may be held, or nothing does.
-    pub fn next(&mut self, holds: bool) -> Group
-        ensures group { result ≡ self.old.next }
-        ensures after { self.new ≡ after holds self.old }
+    /// A turn ends in which so many groups, from the first on, had their chance.
+    pub fn ends(&mut self, chances: usize)
+        ensures { self.new ≡ after chances self.old }
     {
-        let group = self.next;
-        self.next = group.behind();
-        self.has_held = self.has_held || holds;
-        if !self.has_held {
-            self.first = self.next;
+        if chances == 0 || chances == GROUPS {
+            return;
         }
-        group
+        if self.left > 0 {
+            self.left -= 1;
+        } else {
+            self.left = CHEAP_FIRST;
+            self.is_fresh = !self.is_fresh;
+        }
     }
 }
 
-/// What this order promises each group: in each turn in which one has its chance, it has its own, or comes sooner in the next.
+/// What the order promises: each group comes first after so many turns that are counted, with each of them one less.
 pub fn nobody_is_passed_over()
-    ensures sooner { NobodyIsPassedOver }
-    ensures stays { FirstStays }
+    ensures { NobodyIsPassedOver }
 {}

@@ -278,7 +278,7 @@ impl<'a, B: Backend> CommandHandler<'a, B> {
     /// Its client is heard in a turn at this moment, in seconds, whose cost is counted from now on, while who is held has to wait,
     /// or needn't.
     pub(crate) fn begin_turn(&mut self, now: u64, holds: bool) {
-        self.is_barred = holds && self.turns < TURNS_TO_KNOW;
+        self.is_barred = holds && self.turns < TURNS_TO_KNOW && !self.is_dear();
         self.turns = self.turns.saturating_add(1);
         self.heard = now;
         self.expected = self.cost.max(self.expected / 2);

@@ -123,11 +123,9 @@ impl<'a, B: Backend> Desk for SessionDesk<'a, B> {
     }
 
     fn heard(&mut self, text: &str) {
-        self.talk.hear(text);
         self.has_put_off = self.handler.puts_off(text);
-        if self.has_put_off {
-            self.left = 0;
-        }
+        self.left = self.units_left();
+        self.talk.hear(text);
         self.go_on();
         self.owed = true;
         self.has_heard = true;
@@ -182,7 +180,7 @@ impl<'a, B: Backend> SessionDesk<'a, B> {
         self.hears = hears;
         self.has_heard = false;
         if hears {
-            let is_slowed = self.is_held() || self.handler.backend.is_crowded();
+            let is_slowed = self.handler.is_held || self.handler.backend.is_crowded();
             self.left = if is_slowed { FEW_UNITS } else { UNITS };
             self.handler.is_held = false;
             // What was taken for the client goes out before.
@@ -192,6 +190,11 @@ impl<'a, B: Backend> SessionDesk<'a, B> {
                 self.has_heard = true;
             }
         }
+    }
+
+    // How many units are left in the turn for what is heard: none for what is put off.
+    fn units_left(&self) -> usize {
+        if self.has_put_off { 0 } else { self.left }
     }
 
     /// Whether the client waits until nobody has to who is held: it published while some node was behind, or what it sent was put

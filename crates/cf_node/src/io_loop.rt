@@ -481,16 +481,19 @@ impl<'a, B: Backend> IoLoop<'a, B> {
         };
     }
 
-    // Who has a turn to come has it, group by group, from the one on at which the last turn of the loop
-    // left off in which those who are held could go on: so none of the groups fills the links each time
-    // before another has had a turn.
+    // Who has a turn to come has it, group by group. Those who are held have a chance as long as nothing
+    // holds them as the turn comes to their group; who fills the links leaves none to those behind.
     fn serve_groups(&mut self) {
-        self.rota.begins();
-        for _ in 0..GROUPS {
-            let holds = self.holds();
-            let group = self.rota.next(holds);
+        let mut group = self.rota.first();
+        let mut chances: usize = 0;
+        for served in 0..GROUPS {
+            if chances == served && !self.holds() {
+                chances = chances.saturating_add(1);
+            }
             self.serve_group(group);
+            group = group.behind();
         }
+        self.rota.ends(chances);
     }
 
     // Who of a group has a turn to come has it, the one that is due first, until these turns cost what
