@@ -180,8 +180,8 @@ impl<'a, B: Backend> SessionDesk<'a, B> {
         self.hears = hears;
         self.has_heard = false;
         if hears {
-            let is_slowed = self.handler.is_held || self.handler.backend.is_crowded();
-            self.left = if is_slowed { FEW_UNITS } else { UNITS };
+            let is_crowded = self.handler.backend.is_crowded();
+            self.left = if is_crowded { FEW_UNITS } else { UNITS };
             self.handler.is_held = false;
             // What was taken for the client goes out before.
             if !self.talk.session.is_idle() && self.outbox.is_empty() {
