@@ -37,7 +37,7 @@ pub(crate) struct CommandHandler<'a, B: Backend> {
     pub(crate) has_published: bool,
     /// It published while some node was behind: it goes on once none is.
     pub(crate) is_held: bool,
-    /// In this turn it hears nothing that may publish: little is known of it, and who is held has to wait.
+    /// In this turn it hears nothing that may publish: little is known of it, and others wait of whom little is, or who is held has to.
     pub(crate) is_barred: bool,
     /// What the turn costs so far in which its client was heard last.
     pub(crate) cost: u64,
@@ -275,10 +275,10 @@ impl<'a, B: Backend> CommandHandler<'a, B> {
         }
     }
 
-    /// Its client is heard in a turn at this moment, in seconds, whose cost is counted from now on, while who is held has to wait,
-    /// or needn't.
-    pub(crate) fn begin_turn(&mut self, now: u64, holds: bool) {
-        self.is_barred = holds && self.turns < TURNS_TO_KNOW && !self.is_dear();
+    /// Its client is heard in a turn at this moment, in seconds, whose cost is counted from now on, and in which what may publish is
+    /// put off, or not, if little is known of it.
+    pub(crate) fn begin_turn(&mut self, now: u64, bars: bool) {
+        self.is_barred = bars && self.turns < TURNS_TO_KNOW && !self.is_dear();
         self.turns = self.turns.saturating_add(1);
         self.heard = now;
         self.expected = self.cost.max(self.expected / 2);

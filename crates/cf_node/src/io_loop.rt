@@ -503,13 +503,21 @@ impl<'a, B: Backend> IoLoop<'a, B> {
     fn serve_group(&mut self, group: Group) {
         self.spent = 0;
         for heard in 0..self.queue_of(group).len() {
-            let holds = self.holds();
-            let Some(place) = next_of(self.queue_of(group), holds) else {
+            let is_light = self.holds() || self.hears_light(group);
+            let Some(place) = next_of(self.queue_of(group), is_light) else {
                 return;
             };
             if self.hears_enough(place, heard) {
                 return;
             }
+        }
+    }
+
+    // Of those of whom nothing is known, who waits with what may publish comes behind the others.
+    fn hears_light(&self, group: Group) -> bool {
+        match group {
+            Group::Fresh => !self.fresh.is_light_empty(),
+            Group::Cheap | Group::Dear => false,
         }
     }
 
@@ -566,7 +574,7 @@ impl<'a, B: Backend> IoLoop<'a, B> {
     // on what was published in the turn. The place is its session's from then on. A turn in which it is
     // heard is charged before another is owed.
     fn serve(&mut self, place: usize, hears: bool) {
-        let holds = hears && self.holds();
+        let bars = hears && (self.holds() || !self.fresh.is_empty());
         let Some(connection) = self.places.get_mut(place) else {
             return;
         };
@@ -575,7 +583,7 @@ impl<'a, B: Backend> IoLoop<'a, B> {
         let turned = match connection {
             Connection::Open(open) => {
                 if hears {
-                    open.desk.handler.begin_turn(self.seconds.done(), holds);
+                    open.desk.handler.begin_turn(self.seconds.done(), bars);
                 }
                 let turned = open.turn(&mut self.buffer, self.seconds.done(), hears);
                 cost = open.desk.handler.cost;
