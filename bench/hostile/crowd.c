@@ -6,6 +6,7 @@
  *   reads   each follows CHANNEL and reads what comes
  *   floods  each publishes SIZE bytes to CHANNEL as fast as it is answered, IN_FLIGHT at a time, and follows the channel `flooders`; at the
  *           end its connection is reset
+ *   returns the same one at a time, and once it is answered with a new connection, which isn't reset
  *   asks    each follows a channel of its own and publishes SIZE bytes there each GAP milliseconds, one at a time
  * All answer each ping. It prints `ready` once all are connected, begins once a line comes on standard input, and at the end of that prints
  * one line: replies, the longest wait for one in milliseconds, connections that ended, their codes (0 if none came), texts that were
@@ -29,7 +30,7 @@ enum { HEAD = 14, KEPT = 64, ROOM = 1 << 18, MOST_CODES = 64 };
 struct frame { char *bytes; size_t length; };
 
 struct client {
-    int socket, code, is_over, is_going, is_writing;
+    int socket, port, code, is_over, is_going, is_writing, comes_anew;
     struct frame hello, work;       /* what introduces it, and what it publishes */
     const struct frame *writing;    /* what is being written, and how much of it was */
     size_t written;
@@ -44,7 +45,7 @@ struct client {
 static const struct frame pong = {"\x81\x82\0\0\0\0{}", 8};
 static char room[ROOM];
 static struct client *clients;
-static int count, poll_at, most_in_flight, is_asking, is_flooding, greetings;
+static int count, poll_at, most_in_flight, is_asking, is_flooding, is_returning, greetings;
 static double gap, longest;
 static long replies, ended, texts, errors;
 static int codes[MOST_CODES];
@@ -97,11 +98,16 @@ static void write_on(struct client *it) {
 }
 
 static void answered(struct client *it) {
-    if (it->greeted < 2) { it->greeted++; greetings++; return; }
+    if (it->greeted < 2) {
+        it->greeted++, greetings++;
+        if (is_returning && it->is_going && it->greeted == 2) it->works = it->in_flight = 1;
+        return;
+    }
     replies++;
     it->in_flight--;
     if (!memcmp(it->kept, "{\"error\"", 8)) errors++;
     if (is_asking) { double wait = now() - it->asked; if (wait > longest) longest = wait; }
+    else if (is_returning) it->comes_anew = 1;
     else if (is_flooding && it->is_going) { it->works++; it->in_flight++; }
 }
 
@@ -165,6 +171,7 @@ static void join(struct client *it, int port) {
     struct sockaddr_in where = {.sin_family = AF_INET, .sin_port = htons(port), .sin_addr.s_addr = htonl(INADDR_LOOPBACK)};
     struct linger resets = {.l_onoff = 1, .l_linger = 0};
     int one = 1;
+    it->port = port;
     it->socket = socket(AF_INET, SOCK_STREAM, 0);
     if (it->socket < 0 || connect(it->socket, (struct sockaddr *)&where, sizeof where)) fail("connect");
     setsockopt(it->socket, IPPROTO_TCP, TCP_NODELAY, &one, sizeof one);
@@ -173,6 +180,14 @@ static void join(struct client *it, int port) {
     if (send(it->socket, request, sizeof request - 1, 0) < 0) fail("send");
     struct epoll_event event = {.events = EPOLLIN, .data.ptr = it};
     epoll_ctl(poll_at, EPOLL_CTL_ADD, it->socket, &event);
+}
+
+/* Leaves, and comes once more. */
+static void come_anew(struct client *it) {
+    struct client last = *it;
+    close(it->socket);
+    *it = (struct client){.is_going = 1, .hello = last.hello, .work = last.work};
+    join(it, last.port);
 }
 
 static void go_on(int patience) {
@@ -184,6 +199,7 @@ static void go_on(int patience) {
         if (events[i].events & (EPOLLIN | EPOLLHUP | EPOLLERR)) read_on(it);
         else write_on(it);
         if (it->is_over) continue;
+        if (it->comes_anew) { come_anew(it); continue; }
         write_on(it);
         watch(it);
     }
@@ -212,7 +228,7 @@ static void publish_due(void) {
 static void introduce(struct client *it, const char *kind, const char *channel, int number, size_t size) {
     char own[300], *text = malloc(size + 400);
     if (is_asking) snprintf(own, sizeof own, "%s-%d", channel, number);
-    else snprintf(own, sizeof own, "%s", is_flooding ? "flooders" : channel);
+    else snprintf(own, sizeof own, "%s", is_flooding || is_returning ? "flooders" : channel);
     int length = sprintf(text, "{\"id\":1,\"connect\":{}}\n{\"id\":2,\"subscribe\":{\"channel\":\"%s\"}}", own);
     it->hello = frame_of(text, length);
     length = sprintf(text, "{\"id\":3,\"publish\":{\"channel\":\"%s\",\"data\":\"", is_asking ? own : channel);
@@ -226,7 +242,7 @@ static void introduce(struct client *it, const char *kind, const char *channel, 
 int main(int given, char **words) {
     if (given != 8) { fprintf(stderr, "crowd KIND PORTS CHANNEL COUNT SIZE IN_FLIGHT GAP\n"); return 2; }
     int ports[64], port_count = 0;
-    is_asking = !strcmp(words[1], "asks"), is_flooding = !strcmp(words[1], "floods");
+    is_asking = !strcmp(words[1], "asks"), is_flooding = !strcmp(words[1], "floods"), is_returning = !strcmp(words[1], "returns");
     for (char *at = strtok(words[2], ","); at && port_count < 64; at = strtok(NULL, ",")) ports[port_count++] = atoi(at);
     count = atoi(words[4]), most_in_flight = atoi(words[6]), gap = atof(words[7]);
     clients = calloc(count, sizeof *clients);
@@ -244,9 +260,9 @@ int main(int given, char **words) {
         if (poll(&input, 1, 0) > 0) {
             char line[64];
             if (read(0, line, sizeof line) <= 0) break;
-            if (!has_begun && is_flooding)
+            if (!has_begun && (is_flooding || is_returning))
                 for (int i = 0; i < count; i++) {
-                    clients[i].is_going = 1, clients[i].in_flight = clients[i].works = most_in_flight;
+                    clients[i].is_going = 1, clients[i].in_flight = clients[i].works = is_flooding ? most_in_flight : 1;
                     write_on(clients + i), watch(clients + i);
                 }
             for (int i = 0; i < count && is_asking; i++) clients[i].due = now() + gap * i / count;

@@ -4,5 +4,6 @@ pub mod Dispatch
 pub mod Life
 pub mod Outlet
 pub mod Pongs
+pub mod Rota
 pub mod Seconds
 pub mod Standing

@@ -11,6 +11,7 @@ mod mailbox;
 mod outbox;
 mod outlet;
 mod pongs;
+mod rota;
 mod seconds;
 mod standing;
 
@@ -21,5 +22,6 @@ pub use mailbox::{Mailbox, pass_on};
 pub use outbox::Outbox;
 pub use outlet::{Taken, take_for};
 pub use pongs::{PongWatch, SECONDS_TO_PING, SECONDS_TO_PONG};
+pub use rota::{GROUPS, Group, Rota, nobody_is_passed_over};
 pub use seconds::{MOST_LATE, Seconds};
 pub use standing::Standing;

@@ -5,9 +5,9 @@ ghost use Rattle.cf_node_hub.specs.Histories.{IsListedIn};
 
 use crate::attached_client::AttachedClient;
 use crate::backend::Backend;
-use crate::costs::{CALL, LOOP_BUDGET, TEXT, cost_of};
+use crate::costs::{CALL, LOOP_BUDGET, TEXT, cost_of, may_publish};
 use crate::fault_counts::Fault;
-use cf_dispatch::{Outbox, broker_error, take_for};
+use cf_dispatch::{Group, Outbox, broker_error, take_for};
 use cf_hub::Queued;
 use cf_node_hub::history_reply;
 use cf_order::Pass;
@@ -37,6 +37,8 @@ pub(crate) struct CommandHandler<'a, B: Backend> {
     pub(crate) has_published: bool,
     /// It published while some node was behind: it goes on once none is.
     pub(crate) is_held: bool,
+    /// In this turn it hears nothing that may publish: little is known of it, and others wait of whom little is, or who is held has to.
+    pub(crate) is_barred: bool,
     /// What the turn costs so far in which its client was heard last.
     pub(crate) cost: u64,
     /// What its turns before were expected to cost, of which half is believed of the next one.
@@ -273,24 +275,37 @@ impl<'a, B: Backend> CommandHandler<'a, B> {
         }
     }
 
-    /// Its client is heard in a turn at this moment, in seconds, whose cost is counted from now on.
-    pub(crate) fn begin_turn(&mut self, now: u64) {
+    /// Its client is heard in a turn at this moment, in seconds, whose cost is counted from now on, and in which what may publish is
+    /// put off, or not, if little is known of it.
+    pub(crate) fn begin_turn(&mut self, now: u64, bars: bool) {
+        self.is_barred = bars && self.turns < TURNS_TO_KNOW && !self.is_dear();
         self.turns = self.turns.saturating_add(1);
         self.heard = now;
         self.expected = self.cost.max(self.expected / 2);
         self.cost = CALL;
     }
 
-    /// Whether the next turn of its client is expected to be dear: as the last one was, or one before,
-    /// of whose cost half less is believed with each turn.
-    pub(crate) fn is_dear(&self) -> bool {
+    // Whether the next turn of its client is expected to be dear: as the last one was, or one before,
+    // of whose cost half less is believed with each turn.
+    fn is_dear(&self) -> bool {
         self.cost.max(self.expected / 2) >= DEAR
     }
 
-    /// Whether what its client does next may cost much more than its last turn: it has shown little
-    /// since it came or was idle, and what it showed was cheap. Who waits for its turn isn't idle.
-    pub(crate) fn is_fresh(&self) -> bool {
-        self.turns < TURNS_TO_KNOW && !self.is_dear()
+    /// By what its next turn is expected to cost. What its client does next may cost much more than its last turn where it has shown
+    /// little since it came or was idle, what it showed was cheap, and it isn't held. Who waits for its turn isn't idle.
+    pub(crate) fn group(&self, is_held: bool) -> Group {
+        if self.is_dear() {
+            Group::Dear
+        } else if self.turns < TURNS_TO_KNOW && !is_held {
+            Group::Fresh
+        } else {
+            Group::Cheap
+        }
+    }
+
+    /// Whether a text that is heard in this turn is put off, since it may publish.
+    pub(crate) fn puts_off(&self, text: &str) -> bool {
+        self.is_barred && may_publish(text)
     }
 
     /// Takes what waits for the client's session, and puts it behind what was taken for it before.

@@ -97,6 +97,8 @@ pub(crate) struct SessionDesk<'a, B: Backend> {
     hears: bool,
     // Something was heard in it, or carried on.
     has_heard: bool,
+    // What was heard last was put off.
+    has_put_off: bool,
     // How many units of work are left in it.
     left: usize,
     // How many bytes of text were heard since it was last asked.
@@ -121,6 +123,8 @@ impl<'a, B: Backend> Desk for SessionDesk<'a, B> {
     }
 
     fn heard(&mut self, text: &str) {
+        self.has_put_off = self.handler.puts_off(text);
+        self.left = self.units_left();
         self.talk.hear(text);
         self.go_on();
         self.owed = true;
@@ -152,6 +156,7 @@ impl<'a, B: Backend> SessionDesk<'a, B> {
                 now,
                 has_published: false,
                 is_held: false,
+                is_barred: false,
                 cost: 0,
                 expected: 0,
                 turns: 0,
@@ -162,6 +167,7 @@ impl<'a, B: Backend> SessionDesk<'a, B> {
             owed: false,
             hears: false,
             has_heard: false,
+            has_put_off: false,
             left: 0,
             heard_bytes: 0,
         }
@@ -174,8 +180,8 @@ impl<'a, B: Backend> SessionDesk<'a, B> {
         self.hears = hears;
         self.has_heard = false;
         if hears {
-            let is_slowed = self.handler.is_held || self.handler.backend.is_crowded();
-            self.left = if is_slowed { FEW_UNITS } else { UNITS };
+            let is_crowded = self.handler.backend.is_crowded();
+            self.left = if is_crowded { FEW_UNITS } else { UNITS };
             self.handler.is_held = false;
             // What was taken for the client goes out before.
             if !self.talk.session.is_idle() && self.outbox.is_empty() {
@@ -186,15 +192,32 @@ impl<'a, B: Backend> SessionDesk<'a, B> {
         }
     }
 
+    // How many units are left in the turn for what is heard: none for what is put off.
+    fn units_left(&self) -> usize {
+        if self.has_put_off { 0 } else { self.left }
+    }
+
+    /// Whether the client waits until nobody has to who is held: it published while some node was behind, or what it sent was put
+    /// off and isn't done.
+    pub(crate) fn is_held(&self) -> bool {
+        self.handler.is_held || self.puts_off()
+    }
+
+    /// Whether what was put off isn't done.
+    pub(crate) fn puts_off(&self) -> bool {
+        self.has_put_off && !self.talk.session.is_idle()
+    }
+
     /// Whether a turn in which texts were heard left something to do at once.
     pub(crate) fn goes_on(&self) -> bool {
         self.hears && !self.handler.is_closed() && (self.left == 0 || !self.talk.session.is_idle())
     }
 
     /// Whether a turn in which texts were heard spent the bounds of one, where it left off before all
-    /// was heard.
+    /// was heard. One that put a text off didn't.
     pub(crate) fn is_spent(&self, left_off: bool) -> bool {
-        self.goes_on() || left_off && self.has_heard
+        let is_put_off = self.handler.is_barred && self.puts_off();
+        !is_put_off && (self.goes_on() || left_off && self.has_heard)
     }
 
     /// Whether so much was heard since this was last asked that something which was sent by now may have had no room in the socket.

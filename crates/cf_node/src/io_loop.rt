@@ -10,7 +10,7 @@ use crate::fault_counts::Fault;
 use crate::gate::{Gate, IO_LOOP};
 use crate::leaving::Leaving;
 use crate::socket::Socket;
-use cf_dispatch::{Outbox, Outlets, SESSIONS_AT_ONCE, Seconds, take_batch};
+use cf_dispatch::{GROUPS, Group, Outbox, Outlets, Rota, SESSIONS_AT_ONCE, Seconds, take_batch};
 use cf_fair::FairQueue;
 use cf_health::health_ask;
 use cf_protocol::CloseCode;
@@ -87,13 +87,14 @@ struct IoLoop<'a, B: Backend> {
     free: Vec<usize>,
     // At which place each session of the hub is.
     owners: Vec<usize>,
-    // The places that have a turn to come. Those are held that published while some node was behind,
-    // or more than one turn of the loop sends.
-    queue: FairQueue,
-    // The same of those whose turns are dear, and of those of whom it isn't known what they cost: each
-    // turn of the loop gives turns to some of each.
+    // The places that have a turn to come, by group. Those are held that published while some node was
+    // behind, or more than one turn of the loop sends. Each turn of the loop gives turns to some of each
+    // group.
+    cheap: FairQueue,
     dear: FairQueue,
     fresh: FairQueue,
+    // To which group a turn of the loop comes first.
+    rota: Rota,
     // What the turns cost that this turn of the loop has given so far.
     spent: u64,
     // The same of those whose publications may not be sent yet.
@@ -131,9 +132,10 @@ pub(crate) fn serve<R: Wait + Clock, B: Backend, G: Gate>(
         places: Vec::new(alloc),
         free: Vec::new(alloc),
         owners: Vec::new(alloc),
-        queue: FairQueue::new(alloc, LOOP_BUDGET),
+        cheap: FairQueue::new(alloc, LOOP_BUDGET),
         dear: FairQueue::new(alloc, LOOP_BUDGET),
         fresh: FairQueue::new(alloc, LOOP_BUDGET),
+        rota: Rota::new(),
         spent: 0,
         debt: 0,
         is_behind: false,
@@ -255,7 +257,7 @@ impl<'a, B: Backend> IoLoop<'a, B> {
             && !self.seconds.is_late();
         let patience = if !is_done {
             0
-        } else if self.queue.is_empty() && self.dear.is_empty() && self.fresh.is_empty() {
+        } else if self.cheap.is_empty() && self.dear.is_empty() && self.fresh.is_empty() {
             PATIENCE
         } else {
             SHORT_PATIENCE
@@ -266,7 +268,7 @@ impl<'a, B: Backend> IoLoop<'a, B> {
     // Whether nobody has a turn to come but those who are held.
     fn is_idle(&self) -> bool {
         let holds = self.holds();
-        is_idle(&self.queue, holds) && is_idle(&self.dear, holds) && is_idle(&self.fresh, holds)
+        is_idle(&self.cheap, holds) && is_idle(&self.dear, holds) && is_idle(&self.fresh, holds)
     }
 
     // Whether who is held waits on: some node is behind with what was published, or this one with
@@ -292,9 +294,7 @@ impl<'a, B: Backend> IoLoop<'a, B> {
         }
         self.serve_named();
         self.pay();
-        self.serve_light();
-        self.serve_dear();
-        self.serve_fresh();
+        self.serve_groups();
         if !self.is_behind {
             self.backend.shared().catch_up();
         }
@@ -350,7 +350,7 @@ impl<'a, B: Backend> IoLoop<'a, B> {
                     if ended {
                         open.desk.handler.note_gone();
                     }
-                    if event.is_error() && open.desk.handler.is_held {
+                    if event.is_error() && open.desk.is_held() {
                         return self.end(token.0);
                     }
                 }
@@ -364,46 +364,38 @@ impl<'a, B: Backend> IoLoop<'a, B> {
     }
 
     // A turn of the connection at a place is to come: held, where it published while some node was
-    // behind, or has spent the bounds of its last turn on more than the loop sends in one.
+    // behind, or has spent the bounds of its last turn on more than the loop sends in one, or what it
+    // sent was put off.
     fn owe(&mut self, place: usize) {
         if self.waits(place) {
             return;
         }
         let mut is_held = false;
-        let mut is_dear = false;
-        let mut is_fresh = false;
-        let mut may_publish = false;
+        let mut group = Group::Cheap;
         if let Some(Connection::Open(open)) = self.places.get_mut(place) {
+            let puts_off = open.desk.puts_off();
             let is_spent = open.is_spent;
             let handler = &mut open.desk.handler;
             handler.is_owed(self.seconds.done());
             is_held = handler.is_held || is_spent && handler.cost >= LOOP_BUDGET;
-            is_dear = handler.is_dear();
-            is_fresh = handler.is_fresh() && !is_held;
-            may_publish = handler.client.standing.number().is_some();
+            group = handler.group(is_held);
+            is_held = is_held || puts_off;
         }
-        let added = if is_fresh {
-            self.fresh.add(place, may_publish)
-        } else if is_dear {
-            self.dear.add(place, is_held)
-        } else {
-            self.queue.add(place, is_held)
-        };
-        if added.is_err() {
+        if self.queue_of(group).add(place, is_held).is_err() {
             self.end(place);
         }
     }
 
     // Whether a place waits for its turn.
     fn waits(&self, place: usize) -> bool {
-        self.queue.waits(place) || self.dear.waits(place) || self.fresh.waits(place)
+        self.cheap.waits(place) || self.dear.waits(place) || self.fresh.waits(place)
     }
 
     // What a turn cost counts for its connection, and for this turn of the loop: no further turn is
     // given in it behind one that has spent its bounds.
     fn charge(&mut self, place: usize, cost: u64, is_spent: bool) {
         let others = self.fresh.len() as u64;
-        self.queue.charge(place, cost, others);
+        self.cheap.charge(place, cost, others);
         self.dear.charge(place, cost, others);
         let spent = if is_spent { LOOP_BUDGET } else { cost };
         self.spent = self.spent.saturating_add(spent);
@@ -489,13 +481,30 @@ impl<'a, B: Backend> IoLoop<'a, B> {
         };
     }
 
-    // Who has a turn to come has it, the one that is due first, until these turns cost what one of the
-    // loop may; and who got something by it is served.
-    fn serve_light(&mut self) {
+    // Who has a turn to come has it, group by group. Those who are held have a chance as long as nothing
+    // holds them as the turn comes to their group; who fills the links leaves none to those behind.
+    fn serve_groups(&mut self) {
+        let mut group = self.rota.first();
+        let mut chances: usize = 0;
+        for served in 0..GROUPS {
+            if chances == served && !self.holds() {
+                chances = chances.saturating_add(1);
+            }
+            self.serve_group(group);
+            group = group.behind();
+        }
+        self.rota.ends(chances);
+    }
+
+    // Who of a group has a turn to come has it, the one that is due first, until these turns cost what
+    // one of the loop may; and who got something by it is served. So those whose turns are dear keep
+    // nobody else waiting for more than one of theirs, however many they are; and no more do those of
+    // whom it isn't known what they cost, who have their turns in the order in which they came.
+    fn serve_group(&mut self, group: Group) {
         self.spent = 0;
-        for heard in 0..self.queue.len() {
-            let holds = self.holds();
-            let Some(place) = next_of(&mut self.queue, holds) else {
+        for heard in 0..self.queue_of(group).len() {
+            let is_light = self.holds() || self.hears_light(group);
+            let Some(place) = next_of(self.queue_of(group), is_light) else {
                 return;
             };
             if self.hears_enough(place, heard) {
@@ -504,34 +513,20 @@ impl<'a, B: Backend> IoLoop<'a, B> {
         }
     }
 
-    // The same of those whose turns are dear: they keep nobody else waiting for more than one of
-    // theirs, however many they are.
-    fn serve_dear(&mut self) {
-        self.spent = 0;
-        for heard in 0..self.dear.len() {
-            let holds = self.holds();
-            let Some(place) = next_of(&mut self.dear, holds) else {
-                return;
-            };
-            if self.hears_enough(place, heard) {
-                return;
-            }
+    // Of those of whom nothing is known, who waits with what may publish comes behind the others.
+    fn hears_light(&self, group: Group) -> bool {
+        match group {
+            Group::Fresh => !self.fresh.is_light_empty(),
+            Group::Cheap | Group::Dear => false,
         }
     }
 
-    // The same of those of whom it isn't known what they cost, in the order in which they came: so
-    // many whose turns prove dear keep nobody else waiting for more than one of them. Those that may
-    // publish are held as others are.
-    fn serve_fresh(&mut self) {
-        self.spent = 0;
-        for heard in 0..self.fresh.len() {
-            let holds = self.holds();
-            let Some(place) = next_of(&mut self.fresh, holds) else {
-                return;
-            };
-            if self.hears_enough(place, heard) {
-                return;
-            }
+    // Those of a group who have a turn to come.
+    fn queue_of(&mut self, group: Group) -> &mut FairQueue {
+        match group {
+            Group::Cheap => &mut self.cheap,
+            Group::Dear => &mut self.dear,
+            Group::Fresh => &mut self.fresh,
         }
     }
 
@@ -579,6 +574,7 @@ impl<'a, B: Backend> IoLoop<'a, B> {
     // on what was published in the turn. The place is its session's from then on. A turn in which it is
     // heard is charged before another is owed.
     fn serve(&mut self, place: usize, hears: bool) {
+        let bars = hears && (self.holds() || !self.fresh.is_empty());
         let Some(connection) = self.places.get_mut(place) else {
             return;
         };
@@ -587,7 +583,7 @@ impl<'a, B: Backend> IoLoop<'a, B> {
         let turned = match connection {
             Connection::Open(open) => {
                 if hears {
-                    open.desk.handler.begin_turn(self.seconds.done());
+                    open.desk.handler.begin_turn(self.seconds.done(), bars);
                 }
                 let turned = open.turn(&mut self.buffer, self.seconds.done(), hears);
                 cost = open.desk.handler.cost;
@@ -652,7 +648,7 @@ impl<'a, B: Backend> IoLoop<'a, B> {
 
     // A place stands empty again.
     fn vacate(&mut self, place: usize) {
-        self.queue.remove(place);
+        self.cheap.remove(place);
         self.dear.remove(place);
         self.fresh.remove(place);
         let _ = self.free.push(place);
