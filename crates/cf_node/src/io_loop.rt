@@ -583,6 +583,8 @@ impl<'a, B: Backend> IoLoop<'a, B> {
         let turned = match connection {
             Connection::Open(open) => {
                 if hears {
+                    // Who was put off has its turn now, as whole as any other's.
+                    let bars = bars && !open.desk.puts_off();
                     open.desk.handler.begin_turn(self.seconds.done(), bars);
                 }
                 let turned = open.turn(&mut self.buffer, self.seconds.done(), hears);
