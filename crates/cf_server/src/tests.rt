@@ -4,5 +4,6 @@ mod hand;
 mod losses;
 mod nodes;
 mod peer;
+mod rows;
 mod script;
 mod together;

@@ -3,9 +3,8 @@ ghost use Rattle.std.specs.Prelude.{◌≡◌, ◌<◌};
 ghost use Rattle.cf_broker.specs.Shards.{names};
 
 use super::hand::Hand;
-use super::losses::all_get_all;
 use super::nodes::{Opened, Settings, broker_to, open};
-use super::script::play;
+use super::{losses, script};
 use cf_broker::{Broker, Passes, Words};
 use cf_epochs::BootEpochs;
 use cf_node::Node;
@@ -18,13 +17,13 @@ use std::thread;
 use std::thread::Threads;
 use std::time::Clock;
 
-/// What is done while two nodes run.
+/// What is done while two nodes run: the rows of a test are played, which is named first.
 #[derive(Clone, Copy)]
 pub(super) enum Task {
-    /// These rows are so, once three clients are connected.
-    Rows(&'static str),
-    /// Four clients get all that a fifth publishes, though some of it is lost on its way.
-    Losses,
+    /// By three clients and who leads the nodes' workers.
+    Talk(&'static str, &'static str),
+    /// By four clients that get all that a fifth publishes, though some of it is lost on its way.
+    Losses(&'static str, &'static str),
 }
 
 // It is done with clients of the nodes at these addresses, while a hand leads the nodes' workers.
@@ -35,8 +34,8 @@ fn carry_out<R: Net + Clock + Abort + AllocGlobal>(
     addresses: (SocketAddr, SocketAddr),
 ) {
     match task {
-        Task::Rows(rows) => play(rt, hand, rows, addresses),
-        Task::Losses => assert!(rt; all_get_all(rt, addresses) == Some(true)),
+        Task::Talk(name, rows) => script::play(rt, hand, name, rows, addresses),
+        Task::Losses(name, rows) => losses::play(rt, name, rows, addresses),
     }
 }
 
