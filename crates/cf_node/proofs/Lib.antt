@@ -1,2 +1,4 @@
 pub mod Carrying
+pub mod Growing
+pub mod Handing
 pub mod Turning

@@ -1,9 +1,10 @@
 use Rattle.cf_session.specs.Standing.{is_short}
 use Rattle.cf_node.proofs.Carrying.{still_long}
+use Rattle.cf_node.proofs.Growing.{grows_more, grows_none}
 use Rattle.cf_node.proofs.desk.SessionDesk.go_on.Goals as goal
 
 pub loop-part-init : goal.loop-part-init
-loop-part-init g c = record { goes = λ long m end rest. rest; short = λ s. s }
+loop-part-init g c = record { goes = λ long m end rest. rest; short = λ s. s; grows = grows_none c.args.self.now.outbox.outs.items }
 
 pub loop-part-preserved : goal.loop-part-preserved
 loop-part-preserved g c =
@@ -13,4 +14,5 @@ loop-part-preserved g c =
           before.goes (still_long (is_short c.loop-part.self.talk.session) (is_short c.go_on-cost.new.self.session) c.go_on-cost.ensures.short long) m end
           (c.go_on-cost.ensures.goes long m end rest);
       short = λ s. c.go_on-cost.ensures.short (before.short s);
+      grows = grows_more c.args.self.now.outbox.outs.items c.loop-part.self.outbox.outs.items c.take_over-came.new.outbox.outs.items before.grows c.take_over-came.ensures;
     }
