@@ -1,7 +1,7 @@
 //! Rows as the libraries' tests have them: `DONE => COMES`, one in each line of a text. DONE begins with the word of a call,
 //! behind which stands what it is passed; COMES is what it tells, or `nothing`.
 //!
-//! One that isn't so is told as `beats row 14 (line 14): wanted {}, got {"id":9,"ping":{}}`. Those behind it are played, and the
+//! One that isn't so is told as `beats row 31 (line 31): wanted {}, got {"id":9,"ping":{}}`. Those behind it are played, and the
 //! test fails at the end.
 use std::alloc::Global;
 use std::fmt::{Display, Write};
