@@ -6,7 +6,7 @@ use crate::command_line::SpeakOptions;
 use crate::entries::{namespaces_of, tokens_of};
 use crate::fault::{Fault, Setting};
 use crate::settings::usable;
-use cf_speak::{GivenEpochs, Setup, SpeakFault, converse};
+use cf_speak::{GivenEpochs, SpeakError, SpeakSetup, converse};
 use std::alloc::Global;
 use std::io::{BufRead, Write};
 
@@ -15,7 +15,7 @@ pub fn speak<R: BufRead, W: Write>(
     alloc: Global,
     reader: &mut R,
     writer: &mut W,
-    setup: Setup,
+    setup: SpeakSetup,
 ) -> Result<(), Fault>
     ensures done { OnOk result (IfSome (R.remaining reader.old) (λ input.
         Speaks (record { namespaces = setup.namespaces; tokens = setup.tokens }) setup.epochs input
@@ -28,9 +28,9 @@ pub fn speak<R: BufRead, W: Write>(
 {
     match converse(alloc, reader, writer, setup) {
         Ok(()) => Ok(()),
-        Err(SpeakFault::NotUtf8) => Err(Fault::NotUtf8),
-        Err(SpeakFault::Memory) => Err(Fault::Memory),
-        Err(SpeakFault::InputOutput) => Err(Fault::InputOutput),
+        Err(SpeakError::NotUtf8) => Err(Fault::NotUtf8),
+        Err(SpeakError::Memory) => Err(Fault::Memory),
+        Err(SpeakError::InputOutput) => Err(Fault::InputOutput),
     }
 }
 
@@ -39,11 +39,11 @@ pub fn speak<R: BufRead, W: Write>(
 /// # Errors
 ///
 /// `Entry` names the first entry of the namespaces or the tokens that can't be used; `Setting` if the epochs can't be; `Memory`.
-pub fn setup_of(alloc: Global, options: SpeakOptions<'_>) -> Result<Setup, Fault> {
+pub fn setup_of(alloc: Global, options: SpeakOptions<'_>) -> Result<SpeakSetup, Fault> {
     let namespaces = namespaces_of(alloc, options.namespaces)?;
     let tokens = tokens_of(alloc, options.tokens)?;
     let epochs = usable(Setting::Epochs, GivenEpochs::read(alloc, options.epochs))?;
-    Ok(Setup {
+    Ok(SpeakSetup {
         namespaces,
         tokens,
         epochs,

@@ -1,5 +1,6 @@
 -- One turn more of a conversation.
-use Rattle.std.proofs.Common.{◌≡◌, ◌≢◌, ◌∙◌, ℕ, true, false, Option, Some, None, List, [], ◌∷◌, ◌++◌, refl, sym, ap, subst, inl, inr}
+use Rattle.std.proofs.Common.{◌≡◌, ◌≢◌, ◌∙◌, ℕ, true, false, Option, Some, None, List, [], ◌∷◌, ◌++◌, refl, sym, ap}
+use Rattle.std.proofs.Common.{subst, inl, inr}
 use Rattle.std.proofs.lemmas.Grind.{flat_map-append}
 use Rattle.std.proofs.lemmas.List.{append-nil, append_assoc}
 use Rattle.std.specs.Io.BufRead.{first_piece, drop_through}
@@ -9,17 +10,22 @@ use Rattle.std.specs.Prelude.{IfSome}
 use Rattle.cf_queue.specs.OutQueue.{Item}
 use Rattle.cf_session.specs.CommandScripts.{Tables}
 use Rattle.cf_session.specs.SessionMachine.{Progress}
-use Rattle.cf_speak.specs.Conversation.{AnswersLine, Begins, BreaksOffFrom, IsNoText, Converses, ReadsLine, SpeaksFrom, Turn, line_of, lines_of}
+use Rattle.cf_speak.specs.Conversation.{AnswersLine, Begins, BreaksOffFrom, IsNoText, Converses, ReadsLine, SpeaksFrom}
+use Rattle.cf_speak.specs.Conversation.{Turn, line_of, lines_of}
 use Rattle.cf_speak.specs.Scene.{Scene, is_over}
 
 begins_more : (input rest line : List ℕ) (lines : List (List ℕ))
-    → Begins input lines rest → rest ≢ [] → line ≡ first_piece 10 rest → IsUtf8 line → Begins input (lines ++ line ∷ []) (drop_through 10 rest)
+    → Begins input lines rest → rest ≢ [] → line ≡ first_piece 10 rest → IsUtf8 line
+    → Begins input (lines ++ line ∷ []) (drop_through 10 rest)
 begins_more input rest line [] h some is text =
     ((λ e. some (h ∙ e)), is ∙ ap (first_piece 10) h, text, ap (drop_through 10) h)
-begins_more input rest line (x ∷ xs) h some is text = (h.0, h.1, h.2, begins_more (drop_through 10 input) rest line xs h.3 some is text)
+begins_more input rest line (x ∷ xs) h some is text =
+    (h.0, h.1, h.2, begins_more (drop_through 10 input) rest line xs h.3 some is text)
 
-converses_more : (t : Tables) (p q r : Progress) (s mid m : Scene) (lines : List (List ℕ)) (line : List ℕ) (given first : List Item)
-    → is_over mid ≡ false → Converses t p s lines given mid q → Turn t q mid line first m r → Converses t p s (lines ++ line ∷ []) (given ++ first) m r
+converses_more : (t : Tables) (p q r : Progress) (s mid m : Scene) (lines : List (List ℕ)) (line : List ℕ)
+    (given first : List Item)
+    → is_over mid ≡ false → Converses t p s lines given mid q → Turn t q mid line first m r
+    → Converses t p s (lines ++ line ∷ []) (given ++ first) m r
 converses_more t p q r s mid m [] line given first over h turn = (
   subst (λ (x : Scene). is_over x ≡ false) h.0 over,
   (
@@ -27,7 +33,8 @@ converses_more t p q r s mid m [] line given first over h turn = (
     r,
     first,
     [],
-    subst (λ (x : Scene). Turn t p x line first m r) h.0 (subst (λ (x : Progress). Turn t x mid line first m r) h.1 turn),
+    subst (λ (x : Scene). Turn t p x line first m r) h.0
+        (subst (λ (x : Progress). Turn t x mid line first m r) h.1 turn),
     ap (λ (g : List Item). g ++ first) h.2 ∙ sym (append-nil first),
     (refl, refl, refl),
   ),
@@ -57,10 +64,12 @@ adds_none (Some xs) = sym (append-nil xs)
 
 pub adds_lines : (a b c : Option (List ℕ)) (xs ys : List Item)
     → Appends a b (lines_of xs) → Appends b c (lines_of ys) → Appends a c (lines_of (xs ++ ys))
-adds_lines a b c xs ys h k = subst (Appends a c) (sym (flat_map-append line_of xs ys)) (adds_more a b c (lines_of xs) (lines_of ys) h k)
+adds_lines a b c xs ys h k =
+    subst (Appends a c) (sym (flat_map-append line_of xs ys)) (adds_more a b c (lines_of xs) (lines_of ys) h k)
 
 -- so far the input's first lines were served, and what they gave was written
-pub record Goes (t : Tables) (p0 : Progress) (s0 : Scene) (input : List ℕ) (left old new : Option (List ℕ)) (s : Scene) (p : Progress) : Type 0 where
+pub record Goes (t : Tables) (p0 : Progress) (s0 : Scene) (input : List ℕ) (left old new : Option (List ℕ)) (s : Scene)
+    (p : Progress) : Type 0 where
   pub lines : List (List ℕ)
   pub rest : List ℕ
   pub given : List Item
@@ -69,25 +78,38 @@ pub record Goes (t : Tables) (p0 : Progress) (s0 : Scene) (input : List ℕ) (le
   pub turns : Converses t p0 s0 lines given s p
   pub written : Appends old new (lines_of given)
 
-abbrev pub GoesFrom : Tables → Progress → Scene → Option (List ℕ) → Option (List ℕ) → Option (List ℕ) → Option (List ℕ) → Scene → Progress → Type 0
+abbrev pub GoesFrom : Tables → Progress → Scene → Option (List ℕ) → Option (List ℕ) → Option (List ℕ) → Option (List ℕ)
+    → Scene → Progress → Type 0
 GoesFrom t p0 s0 None left old new s p = Unit {0}
 GoesFrom t p0 s0 (Some input) left old new s p = Goes t p0 s0 input left old new s p
 
-pub goes_first : (t : Tables) (known old : Option (List ℕ)) (s : Scene) (p : Progress) → GoesFrom t p s known known old old s p
+pub goes_first : (t : Tables) (known old : Option (List ℕ)) (s : Scene) (p : Progress)
+    → GoesFrom t p s known known old old s p
 goes_first t None old s p = tt
 goes_first t (Some input) old s p =
-    record { lines = []; rest = input; given = []; reader = refl; cut = refl; turns = (refl, refl, refl); written = adds_none old }
+    record {
+      lines = [];
+      rest = input;
+      given = [];
+      reader = refl;
+      cut = refl;
+      turns = (refl, refl, refl);
+      written = adds_none old;
+    }
 
 line_read : (left next : Option (List ℕ)) (rest line : List ℕ) → left ≡ Some rest → ReadsLine left next (Some line)
     → (rest ≢ []) × (line ≡ first_piece 10 rest) × (next ≡ Some (drop_through 10 rest))
 line_read left next rest line e h = subst (λ (x : Option (List ℕ)). ReadsLine x next (Some line)) e h
 
-pub goes_on : (t : Tables) (p0 : Progress) (s0 : Scene) (known left next old new then : Option (List ℕ)) (s m : Scene) (p q : Progress) (line : List ℕ)
-    → is_over s ≡ false → GoesFrom t p0 s0 known left old new s p → ReadsLine left next (Some line) → AnswersLine t p s line m q new then
+pub goes_on : (t : Tables) (p0 : Progress) (s0 : Scene) (known left next old new then : Option (List ℕ)) (s m : Scene)
+    (p q : Progress) (line : List ℕ)
+    → is_over s ≡ false → GoesFrom t p0 s0 known left old new s p → ReadsLine left next (Some line)
+    → AnswersLine t p s line m q new then
     → GoesFrom t p0 s0 known next old then m q
 goes_on t p0 s0 None left next old new then s m p q line over g r a = tt
 goes_on t p0 s0 (Some input) left next old new then s m p q line over g r a =
-    let is : (g.rest ≢ []) × (line ≡ first_piece 10 g.rest) × (next ≡ Some (drop_through 10 g.rest)) = line_read left next g.rest line g.reader r in
+    let is : (g.rest ≢ []) × (line ≡ first_piece 10 g.rest) × (next ≡ Some (drop_through 10 g.rest)) =
+    line_read left next g.rest line g.reader r in
     record {
       lines = g.lines ++ line ∷ [];
       rest = drop_through 10 g.rest;
@@ -99,20 +121,25 @@ goes_on t p0 s0 (Some input) left next old new then s m p q line over g r a =
     }
 
 -- the same where tables and line go by other names
-pub goes_heard : (t u : Tables) (p0 : Progress) (s0 : Scene) (known left next old new then : Option (List ℕ)) (s m : Scene) (p q : Progress)
+pub goes_heard : (t u : Tables) (p0 : Progress) (s0 : Scene) (known left next old new then : Option (List ℕ))
+    (s m : Scene) (p q : Progress)
     (line said : List ℕ) → u ≡ t → said ≡ line
-    → is_over s ≡ false → GoesFrom t p0 s0 known left old new s p → ReadsLine left next (Some line) → AnswersLine u p s said m q new then
+    → is_over s ≡ false → GoesFrom t p0 s0 known left old new s p → ReadsLine left next (Some line)
+    → AnswersLine u p s said m q new then
     → GoesFrom t p0 s0 known next old then m q
 goes_heard t u p0 s0 known left next old new then s m p q line said e f over g r a =
     goes_on t p0 s0 known left next old new then s m p q line over g r
-    (subst (λ (x : List ℕ). AnswersLine t p s x m q new then) f (subst (λ (v : Tables). AnswersLine v p s said m q new then) e a))
+    (subst (λ (x : List ℕ). AnswersLine t p s x m q new then) f
+    (subst (λ (v : Tables). AnswersLine v p s said m q new then) e a))
 
 no_line : (left next : Option (List ℕ)) (rest : List ℕ) → left ≡ Some rest → ReadsLine left next None → rest ≡ []
 no_line left next rest e h = subst (λ (x : Option (List ℕ)). ReadsLine x next None) e h
 
 -- the input is at its end
-pub speaks_all : (t : Tables) (p0 : Progress) (s0 : Scene) (known left next old new : Option (List ℕ)) (s : Scene) (p : Progress)
-    → GoesFrom t p0 s0 known left old new s p → ReadsLine left next None → IfSome known (λ input. SpeaksFrom t p0 s0 input old new)
+pub speaks_all : (t : Tables) (p0 : Progress) (s0 : Scene) (known left next old new : Option (List ℕ)) (s : Scene)
+    (p : Progress)
+    → GoesFrom t p0 s0 known left old new s p → ReadsLine left next None
+    → IfSome known (λ input. SpeaksFrom t p0 s0 input old new)
 speaks_all t p0 s0 None left next old new s p g r = tt
 speaks_all t p0 s0 (Some input) left next old new s p g r =
     record {
@@ -128,8 +155,10 @@ speaks_all t p0 s0 (Some input) left next old new s p g r =
     }
 
 -- the session is closed
-pub speaks_closed : (t : Tables) (p0 : Progress) (s0 : Scene) (known left old new : Option (List ℕ)) (s : Scene) (p : Progress)
-    → is_over s ≡ true → GoesFrom t p0 s0 known left old new s p → IfSome known (λ input. SpeaksFrom t p0 s0 input old new)
+pub speaks_closed : (t : Tables) (p0 : Progress) (s0 : Scene) (known left old new : Option (List ℕ)) (s : Scene)
+    (p : Progress)
+    → is_over s ≡ true → GoesFrom t p0 s0 known left old new s p
+    → IfSome known (λ input. SpeaksFrom t p0 s0 input old new)
 speaks_closed t p0 s0 None left old new s p over g = tt
 speaks_closed t p0 s0 (Some input) left old new s p over g =
     record {
@@ -145,12 +174,15 @@ speaks_closed t p0 s0 (Some input) left old new s p over g =
     }
 
 -- the next line is no text
-pub breaks_off : (t : Tables) (p0 : Progress) (s0 : Scene) (known left next old new then : Option (List ℕ)) (s : Scene) (p : Progress) (line : List ℕ)
-    → is_over s ≡ false → GoesFrom t p0 s0 known left old new s p → ReadsLine left next (Some line) → IsNoText line → then ≡ new
+pub breaks_off : (t : Tables) (p0 : Progress) (s0 : Scene) (known left next old new then : Option (List ℕ)) (s : Scene)
+    (p : Progress) (line : List ℕ)
+    → is_over s ≡ false → GoesFrom t p0 s0 known left old new s p → ReadsLine left next (Some line) → IsNoText line
+    → then ≡ new
     → IfSome known (λ input. BreaksOffFrom t p0 s0 input old then)
 breaks_off t p0 s0 None left next old new then s p line over g r bad same = tt
 breaks_off t p0 s0 (Some input) left next old new then s p line over g r bad same =
-    let is : (g.rest ≢ []) × (line ≡ first_piece 10 g.rest) × (next ≡ Some (drop_through 10 g.rest)) = line_read left next g.rest line g.reader r in
+    let is : (g.rest ≢ []) × (line ≡ first_piece 10 g.rest) × (next ≡ Some (drop_through 10 g.rest)) =
+    line_read left next g.rest line g.reader r in
     record {
       lines = g.lines;
       rest = g.rest;

@@ -26,8 +26,8 @@ pub record Scene : Type 0 where
   pub is_short : Bool
 
 -- memory was refused
-abbrev pub fell_short : Scene → Bool
-fell_short s = s.is_short || not (s.hub.refused == 0)
+abbrev pub met_refused_memory : Scene → Bool
+met_refused_memory s = s.is_short || not (s.hub.refused == 0)
 
 -- node 0 at its first start
 abbrev pub opening : NamespaceTable → List (List ℕ) → Scene

@@ -34,7 +34,7 @@ use Rattle.cf_session.specs.Calls.{Answer, Refused, Done, Found, Call}
 use Rattle.cf_session.specs.Refusals.{of_hub}
 use Rattle.cf_session.specs.SessionMachine.{Act, Calls, Says, PassesPong, Closes, reply_text}
 use Rattle.cf_speak.specs.Drawing.{draws_front}
-use Rattle.cf_speak.specs.Scene.{Scene, fell_short}
+use Rattle.cf_speak.specs.Scene.{Scene, met_refused_memory}
 
 -- ---- the hub
 
@@ -271,5 +271,5 @@ Step s (Closes code) (Some a) m = ⊥
 
 -- the same if no memory was refused; want of memory is remembered
 pub record StepUnlessShort (s : Scene) (act : Act) (a : Option Answer) (m : Scene) : Type 0 where
-  pub remembered : fell_short s ≡ true → fell_short m ≡ true
-  pub step : fell_short m ≡ false → Step s act a m
+  pub remembered : met_refused_memory s ≡ true → met_refused_memory m ≡ true
+  pub step : met_refused_memory m ≡ false → Step s act a m

@@ -1,14 +1,16 @@
 //! A conversation with one client, line by line.
-ghost use Rattle.std.specs.Prelude.{◌≡◌, ◌≢◌, true, false, IfErr, IfOk, IfSome, IsErrOf, OnOk, option_map, string_bytes, []};
+ghost use Rattle.std.specs.Prelude.{◌≡◌, ◌≢◌, true, false, IfErr, IfOk, IfSome, IsErrOf, OnOk};
+ghost use Rattle.std.specs.Prelude.{option_map, string_bytes, []};
 ghost use Rattle.std.specs.Io.KnownBytes.{Appends};
 ghost use Rattle.cf_queue.specs.Meaning.{meaning};
 ghost use Rattle.cf_session.specs.Standing.{is_idle, tables_of, progress_of};
-ghost use Rattle.cf_speak.specs.Conversation.{AnswersLine, BreaksOff, BreaksOffFrom, IsNoText, ReadsLine, Leaves, Speaks, SpeaksFrom, line_of, lines_of};
+ghost use Rattle.cf_speak.specs.Conversation.{AnswersLine, BreaksOff, BreaksOffFrom, IsNoText, Leaves, ReadsLine};
+ghost use Rattle.cf_speak.specs.Conversation.{Speaks, SpeaksFrom, line_of, lines_of};
 ghost use Rattle.cf_speak.specs.Scene.{is_over, waits};
 ghost use Rattle.cf_speak.specs.Shown.{scene_of};
 
 use crate::epochs::GivenEpochs;
-use crate::fault::SpeakFault;
+use crate::fault::SpeakError;
 use crate::local_node::LocalNode;
 use cf_protocol::{Namespaces, Tokens, close_reason};
 use cf_queue::Out;
@@ -20,33 +22,34 @@ use std::str;
 /// The most lines of one conversation. An input that goes on after these has failed.
 const MAX_LINES: u64 = 4_294_967_296;
 
-/// What a conversation is set up with: the namespaces, who connects by which token, and the epochs of new streams, in order.
+/// What a conversation is set up with: the namespaces, who connects by which token, and the epochs of new streams, in
+/// order.
 #[derive(Drop)]
-pub struct Setup {
+pub struct SpeakSetup {
     pub namespaces: Namespaces,
     pub tokens: Tokens,
     pub epochs: GivenEpochs,
 }
 
-/// Each line of the input is a text of one client, and what the client gets is written, a line for each text. A close ends the
-/// conversation.
+/// Each line of the input is a text of one client, and what the client gets is written, a line for each text. A close
+/// ends the conversation.
 pub fn converse<R: BufRead, W: Write>(
     alloc: Global,
     reader: &mut R,
     writer: &mut W,
-    setup: Setup,
-) -> Result<(), SpeakFault>
+    setup: SpeakSetup,
+) -> Result<(), SpeakError>
     ensures done { OnOk result (IfSome (R.remaining reader.old) (λ input.
         Speaks (record { namespaces = setup.namespaces; tokens = setup.tokens }) setup.epochs input
         (W.contents writer.old) (W.contents writer.new))) }
     // What isn't UTF-8 is met at its line, after what the earlier lines gave.
-    ensures not_utf8 { IsErrOf result SpeakFault.NotUtf8
+    ensures not_utf8 { IsErrOf result SpeakError.NotUtf8
         → IfSome (R.remaining reader.old)
         (λ input. BreaksOff
         (record { namespaces = setup.namespaces; tokens = setup.tokens }) setup.epochs
         input (W.contents writer.old) (W.contents writer.new)) }
 {
-    let Setup {
+    let SpeakSetup {
         namespaces,
         tokens,
         epochs,
@@ -63,14 +66,14 @@ fn serve_lines<R: BufRead, W: Write>(
     writer: &mut W,
     session: &mut Session<'_>,
     node: &mut LocalNode,
-) -> Result<(), SpeakFault>
+) -> Result<(), SpeakError>
     requires idle { is_idle session.old ≡ true }
     requires stands { is_over (scene_of node.old) ≡ false }
     requires tables { (scene_of node.old).streams.namespaces ≡ (tables_of session.old).namespaces }
     ensures done { OnOk result (IfSome (R.remaining reader.old) (λ input.
         SpeaksFrom (tables_of session.old) (progress_of session.old) (scene_of node.old) input
         (W.contents writer.old) (W.contents writer.new))) }
-    ensures not_utf8 { IsErrOf result SpeakFault.NotUtf8 → IfSome (R.remaining reader.old) (λ input.
+    ensures not_utf8 { IsErrOf result SpeakError.NotUtf8 → IfSome (R.remaining reader.old) (λ input.
         BreaksOffFrom (tables_of session.old) (progress_of session.old) (scene_of node.old) input
         (W.contents writer.old) (W.contents writer.new)) }
 {
@@ -83,15 +86,15 @@ fn serve_lines<R: BufRead, W: Write>(
             return Ok(());
         }
     }
-    Err(SpeakFault::InputOutput)
+    Err(SpeakError::InputOutput)
 }
 
 // The next line without its line feed, if there is one.
-fn read_line<R: BufRead>(alloc: Global, reader: &mut R) -> Result<Option<Vec<u8>>, SpeakFault>
+fn read_line<R: BufRead>(alloc: Global, reader: &mut R) -> Result<Option<Vec<u8>>, SpeakError>
     ensures line { IfOk result
         (λ line. ReadsLine (R.remaining reader.old) (R.remaining reader.new)
         (option_map (λ v. v.items) line)) }
-    ensures outside { IfErr result (λ fault. fault ≢ SpeakFault.NotUtf8) }
+    ensures outside { IfErr result (λ fault. fault ≢ SpeakError.NotUtf8) }
 {
     let mut line = Vec::new(alloc);
     if reader.read_until(b'\n', &mut line)? == 0 {
@@ -110,7 +113,7 @@ fn answer<W: Write>(
     node: &mut LocalNode,
     line: &[u8],
     writer: &mut W,
-) -> Result<(), SpeakFault>
+) -> Result<(), SpeakError>
     requires idle { is_idle session.old ≡ true }
     requires stands { is_over (scene_of node.old) ≡ false }
     requires tables { (scene_of node.old).streams.namespaces ≡ (tables_of session.old).namespaces }
@@ -118,7 +121,7 @@ fn answer<W: Write>(
         (AnswersLine (tables_of session.old) (progress_of session.old) (scene_of node.old)
         line.now (scene_of node.new) (progress_of session.new) (W.contents writer.old)
         (W.contents writer.new)) }
-    ensures not_utf8 { IsErrOf result SpeakFault.NotUtf8 →
+    ensures not_utf8 { IsErrOf result SpeakError.NotUtf8 →
         IsNoText line.now × (W.contents writer.new ≡ W.contents writer.old) }
     ensures idle { OnOk result (is_over (scene_of node.new) ≡ false → is_idle session.new ≡ true) }
     ensures tables { OnOk result (tables_of session.new ≡ tables_of session.old) }
@@ -126,14 +129,14 @@ fn answer<W: Write>(
         ((scene_of node.new).streams.namespaces ≡ (tables_of session.new).namespaces) }
 {
     let Ok(text) = str::from_utf8(line) else {
-        return Err(SpeakFault::NotUtf8);
+        return Err(SpeakError::NotUtf8);
     };
     serve_text(session, node, text);
     if session.short() {
-        return Err(SpeakFault::Memory);
+        return Err(SpeakError::Memory);
     }
-    if node.short() {
-        return Err(SpeakFault::Memory);
+    if node.is_out_of_memory() {
+        return Err(SpeakError::Memory);
     }
     write_waiting(alloc, node, writer)?;
     writer.flush()?;
@@ -145,12 +148,12 @@ fn write_waiting<W: Write>(
     alloc: Global,
     node: &mut LocalNode,
     writer: &mut W,
-) -> Result<(), SpeakFault>
+) -> Result<(), SpeakError>
     ensures written { OnOk result
         (Appends (W.contents writer.old) (W.contents writer.new)
         (lines_of (waits (scene_of node.old)))) }
     ensures drained { OnOk result (Leaves [] (scene_of node.old) (scene_of node.new)) }
-    ensures outside { IfErr result (λ fault. fault ≢ SpeakFault.NotUtf8) }
+    ensures outside { IfErr result (λ fault. fault ≢ SpeakError.NotUtf8) }
 {
     while let Some(out) = node.take() {
         write_one(alloc, writer, out)?;
@@ -161,10 +164,10 @@ fn write_waiting<W: Write>(
     }
 }
 
-fn write_one<W: Write>(alloc: Global, writer: &mut W, out: Out) -> Result<(), SpeakFault>
+fn write_one<W: Write>(alloc: Global, writer: &mut W, out: Out) -> Result<(), SpeakError>
     ensures written { OnOk result
         (Appends (W.contents writer.old) (W.contents writer.new) (line_of (meaning out))) }
-    ensures outside { IfErr result (λ fault. fault ≢ SpeakFault.NotUtf8) }
+    ensures outside { IfErr result (λ fault. fault ≢ SpeakError.NotUtf8) }
 {
     let line = line_of(alloc, out)?;
     writer.write_all(line.as_bytes())?;

@@ -5,7 +5,7 @@ use thiserror::Error;
 
 /// Why a conversation ended before its end.
 #[derive(Clone, Copy, Debug, PartialEq, Eq, Drop, Error)]
-pub enum SpeakFault {
+pub enum SpeakError {
     /// A line isn't UTF-8.
     #[error("not UTF-8")]
     NotUtf8,
@@ -17,27 +17,27 @@ pub enum SpeakFault {
     InputOutput,
 }
 
-impl From<AllocError> for SpeakFault {
+impl From<AllocError> for SpeakError {
     ghost use Rattle.std.specs.Prelude.{◌≡◌};
-    ghost use Rattle.cf_speak.specs.declared.fault.SpeakFault.TheVariants.{Memory};
+    ghost use Rattle.cf_speak.specs.declared.fault.SpeakError.TheVariants.{Memory};
 
     ghost from_gives = { λ _ fault. fault ≡ Memory };
 
-    fn from(_refused: AllocError) -> SpeakFault {
-        SpeakFault::Memory
+    fn from(_refused: AllocError) -> SpeakError {
+        SpeakError::Memory
     }
 }
 
-impl From<io::Error> for SpeakFault {
+impl From<io::Error> for SpeakError {
     ghost use Rattle.std.specs.Prelude.{◌≢◌};
-    ghost use Rattle.cf_speak.specs.declared.fault.SpeakFault.TheVariants.{NotUtf8};
+    ghost use Rattle.cf_speak.specs.declared.fault.SpeakError.TheVariants.{NotUtf8};
 
     ghost from_gives = { λ _ fault. fault ≢ NotUtf8 };
 
-    fn from(error: io::Error) -> SpeakFault {
+    fn from(error: io::Error) -> SpeakError {
         match error.kind() {
-            io::ErrorKind::OutOfMemory => SpeakFault::Memory,
-            _ => SpeakFault::InputOutput,
+            io::ErrorKind::OutOfMemory => SpeakError::Memory,
+            _ => SpeakError::InputOutput,
         }
     }
 }

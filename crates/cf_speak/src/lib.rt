@@ -6,7 +6,7 @@ mod epochs;
 mod fault;
 mod local_node;
 
-pub use conversation::{Setup, converse};
+pub use conversation::{SpeakSetup, converse};
 pub use epochs::GivenEpochs;
-pub use fault::SpeakFault;
+pub use fault::SpeakError;
 pub use local_node::LocalNode;

@@ -5,7 +5,7 @@ ghost use Rattle.cf_hub.specs.Hub.{attached_at};
 ghost use Rattle.cf_queue.specs.Meaning.{meaning};
 ghost use Rattle.cf_stream.specs.Streams.{stream_of};
 ghost use Rattle.cf_session.specs.SessionMachine.{reply_text};
-ghost use Rattle.cf_speak.specs.Scene.{fell_short, member, notes_in, opening};
+ghost use Rattle.cf_speak.specs.Scene.{met_refused_memory, member, notes_in, opening};
 ghost use Rattle.cf_speak.specs.Conversation.{Takes};
 ghost use Rattle.cf_speak.specs.Shown.{is_memory, scene_of};
 ghost use Rattle.cf_speak.specs.Steps.{SaysAndBrings, brings_due, brings_newest, client_in, enters_now};
@@ -23,8 +23,8 @@ use std::collections::BTreeMap;
 /// The moment of all that happens, in seconds.
 const NOW: u64 = 0;
 
-/// A node with the session of one client, and with streams and presence of its own. A publication of the client is brought to
-/// the node right after the reply to its command; a publish that repeats one brings nothing.
+/// A node with the session of one client, and with streams and presence of its own. A publication of the client is
+/// brought to the node right after the reply to its command; a publish that repeats one brings nothing.
 #[derive(Drop)]
 pub struct LocalNode {
     hub: Hub,
@@ -62,8 +62,8 @@ impl LocalNode {
     }
 
     /// Whether one of its calls met a refused request for memory.
-    pub fn short(&self) -> bool
-        ensures { result ≡ fell_short (scene_of self.now) }
+    pub fn is_out_of_memory(&self) -> bool
+        ensures { result ≡ met_refused_memory (scene_of self.now) }
     {
         self.is_short || self.hub.short()
     }
@@ -89,9 +89,9 @@ impl LocalNode {
 
     // A text goes to the client, and then what it published.
     fn tell(&mut self, text: String)
-        ensures short { fell_short (scene_of self.old) ≡ true
-            → fell_short (scene_of self.new) ≡ true }
-        ensures says { fell_short (scene_of self.new) ≡ false
+        ensures short { met_refused_memory (scene_of self.old) ≡ true
+            → met_refused_memory (scene_of self.new) ≡ true }
+        ensures says { met_refused_memory (scene_of self.new) ≡ false
             → SaysAndBrings (string_bytes text) (scene_of self.old) (scene_of self.new) }
         ensures streams { (scene_of self.new).streams ≡ (scene_of self.old).streams }
     {
@@ -106,12 +106,12 @@ impl LocalNode {
 
     // So does the reply to a history.
     fn tell_history(&mut self, id: u32, history: History) -> Result<(), ErrorCode>
-        ensures short { fell_short (scene_of self.old) ≡ true
-            → fell_short (scene_of self.new) ≡ true }
-        ensures says { OnOk result (fell_short (scene_of self.new) ≡ false
+        ensures short { met_refused_memory (scene_of self.old) ≡ true
+            → met_refused_memory (scene_of self.new) ≡ true }
+        ensures says { OnOk result (met_refused_memory (scene_of self.new) ≡ false
             → SaysAndBrings (reply_text id (Past history.position history.publications.items))
             (scene_of self.old) (scene_of self.new)) }
-        ensures err { OnErr result (fell_short (scene_of self.new) ≡ true) }
+        ensures err { OnErr result (met_refused_memory (scene_of self.new) ≡ true) }
         ensures streams { (scene_of self.new).streams ≡ (scene_of self.old).streams }
     {
         let outcome = Outcome::Past {

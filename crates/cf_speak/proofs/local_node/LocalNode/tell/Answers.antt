@@ -8,7 +8,8 @@ pub returns-clause-says : goal.returns-clause-says
 returns-clause-says c long = record {
   between = c.say.new.self;
   says = search (rules, long);
-  brings = subst (λ d. brings_due d c.args.self.now.streams c.say.new.self c.bring_due-2.new.hub) (ap (option_map string_bytes) c.take-due.ensures.value)
+  brings = subst (λ d. brings_due d c.args.self.now.streams c.say.new.self c.bring_due-2.new.hub)
+      (ap (option_map string_bytes) c.take-due.ensures.value)
       (c.bring_due-2.ensures.brings (search (rules, long)));
   rest = search (rules, long);
 }

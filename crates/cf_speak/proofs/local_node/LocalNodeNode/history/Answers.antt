@@ -11,7 +11,8 @@ use Rattle.cf_speak.specs.Steps.{history_at}
 use Rattle.cf_speak.proofs.local_node.LocalNodeNode.history.Goals as goal
 
 -- it is answered, or memory was refused
-answered : {A B : Type 0} (P : Answer → Type 0) (r : Result Unit ErrorCode) → OnOk r A → OnErr r B → (B → ⊥) → (A → P Done) → P (shown_answer (answer.History r))
+answered : {A B : Type 0} (P : Answer → Type 0) (r : Result Unit ErrorCode) → OnOk r A → OnErr r B → (B → ⊥)
+    → (A → P Done) → P (shown_answer (answer.History r))
 answered P (Ok u) says err never done = done says
 answered P (Err e) says err never done = absurd (never err)
 
@@ -19,7 +20,8 @@ pub returns-in-Ok-clause-does : goal.returns-in-Ok-clause-does
 returns-in-Ok-clause-does c = record {
   remembered = c.tell_history.ensures.short;
   step = λ long.
-      answered (history_at c.args.channel.now c.args.id c.args.limit c.args.since (scene_of c.args.self.now) (scene_of c.tell_history.new.self)) c.tell_history.result
+      answered (history_at c.args.channel.now c.args.id c.args.limit c.args.since (scene_of c.args.self.now)
+      (scene_of c.tell_history.new.self)) c.tell_history.result
       c.tell_history.ensures.says c.tell_history.ensures.err (λ short. absurd (cc (short, long)))
       (λ says. inl (record {
         position = c.in-Ok.history.position;
