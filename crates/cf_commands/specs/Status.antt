@@ -3,12 +3,12 @@ use Rattle.std.specs.Prelude.{◌≡◌, ◌⊎◌, ℕ}
 use Rattle.cf_protocol.specs.declared.fault.ReadFault.{ReadFault}
 use Rattle.cf_protocol.specs.declared.fault.ReadFault.TheVariants as read
 use Rattle.cf_simulate.specs.Status.{status_of as simulation_status}
-use Rattle.cf_commands.specs.declared.fault.Fault.{Fault}
-use Rattle.cf_commands.specs.declared.fault.Fault.TheVariants as fault
+use Rattle.cf_commands.specs.declared.fault.CommandError.{CommandError}
+use Rattle.cf_commands.specs.declared.fault.CommandError.TheVariants as fault
 use Rattle.cf_commands.specs.declared.fault.Setting.{Setting}
 
 -- 2: the words or the input can't be used; 3: no memory was left; 4: a read or a write failed, or a node can't serve
-abbrev pub status_of : Fault → ℕ
+abbrev pub status_of : CommandError → ℕ
 status_of (fault.Simulation cause) = simulation_status cause
 status_of fault.NotUtf8 = 2
 status_of (fault.Setting setting) = 2
@@ -21,10 +21,10 @@ status_of (fault.NotStarted node) = 4
 status_of (fault.Ended node) = 4
 
 -- a setting whose text has another form, or for which memory was refused
-abbrev pub fault_of_text : Setting → ReadFault → Fault
+abbrev pub fault_of_text : Setting → ReadFault → CommandError
 fault_of_text setting read.Bad = fault.Setting setting
 fault_of_text setting read.Memory = fault.Memory
 
 -- memory was refused, or a read failed
-abbrev pub IsOutside : Fault → Type 0
+abbrev pub IsOutside : CommandError → Type 0
 IsOutside f = (f ≡ fault.Memory) ⊎ (f ≡ fault.InputOutput)

@@ -1,6 +1,7 @@
 //! The program's words.
 
-use crate::fault::Fault;
+use crate::fault::CommandError;
+use crate::serving::MOST_ON_LINK;
 use clap::builder::ValueParser;
 use clap::error::ErrorKind;
 use clap::{Arg, ArgAction, ArgMatches, Command, Error};
@@ -156,9 +157,9 @@ pub struct SpeakOptions<'a> {
     pub epochs: &'a str,
 }
 
-/// What `serve` runs with: the number of this start, how many nodes, the port of the first (0: any that is free), how many
-/// publications wait at most on the link to a node, after how many seconds without a connect command a connection is dropped (0: never),
-/// whether nothing is said of what goes wrong, and the texts of namespaces and tokens.
+/// What `serve` runs with: the number of this start, how many nodes, the port of the first (0: any that is free), how
+/// many publications wait at most on the link to a node, after how many seconds without a connect command a connection
+/// is dropped (0: never), whether nothing is said of what goes wrong, and the texts of namespaces and tokens.
 #[derive(Clone, Copy)]
 pub struct ServeOptions<'a> {
     pub boot: u64,
@@ -173,14 +174,14 @@ pub struct ServeOptions<'a> {
 
 /// An option of the program: its name, its value (a flag has none), and what help says of it.
 #[derive(Clone, Copy)]
-struct Known {
+struct KnownWords {
     name: &'static str,
     value: Option<Value>,
     help: &'static str,
 }
 
-/// The value of an option: what help calls it, what it has to be, and what it is unless another is given; if there is nothing, one
-/// has to be given.
+/// The value of an option: what help calls it, what it has to be, and what it is unless another is given; if there is
+/// nothing, one has to be given.
 #[derive(Clone, Copy)]
 struct Value {
     word: &'static str,
@@ -188,7 +189,7 @@ struct Value {
     default: Option<&'static str>,
 }
 
-const NODES: Known = Known {
+const NODES: KnownWords = KnownWords {
     name: "nodes",
     value: Some(Value {
         word: "N",
@@ -198,7 +199,7 @@ const NODES: Known = Known {
     help: "How many nodes there are, 1 to 8",
 };
 
-const NAMESPACES: Known = Known {
+const NAMESPACES: KnownWords = KnownWords {
     name: "ns",
     value: Some(Value {
         word: "SPEC",
@@ -208,7 +209,7 @@ const NAMESPACES: Known = Known {
     help: "The namespaces that are set up, as NAME=SIZE,SECONDS,FLAGS separated by `;`",
 };
 
-const TOKENS: Known = Known {
+const TOKENS: KnownWords = KnownWords {
     name: "tokens",
     value: Some(Value {
         word: "SPEC",
@@ -218,7 +219,7 @@ const TOKENS: Known = Known {
     help: "Who connects by which token, as TOKEN=USER separated by `;`",
 };
 
-const EPOCHS: Known = Known {
+const EPOCHS: KnownWords = KnownWords {
     name: "epochs",
     value: Some(Value {
         word: "E1,E2,..",
@@ -228,7 +229,7 @@ const EPOCHS: Known = Known {
     help: "The epochs of the streams that open, in order, separated by `,`",
 };
 
-const BOOT: Known = Known {
+const BOOT: KnownWords = KnownWords {
     name: "boot",
     value: Some(Value {
         word: "B",
@@ -238,7 +239,7 @@ const BOOT: Known = Known {
     help: "The number of this start, 1 to 999999999999999, never used before",
 };
 
-const PORT: Known = Known {
+const PORT: KnownWords = KnownWords {
     name: "port",
     value: Some(Value {
         word: "P",
@@ -248,17 +249,17 @@ const PORT: Known = Known {
     help: "Node i listens at port P + i; 0: each at a port that is free",
 };
 
-const LINK: Known = Known {
+const LINK: KnownWords = KnownWords {
     name: "link",
     value: Some(Value {
         word: "K",
-        parser: ValueParser::Signed(1, 65_536),
+        parser: ValueParser::Signed(1, MOST_ON_LINK),
         default: Some("1024"),
     }),
     help: "How many publications wait at most on the link to a node, 1 to 65536",
 };
 
-const STALE: Known = Known {
+const STALE: KnownWords = KnownWords {
     name: "stale",
     value: Some(Value {
         word: "SECONDS",
@@ -268,25 +269,25 @@ const STALE: Known = Known {
     help: "A connection without a connect command is dropped after so many seconds; 0: never",
 };
 
-const EXPLAIN: Known = Known {
+const EXPLAIN: KnownWords = KnownWords {
     name: "explain",
     value: None,
     help: "Tells beside each event what it did, or why it changed nothing",
 };
 
-const QUIET: Known = Known {
+const QUIET: KnownWords = KnownWords {
     name: "quiet",
     value: None,
     help: "Says nothing on standard error of what goes wrong while it serves",
 };
 
-const SHOW_VERSION: Known = Known {
+const SHOW_VERSION: KnownWords = KnownWords {
     name: "version",
     value: None,
     help: "Says which version this is",
 };
 
-fn option_of<'a>(alloc: Global, known: &Known) -> Arg<'a> {
+fn option_of<'a>(alloc: Global, known: &KnownWords) -> Arg<'a> {
     let option = Arg::new(alloc, known.name)
         .long(known.name)
         .help(known.help);
@@ -308,7 +309,7 @@ fn command<'a>(
     name: &'a str,
     about: &'a str,
     notes: &'a str,
-    options: &[Known],
+    options: &[KnownWords],
 ) -> Result<Command<'a>, AllocError> {
     let mut command = Command::new(alloc, name).about(about).after_help(notes);
     for known in options {
@@ -355,8 +356,8 @@ fn program<'a>(alloc: Global) -> Result<Command<'a>, AllocError> {
     Ok(program)
 }
 
-/// Reads the program's words. With none but the program's name they ask for `simulate`. An error is what is to be shown:
-/// the help that was asked for, or why the words can't be used.
+/// Reads the program's words. With none but the program's name they ask for `simulate`. An error is what is to be
+/// shown: the help that was asked for, or why the words can't be used.
 pub(crate) fn read_words<'a>(alloc: Global, words: &'a [String]) -> Result<Job<'a>, Error> {
     let matches = program(alloc)?.try_get_matches_from(words)?;
     Ok(job_of(&matches))
@@ -394,9 +395,9 @@ fn job_of<'a>(matches: &ArgMatches<'a>) -> Job<'a> {
 }
 
 /// Shows an error of `read_words`, and gives the exit status.
-pub(crate) fn show<R: Print + Eprint>(rt: &R, error: &Error) -> Result<ExitCode, Fault> {
+pub(crate) fn show<R: Print + Eprint>(rt: &R, error: &Error) -> Result<ExitCode, CommandError> {
     if error.kind() == ErrorKind::OutOfMemory {
-        return Err(Fault::Memory);
+        return Err(CommandError::Memory);
     }
     error.print(rt)?;
     Ok(if error.use_stderr() {

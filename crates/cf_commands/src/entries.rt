@@ -1,6 +1,6 @@
 //! The settings that have entries: what was read of them, or which entry can't be used, and by which rule.
 
-use crate::fault::{Fault, Setting};
+use crate::fault::{CommandError, Setting};
 use cf_protocol::{Namespaces, ReadFault, Tokens, read_namespaces, read_tokens};
 use std::alloc::{AllocError, Global};
 use std::collections::BTreeSet;
@@ -17,10 +17,10 @@ enum Table {
 /// # Errors
 ///
 /// `Entry` names the first entry that can't be used; `Memory`.
-pub(crate) fn namespaces_of(alloc: Global, text: &str) -> Result<Namespaces, Fault> {
+pub(crate) fn namespaces_of(alloc: Global, text: &str) -> Result<Namespaces, CommandError> {
     match read_namespaces(alloc, text) {
         Ok(namespaces) => Ok(namespaces),
-        Err(ReadFault::Memory) => Err(Fault::Memory),
+        Err(ReadFault::Memory) => Err(CommandError::Memory),
         Err(ReadFault::Bad) => Err(fault_in(alloc, Table::Namespaces, text)),
     }
 }
@@ -30,26 +30,26 @@ pub(crate) fn namespaces_of(alloc: Global, text: &str) -> Result<Namespaces, Fau
 /// # Errors
 ///
 /// `Entry` names the first entry that can't be used; `Memory`.
-pub(crate) fn tokens_of(alloc: Global, text: &str) -> Result<Tokens, Fault> {
+pub(crate) fn tokens_of(alloc: Global, text: &str) -> Result<Tokens, CommandError> {
     match read_tokens(alloc, text) {
         Ok(tokens) => Ok(tokens),
-        Err(ReadFault::Memory) => Err(Fault::Memory),
+        Err(ReadFault::Memory) => Err(CommandError::Memory),
         Err(ReadFault::Bad) => Err(fault_in(alloc, Table::Tokens, text)),
     }
 }
 
 // The fault of a text that can't be used: its first entry that breaks a rule.
-fn fault_in(alloc: Global, table: Table, text: &str) -> Fault {
+fn fault_in(alloc: Global, table: Table, text: &str) -> CommandError {
     match find(alloc, table, text) {
         Ok(Some(fault)) => fault,
-        Ok(None) => Fault::Setting {
+        Ok(None) => CommandError::Setting {
             setting: table.setting(),
         },
-        Err(_) => Fault::Memory,
+        Err(_) => CommandError::Memory,
     }
 }
 
-fn find(alloc: Global, table: Table, text: &str) -> Result<Option<Fault>, AllocError> {
+fn find(alloc: Global, table: Table, text: &str) -> Result<Option<CommandError>, AllocError> {
     let mut names = BTreeSet::new(alloc);
     for (before, entry) in text.split(';').enumerate() {
         let rule = match broken(alloc, table, entry)? {
@@ -57,7 +57,7 @@ fn find(alloc: Global, table: Table, text: &str) -> Result<Option<Fault>, AllocE
             None => note_name(alloc, table, entry, &mut names)?,
         };
         if let Some(rule) = rule {
-            return Ok(Some(Fault::Entry {
+            return Ok(Some(CommandError::Entry {
                 option: table.option(),
                 number: before + 1,
                 entry: String::from_str(alloc, entry)?,

@@ -3,7 +3,7 @@ ghost use Rattle.std.specs.Prelude.{true, IfSome, OnOk};
 ghost use Rattle.cf_schedule.specs.Seen.{shown_config};
 ghost use Rattle.cf_simulate.specs.Simulation.{Prints};
 
-use crate::fault::Fault;
+use crate::fault::CommandError;
 use cf_explain::line_fault;
 use cf_schedule::Config;
 use cf_simulate::{SimulateFault, simulate};
@@ -11,17 +11,19 @@ use std::alloc::Global;
 use std::io::{Read, Write};
 use std::str;
 
-/// Reads all of a schedule, runs it, and writes its trace with remarks, as `simulate` does. If a line is unreadable, it says why.
+/// Reads all of a schedule, runs it, and writes its trace with remarks, as `simulate` does. If a line is unreadable, it
+/// says why.
 ///
 /// # Errors
 ///
-/// `Unreadable` if a line is; `Simulation` for what else `simulate` ends with; `InputOutput` if the input can't be read; `Memory`.
+/// `Unreadable` if a line is; `Simulation` for what else `simulate` ends with; `InputOutput` if the input can't be
+/// read; `Memory`.
 pub fn explain<R: Read, W: Write>(
     alloc: Global,
     reader: &mut R,
     writer: &mut W,
     config: &Config,
-) -> Result<(), Fault>
+) -> Result<(), CommandError>
     ensures done { OnOk result (IfSome (R.remaining reader.old)
         (λ input. Prints true (shown_config config.now) input (W.contents writer.old)
         (W.contents writer.new))) }
@@ -37,7 +39,7 @@ fn explain_input<W: Write>(
     input: &[u8],
     writer: &mut W,
     config: &Config,
-) -> Result<(), Fault>
+) -> Result<(), CommandError>
     ensures done { OnOk result (Prints true (shown_config config.now) input.now
         (W.contents writer.old) (W.contents writer.new)) }
 {
@@ -47,13 +49,13 @@ fn explain_input<W: Write>(
         Err(SimulateFault::Unreadable { line }) => {
             Err(fault_of(alloc, input, config.nodes, line))
         }
-        Err(fault) => Err(Fault::from(fault)),
+        Err(fault) => Err(CommandError::from(fault)),
     }
 }
 
 // The fault of an unreadable line of this number.
-fn fault_of(alloc: Global, input: &[u8], nodes: u8, line: usize) -> Fault {
-    let plain = Fault::Simulation {
+fn fault_of(alloc: Global, input: &[u8], nodes: u8, line: usize) -> CommandError {
+    let plain = CommandError::Simulation {
         fault: SimulateFault::Unreadable { line },
     };
     let Ok(text) = str::from_utf8(input) else {
@@ -63,8 +65,8 @@ fn fault_of(alloc: Global, input: &[u8], nodes: u8, line: usize) -> Fault {
         return plain;
     };
     match line_fault(alloc, words, nodes) {
-        Ok(Some(why)) => Fault::Unreadable { line, why },
+        Ok(Some(why)) => CommandError::Unreadable { line, why },
         Ok(None) => plain,
-        Err(_) => Fault::Memory,
+        Err(_) => CommandError::Memory,
     }
 }

@@ -31,7 +31,7 @@ pub enum Setting {
 
 /// Why a command of the program ended before its end. The message is what the program writes to standard error.
 #[derive(Debug, Drop, Error)]
-pub enum Fault {
+pub enum CommandError {
     /// A schedule can't be used, or its run ended before its end.
     #[error("{fault}")]
     Simulation {
@@ -82,78 +82,78 @@ pub enum Fault {
     },
 }
 
-impl Fault {
+impl CommandError {
     /// The program's exit status: 2 for its words and its input, 3 for want of memory, 4 if input or output failed.
     pub fn status(&self) -> u8
         ensures { result ≡ status_of self.now }
     {
         match self {
-            Fault::Simulation { fault } => fault.status(),
-            Fault::NotUtf8
-            | Fault::Setting { .. }
-            | Fault::Entry { .. }
-            | Fault::Unreadable { .. } => 2,
-            Fault::Memory => 3,
-            Fault::InputOutput
-            | Fault::Listen { .. }
-            | Fault::NotStarted { .. }
-            | Fault::Ended { .. } => 4,
+            CommandError::Simulation { fault } => fault.status(),
+            CommandError::NotUtf8
+            | CommandError::Setting { .. }
+            | CommandError::Entry { .. }
+            | CommandError::Unreadable { .. } => 2,
+            CommandError::Memory => 3,
+            CommandError::InputOutput
+            | CommandError::Listen { .. }
+            | CommandError::NotStarted { .. }
+            | CommandError::Ended { .. } => 4,
         }
     }
 
     /// The fault of a setting whose text can't be read.
-    pub fn of_text(setting: Setting, fault: ReadFault) -> Fault
+    pub fn of_text(setting: Setting, fault: ReadFault) -> CommandError
         ensures { result ≡ fault_of_text setting fault }
     {
         match fault {
-            ReadFault::Bad => Fault::Setting { setting },
-            ReadFault::Memory => Fault::Memory,
+            ReadFault::Bad => CommandError::Setting { setting },
+            ReadFault::Memory => CommandError::Memory,
         }
     }
 }
 
-impl From<AllocError> for Fault {
+impl From<AllocError> for CommandError {
     ghost use Rattle.std.specs.Prelude.{◌≡◌};
-    ghost use Rattle.cf_commands.specs.declared.fault.Fault.TheVariants.{Memory};
+    ghost use Rattle.cf_commands.specs.declared.fault.CommandError.TheVariants.{Memory};
 
     ghost from_gives = { λ _ fault. fault ≡ Memory };
 
-    fn from(_refused: AllocError) -> Fault {
-        Fault::Memory
+    fn from(_refused: AllocError) -> CommandError {
+        CommandError::Memory
     }
 }
 
-impl<T: Drop> From<AllocFailed<T>> for Fault {
+impl<T: Drop> From<AllocFailed<T>> for CommandError {
     ghost use Rattle.std.specs.Prelude.{◌≡◌};
-    ghost use Rattle.cf_commands.specs.declared.fault.Fault.TheVariants.{Memory};
+    ghost use Rattle.cf_commands.specs.declared.fault.CommandError.TheVariants.{Memory};
 
     ghost from_gives = { λ _ fault. fault ≡ Memory };
 
-    fn from(_refused: AllocFailed<T>) -> Fault {
-        Fault::Memory
+    fn from(_refused: AllocFailed<T>) -> CommandError {
+        CommandError::Memory
     }
 }
 
-impl From<SimulateFault> for Fault {
+impl From<SimulateFault> for CommandError {
     ghost use Rattle.std.specs.Prelude.{◌≡◌};
-    ghost use Rattle.cf_commands.specs.declared.fault.Fault.TheVariants.{Simulation};
+    ghost use Rattle.cf_commands.specs.declared.fault.CommandError.TheVariants.{Simulation};
 
     ghost from_gives = { λ fault given. given ≡ Simulation fault };
 
-    fn from(fault: SimulateFault) -> Fault {
-        Fault::Simulation { fault }
+    fn from(fault: SimulateFault) -> CommandError {
+        CommandError::Simulation { fault }
     }
 }
 
-impl From<io::Error> for Fault {
+impl From<io::Error> for CommandError {
     ghost use Rattle.cf_commands.specs.Status.{IsOutside};
 
     ghost from_gives = { λ _ fault. IsOutside fault };
 
-    fn from(error: io::Error) -> Fault {
+    fn from(error: io::Error) -> CommandError {
         match error.kind() {
-            io::ErrorKind::OutOfMemory => Fault::Memory,
-            _ => Fault::InputOutput,
+            io::ErrorKind::OutOfMemory => CommandError::Memory,
+            _ => CommandError::InputOutput,
         }
     }
 }

@@ -1,4 +1,5 @@
-//! The program's commands: the words that ask for them, and `simulate`, `speak` and `serve` over standard input and output.
+//! The program's commands: the words that ask for them, and `simulate`, `speak` and `serve` over standard input and
+//! output.
 #![tactic(auto)]
 
 mod command_line;
@@ -19,7 +20,7 @@ pub use cf_explain::LineFault;
 pub use cf_simulate::simulate;
 pub use command_line::{Options, ServeOptions, SpeakOptions};
 pub use explaining::explain;
-pub use fault::{Fault, Setting};
+pub use fault::{CommandError, Setting};
 pub use program::run;
 pub use serving::serve;
 pub use settings::config_of;

@@ -2,7 +2,7 @@
 
 use crate::command_line::{self, Job, Options, SpeakOptions, VERSION};
 use crate::explaining::explain;
-use crate::fault::Fault;
+use crate::fault::CommandError;
 use crate::serving::serve;
 use crate::settings::config_of;
 use crate::speaking::{setup_of, speak};
@@ -31,7 +31,7 @@ fn say_wait<R: Eprint, T: IsTerminal>(rt: &R, reader: &T, what: &str) {
     }
 }
 
-fn simulate_standard<R>(rt: &R, options: Options<'_>) -> Result<(), Fault>
+fn simulate_standard<R>(rt: &R, options: Options<'_>) -> Result<(), CommandError>
 where
     R: Input + Print + Eprint + AllocGlobal,
     R::Reader: IsTerminal,
@@ -45,11 +45,11 @@ where
     if explains {
         explain(alloc, &mut reader, &mut writer, &config)
     } else {
-        simulate(alloc, &mut reader, &mut writer, &config, false).map_err(Fault::from)
+        simulate(alloc, &mut reader, &mut writer, &config, false).map_err(CommandError::from)
     }
 }
 
-fn speak_standard<R>(rt: &R, options: SpeakOptions<'_>) -> Result<(), Fault>
+fn speak_standard<R>(rt: &R, options: SpeakOptions<'_>) -> Result<(), CommandError>
 where
     R: Input + Print + Eprint + AllocGlobal,
     R::Reader: IsTerminal,
@@ -64,15 +64,15 @@ where
 }
 
 // The program's words. One that isn't UTF-8 is unusable.
-fn words<R: Env + AllocGlobal>(rt: &R) -> Result<Vec<String>, Fault> {
+fn words<R: Env + AllocGlobal>(rt: &R) -> Result<Vec<String>, CommandError> {
     match env::args(rt) {
         Ok(given) => Ok(given.collect(rt.alloc())?),
-        Err(error) if error.kind() == io::ErrorKind::InvalidData => Err(Fault::NotUtf8),
-        Err(error) => Err(Fault::from(error)),
+        Err(error) if error.kind() == io::ErrorKind::InvalidData => Err(CommandError::NotUtf8),
+        Err(error) => Err(CommandError::from(error)),
     }
 }
 
-fn program<R>(rt: &R) -> Result<ExitCode, Fault>
+fn program<R>(rt: &R) -> Result<ExitCode, CommandError>
 where
     R: Input + Print + Eprint + Env + AllocGlobal + Files + Threads + Wait + Clock + Net + Sync,
     R::Reader: IsTerminal,
@@ -82,15 +82,15 @@ where
         Ok(Job::Simulate(options)) => simulate_standard(rt, options),
         Ok(Job::Speak(options)) => speak_standard(rt, options),
         Ok(Job::Serve(options)) => serve(rt, options),
-        Ok(Job::Version) => rt.println(VERSION).map_err(Fault::from),
+        Ok(Job::Version) => rt.println(VERSION).map_err(CommandError::from),
         Err(shown) => return command_line::show(rt, &shown),
     };
     done?;
     Ok(ExitCode::SUCCESS)
 }
 
-/// Does what the program's words ask for, over its standard input and output, and gives its exit status: 0 if that is done, else
-/// the fault's, which is said on standard error.
+/// Does what the program's words ask for, over its standard input and output, and gives its exit status: 0 if that is
+/// done, else the fault's, which is said on standard error.
 pub fn run<R>(rt: &R) -> ExitCode
 where
     R: Input + Print + Eprint + Env + AllocGlobal + Files + Threads + Wait + Clock + Net + Sync,

@@ -19,8 +19,8 @@ pub(crate) struct Readiness {
 }
 
 impl Readiness {
-    /// The readiness of a descriptor for this. It takes its own descriptors and memory here, before clients come who could take
-    /// all.
+    /// The readiness of a descriptor for this. It takes its own descriptors and memory here, before clients come who
+    /// could take all.
     pub(crate) fn open<R: Net + AllocGlobal>(
         rt: &R,
         descriptor: RawFd,

@@ -47,7 +47,8 @@ impl Teller {
         }
     }
 
-    // Tells how often it has gone wrong at a node since that was told last, and how often in all, if there is something new.
+    // Tells how often it has gone wrong at a node since that was told last, and how often in all, if there is something
+    // new.
     fn tell<R: Eprint>(&mut self, rt: &R, node: usize, what: &str, told: &mut u64, all: u64) {
         let more = all.saturating_sub(*told);
         if more > 0 && self.is_heard() {

@@ -3,9 +3,9 @@ ghost use Rattle.std.specs.Prelude.{◌≡◌, true, IfOk, IfErr};
 ghost use Rattle.std.specs.Io.KnownBytes.{IsAtEnd};
 ghost use Rattle.cf_commands.specs.Status.{IsOutside};
 
-use crate::fault::Fault;
+use crate::fault::CommandError;
 use crate::readiness::Readiness;
-use crate::sizes::{Line, Listener};
+use crate::sizes::{InputLine, Listener};
 use cf_node::{FaultCounts, Gate, Reach};
 use mio::Interest;
 use std::io::{ErrorKind, Read};
@@ -78,9 +78,9 @@ impl Running {
     }
 
     /// An error if the loop of a node has ended.
-    pub(crate) fn goes_on(&self) -> Result<(), Fault> {
+    pub(crate) fn goes_on(&self) -> Result<(), CommandError> {
         match u8::try_from(self.failed.load(Ordering::SeqCst)) {
-            Ok(node) => Err(Fault::Ended { node }),
+            Ok(node) => Err(CommandError::Ended { node }),
             Err(_) => Ok(()),
         }
     }
@@ -111,7 +111,7 @@ pub(crate) fn wait_for_workers<R: Clock>(
     rt: &R,
     running: &Running,
     nodes: usize,
-) -> Result<(), Fault> {
+) -> Result<(), CommandError> {
     let workers = WORKERS.saturating_mul(nodes as u64);
     for _ in 0..MOST_TURNS {
         running.goes_on()?;
@@ -120,14 +120,14 @@ pub(crate) fn wait_for_workers<R: Clock>(
         }
         thread::sleep(rt, Duration::from_millis(PAUSE));
     }
-    Err(Fault::InputOutput)
+    Err(CommandError::InputOutput)
 }
 
 /// What hears standard input: it tells when there is something to read, and keeps what a line has so far.
 #[derive(Drop)]
 pub(crate) struct Ear {
     input: Readiness,
-    line: Line,
+    line: InputLine,
 }
 
 impl Ear {
@@ -135,11 +135,12 @@ impl Ear {
     pub(crate) fn open<R: Net + AllocGlobal>(rt: &R) -> io::Result<Ear> {
         Ok(Ear {
             input: Readiness::open(rt, STANDARD_INPUT, Interest::READABLE)?,
-            line: Line::new(rt.alloc())?,
+            line: InputLine::new(rt.alloc())?,
         })
     }
 
-    /// Waits until this reader, which is standard input, ends. Its whole lines are heard, but for those that aren't UTF-8.
+    /// Waits until this reader, which is standard input, ends. Its whole lines are heard, but for those that aren't
+    /// UTF-8.
     ///
     /// # Errors
     ///
@@ -149,7 +150,7 @@ impl Ear {
         reader: &mut R,
         running: &Running,
         listener: &mut L,
-    ) -> Result<(), Fault> {
+    ) -> Result<(), CommandError> {
         for _ in 0..MOST_TURNS {
             running.goes_on()?;
             let hears = self.input.is_ready(Duration::from_millis(PATIENCE))?;
@@ -157,7 +158,7 @@ impl Ear {
                 return Ok(());
             }
         }
-        Err(Fault::InputOutput)
+        Err(CommandError::InputOutput)
     }
 }
 
@@ -168,9 +169,9 @@ impl Ear {
 /// `InputOutput` if the read fails; `Memory`.
 pub(crate) fn reads_to_end<R: Read, L: Listener>(
     reader: &mut R,
-    line: &mut Line,
+    line: &mut InputLine,
     listener: &mut L,
-) -> Result<bool, Fault>
+) -> Result<bool, CommandError>
     ensures end { IfOk result (λ ended. ended ≡ true → IsAtEnd (R.remaining reader.new)) }
     ensures failed { IfErr result IsOutside }
 {
@@ -181,6 +182,6 @@ pub(crate) fn reads_to_end<R: Read, L: Listener>(
             Ok(count == 0)
         }
         Err(error) if error.kind() == ErrorKind::Interrupted => Ok(false),
-        Err(error) => Err(Fault::from(error)),
+        Err(error) => Err(CommandError::from(error)),
     }
 }

@@ -5,7 +5,7 @@ ghost use denote.Param.Send.{IsSend, IsSync};
 
 use crate::command_line::ServeOptions;
 use crate::entries::{namespaces_of, tokens_of};
-use crate::fault::{Fault, Setting};
+use crate::fault::{CommandError, Setting};
 use crate::report::{Reporter, Teller};
 use crate::running::{Ear, Running, wait_for_workers};
 use crate::sizes::{Listener, Sizes};
@@ -30,6 +30,12 @@ use std::{io, thread};
 // The bytes of a buffer that is freed before clients come: glibc keeps up to twice as many that are freed from then on.
 const LARGE_BUFFER: usize = 16_777_216;
 
+// How many ports an address has.
+const PORTS: u32 = 65_536;
+
+/// The most publications that may wait on the link to a node.
+pub(crate) const MOST_ON_LINK: i64 = 65_536;
+
 // The nodes, the broker's ends of their links, and where they listen.
 #[derive(Drop)]
 struct Opened<'a, N: Naming> {
@@ -38,8 +44,8 @@ struct Opened<'a, N: Naming> {
     addresses: Vec<SocketAddr>,
 }
 
-// The nodes, the broker between them with its passes, and where they listen. The broker lies in a box, since a function that lends
-// a broker of its own is costly to prove.
+// The nodes, the broker between them with its passes, and where they listen. The broker lies in a box, since a function
+// that lends a broker of its own is costly to prove.
 #[derive(Drop)]
 struct Joined<'a, N: Naming> {
     broker: Box<Broker<N, BootEpochs>>,
@@ -55,13 +61,15 @@ struct Senses<'a> {
     reporter: Reporter<'a>,
 }
 
-/// Serves clients until standard input ends. Each node's address is printed as `node I 127.0.0.1:PORT` once all nodes serve.
+/// Serves clients until standard input ends. Each node's address is printed as `node I 127.0.0.1:PORT` once all nodes
+/// serve.
 ///
 /// # Errors
 ///
-/// `Setting` and `Entry` name the option that can't be used; `Listen` a node that can't listen, `NotStarted` one whose thread can't be
-/// started, `Ended` one whose loop has ended; `InputOutput` if standard input or output fails; `Memory`.
-pub fn serve<R>(rt: &R, options: ServeOptions<'_>) -> Result<(), Fault>
+/// `Setting` and `Entry` name the option that can't be used; `Listen` a node that can't listen, `NotStarted` one whose
+/// thread can't be started, `Ended` one whose loop has ended; `InputOutput` if standard input or output fails;
+/// `Memory`.
+pub fn serve<R>(rt: &R, options: ServeOptions<'_>) -> Result<(), CommandError>
 where
     R: Input + Print + Eprint + AllocGlobal + Files + Threads + Wait + Clock + Net + Sync,
 {
@@ -75,24 +83,24 @@ where
 }
 
 // The number of this start, if there are ports for all nodes.
-fn boot_of(options: ServeOptions<'_>) -> Result<Boot, Fault> {
-    if u32::from(options.port) + u32::from(options.nodes) > 65_536 {
-        return Err(Fault::Setting {
+fn boot_of(options: ServeOptions<'_>) -> Result<Boot, CommandError> {
+    if u32::from(options.port) + u32::from(options.nodes) > PORTS {
+        return Err(CommandError::Setting {
             setting: Setting::Port,
         });
     }
-    Boot::new(options.boot).ok_or(Fault::Setting {
+    Boot::new(options.boot).ok_or(CommandError::Setting {
         setting: Setting::Boot,
     })
 }
 
 // How many publications may wait on a node's link.
-fn room_of(options: ServeOptions<'_>) -> Result<usize, Fault>
+fn room_of(options: ServeOptions<'_>) -> Result<usize, CommandError>
     ensures same { IfOk result (λ room. room ≡ options.entry.link) }
     ensures some { IfOk result (λ room. 0 < room) }
 {
-    if options.link < 1 || options.link > 65_536 {
-        return Err(Fault::Setting {
+    if options.link < 1 || i64::from(options.link) > MOST_ON_LINK {
+        return Err(CommandError::Setting {
             setting: Setting::Link,
         });
     }
@@ -107,7 +115,7 @@ fn serve_on<N, R>(
     words: Words,
     namespaces: &Namespaces,
     tokens: &Tokens,
-) -> Result<(), Fault>
+) -> Result<(), CommandError>
 where
     N: Naming + Send + Sync,
     R: Input + Print + Eprint + AllocGlobal + Threads + Wait + Clock + Net + Sync,
@@ -152,7 +160,7 @@ fn join<'a, N: Naming, R: Net + AllocGlobal>(
     running: &'a Running,
     namespaces: &'a Namespaces,
     tokens: &'a Tokens,
-) -> Result<Joined<'a, N>, Fault>
+) -> Result<Joined<'a, N>, CommandError>
     requires words { words ≡ names N.words 16 }
     requires namespaces { namespaces.now ≡ N.namespaces }
 {
@@ -179,7 +187,7 @@ fn open_nodes<'a, N: Naming, R: Net + AllocGlobal>(
     running: &'a Running,
     namespaces: &'a Namespaces,
     tokens: &'a Tokens,
-) -> Result<Opened<'a, N>, Fault>
+) -> Result<Opened<'a, N>, CommandError>
     requires { namespaces.now ≡ N.namespaces }
 {
     let mut opened = Opened {
@@ -205,13 +213,13 @@ fn add_node<'a, N: Naming, R: Net + AllocGlobal>(
     options: ServeOptions<'_>,
     setup: Setup<'a, N>,
     opened: &mut Opened<'a, N>,
-) -> Result<(), Fault> {
+) -> Result<(), CommandError> {
     let room = room_of(options)?;
     let listener = listen(rt, options, setup.node(), &mut opened.addresses)?;
     let (sender, receiver) = pair(rt.alloc(), room)?;
     opened.senders.push(sender)?;
     let node = Node::open(rt, setup, receiver, listener)?;
-    opened.nodes.push(node).map_err(Fault::from)
+    opened.nodes.push(node).map_err(CommandError::from)
 }
 
 // Listens at the node's port, and notes where, since a port may be any that is free.
@@ -220,7 +228,7 @@ fn listen<R: Net>(
     options: ServeOptions<'_>,
     node: u8,
     addresses: &mut Vec<SocketAddr>,
-) -> Result<TcpListener, Fault> {
+) -> Result<TcpListener, CommandError> {
     let port = if options.port == 0 {
         0
     } else {
@@ -232,8 +240,8 @@ fn listen<R: Net>(
             addresses.push(listener.local_addr()?)?;
             Ok(listener)
         }
-        Err(error) if error.kind() == ErrorKind::OutOfMemory => Err(Fault::Memory),
-        Err(_) => Err(Fault::Listen { node, address }),
+        Err(error) if error.kind() == ErrorKind::OutOfMemory => Err(CommandError::Memory),
+        Err(_) => Err(CommandError::Listen { node, address }),
     }
 }
 
@@ -246,7 +254,7 @@ fn start<'s, N, R, E>(
     passes: &mut Passes<N>,
     (number, node): (u8, Node<'s, N>),
     stop: &'s AtomicU64,
-) -> Result<(), Fault>
+) -> Result<(), CommandError>
 where
     N: Naming + Send + Sync,
     R: AllocGlobal + Threads + Wait + Clock + Sync,
@@ -259,7 +267,7 @@ where
     });
     match started {
         Ok(_) => Ok(()),
-        Err(_) => Err(Fault::NotStarted { node: number }),
+        Err(_) => Err(CommandError::NotStarted { node: number }),
     }
 }
 
@@ -272,7 +280,7 @@ fn start_all<'s, N, R, E>(
     passes: &mut Passes<N>,
     nodes: Vec<Node<'s, N>>,
     stop: &'s AtomicU64,
-) -> Result<(), Fault>
+) -> Result<(), CommandError>
 where
     N: Naming + Send + Sync,
     R: AllocGlobal + Threads + Wait + Clock + Sync,
@@ -293,7 +301,7 @@ fn run_nodes<N, R>(
     addresses: &[SocketAddr],
     sizes: &mut Sizes<'_, R, N, BootEpochs>,
     senses: Senses<'_>,
-) -> Result<(), Fault>
+) -> Result<(), CommandError>
 where
     N: Naming + Send + Sync,
     R: Input + Print + Eprint + AllocGlobal + Threads + Wait + Clock + Net + Sync,
@@ -335,8 +343,8 @@ where
     )
 }
 
-// Says where the nodes listen, by way of a large buffer that is freed behind it: so glibc keeps what is freed later for what is
-// asked for next; else it would give it back to the system, and ask for it again, with each large publication.
+// Says where the nodes listen, by way of a large buffer that is freed behind it: so glibc keeps what is freed later for
+// what is asked for next; else it would give it back to the system, and ask for it again, with each large publication.
 fn say_addresses<R: Print + AllocGlobal>(rt: &R, addresses: &[SocketAddr]) -> io::Result<()> {
     let mut writer = BufWriter::with_capacity(rt.alloc(), LARGE_BUFFER, io::writer(rt))?;
     for (node, address) in addresses.iter().enumerate() {
@@ -352,7 +360,7 @@ fn watch<R, L>(
     addresses: &[SocketAddr],
     listener: &mut L,
     ear: &mut Ear,
-) -> Result<(), Fault>
+) -> Result<(), CommandError>
 where
     R: Input + Print + AllocGlobal + Clock,
     L: Listener,

@@ -15,7 +15,8 @@ use std::alloc::{AllocError, Global};
 use std::sync::Wait;
 use std::{fmt, str};
 
-/// So many bytes of a line are kept. A line that sets a size has 43 at most: a longer one is none, and neither are its first 44 bytes.
+/// So many bytes of a line are kept. A line that sets a size has 43 at most: a longer one is none, and neither are its
+/// first 44 bytes.
 const KEPT: usize = 44;
 
 /// Who hears the lines of standard input.
@@ -26,14 +27,14 @@ pub(crate) trait Listener {
 
 /// A line of standard input, as far as it has come.
 #[derive(Drop)]
-pub(crate) struct Line {
+pub(crate) struct InputLine {
     bytes: Vec<u8>,
 }
 
-impl Line {
+impl InputLine {
     /// Nothing has come.
-    pub(crate) fn new(alloc: Global) -> Result<Line, AllocError> {
-        Ok(Line {
+    pub(crate) fn new(alloc: Global) -> Result<InputLine, AllocError> {
+        Ok(InputLine {
             bytes: Vec::with_capacity(alloc, KEPT)?,
         })
     }
@@ -54,8 +55,8 @@ impl Line {
     }
 }
 
-/// Sets the sizes of namespaces in the broker's shards, as lines say, and answers each such line on standard error. Lines that don't
-/// begin with `size` are passed over, with no answer.
+/// Sets the sizes of namespaces in the broker's shards, as lines say, and answers each such line on standard error.
+/// Lines that don't begin with `size` are passed over, with no answer.
 #[derive(Drop)]
 pub(crate) struct Sizes<'a, R, N: Naming, E: Epochs + Drop> {
     pub(crate) rt: &'a R,
@@ -68,7 +69,7 @@ pub(crate) struct Sizes<'a, R, N: Naming, E: Epochs + Drop> {
 
 // What became of a line that begins with `size`.
 #[derive(Clone, Copy)]
-enum Answer<'a> {
+enum SizeAnswer<'a> {
     Set { name: &'a str, size: usize },
     NotSetUp { name: &'a str, size: usize },
     Refused { name: &'a str, size: usize },
@@ -76,24 +77,24 @@ enum Answer<'a> {
     NoMemory,
 }
 
-impl<'a> fmt::Display for Answer<'a> {
+impl<'a> fmt::Display for SizeAnswer<'a> {
     fn fmt<W: fmt::Write>(&self, f: &mut fmt::Formatter<W>) -> fmt::Result {
         match self {
-            Answer::Set { name, size } => write!(f, "size {name}={size}: set"),
-            Answer::NotSetUp { name, size } => {
+            SizeAnswer::Set { name, size } => write!(f, "size {name}={size}: set"),
+            SizeAnswer::NotSetUp { name, size } => {
                 write!(
                     f,
                     "size {name}={size}: passed over, since --ns sets up no such namespace"
                 )
             }
-            Answer::Refused { name, size } => {
+            SizeAnswer::Refused { name, size } => {
                 write!(
                     f,
                     "size {name}={size}: refused by a shard, which keeps its size"
                 )
             }
-            Answer::NoSize => f.write_str(NO_SIZE),
-            Answer::NoMemory => f.write_str(NO_MEMORY),
+            SizeAnswer::NoSize => f.write_str(NO_SIZE),
+            SizeAnswer::NoMemory => f.write_str(NO_MEMORY),
         }
     }
 }
@@ -118,8 +119,8 @@ where
             Ok(Some(Event::SetSize { namespace, size })) => {
                 self.set(namespace.as_str(), size.count())
             }
-            Err(EventFault::Memory) => Answer::NoMemory,
-            _ => Answer::NoSize,
+            Err(EventFault::Memory) => SizeAnswer::NoMemory,
+            _ => SizeAnswer::NoSize,
         };
         self.teller.say(self.rt, &answer);
         drop(read);
@@ -128,22 +129,22 @@ where
 
 impl<'a, R: Wait, N: Naming, E: Epochs + Drop> Sizes<'a, R, N, E> {
     // Sets a size if a namespace of this name is set up, and says what became of it.
-    fn set<'b>(&mut self, name: &'b str, size: usize) -> Answer<'b>
-        requires { (1 ≤ size) × (size ≤ 10000) }
+    fn set<'b>(&mut self, name: &'b str, size: usize) -> SizeAnswer<'b>
+        requires { (1 ≤ size) × (size ≤ LARGEST_SIZE) }
     {
         if !self.namespaces.contains(name) {
-            return Answer::NotSetUp { name, size };
+            return SizeAnswer::NotSetUp { name, size };
         }
         if set_size_in_all(self.rt, self.broker, &mut self.passes, name, size) {
-            Answer::Set { name, size }
+            SizeAnswer::Set { name, size }
         } else {
-            Answer::Refused { name, size }
+            SizeAnswer::Refused { name, size }
         }
     }
 }
 
-// Sets how many publications the streams of a namespace may hold, in one shard of the broker after another. Says whether
-// each shard took it: one whose log is full keeps the size that it has. It takes no memory.
+// Sets how many publications the streams of a namespace may hold, in one shard of the broker after another. Says
+// whether each shard took it: one whose log is full keeps the size that it has. It takes no memory.
 fn set_size_in_all<N: Naming, E: Epochs + Drop, R: Wait>(
     rt: &R,
     broker: &Broker<N, E>,

@@ -6,5 +6,6 @@ returns-clause-one g c = put_over _ _ _ c.args.shard _ _ c.take-pass.ensures.lef
 
 pub returns-clause-taken : goal.returns-clause-taken
 returns-clause-taken g c =
-    took c.args.name.now c.args.size _ _ _ _ c.is_ok.result c.set_size-set.result c.take-pass.ensures.taken c.put.ensures.at c.is_ok.ensures.value c.set_size-set.ensures.done
+    took c.args.name.now c.args.size _ _ _ _ c.is_ok.result c.set_size-set.result c.take-pass.ensures.taken
+    c.put.ensures.at c.is_ok.ensures.value c.set_size-set.ensures.done
     c.set_size-set.ensures.refusals
