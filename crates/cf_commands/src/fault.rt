@@ -2,7 +2,7 @@
 ghost use Rattle.std.specs.Prelude.{◌≡◌};
 ghost use Rattle.cf_commands.specs.Status.{status_of, fault_of_text};
 
-use cf_explain::LineFault;
+use cf_explain::LineError;
 use cf_protocol::ReadFault;
 use cf_simulate::SimulateFault;
 use std::alloc::{AllocError, AllocFailed};
@@ -57,7 +57,7 @@ pub enum CommandError {
     #[error("line {line}: unreadable\nline {line}: {why}")]
     Unreadable {
         line: usize,
-        why: LineFault,
+        why: LineError,
     },
     #[error("out of memory")]
     Memory,

@@ -16,7 +16,7 @@ mod sizes;
 mod speaking;
 mod stand_ins;
 
-pub use cf_explain::LineFault;
+pub use cf_explain::LineError;
 pub use cf_simulate::simulate;
 pub use command_line::{Options, ServeOptions, SpeakOptions};
 pub use explaining::explain;

@@ -1,5 +1,6 @@
 -- A remark more.
-use Rattle.std.proofs.Common.{◌≡◌, ◌∙◌, ℕ, zero, suc, ◌^◌, ◌<◌, ◌≤◌, Bool, true, false, List, [], ◌∷◌, ◌++◌, length, flat_map, refl, sym, ap, MatchBool, arith, rules, Some, None}
+use Rattle.std.proofs.Common.{◌≡◌, ◌∙◌, ℕ, zero, suc, ◌^◌, ◌<◌, ◌≤◌, Bool, true, false, List, [], ◌∷◌, ◌++◌, length}
+use Rattle.std.proofs.Common.{flat_map, refl, sym, ap, MatchBool, arith, rules, Some, None}
 use Rattle.std.specs.Char.{is_ascii_digit}
 use Rattle.std.specs.Fmt.{decimal}
 use Rattle.std.specs.List.{list_all}
@@ -26,15 +27,20 @@ pub remark_added : (bytes text : List ℕ) → AreRemarks bytes → IsOneLine te
 remark_added bytes text h one = record {
   texts = h.texts ++ text ∷ [];
   one_line = one_more h.texts text h.one_line one;
-  lines = ap (λ t. t ++ remark text) h.lines ∙ sym (flat_map-append remark h.texts (text ∷ []) ∙ ap (λ t. flat_map remark h.texts ++ t) (append-nil (remark text)));
+  lines = ap (λ t. t ++ remark text) h.lines ∙ sym
+      (flat_map-append remark h.texts (text ∷ []) ∙ ap (λ t. flat_map remark h.texts ++ t) (append-nil (remark text)));
 }
 
 -- no line feed was found in it
-pub none_found : (text : List ℕ) (r : Bool) → MatchBool r ((i : ℕ) × (j : ℕ) × FindsChar 10 text (Some (i, j)) × (i ≤ j) × (j ≤ length text)) (FindsChar 10 text None) → r ≡ false → IsOneLine text
+pub none_found : (text : List ℕ) (r : Bool) → MatchBool r
+    ((i : ℕ) × (j : ℕ) × FindsChar 10 text (Some (i, j)) × (i ≤ j) × (j ≤ length text)) (FindsChar 10 text None)
+    → r ≡ false → IsOneLine text
 none_found text r cases h i low is = false≢true (sym h ∙ (contains_char 10 text r cases (omega arith)).1 i low is)
 
 -- a line feed was found in it
-pub some_found : (text : List ℕ) (r : Bool) → MatchBool r ((i : ℕ) × (j : ℕ) × FindsChar 10 text (Some (i, j)) × (i ≤ j) × (j ≤ length text)) (FindsChar 10 text None) → r ≡ true → IsOneLine text → ⊥
+pub some_found : (text : List ℕ) (r : Bool) → MatchBool r
+    ((i : ℕ) × (j : ℕ) × FindsChar 10 text (Some (i, j)) × (i ≤ j) × (j ≤ length text)) (FindsChar 10 text None)
+    → r ≡ true → IsOneLine text → ⊥
 some_found text r cases h one = let at = (contains_char 10 text r cases (omega arith)).0 h in one at.0 at.1 at.2
 
 -- ---- remarks behind others
@@ -59,8 +65,10 @@ line_joined (x ∷ xs) ys h k (suc i) l = line_joined xs ys (λ j s. h (suc j) (
 
 digits_line : (ds : List ℕ) → list_all is_ascii_digit ds ≡ true → IsOneLine ds
 digits_line [] h i l = absurd (omega arith)
-digits_line (d ∷ ds) h zero l = λ e. let digit = (and_parts (is_ascii_digit d) (list_all is_ascii_digit ds) h).0 in absurd (grind (arith, nat_tests, digit, e))
-digits_line (d ∷ ds) h (suc i) l = digits_line ds (and_parts (is_ascii_digit d) (list_all is_ascii_digit ds) h).1 i (omega arith)
+digits_line (d ∷ ds) h zero l = λ e. let digit = (and_parts (is_ascii_digit d) (list_all is_ascii_digit ds) h).0 in
+    absurd (grind (arith, nat_tests, digit, e))
+digits_line (d ∷ ds) h (suc i) l =
+    digits_line ds (and_parts (is_ascii_digit d) (list_all is_ascii_digit ds) h).1 i (omega arith)
 
 own : IsNumeralModel (λ ds. list_all is_ascii_digit ds ≡ true) (digits_value 10)
 own = numerals_by_value (λ ds. list_all is_ascii_digit ds ≡ true) (search rules)

@@ -12,4 +12,4 @@ mod unreadable;
 
 pub use explainer::Explainer;
 pub use remarks::Remarks;
-pub use unreadable::{LineFault, line_fault};
+pub use unreadable::{LineError, line_fault};

@@ -10,7 +10,7 @@ use thiserror::Error;
 
 /// What is wrong with a line that is none of a schedule's.
 #[derive(Clone, Copy, Debug, Drop, PartialEq, Eq, Error)]
-pub enum LineFault {
+pub enum LineError {
     #[error("a byte order mark stands before it")]
     Mark,
     #[error("it ends in a carriage return: lines end in a line feed alone")]
@@ -36,14 +36,14 @@ pub enum LineFault {
 
 /// A word of a form: what it has to be, and what stands before it and behind it in a line of which all else is right.
 #[derive(Clone, Copy)]
-struct Part {
+struct LinePart {
     rule: &'static str,
     before: &'static str,
     behind: &'static str,
 }
 
 /// What is wrong with a line, for a schedule over `nodes` nodes. None if it is one of a schedule's, or is passed over.
-pub fn line_fault(alloc: Global, line: &str, nodes: u8) -> Result<Option<LineFault>, AllocError>
+pub fn line_fault(alloc: Global, line: &str, nodes: u8) -> Result<Option<LineError>, AllocError>
     ensures { IfOk result (λ o. MatchOption o (IsReadable nodes line.now)
         (λ _. IsNone (Says nodes line.now))) }
 {
@@ -59,20 +59,20 @@ pub fn line_fault(alloc: Global, line: &str, nodes: u8) -> Result<Option<LineFau
 }
 
 // What is wrong with a line that is unreadable.
-fn fault_of(alloc: Global, line: &str, nodes: u8) -> Result<LineFault, AllocError> {
+fn fault_of(alloc: Global, line: &str, nodes: u8) -> Result<LineError, AllocError> {
     if line.starts_with('\u{feff}') {
-        return Ok(LineFault::Mark);
+        return Ok(LineError::Mark);
     }
     if line.starts_with(' ') {
-        return Ok(LineFault::SpaceFirst);
+        return Ok(LineError::SpaceFirst);
     }
     if let Some(front) = line.strip_suffix('\r') {
         if is_readable(alloc, front, nodes)? {
-            return Ok(LineFault::CarriageReturn);
+            return Ok(LineError::CarriageReturn);
         }
     }
     match form_of(cut(line).0) {
-        None => Ok(LineFault::Word),
+        None => Ok(LineError::Word),
         Some(form) => fault_in(alloc, form, line, nodes),
     }
 }
@@ -83,11 +83,11 @@ fn fault_in(
     form: &'static str,
     line: &str,
     nodes: u8,
-) -> Result<LineFault, AllocError> {
+) -> Result<LineError, AllocError> {
     let mut rest = Some(line);
     for name in form.split(' ') {
         let Some(left) = rest else {
-            return Ok(LineFault::Form { form });
+            return Ok(LineError::Form { form });
         };
         let (text, more) = if name == "DATA" {
             (left, None)
@@ -96,16 +96,16 @@ fn fault_in(
         };
         if let Some(rule) = broken(alloc, name, text, nodes)? {
             return Ok(if text.is_empty() {
-                LineFault::Spaces
+                LineError::Spaces
             } else {
-                LineFault::Part { form, rule }
+                LineError::Part { form, rule }
             });
         }
         rest = more;
     }
     Ok(match rest {
-        Some("") => LineFault::Spaces,
-        _ => LineFault::Form { form },
+        Some("") => LineError::Spaces,
+        _ => LineError::Form { form },
     })
 }
 
@@ -125,7 +125,7 @@ fn broken(
     nodes: u8,
 ) -> Result<Option<&'static str>, AllocError> {
     let Some(
-        Part {
+        LinePart {
             rule,
             before,
             behind,
@@ -177,7 +177,7 @@ fn form_of(word: &str) -> Option<&'static str> {
 }
 
 // A word of a form by its name. None for the event's own word.
-fn part_of(name: &str) -> Option<Part> {
+fn part_of(name: &str) -> Option<LinePart> {
     let (rule, before, behind) = match name {
         "E" => ("E is not 1 to 32 ASCII letters or digits", "epoch ", ""),
         "X" => (
@@ -223,7 +223,7 @@ fn part_of(name: &str) -> Option<Part> {
         ),
         _ => return None,
     };
-    Some(Part {
+    Some(LinePart {
         rule,
         before,
         behind,

@@ -6,5 +6,6 @@ use Rattle.cf_explain.proofs.remarks.Remarks.add_line.Goals as goal
 
 pub invariant_of-self-2 : goal.invariant_of-self-2
 invariant_of-self-2 c =
-    let more = remark_added _ c.args.line.now c.self.invariant (none_found c.args.line.now c.contains.result c.contains.ensures.cases c.if-contains.false) in
+    let more = remark_added _ c.args.line.now c.self.invariant
+    (none_found c.args.line.now c.contains.result c.contains.ensures.cases c.if-contains.false) in
     subst AreRemarks (search rules) more
