@@ -6,7 +6,7 @@ ghost use Rattle.cf_simulate.specs.Simulation.{Prints};
 use crate::fault::CommandError;
 use cf_explain::line_fault;
 use cf_schedule::Config;
-use cf_simulate::{SimulateFault, simulate};
+use cf_simulate::{SimulateError, simulate};
 use std::alloc::Global;
 use std::io::{Read, Write};
 use std::str;
@@ -46,7 +46,7 @@ fn explain_input<W: Write>(
     let mut left = input;
     match simulate(alloc, &mut left, writer, config, true) {
         Ok(()) => Ok(()),
-        Err(SimulateFault::Unreadable { line }) => {
+        Err(SimulateError::Unreadable { line }) => {
             Err(fault_of(alloc, input, config.nodes, line))
         }
         Err(fault) => Err(CommandError::from(fault)),
@@ -56,7 +56,7 @@ fn explain_input<W: Write>(
 // The fault of an unreadable line of this number.
 fn fault_of(alloc: Global, input: &[u8], nodes: u8, line: usize) -> CommandError {
     let plain = CommandError::Simulation {
-        fault: SimulateFault::Unreadable { line },
+        fault: SimulateError::Unreadable { line },
     };
     let Ok(text) = str::from_utf8(input) else {
         return plain;

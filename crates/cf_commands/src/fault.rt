@@ -4,7 +4,7 @@ ghost use Rattle.cf_commands.specs.Status.{status_of, fault_of_text};
 
 use cf_explain::LineError;
 use cf_protocol::ReadFault;
-use cf_simulate::SimulateFault;
+use cf_simulate::SimulateError;
 use std::alloc::{AllocError, AllocFailed};
 use std::io;
 use std::net::SocketAddr;
@@ -35,7 +35,7 @@ pub enum CommandError {
     /// A schedule can't be used, or its run ended before its end.
     #[error("{fault}")]
     Simulation {
-        fault: SimulateFault,
+        fault: SimulateError,
     },
     /// The input isn't UTF-8.
     #[error("not UTF-8")]
@@ -134,13 +134,13 @@ impl<T: Drop> From<AllocFailed<T>> for CommandError {
     }
 }
 
-impl From<SimulateFault> for CommandError {
+impl From<SimulateError> for CommandError {
     ghost use Rattle.std.specs.Prelude.{◌≡◌};
     ghost use Rattle.cf_commands.specs.declared.fault.CommandError.TheVariants.{Simulation};
 
     ghost from_gives = { λ fault given. given ≡ Simulation fault };
 
-    fn from(fault: SimulateFault) -> CommandError {
+    fn from(fault: SimulateError) -> CommandError {
         CommandError::Simulation { fault }
     }
 }

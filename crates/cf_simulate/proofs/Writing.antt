@@ -1,5 +1,6 @@
 -- Bytes that are written one after another.
-use Rattle.std.proofs.Common.{◌≡◌, ℕ, ◌<◌, suc, Option, Some, None, Result, Ok, Err, List, [], ◌∷◌, ◌++◌, length, map, take, drop, get_or, refl, sym, ap, subst, ◌∙◌}
+use Rattle.std.proofs.Common.{◌≡◌, ℕ, ◌<◌, suc, Option, Some, None, Result, Ok, Err, List, [], ◌∷◌, ◌++◌, length, map}
+use Rattle.std.proofs.Common.{take, drop, get_or, refl, sym, ap, subst, ◌∙◌}
 use Rattle.std.specs.Prelude.{OnErr}
 use Rattle.std.proofs.Math.Seq.{drop-cons}
 use Rattle.std.proofs.lemmas.Grind.{flat_map-append}
@@ -64,11 +65,13 @@ no_part x bs = record { part = []; rest = bs; cut = refl; adds = none_added x }
 pub all_part : (a b c : Bytes) (bs : List ℕ) → Appends a b bs → Keeps b c → AddsPart a c bs
 all_part a b c bs h k = record { part = bs; rest = []; cut = sym (append-nil bs); adds = adds_kept a b c bs h k }
 
-pub further_part : (a b c : Bytes) (xs ys zs bs : List ℕ) → bs ≡ xs ++ (ys ++ zs) → Appends a b xs → AddsPart b c ys → AddsPart a c bs
+pub further_part : (a b c : Bytes) (xs ys zs bs : List ℕ) → bs ≡ xs ++ (ys ++ zs) → Appends a b xs → AddsPart b c ys
+    → AddsPart a c bs
 further_part a b c xs ys zs bs e h k = record {
   part = xs ++ k.part;
   rest = k.rest ++ zs;
-  cut = e ∙ ap (λ t. xs ++ (t ++ zs)) k.cut ∙ ap (λ t. xs ++ t) (append_assoc k.part k.rest zs) ∙ sym (append_assoc xs k.part (k.rest ++ zs));
+  cut = e ∙ ap (λ t. xs ++ (t ++ zs)) k.cut ∙ ap (λ t. xs ++ t) (append_assoc k.part k.rest zs)
+      ∙ sym (append_assoc xs k.part (k.rest ++ zs));
   adds = adds_more a b c xs k.part h k.adds;
 }
 
@@ -80,9 +83,11 @@ on_err P (Ok x) h = tt
 on_err P (Err e) h = h
 
 pub entries_cut : (es : List declared.Entry) (i : ℕ) (x : declared.Entry) → i < length es → x ≡ get_or es i x
-    → lines_of_entries es ≡ lines_of_entries (take i es) ++ ((line_of (shown_entry x) ++ 10 ∷ []) ++ lines_of_entries (drop (suc i) es))
+    → lines_of_entries es ≡ lines_of_entries (take i es)
+    ++ ((line_of (shown_entry x) ++ 10 ∷ []) ++ lines_of_entries (drop (suc i) es))
 entries_cut es i x low is =
-    ap lines_of_entries (sym (take-append-drop i es) ∙ ap (λ t. take i es ++ t) (drop-cons es i x low ∙ ap (λ y. y ∷ drop (suc i) es) (sym is)))
+    ap lines_of_entries (sym (take-append-drop i es)
+    ∙ ap (λ t. take i es ++ t) (drop-cons es i x low ∙ ap (λ y. y ∷ drop (suc i) es) (sym is)))
     ∙ ap printed (map-append shown_entry (take i es) (x ∷ drop (suc i) es))
     ∙ flat_map-append (λ e. line_of e ++ 10 ∷ []) (map shown_entry (take i es)) (map shown_entry (x ∷ drop (suc i) es))
 

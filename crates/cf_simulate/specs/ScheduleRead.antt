@@ -10,8 +10,8 @@ use Rattle.cf_machine.specs.Event.{Event, Epoch}
 use Rattle.cf_schedule.specs.Seen.{seen}
 use Rattle.cf_schedule.specs.ScheduleLine.{Says}
 use Rattle.cf_simulate.specs.ScheduleText.{events_of, epochs_of, Give, IsUnreadable, IsUnreadableAt, IsRepeatedAt}
-use Rattle.cf_simulate.specs.declared.fault.SimulateFault.{SimulateFault}
-use Rattle.cf_simulate.specs.declared.fault.SimulateFault.TheVariants.{Unreadable, UsedTwice, Memory}
+use Rattle.cf_simulate.specs.declared.fault.SimulateError.{SimulateError}
+use Rattle.cf_simulate.specs.declared.fault.SimulateError.TheVariants.{Unreadable, UsedTwice, Memory}
 use Rattle.cf_simulate.specs.declared.schedule.Line.{Line}
 use Rattle.cf_simulate.specs.declared.schedule.Schedule.{Schedule}
 
@@ -38,7 +38,7 @@ abbrev pub line_at : Schedule → ℕ → Option Line
 line_at s done = slice_get s.lines.items done
 
 -- why line n, behind these, was refused
-abbrev pub RefusesLine : ℕ → List ℕ → ℕ → List (Option Event) → SimulateFault → Type 0
+abbrev pub RefusesLine : ℕ → List ℕ → ℕ → List (Option Event) → SimulateError → Type 0
 RefusesLine nodes line n given (Unreadable m) = (m ≡ n) × IsUnreadable nodes line
 RefusesLine nodes line n given (UsedTwice m e) =
     (m ≡ n) × Says nodes line (Epoch e) × (is_among e (epochs_of given) ≡ true)
@@ -58,7 +58,7 @@ NotesEpoch old (Epoch e) new =
 NotesEpoch old event new = (q : List ℕ) → contains_text new q ≡ contains_text old q
 
 -- the epoch that the event brings came before
-abbrev pub RefusesEpoch : Epochs → Event → ℕ → SimulateFault → Type 0
+abbrev pub RefusesEpoch : Epochs → Event → ℕ → SimulateError → Type 0
 RefusesEpoch old event n (UsedTwice m e) = (m ≡ n) × (event ≡ Epoch e) × (contains_text old e ≡ true)
 RefusesEpoch old event n Memory = Unit {0}
 RefusesEpoch old event n f = ⊥
@@ -66,7 +66,7 @@ RefusesEpoch old event n f = ⊥
 -- ---- the whole text
 
 -- why a text was refused
-abbrev pub RefusesText : ℕ → List ℕ → SimulateFault → Type 0
+abbrev pub RefusesText : ℕ → List ℕ → SimulateError → Type 0
 RefusesText nodes text (Unreadable n) = IsUnreadableAt nodes text n
 RefusesText nodes text (UsedTwice n e) = IsRepeatedAt nodes text n e
 RefusesText nodes text Memory = Unit {0}

@@ -14,9 +14,9 @@ use Rattle.cf_world.specs.Tie.{Tied}
 use Rattle.cf_explain.specs.Remarks.{AreRemarks, BeginsWith, IsOneLine, heading}
 use Rattle.cf_simulate.specs.ScheduleText.{IsSchedule, IsUnreadableAt, IsRepeatedAt}
 use Rattle.cf_simulate.specs.declared.schedule.Line.{Line}
-use Rattle.cf_simulate.specs.declared.fault.SimulateFault.{SimulateFault}
-use Rattle.cf_simulate.specs.declared.fault.SimulateFault.TheVariants.{Unreadable, UsedTwice, NotUtf8, Memory}
-use Rattle.cf_simulate.specs.declared.fault.SimulateFault.TheVariants.{InputOutput}
+use Rattle.cf_simulate.specs.declared.fault.SimulateError.{SimulateError}
+use Rattle.cf_simulate.specs.declared.fault.SimulateError.TheVariants.{Unreadable, UsedTwice, NotUtf8, Memory}
+use Rattle.cf_simulate.specs.declared.fault.SimulateError.TheVariants.{InputOutput}
 
 -- ---- what is written of a run
 
@@ -106,14 +106,14 @@ pub record PrintsPart (explains : Bool) (cfg : Config) (events : List Event)
   pub shown : AreShown explains cfg (take done events) bytes
   pub adds : AddsPart old new bytes
 
-abbrev pub EndsRun : Bool → Config → List Event → Option (List ℕ) → Option (List ℕ) → SimulateFault
+abbrev pub EndsRun : Bool → Config → List Event → Option (List ℕ) → Option (List ℕ) → SimulateError
     → Type 0
 EndsRun explains cfg events old new Memory = PrintsWhole explains cfg events old new
 EndsRun explains cfg events old new InputOutput = PrintsPart explains cfg events old new
 EndsRun explains cfg events old new f = ⊥
 
 -- memory was refused, or a read failed
-abbrev pub IsOutside : SimulateFault → Type 0
+abbrev pub IsOutside : SimulateError → Type 0
 IsOutside f = (f ≡ Memory) ⊎ (f ≡ InputOutput)
 
 -- ---- the whole
@@ -127,14 +127,14 @@ pub record Prints (explains : Bool) (cfg : Config) (input : List ℕ) (old new :
 
 -- the input is a schedule, and its run ends so
 pub record Stops (explains : Bool) (cfg : Config) (input : List ℕ) (old new : Option (List ℕ))
-    (f : SimulateFault) : Type 0 where
+    (f : SimulateError) : Type 0 where
   pub text : IsUtf8 input
   pub events : List Event
   pub schedule : IsSchedule cfg.nodes input events
   pub ends : EndsRun explains cfg events old new f
 
 -- Why it ended before its end. If the input can't be used, or can't be read, nothing is written.
-abbrev pub Ends : Bool → Config → List ℕ → Option (List ℕ) → Option (List ℕ) → SimulateFault → Type 0
+abbrev pub Ends : Bool → Config → List ℕ → Option (List ℕ) → Option (List ℕ) → SimulateError → Type 0
 Ends explains cfg input old new NotUtf8 = (IsUtf8 input → ⊥) × Keeps old new
 Ends explains cfg input old new (Unreadable n) = IsUtf8 input × IsUnreadableAt cfg.nodes input n × Keeps old new
 Ends explains cfg input old new (UsedTwice n e) = IsUtf8 input × IsRepeatedAt cfg.nodes input n e × Keeps old new

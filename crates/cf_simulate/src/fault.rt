@@ -10,7 +10,7 @@ use thiserror::Error;
 
 /// Why a simulation ended before its end.
 #[derive(Debug, Drop, Error)]
-pub enum SimulateFault {
+pub enum SimulateError {
     /// The line is none of a schedule's.
     #[error("line {line}: unreadable")]
     Unreadable { line: usize },
@@ -27,61 +27,61 @@ pub enum SimulateFault {
     InputOutput,
 }
 
-impl SimulateFault {
+impl SimulateError {
     /// The program's exit status: 2 for its input, 3 for want of memory, 4 if input or output failed.
     pub fn status(&self) -> u8
         ensures { result ≡ status_of self.now }
     {
         match self {
-            SimulateFault::Memory => 3,
-            SimulateFault::InputOutput => 4,
+            SimulateError::Memory => 3,
+            SimulateError::InputOutput => 4,
             _ => 2,
         }
     }
 }
 
-impl From<AllocError> for SimulateFault {
+impl From<AllocError> for SimulateError {
     ghost use Rattle.std.specs.Prelude.{◌≡◌};
-    ghost use Rattle.cf_simulate.specs.declared.fault.SimulateFault.TheVariants.{Memory};
+    ghost use Rattle.cf_simulate.specs.declared.fault.SimulateError.TheVariants.{Memory};
 
     ghost from_gives = { λ _ fault. fault ≡ Memory };
 
-    fn from(_refused: AllocError) -> SimulateFault {
-        SimulateFault::Memory
+    fn from(_refused: AllocError) -> SimulateError {
+        SimulateError::Memory
     }
 }
 
-impl<T: Drop> From<AllocFailed<T>> for SimulateFault {
+impl<T: Drop> From<AllocFailed<T>> for SimulateError {
     ghost use Rattle.std.specs.Prelude.{◌≡◌};
-    ghost use Rattle.cf_simulate.specs.declared.fault.SimulateFault.TheVariants.{Memory};
+    ghost use Rattle.cf_simulate.specs.declared.fault.SimulateError.TheVariants.{Memory};
 
     ghost from_gives = { λ _ fault. fault ≡ Memory };
 
-    fn from(_refused: AllocFailed<T>) -> SimulateFault {
-        SimulateFault::Memory
+    fn from(_refused: AllocFailed<T>) -> SimulateError {
+        SimulateError::Memory
     }
 }
 
-impl From<Short> for SimulateFault {
+impl From<Short> for SimulateError {
     ghost use Rattle.std.specs.Prelude.{◌≡◌};
-    ghost use Rattle.cf_simulate.specs.declared.fault.SimulateFault.TheVariants.{Memory};
+    ghost use Rattle.cf_simulate.specs.declared.fault.SimulateError.TheVariants.{Memory};
 
     ghost from_gives = { λ _ fault. fault ≡ Memory };
 
-    fn from(_refused: Short) -> SimulateFault {
-        SimulateFault::Memory
+    fn from(_refused: Short) -> SimulateError {
+        SimulateError::Memory
     }
 }
 
-impl From<io::Error> for SimulateFault {
+impl From<io::Error> for SimulateError {
     ghost use Rattle.cf_simulate.specs.Simulation.{IsOutside};
 
     ghost from_gives = { λ _ fault. IsOutside fault };
 
-    fn from(error: io::Error) -> SimulateFault {
+    fn from(error: io::Error) -> SimulateError {
         match error.kind() {
-            io::ErrorKind::OutOfMemory => SimulateFault::Memory,
-            _ => SimulateFault::InputOutput,
+            io::ErrorKind::OutOfMemory => SimulateError::Memory,
+            _ => SimulateError::InputOutput,
         }
     }
 }

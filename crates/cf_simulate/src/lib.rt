@@ -5,6 +5,6 @@ mod fault;
 mod schedule;
 mod simulation;
 
-pub use fault::SimulateFault;
+pub use fault::SimulateError;
 pub use schedule::{Line, Schedule};
 pub use simulation::simulate;

@@ -6,7 +6,7 @@ ghost use Rattle.cf_simulate.specs.ScheduleText.{lines_of, IsSchedule};
 ghost use Rattle.cf_simulate.specs.ScheduleRead.{HasLines, IsReadTo, RefusesLine, RefusesText};
 ghost use Rattle.cf_simulate.specs.ScheduleRead.{NotesEpoch, RefusesEpoch, line_at};
 
-use crate::fault::SimulateFault;
+use crate::fault::SimulateError;
 use cf_schedule::{Event, EventFault};
 use std::alloc::{AllocError, Global};
 use std::collections::BTreeSet;
@@ -27,9 +27,9 @@ pub struct Schedule<'a> {
 }
 
 impl<'a> Schedule<'a> {
-    /// The events of a text's lines, for a schedule over `nodes` nodes. The first line that is unreadable, or that gives an
-    /// epoch again, is refused.
-    pub fn read(alloc: Global, text: &'a str, nodes: u8) -> Result<Schedule<'a>, SimulateFault>
+    /// The events of a text's lines, for a schedule over `nodes` nodes. The first line that is unreadable, or that
+    /// gives an epoch again, is refused.
+    pub fn read(alloc: Global, text: &'a str, nodes: u8) -> Result<Schedule<'a>, SimulateError>
         ensures ok { IfOk result (λ s. IsSchedule nodes text.now (map seen s.events.items)) }
         ensures lines { IfOk result (HasLines nodes (lines_of text.now)) }
         ensures err { IfErr result (RefusesText nodes text.now) }
@@ -61,7 +61,7 @@ impl<'a> Schedule<'a> {
         number: usize,
         line: &'a str,
         nodes: u8,
-    ) -> Result<(), SimulateFault>
+    ) -> Result<(), SimulateError>
         ensures ok { OnOk result ((before : List (List ℕ)) → IsReadTo nodes before self.old
             → IsReadTo nodes (before ++ line.now ∷ []) self.new) }
         ensures lines { OnOk result ((before : List (List ℕ)) → number ≡ length before + 1
@@ -74,8 +74,8 @@ impl<'a> Schedule<'a> {
         match Event::read(alloc, line, nodes) {
             Ok(None) => Ok(()),
             Ok(Some(event)) => self.add(alloc, number, line, event),
-            Err(EventFault::Unreadable) => Err(SimulateFault::Unreadable { line: number }),
-            Err(EventFault::Memory) => Err(SimulateFault::Memory),
+            Err(EventFault::Unreadable) => Err(SimulateError::Unreadable { line: number }),
+            Err(EventFault::Memory) => Err(SimulateError::Memory),
         }
     }
 
@@ -86,7 +86,7 @@ impl<'a> Schedule<'a> {
         number: usize,
         line: &'a str,
         event: Event,
-    ) -> Result<(), SimulateFault>
+    ) -> Result<(), SimulateError>
         ensures ok { OnOk result ((nodes : ℕ) (before : List (List ℕ))
             → Says nodes line.now (seen event) → IsReadTo nodes before self.old
             → IsReadTo nodes (before ++ line.now ∷ []) self.new) }
@@ -129,7 +129,7 @@ fn note_epoch(
     epochs: &mut BTreeSet<String>,
     event: &Event,
     line: usize,
-) -> Result<(), SimulateFault>
+) -> Result<(), SimulateError>
     ensures ok { OnOk result (NotesEpoch epochs.old (seen event.now) epochs.new) }
     ensures err { IfErr result (RefusesEpoch epochs.old (seen event.now) line) }
 {
@@ -137,7 +137,7 @@ fn note_epoch(
         return Ok(());
     };
     if epochs.contains(epoch.as_str()) {
-        return Err(SimulateFault::UsedTwice {
+        return Err(SimulateError::UsedTwice {
             line,
             epoch: *epoch,
         });

@@ -4,4 +4,6 @@ use Rattle.cf_simulate.proofs.Steps.{part_written}
 use Rattle.cf_simulate.proofs.simulation.write_run.Goals as goal
 
 pub returns-in-Err-clause-ends : goal.returns-in-Err-clause-ends
-returns-in-Err-clause-ends g c = part_written _ _ _ _ _ _ c.write_events-run.result c.write_events-run.ensures.done c.write_events-run.ensures.ends (search rules)
+returns-in-Err-clause-ends g c =
+    part_written _ _ _ _ _ _ c.write_events-run.result c.write_events-run.ensures.done c.write_events-run.ensures.ends
+    (search rules)

@@ -6,7 +6,8 @@ use Rattle.cf_simulate.proofs.schedule.Schedule.add.Goals as goal
 pub returns-clause-ok : goal.returns-clause-ok
 returns-clause-ok c =
     on_ok_weaker c.note_epoch-noted.result
-    (λ notes nodes before says read. one_more nodes before c.args.line.now c.args.self.now _ c.args.event says notes c.in_ok-push.ensures.items read)
+    (λ notes nodes before says read. one_more nodes before c.args.line.now c.args.self.now _ c.args.event says notes
+    c.in_ok-push.ensures.items read)
     c.note_epoch-noted.ensures.ok
 
 pub returns-clause-lines : goal.returns-clause-lines

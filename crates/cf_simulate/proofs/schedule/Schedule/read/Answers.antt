@@ -16,8 +16,10 @@ loop-before-preserved c =
     let i = c.loop-before.before in
     let more = sym (lines_more lines i (get_or lines i nothing) (omega arith) (search rules)) in
     let number = ap (λ n. n + 1) (sym (count_before lines i (omega arith))) in (
-      subst (λ ls. IsReadTo c.args.nodes ls c.read_line.new.self) more (c.in_ok-read_line.ensures.ok _ c.loop-before.invariant.0),
-      subst (λ ls. HasLines c.args.nodes ls c.read_line.new.self) more (c.in_ok-read_line.ensures.lines _ number c.loop-before.invariant.1),
+      subst (λ ls. IsReadTo c.args.nodes ls c.read_line.new.self) more
+          (c.in_ok-read_line.ensures.ok _ c.loop-before.invariant.0),
+      subst (λ ls. HasLines c.args.nodes ls c.read_line.new.self) more
+          (c.in_ok-read_line.ensures.lines _ number c.loop-before.invariant.1),
     )
 
 pub returns-in_err-read_line-clause-err : goal.returns-in_err-read_line-clause-err
@@ -26,5 +28,9 @@ returns-in_err-read_line-clause-err c =
     let lines = c.deref-line-items.result.now in
     let i = c.loop-before.before in
     let p = err_from_is_err_and c.from_residual-in_err-read_line.result c.from_residual-in_err-read_line.ensures.1 in
-    let cut = sym c.in_ok-lines.ensures ∙ ap texts (sym c.deref-line-items.ensures.value) ∙ lines_cut lines i (get_or lines i nothing) (omega arith) (search rules) in
-    rw (p.1, p.2) (refused_text c.args.nodes c.args.text.now (texts (take i lines)) (get_or lines i nothing).now (texts (drop (suc i) lines)) (i + 1) c.loop-before.schedule _ cut (ap (λ n. n + 1) (sym (count_before lines i (omega arith)))) c.loop-before.invariant.0 (c.in_err-read_line.ensures.err _ c.loop-before.invariant.0))
+    let cut = sym c.in_ok-lines.ensures ∙ ap texts (sym c.deref-line-items.ensures.value)
+    ∙ lines_cut lines i (get_or lines i nothing) (omega arith) (search rules) in
+    rw (p.1, p.2) (refused_text c.args.nodes c.args.text.now (texts (take i lines)) (get_or lines i nothing).now
+    (texts (drop (suc i) lines)) (i + 1) c.loop-before.schedule _ cut
+    (ap (λ n. n + 1) (sym (count_before lines i (omega arith)))) c.loop-before.invariant.0
+    (c.in_err-read_line.ensures.err _ c.loop-before.invariant.0))
