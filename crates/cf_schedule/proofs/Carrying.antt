@@ -1,5 +1,6 @@
 -- An event by the method of its kind.
-use Rattle.std.proofs.Common.{◌≡◌, ◌≢◌, ℕ, Result, Ok, Err, Bool, true, false, if◌then◌else◌, List, [], map, refl, sym, ap, subst, ◌∙◌}
+use Rattle.std.proofs.Common.{◌≡◌, ◌≢◌, ℕ, Result, Ok, Err, Bool, true, false, if◌then◌else◌, List, [], map, refl, sym}
+use Rattle.std.proofs.Common.{ap, subst, ◌∙◌}
 use Rattle.std.specs.Result.{OnOk}
 use Rattle.cf_machine.specs.Config.{Config}
 use Rattle.cf_machine.specs.Event.{Event}
@@ -13,17 +14,19 @@ use Rattle.cf_schedule.specs.declared.event.Event.TheVariants as variant
 use Rattle.cf_world.specs.Entries.{shown_entry}
 use Rattle.cf_world.specs.Tie.{GoesOn}
 use Rattle.cf_world.specs.declared.entry.Entry.{Entry as CodeEntry}
-use Rattle.cf_world.specs.declared.world.World.{World as Parts}
+use Rattle.cf_world.specs.declared.world.WorldParts.{WorldParts}
 
-pub goes-so : {e f : Event} (old new : Parts) → f ≡ e → GoesOn e old new → GoesOn f old new
+pub goes-so : {e f : Event} (old new : WorldParts) → f ≡ e → GoesOn e old new → GoesOn f old new
 goes-so {e} {f} old new same h = subst (λ (x : Event). GoesOn x old new) (sym same) h
 
 -- the same of a call that answers something
-pub goes-ok : {e f : Event} {A E : Type 0} (old new : Parts) (r : Result A E) → f ≡ e → OnOk r (GoesOn e old new) → OnOk r (GoesOn f old new)
+pub goes-ok : {e f : Event} {A E : Type 0} (old new : WorldParts) (r : Result A E) → f ≡ e → OnOk r (GoesOn e old new)
+    → OnOk r (GoesOn f old new)
 goes-ok old new r same h = subst (λ (x : Event). OnOk r (GoesOn x old new)) (sym same) h
 
 -- the same where the event was carried out, if it is such a one
-pub goes-where : {e f : Event} {E : Type 0} (D : Type 0) (old new : Parts) (r : Result Unit E) → f ≡ e → OnOk r (GoesOn e old new) → OnOk r (D → GoesOn f old new)
+pub goes-where : {e f : Event} {E : Type 0} (D : Type 0) (old new : WorldParts) (r : Result Unit E) → f ≡ e
+    → OnOk r (GoesOn e old new) → OnOk r (D → GoesOn f old new)
 goes-where D old new (Ok u) same h = λ d. goes-so old new same h
 goes-where D old new (Err f) same h = tt
 
@@ -53,5 +56,7 @@ either-way : (b : Bool) (es : List Entry) → es ≡ [] → [] ≡ (if b then es
 either-way true es h = sym h
 either-way false es h = refl
 
-pub quiet : (e : declared.Event) {es : List CodeEntry} → ((x : List ℕ) → e ≢ variant.Take x) → es ≡ [] → (cfg : Config) (n : ℕ) (m : World) → map shown_entry es ≡ writes cfg n m (seen e)
-quiet e {es} other none cfg n m = ap (map shown_entry) none ∙ either-way (allows cfg m (seen e)) (tells n m (seen e)) (tells-none n m e other)
+pub quiet : (e : declared.Event) {es : List CodeEntry} → ((x : List ℕ) → e ≢ variant.Take x) → es ≡ []
+    → (cfg : Config) (n : ℕ) (m : World) → map shown_entry es ≡ writes cfg n m (seen e)
+quiet e {es} other none cfg n m =
+    ap (map shown_entry) none ∙ either-way (allows cfg m (seen e)) (tells n m (seen e)) (tells-none n m e other)

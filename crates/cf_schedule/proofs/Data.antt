@@ -1,9 +1,11 @@
 -- A datum of a line.
-use Rattle.std.proofs.Common.{◌≡◌, ◌≢◌, ◌⊎◌, inl, inr, ℕ, ◌≤◌, true, false, List, [], ◌∷◌, ◌++◌, drop, refl, sym, ap, ◌∙◌, subst, arith}
+use Rattle.std.proofs.Common.{◌≡◌, ◌≢◌, ◌⊎◌, inl, inr, ℕ, ◌≤◌, true, false, List, [], ◌∷◌, ◌++◌, drop, refl, sym, ap}
+use Rattle.std.proofs.Common.{◌∙◌, subst, arith}
 use Rattle.std.specs.List.{AllByRecursion}
 use Rattle.std.proofs.lemmas.Bool.{false≢true}
 use Rattle.cf_json.specs.Bytes.{is_space, is_digit, is_exponent_mark}
-use Rattle.cf_json.specs.Grammar.{Tree, null, boolean, number, text, array, object, IsNumber, Space, Value, Ends, Stops, depth}
+use Rattle.cf_json.specs.Grammar.{Tree, null, boolean, number, text, array, object, IsNumber, Space, Value, Ends, Stops}
+use Rattle.cf_json.specs.Grammar.{depth}
 use Rattle.cf_json.specs.Spans.{Span, IsAt, Document, max_depth}
 use Rattle.cf_json.specs.Compact.{compact_text}
 use Rattle.cf_schedule.specs.ScheduleLine.{IsData}
@@ -26,7 +28,14 @@ stops_ends (object ps) r e = tt
 
 -- the value of a text stands where it stands in it
 pub document_is_at : (s : List ℕ) (t : Tree) (at : Span) → Document s t at → depth t ≤ max_depth → IsAt s t at
-document_is_at s t at d deep = record { begins = d.begins; ends = d.ends; value = d.value; stops = stops_ends t _ (ends_space _ d.after); shallow = deep }
+document_is_at s t at d deep =
+    record {
+      begins = d.begins;
+      ends = d.ends;
+      value = d.value;
+      stops = stops_ends t _ (ends_space _ d.after);
+      shallow = deep;
+    }
 
 -- ---- a text holds one value
 
@@ -54,8 +63,20 @@ number_begins n r h =
     elim h.5 [
       | inr e ↦ (45, rest ++ r, ap (λ t. t ++ r) (h.4 ∙ ap (λ t. t ++ rest) e), digit_begins 45 (inl refl))
       | inl e ↦ elim h.6 [
-        | inl w ↦ (48, (h.2 ++ h.3) ++ r, ap (λ t. t ++ r) (h.4 ∙ ap (λ t. t ++ rest) e ∙ ap (λ t. t ++ (h.2 ++ h.3)) w), digit_begins 48 (inr zero_digit))
-        | inr w ↦ (w.0, (w.1 ++ (h.2 ++ h.3)) ++ r, ap (λ t. t ++ r) (h.4 ∙ ap (λ t. t ++ rest) e ∙ ap (λ t. t ++ (h.2 ++ h.3)) w.2), digit_begins w.0 (inr w.4.0))
+        | inl w ↦ (
+          48,
+          (h.2 ++ h.3) ++ r,
+          ap (λ t. t ++ r)
+              (h.4 ∙ ap (λ t. t ++ rest) e ∙ ap (λ t. t ++ (h.2 ++ h.3)) w),
+          digit_begins 48 (inr zero_digit),
+        )
+        | inr w ↦ (
+          w.0,
+          (w.1 ++ (h.2 ++ h.3)) ++ r,
+          ap (λ t. t ++ r)
+              (h.4 ∙ ap (λ t. t ++ rest) e ∙ ap (λ t. t ++ (h.2 ++ h.3)) w.2),
+          digit_begins w.0 (inr w.4.0),
+        )
       ]
     ]
 
@@ -69,17 +90,23 @@ value_begins (array ps) s r h = (91, h.0, h.2, unspaced 91 (omega arith, omega a
 value_begins (object ps) s r h = (123, h.0, h.2, unspaced 123 (omega arith, omega arith, omega arith, omega arith))
 
 -- behind white space
-one_start : (w v r q : List ℕ) → AllByRecursion (λ x. is_space x ≡ true) w → AllByRecursion (λ x. is_space x ≡ true) v → Begins r → Begins q → w ++ r ≡ v ++ q → r ≡ q
+one_start : (w v r q : List ℕ) → AllByRecursion (λ x. is_space x ≡ true) w → AllByRecursion (λ x. is_space x ≡ true) v
+    → Begins r → Begins q → w ++ r ≡ v ++ q → r ≡ q
 one_start [] [] r q a b m n e = e
-one_start [] (y ∷ v) r q a b m n e = let same : y ≡ m.0 = let f = sym e ∙ m.2 in cc in absurd (false≢true (sym m.3 ∙ ap is_space (sym same) ∙ b.0))
-one_start (x ∷ w) [] r q a b m n e = let same : x ≡ n.0 = let f = e ∙ n.2 in cc in absurd (false≢true (sym n.3 ∙ ap is_space (sym same) ∙ a.0))
+one_start [] (y ∷ v) r q a b m n e = let same : y ≡ m.0 = let f = sym e ∙ m.2 in cc in
+    absurd (false≢true (sym m.3 ∙ ap is_space (sym same) ∙ b.0))
+one_start (x ∷ w) [] r q a b m n e = let same : x ≡ n.0 = let f = e ∙ n.2 in cc in
+    absurd (false≢true (sym n.3 ∙ ap is_space (sym same) ∙ a.0))
 one_start (x ∷ w) (y ∷ v) r q a b m n e = let rest : w ++ r ≡ v ++ q = cc in one_start w v r q a.1 b.1 m n rest
 
 one_tree : OneValue → (s : List ℕ) (t u : Tree) (a b : Span) → Document s t a → Document s u b → t ≡ u
 one_tree one s t u a b d e =
-    let start = one_start d.before.0 e.before.0 (drop a.from s) (drop b.from s) d.before.1 e.before.1 (value_begins t _ _ d.value) (value_begins u _ _ e.value) (sym d.before.2 ∙ e.before.2) in
-    let there : Value u (drop a.from s) (drop b.to s) = subst (λ (r : List ℕ). Value u r (drop b.to s)) (sym start) e.value in
-    (one t u (drop a.from s) (drop a.to s) (drop b.to s) d.value (stops_ends t _ (ends_space _ d.after)) there (stops_ends u _ (ends_space _ e.after))).0
+    let start = one_start d.before.0 e.before.0 (drop a.from s) (drop b.from s) d.before.1 e.before.1
+    (value_begins t _ _ d.value) (value_begins u _ _ e.value) (sym d.before.2 ∙ e.before.2) in
+    let there : Value u (drop a.from s) (drop b.to s) =
+    subst (λ (r : List ℕ). Value u r (drop b.to s)) (sym start) e.value in
+    (one t u (drop a.from s) (drop a.to s) (drop b.to s) d.value (stops_ends t _ (ends_space _ d.after)) there
+    (stops_ends u _ (ends_space _ e.after))).0
 
 pub one_data : OneValue → (s a b : List ℕ) → IsData s a → IsData s b → a ≡ b
 one_data one s a b h k = h.4 ∙ ap compact_text (one_tree one s h.0 k.0 h.1 k.1 h.2 k.2) ∙ sym k.4

@@ -23,7 +23,8 @@ pub record Stands (cfg : Config) (es : List Event) (done : ℕ) (w : Running) (t
   pub counted : w.count ≡ done
   pub told : shown_trace t ≡ trace cfg 1 start (take done es)
 
-pub seen-more : (es : List CodeEvent) (i : ℕ) (e : CodeEvent) → take (i + 1) es ≡ take i es ++ e ∷ [] → take (i + 1) (map seen es) ≡ take i (map seen es) ++ seen e ∷ []
+pub seen-more : (es : List CodeEvent) (i : ℕ) (e : CodeEvent) → take (i + 1) es ≡ take i es ++ e ∷ []
+    → take (i + 1) (map seen es) ≡ take i (map seen es) ++ seen e ∷ []
 seen-more es i e h =
     take-map seen (i + 1) es ∙ ap (map seen) h ∙ map-append seen (take i es) (e ∷ [])
     ∙ ap (λ l. l ++ seen e ∷ []) (sym (take-map seen i es))
@@ -46,15 +47,18 @@ all-seen es i h =
 abbrev pub SafeLaw : Type 0
 SafeLaw = (cfg : Config) (es : List Event) → Safe cfg (lines es) (trace cfg 1 start es)
 
-pub safe-so : SafeLaw → (cfg : Config) (es : List Event) (t : Trace) → shown_trace t ≡ trace cfg 1 start es → Safe cfg (lines es) (shown_trace t)
+pub safe-so : SafeLaw → (cfg : Config) (es : List Event) (t : Trace) → shown_trace t ≡ trace cfg 1 start es
+    → Safe cfg (lines es) (shown_trace t)
 safe-so law cfg es t told = subst (λ (l : List Entry). Safe cfg (lines es) l) (sym told) (law cfg es)
 
 -- a run that stopped after so many events
-pub carries : SafeLaw → (cfg : Config) (es : List CodeEvent) (done : ℕ) (t : Trace) → done < length es → shown_trace t ≡ trace cfg 1 start (take done (map seen es)) → Carries cfg (map seen es) done t
+pub carries : SafeLaw → (cfg : Config) (es : List CodeEvent) (done : ℕ) (t : Trace) → done < length es
+    → shown_trace t ≡ trace cfg 1 start (take done (map seen es)) → Carries cfg (map seen es) done t
 carries law cfg es done t lt told =
     let many : length (map seen es) ≡ length es = length-map es seen in
     record { within = omega arith; whole = told; safe = safe-so law cfg (take done (map seen es)) t told }
 
 -- and one that stopped before the first
-pub carries-none : SafeLaw → (cfg : Config) (es : List CodeEvent) (t : Trace) → shown_trace t ≡ [] → Carries cfg (map seen es) 0 t
+pub carries-none : SafeLaw → (cfg : Config) (es : List CodeEvent) (t : Trace) → shown_trace t ≡ []
+    → Carries cfg (map seen es) 0 t
 carries-none law cfg es t none = record { within = omega arith; whole = none; safe = safe-so law cfg [] t none }

@@ -1,5 +1,6 @@
 -- Words separated by spaces.
-use Rattle.std.proofs.Common.{◌≡◌, ◌≢◌, ℕ, suc, ◌<◌, ◌≤◌, Bool, true, false, not, eqb, ◌&&◌, nat_le, List, [], ◌∷◌, ◌++◌, length, get_or, refl, sym, ap, ◌∙◌, arith, rules}
+use Rattle.std.proofs.Common.{◌≡◌, ◌≢◌, ℕ, suc, ◌<◌, ◌≤◌, Bool, true, false, not, eqb, ◌&&◌, nat_le, List, [], ◌∷◌}
+use Rattle.std.proofs.Common.{◌++◌, length, get_or, refl, sym, ap, ◌∙◌, arith, rules}
 use Rattle.std.specs.Str.Parse.{digits_value}
 use Rattle.std.specs.Char.{is_ascii_digit, is_ascii_graphic}
 use Rattle.std.specs.List.{list_all}
@@ -51,19 +52,23 @@ unspaced_word = unspaced_all (λ b. not (eqb b 32)) refl
 
 pub unspaced_client : (x : List ℕ) → IsClientName x → IsUnspaced x
 unspaced_client x h =
-    unspaced_all is_name_byte refl x (and_parts (nat_le 1 (length x) && nat_le (length x) 32) (list_all is_name_byte x) h).1
+    unspaced_all is_name_byte refl x (and_parts (nat_le 1 (length x) && nat_le (length x) 32) (list_all is_name_byte x)
+    h).1
 
 pub unspaced_channel : (c : List ℕ) → IsChannelName c → IsUnspaced c
 unspaced_channel c h =
-    unspaced_all is_ascii_graphic refl c (and_parts (nat_le 1 (length c) && nat_le (length c) 255) (list_all is_ascii_graphic c) h).1
+    unspaced_all is_ascii_graphic refl c (and_parts (nat_le 1 (length c) && nat_le (length c) 255)
+    (list_all is_ascii_graphic c) h).1
 
 pub unspaced_key : (k : List ℕ) → IsKey k → IsUnspaced k
 unspaced_key k h =
-    unspaced_all is_ascii_graphic refl k (and_parts (nat_le 1 (length k) && nat_le (length k) 64) (list_all is_ascii_graphic k) h).1
+    unspaced_all is_ascii_graphic refl k (and_parts (nat_le 1 (length k) && nat_le (length k) 64)
+    (list_all is_ascii_graphic k) h).1
 
 -- no equals sign stands in a namespace's name
 pub namespace_lacks : (name : List ℕ) → IsNamespaceName name → Lacks 61 name
-namespace_lacks name h = lacks_all 61 is_name_byte refl name (and_parts (nat_le (length name) 32) (list_all is_name_byte name) h).1
+namespace_lacks name h =
+    lacks_all 61 is_name_byte refl name (and_parts (nat_le (length name) 32) (list_all is_name_byte name) h).1
 
 -- ---- numbers
 

@@ -1,12 +1,13 @@
 //! One line of a schedule, as a value.
 
-ghost use Rattle.std.specs.Prelude.{◌≡◌, ◌≢◌, ℕ, ℤ, pos, neg_ℤ, ◌^◌, ◌<◌, List, ◌∷◌, ◌++◌, codes, IfOk, IfErr, MatchOption, ◌≤◌};
+ghost use Rattle.std.specs.Prelude.{◌≡◌, ◌≢◌, ℕ, ℤ, pos, neg_ℤ, ◌^◌, ◌<◌, ◌≤◌, List, ◌∷◌, ◌++◌, codes};
+ghost use Rattle.std.specs.Prelude.{IfErr, IfOk, MatchOption};
 ghost use Rattle.std.specs.Fmt.{decimal};
 ghost use Rattle.cf_schedule.specs.ScheduleLine.{Says, IsPassedOver, IsLimit, last_number};
 ghost use Rattle.cf_machine.specs.Event.{Event as SaidEvent};
 ghost use Rattle.cf_schedule.specs.Seen.{key_of, seen};
-ghost use Rattle.cf_schedule.specs.LineRead.{IsUnspaced, CutsAtSpace, IsInChannel, IsKeyBefore, IsPublication, publish_word, put_word};
-ghost use Rattle.cf_schedule.specs.LineRead.{Refused, IsNone, Answers, ReadAs};
+ghost use Rattle.cf_schedule.specs.LineRead.{Answers, CutsAtSpace, IsInChannel, IsKeyBefore, IsNone, IsPublication};
+ghost use Rattle.cf_schedule.specs.LineRead.{IsUnspaced, ReadAs, Refused, publish_word, put_word};
 
 use crate::body::Body;
 use crate::name::{ChannelName, ClientName, Key, NamespaceName};
@@ -22,8 +23,8 @@ const MOST_LEFT: u64 = 10_000;
 /// The least number above all limits of a history.
 const END_OF_LIMITS: u64 = 2_147_483_648;
 
-/// What a line of a schedule says. A client, a channel, an epoch, a key, a datum, a namespace and a history size are such as a
-/// line can name.
+/// What a line of a schedule says. A client, a channel, an epoch, a key, a datum, a namespace and a history size are
+/// such as a line can name.
 #[derive(Drop)]
 pub enum Event {
     /// An epoch waits, behind the others, for the next stream that opens.
@@ -142,8 +143,8 @@ impl From<AllocError> for EventFault {
 }
 
 impl Event {
-    /// The event of a line, for a schedule over `nodes` nodes. None for a line that is passed over: an empty one, and one
-    /// that begins with `#`. A line that is neither is Unreadable.
+    /// The event of a line, for a schedule over `nodes` nodes. None for a line that is passed over: an empty one, and
+    /// one that begins with `#`. A line that is neither is Unreadable.
     pub fn read(alloc: Global, line: &str, nodes: u8) -> Result<Option<Event>, EventFault>
         // What is read is what the line says, and nothing only of a line that is passed over.
         ensures found { IfOk result

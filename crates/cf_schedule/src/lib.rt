@@ -1,5 +1,5 @@
-//! Schedules of events, run on one thread: the world, and the trace of a run. The laws of the machine that `run` is proved by, and what
-//! a trace has, go by this crate's name too.
+//! Schedules of events, run on one thread: the world, and the trace of a run. The laws of the machine that `run` is
+//! proved by, and what a trace has, go by this crate's name too.
 #![tactic(auto)]
 
 mod body;

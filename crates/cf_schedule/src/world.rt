@@ -10,15 +10,15 @@ use crate::name::key_text;
 use cf_client::Client;
 use cf_hub::Hub;
 use cf_stream::Streams;
-use cf_world::{Entry, Seat, Short, World as Parts};
+use cf_world::{Entry, SessionAddress, Short, WorldParts};
 use std::alloc::Global;
 use std::marker::Model;
 
-/// The broker, the nodes and all clients, and how many events were carried out. Once a part of it found no memory it carries
-/// out nothing more.
+/// The broker, the nodes and all clients, and how many events were carried out. Once a part of it found no memory it
+/// carries out nothing more.
 #[derive(Drop)]
 pub struct World<'a> {
-    parts: Parts<'a>,
+    parts: WorldParts<'a>,
     count: usize,
     is_short: bool,
     alloc: Global,
@@ -44,7 +44,7 @@ impl<'a> World<'a> {
         ensures count { IfOk result (λ w. w.count ≡ 0) }
         ensures ready { IfOk result (λ w. w.is_short ≡ false) }
     {
-        let parts = Parts::new(alloc, config.nodes, &config.namespaces)?;
+        let parts = WorldParts::new(alloc, config.nodes, &config.namespaces)?;
         Ok(World {
             parts,
             count: 0,
@@ -53,8 +53,8 @@ impl<'a> World<'a> {
         })
     }
 
-    /// Carries out the next event, and gives what applications got by it, under the event's number from 1. After it answered
-    /// `Short` it does so ever after.
+    /// Carries out the next event, and gives what applications got by it, under the event's number from 1. After it
+    /// answered `Short` it does so ever after.
     pub fn step(&mut self, event: &Event) -> Result<Vec<Entry>, Short>
         ensures ok { OnOk result (GoesOn (seen event.now) self.old.parts self.new.parts) }
         ensures writes { IfOk result (λ es.
@@ -104,7 +104,7 @@ impl<'a> World<'a> {
     }
 
     /// Where the session of a client is, if it is connected.
-    pub fn seat(&self, name: &str) -> Option<Seat>
+    pub fn seat(&self, name: &str) -> Option<SessionAddress>
         ensures { result ≡ seat_at self.now.parts name.now }
     {
         self.parts.seat(name)
@@ -113,7 +113,7 @@ impl<'a> World<'a> {
 
 // An event, by the method of its kind. Only a take gives an application something.
 fn carry_out(
-    parts: &mut Parts<'_>,
+    parts: &mut WorldParts<'_>,
     alloc: Global,
     at: usize,
     event: &Event,
@@ -131,7 +131,7 @@ fn carry_out(
 }
 
 // An event that gives no application anything. A take changes nothing here.
-fn carry_on(parts: &mut Parts<'_>, event: &Event) -> Result<(), Short>
+fn carry_on(parts: &mut WorldParts<'_>, event: &Event) -> Result<(), Short>
     ensures { OnOk result (((client : List ℕ) → event.now ≢ Event.Take client)
         → GoesOn (seen event.now) parts.old parts.new) }
 {

@@ -1,5 +1,7 @@
 -- The streams and epochs beside the machine's, after a call.
-use Rattle.std.proofs.Common.{◌≡◌, ◌≢◌, ℕ, Bool, true, false, is_some, not, cond, nat_lt, Option, Some, None, option_map, List, [], ◌∷◌, length, slice_get, drop, arith, inl, inr, refl, sym, ap, subst, ◌∙◌}
+use Rattle.std.proofs.Common.{◌≡◌, ◌≢◌, ℕ, Bool, true, false, is_some, not, cond, nat_lt, Option, Some, None}
+use Rattle.std.proofs.Common.{option_map, List, [], ◌∷◌, length, slice_get, drop, arith, inl, inr, refl, sym, ap, subst}
+use Rattle.std.proofs.Common.{◌∙◌}
 use Rattle.std.specs.List.{All, AllZip}
 use Rattle.std.specs.Str.{bytes_eq}
 use Rattle.std.specs.BTreeSet.{contains_text}
@@ -20,23 +22,30 @@ use Rattle.cf_stream.specs.FreshEpochs.{Draws}
 use Rattle.cf_world.specs.BrokerTie.{AreSized, IsAccepted, IsStanding, ShowsBroker}
 use Rattle.cf_machine.specs.FreshEpochs.{AreFresh}
 use Rattle.cf_machine.specs.Lives.{life_at}
-use Rattle.cf_machine.specs.PublicationList.{Broker, open_at, opened, is_full, is_repeat, repeats, stands_or_opens, can_open}
-use Rattle.cf_world.specs.declared.broker.Broker.{Broker as Code}
+use Rattle.cf_machine.specs.PublicationList.{Broker, open_at, opened, is_full, is_repeat, repeats, stands_or_opens}
+use Rattle.cf_machine.specs.PublicationList.{can_open}
+use Rattle.cf_world.specs.declared.broker.WorldBroker.{WorldBroker as Code}
 use Rattle.cf_world.specs.declared.epochs.WaitingEpochs.{WaitingEpochs}
 use Rattle.cf_machine.proofs.Names.{text_tells, itself, with-all, with-same, with-other}
 
 -- the streams show lists that are the same at each channel
 pub shown-as : (k : StreamMap) (f g : List ℕ → Option Life) → AreShown k f → ((q : List ℕ) → f q ≡ g q) → AreShown k g
-shown-as k f g h same = record { at = λ q. subst (λ (l : Option Life). ShowsAt (size_at k.namespaces q) (stream_of k q) l) (same q) (h.at q) }
+shown-as k f g h same =
+    record {
+      at = λ q. subst (λ (l : Option Life). ShowsAt (size_at k.namespaces q) (stream_of k q) l) (same q) (h.at q);
+    }
 
 -- settings that stay as they are
-pub sized-still : (table old new : NamespaceTable) (was now : List ℕ → Option ℕ) → new ≡ old → now ≡ was → AreSized table old was → AreSized table new now
+pub sized-still : (table old new : NamespaceTable) (was now : List ℕ → Option ℕ) → new ≡ old → now ≡ was
+    → AreSized table old was → AreSized table new now
 sized-still table old new was now n s h =
-    subst (λ (t : NamespaceTable). AreSized table t now) (sym n) (subst (λ (f : List ℕ → Option ℕ). AreSized table old f) (sym s) h)
+    subst (λ (t : NamespaceTable). AreSized table t now) (sym n)
+    (subst (λ (f : List ℕ → Option ℕ). AreSized table old f) (sym s) h)
 
 -- a call changes one channel's list, and the machine does the same
 pub shown-changed : (old new : StreamMap) (c : List ℕ) (change : Option Life → Option Life) (f g : List ℕ → Option Life)
-    → ChangesAt old new c change → AreShown old f → change (f c) ≡ g c → ((q : List ℕ) → q ≢ c → f q ≡ g q) → AreShown new g
+    → ChangesAt old new c change → AreShown old f → change (f c) ≡ g c → ((q : List ℕ) → q ≢ c → f q ≡ g q)
+    → AreShown new g
 shown-changed old new c change f g h k here there =
     shown-as new (λ q. cond (bytes_eq c q) (change (f q)) (f q)) g (h.shows f k) (λ q.
     elim (text_tells c q) [
@@ -58,7 +67,8 @@ no_repeat key = by_value (is_no_key key)
 
 -- the front epoch was drawn
 abbrev pub takes_front : WaitingEpochs → Option (List ℕ) → WaitingEpochs → Type 0
-takes_front old epoch new = (epoch ≡ slice_get old.waiting.items 0) × (new.waiting.items ≡ drop 1 old.waiting.items) × (new.came ≡ old.came)
+takes_front old epoch new =
+    (epoch ≡ slice_get old.waiting.items 0) × (new.waiting.items ≡ drop 1 old.waiting.items) × (new.came ≡ old.came)
 
 -- the stream of c stands in m1, in epoch e, as the code has it after it was opened
 pub record Opened (b : Code) (m m1 : Broker) (k : Option Shown) (c e : List ℕ) (new : WaitingEpochs) : Type 0 where
@@ -80,15 +90,19 @@ pub record Opened (b : Code) (m m1 : Broker) (k : Option Shown) (c e : List ℕ)
   pub standing : (q : List ℕ) (s : StreamState) → m1.streams q ≡ Some s → IsStanding m1.lists q s
   pub accepted : AllZip (IsAccepted m1.lists) b.accepted.items m1.accepted
 
-module _ (table : NamespaceTable) (b : Code) (m : Broker) (h : ShowsBroker table b m) (c e : List ℕ) (new : WaitingEpochs) where
+module _ (table : NamespaceTable) (b : Code) (m : Broker) (h : ShowsBroker table b m) (c e : List ℕ)
+    (new : WaitingEpochs) where
   pub shows_here : (k : Option Shown) (o : Option StreamState) → stream_of b.streams c ≡ k → m.streams c ≡ o
       → ShowsAt (size_at b.streams.namespaces c) k (option_map (life_of (m.lists c) (m.keys c)) o)
   shows_here k o i j =
-      subst (λ (x : Option Shown). ShowsAt (size_at b.streams.namespaces c) x (option_map (life_of (m.lists c) (m.keys c)) o)) i
-      (subst (λ (y : Option StreamState). ShowsAt (size_at b.streams.namespaces c) (stream_of b.streams c) (option_map (life_of (m.lists c) (m.keys c)) y)) j (h.streams.at c))
+      subst (λ (x : Option Shown). ShowsAt (size_at b.streams.namespaces c) x
+      (option_map (life_of (m.lists c) (m.keys c)) o)) i
+      (subst (λ (y : Option StreamState). ShowsAt (size_at b.streams.namespaces c) (stream_of b.streams c)
+      (option_map (life_of (m.lists c) (m.keys c)) y)) j (h.streams.at c))
 
   -- it stood
-  stood : (sh : Shown) (s : StreamState) (es : List (List ℕ)) → m.streams c ≡ Some s → Shows sh (life_of (m.lists c) (m.keys c) s)
+  stood : (sh : Shown) (s : StreamState) (es : List (List ℕ)) → m.streams c ≡ Some s
+      → Shows sh (life_of (m.lists c) (m.keys c) s)
       → e ≡ sh.epoch → new ≡ b.epochs → Opened b m m (Some sh) c e new
   stood sh s es j shows i same = record {
     state = s;
@@ -129,16 +143,24 @@ module _ (table : NamespaceTable) (b : Code) (m : Broker) (h : ShowsBroker table
         stands = with-same m.streams c (Some (opens_in first));
         epoch = sym same;
         life = ap (λ (y : Option StreamState). life_or (option_map (life_of (m.lists c) (m.keys c)) y) e) j
-            ∙ (ap opened_life same ∙ (λ i. record { epoch = first; list = sym empty i; keys = sym unkeyed i; held = 0 }));
+            ∙ (ap opened_life same ∙ (λ i. record {
+              epoch = first;
+              list = sym empty i;
+              keys = sym unkeyed i;
+              held = 0;
+            }));
         top = λ size. refl;
         remembered = λ size. ap recent (sym unkeyed);
         full = ap is_full j;
-        repeat = λ key. ap (repeats m.keys c key) j ∙ (no_repeat key ∙ ap (λ (ks : List (List ℕ)). is_some (repeat_of key ks)) (sym unkeyed));
-        others = λ q ne. ap (option_map (life_of (m.lists q) (m.keys q))) (sym (with-other m.streams c (Some (opens_in first)) q ne));
+        repeat = λ key. ap (repeats m.keys c key) j ∙ (no_repeat key
+            ∙ ap (λ (ks : List (List ℕ)). is_some (repeat_of key ks)) (sym unkeyed));
+        others = λ q ne. ap (option_map (life_of (m.lists q) (m.keys q)))
+            (sym (with-other m.streams c (Some (opens_in first)) q ne));
         waiting = drawn.1 ∙ ap (drop 1) items;
         came = λ x. ap (λ s. contains_text s x) drawn.2 ∙ h.came x;
         epochs = All-tail IsEpoch first es all;
-        standing = with-all (λ q (y : Option StreamState). (s : StreamState) → y ≡ Some s → IsStanding m.lists q s) m.streams c (Some (opens_in first))
+        standing = with-all (λ q (y : Option StreamState). (s : StreamState) → y ≡ Some s → IsStanding m.lists q s)
+            m.streams c (Some (opens_in first))
             (λ s i. let is : opens_in first ≡ s = cc in
             subst (IsStanding m.lists c) is (record {
               top = ap length (sym empty);
@@ -149,9 +171,11 @@ module _ (table : NamespaceTable) (b : Code) (m : Broker) (h : ShowsBroker table
         accepted = h.accepted;
       }
 
-  opens_by : (k : Option Shown) (o : Option StreamState) (es : List (List ℕ)) → AreFresh m → stream_of b.streams c ≡ k → m.streams c ≡ o → m.waiting ≡ es
+  opens_by : (k : Option Shown) (o : Option StreamState) (es : List (List ℕ)) → AreFresh m → stream_of b.streams c ≡ k
+      → m.streams c ≡ o → m.waiting ≡ es
       → Draws takes_front k e b.epochs new → Opened b m (open_at c o es m) k c e new × (stands_or_opens o es ≡ true)
-  opens_by (Some sh) (Some s) es fresh i j w drawn = (stood sh s es j (shows_here (Some sh) (Some s) i j).0 drawn.0 drawn.1, refl)
+  opens_by (Some sh) (Some s) es fresh i j w drawn =
+      (stood sh s es j (shows_here (Some sh) (Some s) i j).0 drawn.0 drawn.1, refl)
   opens_by (Some sh) None es fresh i j w drawn = absurd (shows_here (Some sh) None i j)
   opens_by None (Some s) es fresh i j w drawn = absurd (shows_here None (Some s) i j)
   opens_by None None (first ∷ es) fresh i j w drawn = (opens first es fresh j w drawn.0, refl)

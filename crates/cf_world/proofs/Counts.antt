@@ -1,5 +1,7 @@
 -- What a node counts is what the machine counts of it: its sessions, and the subscriptions of each and of all.
-use Rattle.std.proofs.Common.{◌≡◌, ◌↔◌, ℕ, suc, ◌+◌, ◌<◌, ◌≤◌, ◌==◌, ◌||◌, not, nat_lt, Bool, true, false, if◌then◌else◌, is_some, Option, Some, None, List, [], ◌∷◌, length, arith, refl, sym, ap, ◌∙◌, subst}
+use Rattle.std.proofs.Common.{◌≡◌, ◌↔◌, ℕ, suc, ◌+◌, ◌<◌, ◌≤◌, ◌==◌, ◌||◌, not, nat_lt, Bool, true, false}
+use Rattle.std.proofs.Common.{if◌then◌else◌, is_some, Option, Some, None, List, [], ◌∷◌, length, arith, refl, sym, ap}
+use Rattle.std.proofs.Common.{◌∙◌, subst}
 use Rattle.std.specs.Prelude.{sum_by}
 use Rattle.std.specs.Str.{bytes_eq}
 use Rattle.std.specs.Cmp.Lexicographic.{bytes_decides}
@@ -23,9 +25,11 @@ use Rattle.cf_machine.specs.World.{any_unfinished, on_node, rows, rows_of, sessi
 use Rattle.cf_machine.proofs.Names.{itself}
 
 -- where the clients of node n sit
-pub record Seats (n : ℕ) (h : Node) (links : List ℕ → ClientLink) (clients : List (List ℕ)) (seat : List ℕ → Option ℕ) : Type 0 where
+pub record Seats (n : ℕ) (h : Node) (links : List ℕ → ClientLink) (clients : List (List ℕ))
+    (seat : List ℕ → Option ℕ) : Type 0 where
   pub on : (x : List ℕ) → is_some (seat x) ≡ on_node n (links x).node
-  pub there : (x : List ℕ) (k : ℕ) → seat x ≡ Some k → (a : Attached) × (attached_at h k ≡ Some a) × ((c : List ℕ) → is_off (a.state.subs c) ≡ is_off ((links x).session.subs c))
+  pub there : (x : List ℕ) (k : ℕ) → seat x ≡ Some k → (a : Attached) × (attached_at h k ≡ Some a)
+      × ((c : List ℕ) → is_off (a.state.subs c) ≡ is_off ((links x).session.subs c))
   pub apart : (x y : List ℕ) (k : ℕ) → seat x ≡ Some k → seat y ≡ Some k → x ≡ y
   pub onto : (k : ℕ) → is_some (attached_at h k) ≡ true → (x : List ℕ) × (seat x ≡ Some k)
   pub among : (x : List ℕ) (k : ℕ) → seat x ≡ Some k → is_among x clients ≡ true
@@ -46,34 +50,41 @@ module _ (seat : List ℕ → Option ℕ) where
   numbers [] = []
   numbers (x ∷ xs) = add (seat x) (numbers xs)
 
-  in_numbers : (xs : List (List ℕ)) (x : List ℕ) (k : ℕ) → is_among x xs ≡ true → seat x ≡ Some k → is_in k (numbers xs) ≡ true
+  in_numbers : (xs : List (List ℕ)) (x : List ℕ) (k : ℕ) → is_among x xs ≡ true → seat x ≡ Some k
+      → is_in k (numbers xs) ≡ true
   in_numbers [] x k h e = absurd (cc)
   in_numbers (y ∷ xs) x k h e = by_value (bytes_eq y x) ((bytes_decides y x).0) h (seat y) refl (in_numbers xs x k)
     where
-      by_value : (t : Bool) → (t ≡ true → y ≡ x) → (t || is_among x xs) ≡ true → (o : Option ℕ) → seat y ≡ o → (is_among x xs ≡ true → seat x ≡ Some k → is_in k (numbers xs) ≡ true) → is_in k (add o (numbers xs)) ≡ true
-      by_value true is g None f more = absurd (let no : ◌≡◌ {A = Option ℕ} None (Some k) = sym f ∙ ap seat (is refl) ∙ e in cc)
+      by_value : (t : Bool) → (t ≡ true → y ≡ x) → (t || is_among x xs) ≡ true → (o : Option ℕ) → seat y ≡ o
+          → (is_among x xs ≡ true → seat x ≡ Some k → is_in k (numbers xs) ≡ true) → is_in k (add o (numbers xs)) ≡ true
+      by_value true is g None f more =
+          absurd (let no : ◌≡◌ {A = Option ℕ} None (Some k) = sym f ∙ ap seat (is refl) ∙ e in cc)
       by_value true is g (Some j) f more =
           let same : j ≡ k = same_Some j k (sym f ∙ ap seat (is refl) ∙ e) in
           ap (λ (b : Bool). b || is_in k (numbers xs)) (ap (λ (i : ℕ). i == k) same ∙ eq-eqb k k refl)
       by_value false is g None f more = more g e
       by_value false is g (Some j) f more = ap (λ (b : Bool). (j == k) || b) (more g e) ∙ or-true (j == k)
 
-  of_numbers : (xs : List (List ℕ)) (k : ℕ) → is_in k (numbers xs) ≡ true → (x : List ℕ) × (is_among x xs ≡ true) × (seat x ≡ Some k)
+  of_numbers : (xs : List (List ℕ)) (k : ℕ) → is_in k (numbers xs) ≡ true → (x : List ℕ) × (is_among x xs ≡ true)
+      × (seat x ≡ Some k)
   of_numbers [] k h = absurd (cc)
   of_numbers (y ∷ xs) k h = by_value (seat y) refl h (of_numbers xs k)
     where
-      later : (x : List ℕ) × (is_among x xs ≡ true) × (seat x ≡ Some k) → (x : List ℕ) × (is_among x (y ∷ xs) ≡ true) × (seat x ≡ Some k)
+      later : (x : List ℕ) × (is_among x xs ≡ true) × (seat x ≡ Some k) → (x : List ℕ) × (is_among x (y ∷ xs) ≡ true)
+          × (seat x ≡ Some k)
       later r = (r.0, ap (λ (b : Bool). bytes_eq y r.0 || b) r.1 ∙ or-true (bytes_eq y r.0), r.2)
 
       pick : (j : ℕ) (t : Bool) → (j == k) ≡ t → seat y ≡ Some j → (t || is_in k (numbers xs)) ≡ true
-          → (is_in k (numbers xs) ≡ true → (x : List ℕ) × (is_among x xs ≡ true) × (seat x ≡ Some k)) → (x : List ℕ) × (is_among x (y ∷ xs) ≡ true) × (seat x ≡ Some k)
+          → (is_in k (numbers xs) ≡ true → (x : List ℕ) × (is_among x xs ≡ true) × (seat x ≡ Some k)) → (x : List ℕ)
+          × (is_among x (y ∷ xs) ≡ true) × (seat x ≡ Some k)
       pick j true e f g more =
           let same : j ≡ k = grind (arith, nat_tests, e) in
           (y, ap (λ (b : Bool). b || is_among y xs) (itself y), f ∙ ap Some same)
       pick j false e f g more = later (more g)
 
       by_value : (o : Option ℕ) → seat y ≡ o → is_in k (add o (numbers xs)) ≡ true
-          → (is_in k (numbers xs) ≡ true → (x : List ℕ) × (is_among x xs ≡ true) × (seat x ≡ Some k)) → (x : List ℕ) × (is_among x (y ∷ xs) ≡ true) × (seat x ≡ Some k)
+          → (is_in k (numbers xs) ≡ true → (x : List ℕ) × (is_among x xs ≡ true) × (seat x ≡ Some k)) → (x : List ℕ)
+          × (is_among x (y ∷ xs) ≡ true) × (seat x ≡ Some k)
       by_value None f g more = later (more g)
       by_value (Some j) f g more = pick j (j == k) refl f g more
 
@@ -94,7 +105,8 @@ module _ (seat : List ℕ → Option ℕ) where
         by_value None e more = more
         by_value (Some k) e more = (new k e (is_in k (numbers xs)) refl, more)
 
-module _ {n : ℕ} {h : Node} {links : List ℕ → ClientLink} {clients : List (List ℕ)} {seat : List ℕ → Option ℕ} (s : Seats n h links clients seat) where
+module _ {n : ℕ} {h : Node} {links : List ℕ → ClientLink} {clients : List (List ℕ)} {seat : List ℕ → Option ℕ}
+    (s : Seats n h links clients seat) where
   hub : IsHub h
   hub = record { rows = s.follows; agrees = s.agrees }
 
@@ -103,24 +115,29 @@ module _ {n : ℕ} {h : Node} {links : List ℕ → ClientLink} {clients : List 
     pub mine : (x : List ℕ) (k : ℕ) → seat x ≡ Some k → length (channels_of h.rows k) ≡ rows (links x)
     mine x k e =
         let a = s.there x k e in
-        session h k (links x).session.subs (links x).channels hub (λ c. ap (λ (o : Option Attached). is_off (sub_in o c)) a.1 ∙ a.2 c) (s.channels x) (s.listed x)
+        session h k (links x).session.subs (links x).channels hub
+        (λ c. ap (λ (o : Option Attached). is_off (sub_in o c)) a.1 ∙ a.2 c) (s.channels x) (s.listed x)
 
     sums : (xs : List (List ℕ)) → sum_by (λ k. length (channels_of h.rows k)) (numbers seat xs) ≡ rows_of n links xs
     sums [] = refl
     sums (x ∷ xs) = by_value (seat x) (on_node n (links x).node) refl (s.on x) (sums xs)
       where
-        by_value : (o : Option ℕ) (t : Bool) → seat x ≡ o → is_some (seat x) ≡ t → sum_by (λ k. length (channels_of h.rows k)) (numbers seat xs) ≡ rows_of n links xs
-            → sum_by (λ k. length (channels_of h.rows k)) (add seat o (numbers seat xs)) ≡ (if t then rows (links x) + rows_of n links xs else rows_of n links xs)
+        by_value : (o : Option ℕ) (t : Bool) → seat x ≡ o → is_some (seat x) ≡ t
+            → sum_by (λ k. length (channels_of h.rows k)) (numbers seat xs) ≡ rows_of n links xs
+            → sum_by (λ k. length (channels_of h.rows k)) (add seat o (numbers seat xs))
+            ≡ (if t then rows (links x) + rows_of n links xs else rows_of n links xs)
         by_value None true e f g = absurd (let no : false ≡ true = sym (ap is_some e) ∙ f in cc)
         by_value None false e f g = g
-        by_value (Some k) true e f g = sum_by-cons (λ k. length (channels_of h.rows k)) k (numbers seat xs) ∙ (λ i. mine x k e i + g i)
+        by_value (Some k) true e f g =
+            sum_by-cons (λ k. length (channels_of h.rows k)) k (numbers seat xs) ∙ (λ i. mine x k e i + g i)
         by_value (Some k) false e f g = absurd (let no : true ≡ false = sym (ap is_some e) ∙ f in cc)
 
   counted : (xs : List (List ℕ)) → length (numbers seat xs) ≡ sessions_of n links xs
   counted [] = refl
   counted (x ∷ xs) = by_value (seat x) (on_node n (links x).node) refl (s.on x) (counted xs)
     where
-      by_value : (o : Option ℕ) (t : Bool) → seat x ≡ o → is_some (seat x) ≡ t → length (numbers seat xs) ≡ sessions_of n links xs
+      by_value : (o : Option ℕ) (t : Bool) → seat x ≡ o → is_some (seat x) ≡ t
+          → length (numbers seat xs) ≡ sessions_of n links xs
           → length (add seat o (numbers seat xs)) ≡ (if t then suc (sessions_of n links xs) else sessions_of n links xs)
       by_value None true e f g = absurd (let no : false ≡ true = sym (ap is_some e) ∙ f in cc)
       by_value None false e f g = g
@@ -134,13 +151,16 @@ module _ {n : ℕ} {h : Node} {links : List ℕ → ClientLink} {clients : List 
       by_value true true e f = refl
       by_value false false e f = refl
       by_value true false e f =
-          absurd (let r = s.onto k e in let yes : false ≡ true = sym f ∙ in_numbers seat clients r.0 k (s.among r.0 k r.1) r.1 in cc)
+          absurd (let r = s.onto k e in let yes : false ≡ true = sym f
+          ∙ in_numbers seat clients r.0 k (s.among r.0 k r.1) r.1 in cc)
       by_value false true e f =
-          absurd (let r = of_numbers seat clients k f in let a = s.there r.0 k r.2 in let yes : false ≡ true = sym e ∙ ap is_some a.1 in cc)
+          absurd (let r = of_numbers seat clients k f in let a = s.there r.0 k r.2 in let yes : false ≡ true = sym e
+          ∙ ap is_some a.1 in cc)
 
   -- all rows
   pub all_rows : CountsSession → CountsAll → length h.rows ≡ rows_of n links clients
-  all_rows session all = all h (numbers seat clients) hub (numbers_once seat s.apart clients s.distinct) seen ∙ sums session clients
+  all_rows session all =
+      all h (numbers seat clients) hub (numbers_once seat s.apart clients s.distinct) seen ∙ sums session clients
     where
       seen : (c : List ℕ) (k : ℕ) → follows h.rows c k ≡ true → is_in k (numbers seat clients) ≡ true
       seen c k g = sym (here k) ∙ there (attached_at h k) (sym (s.agrees c k) ∙ g)
@@ -150,14 +170,17 @@ module _ {n : ℕ} {h : Node} {links : List ℕ → ClientLink} {clients : List 
           there (Some a) e = refl
 
   module _ (total : CountsSessions) where
-    both : ((k : ℕ) → k < most_sessions → is_some (attached_at h k) ≡ true) ↔ (most_sessions ≤ length (numbers seat clients))
+    both : ((k : ℕ) → k < most_sessions → is_some (attached_at h k) ≡ true) ↔
+        (most_sessions ≤ length (numbers seat clients))
     both = total h (numbers seat clients) s.bounded (numbers_once seat s.apart clients s.distinct) here
 
     -- the node has room for one more session, or not
-    pub room : nat_lt (sessions_of n links clients) most_sessions ≡ true → ((k : ℕ) → k < most_sessions → is_some (attached_at h k) ≡ true) → ⊥
+    pub room : nat_lt (sessions_of n links clients) most_sessions ≡ true
+        → ((k : ℕ) → k < most_sessions → is_some (attached_at h k) ≡ true) → ⊥
     room e f = let many = both.0 f in let as_many = counted clients in grind (arith, nat_tests, e, many, as_many)
 
-    pub full : nat_lt (sessions_of n links clients) most_sessions ≡ false → (k : ℕ) → k < most_sessions → is_some (attached_at h k) ≡ true
+    pub full : nat_lt (sessions_of n links clients) most_sessions ≡ false → (k : ℕ) → k < most_sessions
+        → is_some (attached_at h k) ≡ true
     full e = both.1 (let as_many = counted clients in grind (arith, nat_tests, e, as_many))
 
 -- ---- whether a command may be carried out
@@ -173,19 +196,25 @@ module _ (subs : List ℕ → Sub) where
   waits_off (Ready id was r b) h = absurd (cc)
   waits_off (On p mark) h = refl
 
-  one_waits : (cs : List (List ℕ)) (c : List ℕ) → is_among c cs ≡ true → any_unfinished subs cs ≡ false → is_unfinished (subs c) ≡ false
+  one_waits : (cs : List (List ℕ)) (c : List ℕ) → is_among c cs ≡ true → any_unfinished subs cs ≡ false
+      → is_unfinished (subs c) ≡ false
   one_waits [] c h g = absurd (cc)
-  one_waits (d ∷ cs) c h g = by_value (bytes_eq d c) (is_unfinished (subs d)) ((bytes_decides d c).0) refl h g (one_waits cs c)
+  one_waits (d ∷ cs) c h g =
+      by_value (bytes_eq d c) (is_unfinished (subs d)) ((bytes_decides d c).0) refl h g (one_waits cs c)
     where
-      by_value : (t u : Bool) → (t ≡ true → d ≡ c) → is_unfinished (subs d) ≡ u → (t || is_among c cs) ≡ true → (u || any_unfinished subs cs) ≡ false
-          → (is_among c cs ≡ true → any_unfinished subs cs ≡ false → is_unfinished (subs c) ≡ false) → is_unfinished (subs c) ≡ false
+      by_value : (t u : Bool) → (t ≡ true → d ≡ c) → is_unfinished (subs d) ≡ u → (t || is_among c cs) ≡ true
+          → (u || any_unfinished subs cs) ≡ false
+          → (is_among c cs ≡ true → any_unfinished subs cs ≡ false → is_unfinished (subs c) ≡ false)
+          → is_unfinished (subs c) ≡ false
       by_value t true is e f k more = absurd (cc)
       by_value true false is e f k more = subst (λ (x : List ℕ). is_unfinished (subs x) ≡ false) (is refl) e
       by_value false false is e f k more = more f k
 
-  pub ready : (cs : List (List ℕ)) → ((c : List ℕ) → is_off (subs c) ≡ false → is_among c cs ≡ true) → ((c : List ℕ) → is_unfinished (subs c) ≡ false) ↔ (any_unfinished subs cs ≡ false)
+  pub ready : (cs : List (List ℕ)) → ((c : List ℕ) → is_off (subs c) ≡ false → is_among c cs ≡ true)
+      → ((c : List ℕ) → is_unfinished (subs c) ≡ false) ↔ (any_unfinished subs cs ≡ false)
   ready cs listed = (none_waits cs, λ g c. by_value c (is_off (subs c)) refl g)
     where
-      by_value : (c : List ℕ) (t : Bool) → is_off (subs c) ≡ t → any_unfinished subs cs ≡ false → is_unfinished (subs c) ≡ false
+      by_value : (c : List ℕ) (t : Bool) → is_off (subs c) ≡ t → any_unfinished subs cs ≡ false
+          → is_unfinished (subs c) ≡ false
       by_value c true e g = waits_off (subs c) e
       by_value c false e g = one_waits cs c (listed c e) g

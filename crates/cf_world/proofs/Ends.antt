@@ -1,5 +1,6 @@
 -- A move of a session may end subscriptions, and begins none; and a session that is closed has none.
-use Rattle.std.proofs.Common.{◌≡◌, ℕ, ◌+◌, Bool, true, false, if◌then◌else◌, Option, Some, None, List, [], ◌∷◌, ◌++◌, is_some, refl, sym, ap, ◌∙◌, subst}
+use Rattle.std.proofs.Common.{◌≡◌, ℕ, ◌+◌, Bool, true, false, if◌then◌else◌, Option, Some, None, List, [], ◌∷◌, ◌++◌}
+use Rattle.std.proofs.Common.{is_some, refl, sym, ap, ◌∙◌, subst}
 use Rattle.std.specs.Prelude.{nat_le, sum_by}
 use Rattle.std.specs.Cmp.Lexicographic.{bytes_decides}
 use Rattle.std.specs.Str.{bytes_eq}
@@ -7,14 +8,17 @@ use Rattle.cf_protocol.specs.Note.{Note, Reading}
 use Rattle.cf_protocol.specs.Position.{Position}
 use Rattle.cf_model.specs.Verdict.{Verdict, Drop, Pass, Insufficient, verdict}
 use Rattle.cf_model.specs.PositionCheck.{Checked, Fine, Behind, Ended, position_check}
-use Rattle.cf_model.specs.SessionState.{Off, Asked, Ready, On, by_check, by_verdict, check_at, checks, closes, closes_now, come_at, comes, finish_at, finish_notes, finished, finishes, is_off, leaves, most_waiting, push, put_sub, read_at, reads, says, slow, takes_front}
+use Rattle.cf_model.specs.SessionState.{Off, Asked, Ready, On, by_check, by_verdict, check_at, checks, closes}
+use Rattle.cf_model.specs.SessionState.{closes_now, come_at, comes, finish_at, finish_notes, finished, finishes, is_off}
+use Rattle.cf_model.specs.SessionState.{leaves, most_waiting, push, put_sub, read_at, reads, says, slow, takes_front}
 use Rattle.cf_machine.specs.Session.{Session, Sub, Words}
 use Rattle.cf_world.specs.NodesTie.{IsShutOff}
 
 abbrev pub OnlyEnds : (Session → Session) → Type 0
 OnlyEnds g = (b : Session) (c : List ℕ) → is_off ((g b).subs c) ≡ false → is_off (b.subs c) ≡ false
 
-put_ends : (d : List ℕ) (v : Sub) (b : Session) → (is_off v ≡ false → is_off (b.subs d) ≡ false) → (c : List ℕ) → is_off ((put_sub d v b).subs c) ≡ false → is_off (b.subs c) ≡ false
+put_ends : (d : List ℕ) (v : Sub) (b : Session) → (is_off v ≡ false → is_off (b.subs d) ≡ false) → (c : List ℕ)
+    → is_off ((put_sub d v b).subs c) ≡ false → is_off (b.subs c) ≡ false
 put_ends d v b h c = by_value (bytes_eq c d) ((bytes_decides c d).0)
   where
     by_value : (t : Bool) → (t ≡ true → c ≡ d) → is_off (if t then v else b.subs c) ≡ false → is_off (b.subs c) ≡ false
@@ -22,7 +26,9 @@ put_ends d v b h c = by_value (bytes_eq c d) ((bytes_decides c d).0)
     by_value false is e = e
 
 module _ (w : Words) where
-  push_by : (shut fits : Bool) (n : Note) (b : Session) (c : List ℕ) → is_off ((if shut then b else if fits then record b { notes = b.notes ++ n ∷ [] } else closes (w.close slow) b).subs c) ≡ false → is_off (b.subs c) ≡ false
+  push_by : (shut fits : Bool) (n : Note) (b : Session) (c : List ℕ)
+      → is_off ((if shut then b else if fits then record b { notes = b.notes ++ n ∷ [] }
+      else closes (w.close slow) b).subs c) ≡ false → is_off (b.subs c) ≡ false
   push_by true fits n b c e = e
   push_by false true n b c e = e
   push_by false false n b c e = absurd (cc)
@@ -34,21 +40,26 @@ module _ (w : Words) where
   says_ends [] b c e = e
   says_ends (n ∷ ns) b c e = push_ends n b c (says_ends ns (push w n b) c e)
 
-  read_ends : (d : List ℕ) (r : Reading) (s : Sub) (b : Session) → b.subs d ≡ s → (c : List ℕ) → is_off ((read_at w d r s b).subs c) ≡ false → is_off (b.subs c) ≡ false
+  read_ends : (d : List ℕ) (r : Reading) (s : Sub) (b : Session) → b.subs d ≡ s → (c : List ℕ)
+      → is_off ((read_at w d r s b).subs c) ≡ false → is_off (b.subs c) ≡ false
   read_ends d r Off b h c e = e
-  read_ends d r (Asked id since k) b h c e = put_ends d (Ready id (is_some since) r (w.with_read k)) b (λ x. ap is_off h) c e
+  read_ends d r (Asked id since k) b h c e =
+      put_ends d (Ready id (is_some since) r (w.with_read k)) b (λ x. ap is_off h) c e
   read_ends d r (Ready id was x k) b h c e = e
   read_ends d r (On p mark) b h c e = e
 
   pub reads_ends : (d : List ℕ) (r : Reading) → OnlyEnds (reads w d r)
   reads_ends d r b c e = read_ends d r (b.subs d) b refl c e
 
-  verdict_ends : (d : List ℕ) (q : Position) (mark : Option ℕ) (x : Verdict) (b : Session) → is_off (b.subs d) ≡ false → (c : List ℕ) → is_off ((by_verdict w d q mark x b).subs c) ≡ false → is_off (b.subs c) ≡ false
+  verdict_ends : (d : List ℕ) (q : Position) (mark : Option ℕ) (x : Verdict) (b : Session) → is_off (b.subs d) ≡ false
+      → (c : List ℕ) → is_off ((by_verdict w d q mark x b).subs c) ≡ false → is_off (b.subs c) ≡ false
   verdict_ends d q mark Drop b h c e = e
-  verdict_ends d q mark Pass b h c e = put_ends d (On q mark) b (λ x. h) c (push_ends (w.place d q) (put_sub d (On q mark) b) c e)
+  verdict_ends d q mark Pass b h c e =
+      put_ends d (On q mark) b (λ x. h) c (push_ends (w.place d q) (put_sub d (On q mark) b) c e)
   verdict_ends d q mark Insufficient b h c e = put_ends d Off b (λ x. h) c (push_ends (w.end d) (put_sub d Off b) c e)
 
-  come_ends : (d : List ℕ) (q : Position) (s : Sub) (b : Session) → b.subs d ≡ s → (c : List ℕ) → is_off ((come_at w d q s b).subs c) ≡ false → is_off (b.subs c) ≡ false
+  come_ends : (d : List ℕ) (q : Position) (s : Sub) (b : Session) → b.subs d ≡ s → (c : List ℕ)
+      → is_off ((come_at w d q s b).subs c) ≡ false → is_off (b.subs c) ≡ false
   come_ends d q Off b h c e = e
   come_ends d q (Asked id since k) b h c e = put_ends d (Asked id since (w.with_one q k)) b (λ x. ap is_off h) c e
   come_ends d q (Ready id was r k) b h c e = put_ends d (Ready id was r (w.with_one q k)) b (λ x. ap is_off h) c e
@@ -57,22 +68,26 @@ module _ (w : Words) where
   pub comes_ends : (d : List ℕ) (q : Position) → OnlyEnds (comes w d q)
   comes_ends d q b c e = come_ends d q (b.subs d) b refl c e
 
-  finish_ends : (d : List ℕ) (s : Sub) (b : Session) → b.subs d ≡ s → (c : List ℕ) → is_off ((finish_at w d s b).subs c) ≡ false → is_off (b.subs c) ≡ false
+  finish_ends : (d : List ℕ) (s : Sub) (b : Session) → b.subs d ≡ s → (c : List ℕ)
+      → is_off ((finish_at w d s b).subs c) ≡ false → is_off (b.subs c) ≡ false
   finish_ends d Off b h c e = e
   finish_ends d (Asked id since k) b h c e = e
   finish_ends d (Ready id was r k) b h c e =
-      put_ends d (finished w r k) b (λ x. ap is_off h) c (says_ends (finish_notes w d id was r k) (put_sub d (finished w r k) b) c e)
+      put_ends d (finished w r k) b (λ x. ap is_off h) c
+      (says_ends (finish_notes w d id was r k) (put_sub d (finished w r k) b) c e)
   finish_ends d (On p mark) b h c e = e
 
   pub finishes_ends : (d : List ℕ) → OnlyEnds (finishes w d)
   finishes_ends d b c e = finish_ends d (b.subs d) b refl c e
 
-  by_check_ends : (d : List ℕ) (p : Position) (x : Checked) (b : Session) → is_off (b.subs d) ≡ false → (c : List ℕ) → is_off ((by_check w d p x b).subs c) ≡ false → is_off (b.subs c) ≡ false
+  by_check_ends : (d : List ℕ) (p : Position) (x : Checked) (b : Session) → is_off (b.subs d) ≡ false → (c : List ℕ)
+      → is_off ((by_check w d p x b).subs c) ≡ false → is_off (b.subs c) ≡ false
   by_check_ends d p Fine b h c e = put_ends d (On p None) b (λ x. h) c e
   by_check_ends d p Behind b h c e = put_ends d (On p (Some p.offset)) b (λ x. h) c e
   by_check_ends d p Ended b h c e = put_ends d Off b (λ x. h) c (push_ends (w.end d) (put_sub d Off b) c e)
 
-  check_ends : (d : List ℕ) (top : Option Position) (s : Sub) (b : Session) → b.subs d ≡ s → (c : List ℕ) → is_off ((check_at w d top s b).subs c) ≡ false → is_off (b.subs c) ≡ false
+  check_ends : (d : List ℕ) (top : Option Position) (s : Sub) (b : Session) → b.subs d ≡ s → (c : List ℕ)
+      → is_off ((check_at w d top s b).subs c) ≡ false → is_off (b.subs c) ≡ false
   check_ends d top Off b h c e = e
   check_ends d top (Asked id since k) b h c e = e
   check_ends d top (Ready id was r k) b h c e = e
@@ -96,18 +111,21 @@ takes_ends b c e = e
 
 -- ---- a session that is closed has no subscription
 
-shut_by : (b b' : Session) → (b'.closed ≡ true → b.closed ≡ true) → ((c : List ℕ) → is_off (b'.subs c) ≡ false → is_off (b.subs c) ≡ false) → IsShutOff b → IsShutOff b'
+shut_by : (b b' : Session) → (b'.closed ≡ true → b.closed ≡ true)
+    → ((c : List ℕ) → is_off (b'.subs c) ≡ false → is_off (b.subs c) ≡ false) → IsShutOff b → IsShutOff b'
 shut_by b b' closed ends h e c = by_value (is_off (b'.subs c)) refl
   where
     by_value : (t : Bool) → is_off (b'.subs c) ≡ t → t ≡ true
     by_value true f = refl
     by_value false f = absurd (let no : true ≡ false = sym (h (closed e) c) ∙ ends c f in cc)
 
-put_shut : (d : List ℕ) (v : Sub) (b : Session) → (is_off v ≡ false → is_off (b.subs d) ≡ false) → IsShutOff b → IsShutOff (put_sub d v b)
+put_shut : (d : List ℕ) (v : Sub) (b : Session) → (is_off v ≡ false → is_off (b.subs d) ≡ false) → IsShutOff b
+    → IsShutOff (put_sub d v b)
 put_shut d v b e h = shut_by b (put_sub d v b) (λ f. f) (put_ends d v b e) h
 
 module _ (w : Words) where
-  push_shut_by : (shut fits : Bool) (n : Note) (b : Session) → IsShutOff b → IsShutOff (if shut then b else if fits then record b { notes = b.notes ++ n ∷ [] } else closes (w.close slow) b)
+  push_shut_by : (shut fits : Bool) (n : Note) (b : Session) → IsShutOff b
+      → IsShutOff (if shut then b else if fits then record b { notes = b.notes ++ n ∷ [] } else closes (w.close slow) b)
   push_shut_by true fits n b h = h
   push_shut_by false true n b h = h
   push_shut_by false false n b h = λ e c. refl
@@ -119,18 +137,23 @@ module _ (w : Words) where
   says_shut [] b h = h
   says_shut (n ∷ ns) b h = says_shut ns (push w n b) (push_shut n b h)
 
-  read_shut : (d : List ℕ) (r : Reading) (s : Sub) (b : Session) → b.subs d ≡ s → IsShutOff b → IsShutOff (read_at w d r s b)
+  read_shut : (d : List ℕ) (r : Reading) (s : Sub) (b : Session) → b.subs d ≡ s → IsShutOff b
+      → IsShutOff (read_at w d r s b)
   read_shut d r Off b e h = h
-  read_shut d r (Asked id since k) b e h = put_shut d (Ready id (is_some since) r (w.with_read k)) b (λ x. ap is_off e) h
+  read_shut d r (Asked id since k) b e h =
+      put_shut d (Ready id (is_some since) r (w.with_read k)) b (λ x. ap is_off e) h
   read_shut d r (Ready id was x k) b e h = h
   read_shut d r (On p mark) b e h = h
 
-  verdict_shut : (d : List ℕ) (q : Position) (mark : Option ℕ) (x : Verdict) (b : Session) → is_off (b.subs d) ≡ false → IsShutOff b → IsShutOff (by_verdict w d q mark x b)
+  verdict_shut : (d : List ℕ) (q : Position) (mark : Option ℕ) (x : Verdict) (b : Session) → is_off (b.subs d) ≡ false
+      → IsShutOff b → IsShutOff (by_verdict w d q mark x b)
   verdict_shut d q mark Drop b e h = h
-  verdict_shut d q mark Pass b e h = push_shut (w.place d q) (put_sub d (On q mark) b) (put_shut d (On q mark) b (λ x. e) h)
+  verdict_shut d q mark Pass b e h =
+      push_shut (w.place d q) (put_sub d (On q mark) b) (put_shut d (On q mark) b (λ x. e) h)
   verdict_shut d q mark Insufficient b e h = push_shut (w.end d) (put_sub d Off b) (put_shut d Off b (λ x. e) h)
 
-  come_shut : (d : List ℕ) (q : Position) (s : Sub) (b : Session) → b.subs d ≡ s → IsShutOff b → IsShutOff (come_at w d q s b)
+  come_shut : (d : List ℕ) (q : Position) (s : Sub) (b : Session) → b.subs d ≡ s → IsShutOff b
+      → IsShutOff (come_at w d q s b)
   come_shut d q Off b e h = h
   come_shut d q (Asked id since k) b e h = put_shut d (Asked id since (w.with_one q k)) b (λ x. ap is_off e) h
   come_shut d q (Ready id was r k) b e h = put_shut d (Ready id was r (w.with_one q k)) b (λ x. ap is_off e) h
@@ -140,15 +163,18 @@ module _ (w : Words) where
   finish_shut d Off b e h = h
   finish_shut d (Asked id since k) b e h = h
   finish_shut d (Ready id was r k) b e h =
-      says_shut (finish_notes w d id was r k) (put_sub d (finished w r k) b) (put_shut d (finished w r k) b (λ x. ap is_off e) h)
+      says_shut (finish_notes w d id was r k) (put_sub d (finished w r k) b)
+      (put_shut d (finished w r k) b (λ x. ap is_off e) h)
   finish_shut d (On p mark) b e h = h
 
-  by_check_shut : (d : List ℕ) (p : Position) (x : Checked) (b : Session) → is_off (b.subs d) ≡ false → IsShutOff b → IsShutOff (by_check w d p x b)
+  by_check_shut : (d : List ℕ) (p : Position) (x : Checked) (b : Session) → is_off (b.subs d) ≡ false → IsShutOff b
+      → IsShutOff (by_check w d p x b)
   by_check_shut d p Fine b e h = put_shut d (On p None) b (λ x. e) h
   by_check_shut d p Behind b e h = put_shut d (On p (Some p.offset)) b (λ x. e) h
   by_check_shut d p Ended b e h = push_shut (w.end d) (put_sub d Off b) (put_shut d Off b (λ x. e) h)
 
-  check_shut : (d : List ℕ) (top : Option Position) (s : Sub) (b : Session) → b.subs d ≡ s → IsShutOff b → IsShutOff (check_at w d top s b)
+  check_shut : (d : List ℕ) (top : Option Position) (s : Sub) (b : Session) → b.subs d ≡ s → IsShutOff b
+      → IsShutOff (check_at w d top s b)
   check_shut d top Off b e h = h
   check_shut d top (Asked id since k) b e h = h
   check_shut d top (Ready id was r k) b e h = h

@@ -15,9 +15,11 @@ use Rattle.cf_world.specs.declared.entry.Entry.{Entry as CodeEntry}
 use Rattle.cf_world.specs.declared.entry.Item.{Item as CodeItem}
 use Rattle.cf_world.specs.declared.entry.Item.TheVariants as code
 
-pub flat-append : {A B : Type 0} (f : A → List B) (xs ys : List A) → flat_map f (xs ++ ys) ≡ flat_map f xs ++ flat_map f ys
+pub flat-append : {A B : Type 0} (f : A → List B) (xs ys : List A)
+    → flat_map f (xs ++ ys) ≡ flat_map f xs ++ flat_map f ys
 flat-append f [] ys = refl
-flat-append f (x ∷ xs) ys = ap (λ zs. f x ++ zs) (flat-append f xs ys) ∙ sym (append_assoc (f x) (flat_map f xs) (flat_map f ys))
+flat-append f (x ∷ xs) ys =
+    ap (λ zs. f x ++ zs) (flat-append f xs ys) ∙ sym (append_assoc (f x) (flat_map f xs) (flat_map f ys))
 
 pub flat-one : {A B : Type 0} (f : A → List B) (x : A) → flat_map f (x ∷ []) ≡ f x
 flat-one f x = append-nil (f x)
@@ -36,10 +38,13 @@ told-once (item.Listed c p count) h = refl
 told-once item.PongDue h = absurd (cc)
 
 -- what one application was told, behind what the others were
-pub entry-told : (e : CodeEntry) (event : AppEvent) (x : List ℕ) → e.item ≡ code.Told event → string_bytes e.client ≡ x → entries e.at x (told_of (shown_item event)) ≡ shown_entry e ∷ []
+pub entry-told : (e : CodeEntry) (event : AppEvent) (x : List ℕ) → e.item ≡ code.Told event → string_bytes e.client ≡ x
+    → entries e.at x (told_of (shown_item event)) ≡ shown_entry e ∷ []
 entry-told e event x is name = by_item e.item e.is_got is
   where
-    by_item : (i : CodeItem) (g : IsTrue (is_got i)) → i ≡ code.Told event → entries e.at x (told_of (shown_item event)) ≡ (record { at = e.at; client = string_bytes e.client; item = got i g }) ∷ []
+    by_item : (i : CodeItem) (g : IsTrue (is_got i)) → i ≡ code.Told event
+        → entries e.at x (told_of (shown_item event))
+        ≡ (record { at = e.at; client = string_bytes e.client; item = got i g }) ∷ []
     by_item (code.Told f) g same =
         let event-is : f ≡ event = cc in
         ap (λ (v : AppEvent). entries e.at x (told_of (shown_item v))) (sym event-is)
@@ -48,11 +53,14 @@ entry-told e event x is name = by_item e.item e.is_got is
     by_item (code.Closed c) g same = absurd (cc)
 
 -- the entries of what was told so far, and of one event more
-pub told-after : (n : ℕ) (x : List ℕ) (done : List AppEvent) (event : AppEvent) (es : List Entry) → entries n x (told_of (shown_item event)) ≡ es
-    → entries n x (flat_map told_of (map shown_item done)) ++ es ≡ entries n x (flat_map told_of (map shown_item (done ++ event ∷ [])))
+pub told-after : (n : ℕ) (x : List ℕ) (done : List AppEvent) (event : AppEvent) (es : List Entry)
+    → entries n x (told_of (shown_item event)) ≡ es
+    → entries n x (flat_map told_of (map shown_item done)) ++ es
+    ≡ entries n x (flat_map told_of (map shown_item (done ++ event ∷ [])))
 told-after n x done event es h =
     let before = flat_map told_of (map shown_item done) in
     ap (λ t. entries n x before ++ t) (sym h)
     ∙ sym (entries-then n x before (told_of (shown_item event)))
     ∙ ap (λ is. entries n x (before ++ is)) (sym (flat-one told_of (shown_item event)))
-    ∙ sym (ap (entries n x) (ap (flat_map told_of) (map-append shown_item done (event ∷ [])) ∙ flat-append told_of (map shown_item done) (shown_item event ∷ [])))
+    ∙ sym (ap (entries n x) (ap (flat_map told_of) (map-append shown_item done (event ∷ []))
+    ∙ flat-append told_of (map shown_item done) (shown_item event ∷ [])))

@@ -1,5 +1,6 @@
 -- A client sends a command, and its node hears it and does what speaks against it: the world goes on with the machine.
-use Rattle.std.proofs.Common.{◌≡◌, ◌∙◌, ℕ, nat_lt, Bool, true, false, if◌then◌else◌, Option, Some, None, List, [], ◌∷◌, inl, inr, refl, sym, ap, subst}
+use Rattle.std.proofs.Common.{◌≡◌, ◌∙◌, ℕ, nat_lt, Bool, true, false, if◌then◌else◌, Option, Some, None, List, [], ◌∷◌}
+use Rattle.std.proofs.Common.{inl, inr, refl, sym, ap, subst}
 use Rattle.std.specs.List.{All}
 use Rattle.std.proofs.lemmas.Bool.{true_from_ne_false}
 use Rattle.std.proofs.lemmas.List.Elements.{All-append}
@@ -18,7 +19,8 @@ use Rattle.cf_hub.specs.InNotes.{IsSaid}
 use Rattle.cf_model.specs.SessionState.{Off, closes, closes_now, is_off, is_unfinished, leaves, push}
 use Rattle.cf_model.specs.Spoken.{spoken}
 use Rattle.cf_machine.specs.ClientLink.{ClientLink}
-use Rattle.cf_machine.specs.ClientRequest.{ClientRequest, SentCommand, Subscribe, Unsubscribe, Publish, History, channel_of, command_of, request_of}
+use Rattle.cf_machine.specs.ClientRequest.{ClientRequest, SentCommand, Subscribe, Unsubscribe, Publish, History}
+use Rattle.cf_machine.specs.ClientRequest.{channel_of, command_of, request_of}
 use Rattle.cf_machine.specs.Config.{Config}
 use Rattle.cf_machine.specs.IntervalMachine.{command_by, exchange}
 use Rattle.cf_machine.specs.PublicationList.{Broker}
@@ -30,10 +32,11 @@ use Rattle.cf_world.specs.ClientTie.{Becomes, IsOwn, sent_state}
 use Rattle.cf_world.specs.HubCalls.{AreSame, AtHub, Closed, Told}
 use Rattle.cf_world.specs.NodesTie.{IsSeated, seated}
 use Rattle.cf_world.specs.Tie.{AreTied}
-use Rattle.cf_world.specs.declared.broker.Broker.{Broker as Code}
+use Rattle.cf_world.specs.declared.broker.WorldBroker.{WorldBroker as Code}
 use Rattle.cf_world.specs.declared.clients.Peer.{Peer}
-use Rattle.cf_world.specs.declared.clients.Seat.{Seat}
-use Rattle.cf_world.proofs.Answering.{answer_goes, close_goes, goes_by, judged_by_checks, judged_too_long, judged_unheard}
+use Rattle.cf_world.specs.declared.clients.SessionAddress.{SessionAddress}
+use Rattle.cf_world.proofs.Answering.{answer_goes, close_goes, goes_by, judged_by_checks, judged_too_long}
+use Rattle.cf_world.proofs.Answering.{judged_unheard}
 use Rattle.cf_world.proofs.BoardLists.{grown-refl}
 use Rattle.cf_world.proofs.Ends.{stays_keeps}
 use Rattle.cf_world.proofs.Exchanged.{after, exchange_as, met, met_refused, met_too_long, met_unheard, passed_over}
@@ -70,13 +73,15 @@ passed_same (Unsubscribe c) d h = left_same c d h
 passed_same (Publish c key body) d h = refl
 passed_same (History c limit) d h = refl
 
-closes_same : (n : Note) (e : ClientRequest) (d : Session) → d.closed ≡ false → closes_now n (passed_over e d) ≡ closes_now n d
+closes_same : (n : Note) (e : ClientRequest) (d : Session) → d.closed ≡ false
+    → closes_now n (passed_over e d) ≡ closes_now n d
 closes_same n (Subscribe c from) d h = refl
 closes_same n (Unsubscribe c) d h = rw h refl
 closes_same n (Publish c key body) d h = refl
 closes_same n (History c limit) d h = refl
 
-closes_own : (s : State) (n : Note) (d : Session) → IsOwn s n → All (IsOwn s) d.notes → All (IsOwn s) (closes_now n d).notes
+closes_own : (s : State) (n : Note) (d : Session) → IsOwn s n → All (IsOwn s) d.notes
+    → All (IsOwn s) (closes_now n d).notes
 closes_own s n d mine k = by_value d.closed
   where
     by_value : (shut : Bool) → All (IsOwn s) (if shut then d else closes n d).notes
@@ -89,9 +94,12 @@ bad_name : (bad : Bool) (e : ErrorCode) → (if bad then Some error.BadRequest e
 bad_name true e h = refl
 bad_name false e h = absurd (cc)
 
-module _ {cfg : Config} {table : NamespaceTable} {b : Code} {hubs : ℕ → Option Node} {peers : List ℕ → Option Peer} {m : World}
-    (t : AreTied cfg table b hubs peers m) (x : List ℕ) (s : Seat) (p : Peer) (found : peers x ≡ Some p) (sits : p.seat ≡ Some s)
-    (e : ClientRequest) (peers' : List ℕ → Option Peer) (becomes : Becomes x p (sent_state e (state_of p.client)) peers peers')
+module _ {cfg : Config} {table : NamespaceTable} {b : Code} {hubs : ℕ → Option Node} {peers : List ℕ → Option Peer}
+    {m : World}
+    (t : AreTied cfg table b hubs peers m) (x : List ℕ) (s : SessionAddress) (p : Peer) (found : peers x ≡ Some p)
+    (sits : p.seat ≡ Some s)
+    (e : ClientRequest) (peers' : List ℕ → Option Peer)
+    (becomes : Becomes x p (sent_state e (state_of p.client)) peers peers')
     (stays : Stays) (calls : CallsAreAlike m.broker.lists) (moves : MovesAreAlike m.broker.lists)
     (quiet : (c : List ℕ) → is_unfinished ((m.links x).session.subs c) ≡ false) where
   abbrev k : SentCommand
@@ -107,18 +115,22 @@ module _ {cfg : Config} {table : NamespaceTable} {b : Code} {hubs : ℕ → Opti
   abbrev turned : Broker → Session → World
   turned broker d = record m { broker = broker; links = with m.links x (after k d (m.links x).channels (m.links x)) }
 
-  with_link : (l l' : ClientLink) → l ≡ l' → ◌≡◌ {A = World} (record m { links = with m.links x l }) (record m { links = with m.links x l' })
+  with_link : (l l' : ClientLink) → l ≡ l' → ◌≡◌ {A = World} (record m { links = with m.links x l })
+      (record m { links = with m.links x l' })
   with_link l l' is = ap (λ (v : ClientLink). record m { links = with m.links x v }) is
 
   -- the session stays as it is
-  rests : (hubs' : ℕ → Option Node) → AreSame hubs hubs' → AreTied cfg table b hubs' peers' (turned m.broker (m.links x).session)
+  rests : (hubs' : ℕ → Option Node) → AreSame hubs hubs'
+      → AreTied cfg table b hubs' peers' (turned m.broker (m.links x).session)
   rests hubs' same =
       let there = hub_there t x s (sat t x s p found sits k peers' becomes) in
       let node = t.nodes.hub s.node there.0 there.1 in
       exchange_goes t x s p found sits k peers' becomes stays b m.broker (grown-refl m.broker.lists) t.broker
       there.0 there.0 there.1 hubs' (same s.node ∙ there.1) (λ j ne. same j)
-      (record { node = refl; boot = refl; used = refl }) node.refused (λ j ne. refl) refl (m.links x).session (m.links x).channels
-      (goes_by t x s p found sits k peers' becomes stays b m.broker (grown-refl m.broker.lists) t.broker calls moves (λ d. d) stays_keeps)
+      (record { node = refl; boot = refl; used = refl }) node.refused (λ j ne. refl) refl (m.links x).session
+      (m.links x).channels
+      (goes_by t x s p found sits k peers' becomes stays b m.broker (grown-refl m.broker.lists) t.broker calls moves
+      (λ d. d) stays_keeps)
       own (λ says. says)
 
   -- THE SESSION IS CLOSED
@@ -128,46 +140,64 @@ module _ {cfg : Config} {table : NamespaceTable} {b : Code} {hubs : ℕ → Opti
   shut_off (Publish c key body) h = tt
   shut_off (History c limit) h = tt
 
-  pub unheard_goes : (m.links x).session.closed ≡ true → (hubs' : ℕ → Option Node) → AreSame hubs hubs' → AreTied cfg table b hubs' peers' (exchange cfg x e m)
+  pub unheard_goes : (m.links x).session.closed ≡ true → (hubs' : ℕ → Option Node) → AreSame hubs hubs'
+      → AreTied cfg table b hubs' peers' (exchange cfg x e m)
   unheard_goes closed hubs' same =
       let l : ClientLink = m.links x in
       let is = met_unheard m.broker.lists m.broker k.id l e (quiet (channel_of e))
       ∙ ap (λ (d : Session). after k d l.channels l) (passed_same e l.session (shut_off e closed)) in
       subst (λ (w : World). AreTied cfg table b hubs' peers' w)
-      (sym (exchange_as cfg x e m Unheard (judged_unheard cfg m l k closed) ∙ with_link (met m.broker.lists m.broker k Unheard l) (after k l.session l.channels l) is))
+      (sym (exchange_as cfg x e m Unheard (judged_unheard cfg m l k closed)
+      ∙ with_link (met m.broker.lists m.broker k Unheard l) (after k l.session l.channels l) is))
       (rests hubs' same)
 
   module _ (opened : (m.links x).session.closed ≡ false) where
     -- THE TEXT IS TOO LONG
-    pub too_long_goes : nat_lt longest_text (command_length (command_of k)) ≡ true → (hubs' : ℕ → Option Node) → AtHub s.node (Closed s.session bad_message) hubs hubs' → AreTied cfg table b hubs' peers' (exchange cfg x e m)
+    pub too_long_goes : nat_lt longest_text (command_length (command_of k)) ≡ true → (hubs' : ℕ → Option Node)
+        → AtHub s.node (Closed s.session bad_message) hubs hubs' → AreTied cfg table b hubs' peers' (exchange cfg x e m)
     too_long_goes long hubs' at =
         let l : ClientLink = m.links x in
         let is = met_too_long m.broker.lists m.broker k.id l e (quiet (channel_of e))
         ∙ ap (λ (d : Session). after k d l.channels l) (closes_same (Close bad_message) e l.session opened) in
         subst (λ (w : World). AreTied cfg table b hubs' peers' w)
-        (sym (exchange_as cfg x e m TooLong (judged_too_long cfg m l k opened long) ∙ with_link (met m.broker.lists m.broker k TooLong l) (after k (closes_now (Close bad_message) l.session) l.channels l) is))
-        (close_goes t x s p found sits k peers' becomes stays b m.broker (grown-refl m.broker.lists) t.broker calls moves bad_message
+        (sym (exchange_as cfg x e m TooLong (judged_too_long cfg m l k opened long)
+        ∙ with_link (met m.broker.lists m.broker k TooLong l)
+        (after k (closes_now (Close bad_message) l.session) l.channels l) is))
+        (close_goes t x s p found sits k peers' becomes stays b m.broker (grown-refl m.broker.lists) t.broker calls
+        moves bad_message
         (closes_own (sent_state e (state_of p.client)) (Close bad_message) l.session tt own) hubs' at)
 
     -- A CHECK FAILED
-    no_channel : (e : ClientRequest) (code : ErrorCode) → first_failed (checks cfg.namespaces (request_of e)) ≡ Some code → HasNoChannel e (m.links x).session
+    no_channel : (e : ClientRequest) (code : ErrorCode)
+        → first_failed (checks cfg.namespaces (request_of e)) ≡ Some code → HasNoChannel e (m.links x).session
     no_channel (Subscribe c from) code h = tt
-    no_channel (Unsubscribe c) code h = true_from_ne_false (is_off ((m.links x).session.subs c)) (λ on. let served = seat.served c on in let bad = bad_name (is_bad_channel c) code h in not_both (is_bad_channel c) _ bad served)
+    no_channel (Unsubscribe c) code h =
+        true_from_ne_false (is_off ((m.links x).session.subs c))
+        (λ on. let served = seat.served c on in let bad = bad_name (is_bad_channel c) code h in not_both
+        (is_bad_channel c) _ bad served)
       where
-        not_both : (bad : Bool) (rest : Option ErrorCode) → bad ≡ true → (if bad then Some error.BadRequest else rest) ≡ None → ⊥
+        not_both : (bad : Bool) (rest : Option ErrorCode) → bad ≡ true
+            → (if bad then Some error.BadRequest else rest) ≡ None → ⊥
         not_both true rest h k = absurd (cc)
         not_both false rest h k = absurd (cc)
     no_channel (Publish c key body) code h = tt
     no_channel (History c limit) code h = tt
 
-    pub refused_goes : nat_lt longest_text (command_length (command_of k)) ≡ false → (code : ErrorCode) → first_failed (checks cfg.namespaces (request_of e)) ≡ Some code
-        → (text : List ℕ) → IsSaid m.broker.lists text (Fails (channel_of e) k.id (code_of code)) → IsOwn (sent_state e (state_of p.client)) (Fails (channel_of e) k.id (code_of code))
-        → (hubs' : ℕ → Option Node) → AtHub s.node (Told s.session text) hubs hubs' → AreTied cfg table b hubs' peers' (exchange cfg x e m)
+    pub refused_goes : nat_lt longest_text (command_length (command_of k)) ≡ false → (code : ErrorCode)
+        → first_failed (checks cfg.namespaces (request_of e)) ≡ Some code
+        → (text : List ℕ) → IsSaid m.broker.lists text (Fails (channel_of e) k.id (code_of code))
+        → IsOwn (sent_state e (state_of p.client)) (Fails (channel_of e) k.id (code_of code))
+        → (hubs' : ℕ → Option Node) → AtHub s.node (Told s.session text) hubs hubs'
+        → AreTied cfg table b hubs' peers' (exchange cfg x e m)
     refused_goes fits code failed text said mine hubs' at =
         let l : ClientLink = m.links x in
         let n : Note = Fails (channel_of e) k.id (code_of code) in
         let is = met_refused m.broker.lists m.broker k.id l e (code_of code) (quiet (channel_of e))
-        ∙ ap (λ (d : Session). after k (push (spoken m.broker.lists) n d) l.channels l) (passed_same e l.session (no_channel e code failed)) in
+        ∙ ap (λ (d : Session). after k (push (spoken m.broker.lists) n d) l.channels l)
+        (passed_same e l.session (no_channel e code failed)) in
         subst (λ (w : World). AreTied cfg table b hubs' peers' w)
-        (sym (exchange_as cfg x e m (Refused (code_of code)) (judged_by_checks cfg m l k code opened fits failed) ∙ with_link (met m.broker.lists m.broker k (Refused (code_of code)) l) (after k (push (spoken m.broker.lists) n l.session) l.channels l) is))
-        (answer_goes t x s p found sits k peers' becomes stays b m.broker (grown-refl m.broker.lists) t.broker calls moves text n said mine hubs' at)
+        (sym (exchange_as cfg x e m (Refused (code_of code)) (judged_by_checks cfg m l k code opened fits failed)
+        ∙ with_link (met m.broker.lists m.broker k (Refused (code_of code)) l)
+        (after k (push (spoken m.broker.lists) n l.session) l.channels l) is))
+        (answer_goes t x s p found sits k peers' becomes stays b m.broker (grown-refl m.broker.lists) t.broker calls
+        moves text n said mine hubs' at)

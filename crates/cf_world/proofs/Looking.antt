@@ -1,5 +1,6 @@
 -- What is asked of a session that says another one is answered as of that one.
-use Rattle.std.proofs.Common.{◌≡◌, ℕ, not, true, Option, Some, None, List, [], ◌∷◌, refl, sym, ap, ◌∙◌, subst, slice_get}
+use Rattle.std.proofs.Common.{◌≡◌, ℕ, not, true, Option, Some, None, List, [], ◌∷◌, refl, sym, ap, ◌∙◌, subst}
+use Rattle.std.proofs.Common.{slice_get}
 use Rattle.std.specs.List.{AllZip}
 use Rattle.std.proofs.lemmas.Option.{same_Some}
 use Rattle.cf_protocol.specs.Note.{Lists, Note}
@@ -121,7 +122,9 @@ module _ (lists : Lists) (c : List ℕ) where
 -- ---- the session of a number, which is there
 
 module _ (lists : Lists) where
-  there : {X : Type 0} (f : Subscription Held → X) (g : Sub → X) → ((c : List ℕ) (s : Subscription Held) (s' : Sub) → AlikeSub (IsKept lists c) s s' → f s ≡ g s') → (o : Option Attached) (b : Session) → SaysAt lists o b → (c : List ℕ) → f (sub_in o c) ≡ g (b.subs c)
+  there : {X : Type 0} (f : Subscription Held → X) (g : Sub → X)
+      → ((c : List ℕ) (s : Subscription Held) (s' : Sub) → AlikeSub (IsKept lists c) s s' → f s ≡ g s')
+      → (o : Option Attached) (b : Session) → SaysAt lists o b → (c : List ℕ) → f (sub_in o c) ≡ g (b.subs c)
   there f g same None b h c = absurd h
   there f g same (Some a) b h c = same c (a.state.subs c) (b.subs c) (h.subs c)
 
@@ -142,7 +145,8 @@ module _ (lists : Lists) where
     asks_at = there asked_of asked_of (asks_same lists) o b h
 
   -- it is there
-  pub attached : (o : Option Attached) (b : Session) → SaysAt lists o b → (a : Attached) × (o ≡ Some a) × SaysSession lists a.state b
+  pub attached : (o : Option Attached) (b : Session) → SaysAt lists o b → (a : Attached) × (o ≡ Some a)
+      × SaysSession lists a.state b
   attached None b h = absurd h
   attached (Some a) b h = (a, refl, h)
 
@@ -160,22 +164,26 @@ module _ (lists : Lists) where
   no_front [] (n ∷ ns) h e = absurd h
   no_front (i ∷ is) ns h e = absurd (cc)
 
-  front_says : (i : Item) (is : List Item) (ns : List Note) → AllZip (SaysNote lists) is ns → Some i ≡ slice_get is 0 → (n : Note) × (rest : List Note) × (ns ≡ n ∷ rest) × SaysNote lists i n
+  front_says : (i : Item) (is : List Item) (ns : List Note) → AllZip (SaysNote lists) is ns → Some i ≡ slice_get is 0
+      → (n : Note) × (rest : List Note) × (ns ≡ n ∷ rest) × SaysNote lists i n
   front_says i [] ns h e = absurd (cc)
   front_says i (j ∷ is) [] h e = absurd h
-  front_says i (j ∷ is) (n ∷ ns) h e = (n, ns, refl, subst (λ (z : Item). SaysNote lists z n) (sym (same_Some i j e)) h.0)
+  front_says i (j ∷ is) (n ∷ ns) h e =
+      (n, ns, refl, subst (λ (z : Item). SaysNote lists z n) (sym (same_Some i j e)) h.0)
 
   pub none_waits : (o : Option Attached) (b : Session) → SaysAt lists o b → None ≡ front o → b.notes ≡ []
   none_waits None b h e = absurd h
   none_waits (Some a) b h e = no_front a.state.notes b.notes h.notes e
 
-  pub text_waits : (o : Option Attached) (b : Session) (t : List ℕ) → SaysAt lists o b → Some (Text t) ≡ front o → TextFront t b.notes
+  pub text_waits : (o : Option Attached) (b : Session) (t : List ℕ) → SaysAt lists o b → Some (Text t) ≡ front o
+      → TextFront t b.notes
   text_waits None b t h e = absurd h
   text_waits (Some a) b t h e =
       let f = front_says (Text t) a.state.notes b.notes h.notes e in
       record { note = f.0; rest = f.1; is = f.2; said = f.3 }
 
-  pub close_waits : (o : Option Attached) (b : Session) (code : ℕ) → SaysAt lists o b → Some (Close code) ≡ front o → (rest : List Note) × (b.notes ≡ note.Close code ∷ rest)
+  pub close_waits : (o : Option Attached) (b : Session) (code : ℕ) → SaysAt lists o b → Some (Close code) ≡ front o
+      → (rest : List Note) × (b.notes ≡ note.Close code ∷ rest)
   close_waits None b code h e = absurd h
   close_waits (Some a) b code h e =
       let f = front_says (Close code) a.state.notes b.notes h.notes e in

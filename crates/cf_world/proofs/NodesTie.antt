@@ -1,5 +1,7 @@
 -- What a node and its clients' sessions do goes on beside the machine.
-use Rattle.std.proofs.Common.{◌≡◌, ◌≢◌, inl, inr, ℕ, ◌+◌, ◌≤◌, ◌==◌, ◌||◌, nat_lt, Bool, true, false, if◌then◌else◌, is_some, Option, Some, None, option_map, List, [], ◌∷◌, ◌++◌, length, length-append, decimal, arith, refl, sym, ap, ◌∙◌, subst}
+use Rattle.std.proofs.Common.{◌≡◌, ◌≢◌, inl, inr, ℕ, ◌+◌, ◌≤◌, ◌==◌, ◌||◌, nat_lt, Bool, true, false, if◌then◌else◌}
+use Rattle.std.proofs.Common.{is_some, Option, Some, None, option_map, List, [], ◌∷◌, ◌++◌, length, length-append}
+use Rattle.std.proofs.Common.{decimal, arith, refl, sym, ap, ◌∙◌, subst}
 use Rattle.std.specs.Str.{bytes_eq}
 use Rattle.std.proofs.Math.Bool.{or-true}
 use Rattle.std.proofs.lemmas.Bool.{cases_lt, eq-eqb, ne_eqb}
@@ -13,7 +15,8 @@ use Rattle.cf_protocol.specs.Settings.{NamespaceTable}
 use Rattle.cf_subscribers.specs.Follows.{AreFollows}
 use Rattle.cf_hub.specs.Alike.{AlikeSub}
 use Rattle.cf_hub.specs.AlikeMoves.{CallsAreAlike, Texts}
-use Rattle.cf_hub.specs.Hub.{Delivers, InState, IsBounded, Meets, Node, One, Opens, OthersStay, SameNode, SameRest, attached_at, client_id, empty, is_in, moves}
+use Rattle.cf_hub.specs.Hub.{Delivers, InState, IsBounded, Meets, Node, One, Opens, OthersStay, SameNode, SameRest}
+use Rattle.cf_hub.specs.Hub.{attached_at, client_id, empty, is_in, moves}
 use Rattle.cf_model.specs.Limits.{largest}
 use Rattle.cf_hub.specs.InNotes.{Grown, IsKept, IsListed, SaysAt, SaysSession}
 use Rattle.cf_hub.specs.Rows.{Agrees, sub_in}
@@ -30,8 +33,9 @@ use Rattle.cf_machine.specs.PublicationList.{Broker}
 use Rattle.cf_machine.specs.Session.{Session, Sub, Words}
 use Rattle.cf_machine.specs.World.{World, broker_with, link_with, on_node, with_at}
 use Rattle.cf_world.specs.ClientTie.{leave_node}
-use Rattle.cf_world.specs.NodesTie.{IsAway, IsNode, IsSeated, IsShutOff, MayAsk, ShowsLink, ShowsNodes, name_of, seated, session_in}
-use Rattle.cf_world.specs.declared.clients.Seat.{Seat}
+use Rattle.cf_world.specs.NodesTie.{IsAway, IsNode, IsSeated, IsShutOff, MayAsk, ShowsLink, ShowsNodes, name_of, seated}
+use Rattle.cf_world.specs.NodesTie.{session_in}
+use Rattle.cf_world.specs.declared.clients.SessionAddress.{SessionAddress}
 use Rattle.cf_world.proofs.Counts.{Seats}
 use Rattle.cf_world.proofs.Ends.{Keeps, comes_keeps}
 use Rattle.cf_world.proofs.Looking.{attached, off_at}
@@ -41,10 +45,10 @@ use Rattle.cf_machine.proofs.Names.{itself, text_tells, with-all, with-both, wit
 id_there : (n boot counter : ℕ) → 1 ≤ length (machine_id n boot counter)
 id_there n boot counter = rw (length-append (decimal n) (45 ∷ (decimal boot ++ (45 ∷ decimal counter)))) (omega arith)
 
-abbrev seat_of : ℕ → ℕ → Seat
+abbrev seat_of : ℕ → ℕ → SessionAddress
 seat_of n k = record { node = n; session = k }
 
-seats_are : (o s : Seat) → o.node ≡ s.node → o.session ≡ s.session → o ≡ s
+seats_are : (o s : SessionAddress) → o.node ≡ s.node → o.session ≡ s.session → o ≡ s
 seats_are o s e f = λ i. record { node = e i; session = f i }
 
 -- ---- names and numbers
@@ -86,14 +90,16 @@ nobody : (lists : Lists) (o : Option Attached) → o ≡ None → (b : Session) 
 nobody lists o e b h = subst (λ (v : Option Attached). SaysAt lists v b) e h
 
 -- where a client of node n sits, by number
-abbrev pub number_at : ℕ → Option Seat → Option ℕ
+abbrev pub number_at : ℕ → Option SessionAddress → Option ℕ
 number_at n None = None
 number_at n (Some s) = if s.node == n then Some s.session else None
 
-number_is : (n : ℕ) (v : Option Seat) (k : ℕ) → number_at n v ≡ Some k → v ≡ Some (record { node = n; session = k })
+number_is : (n : ℕ) (v : Option SessionAddress) (k : ℕ) → number_at n v ≡ Some k
+    → v ≡ Some (record { node = n; session = k })
 number_is n None k e = absurd (none-some k e)
 number_is n (Some s) k e = elim (eqb_tells s.node n) [
-  | inl p ↦ ap Some (seats_are s (record { node = n; session = k }) p.1 (same_Some s.session k (sym (ap (λ (b : Bool). if b then Some s.session else None) p.0) ∙ e)))
+  | inl p ↦ ap Some (seats_are s (record { node = n; session = k }) p.1
+      (same_Some s.session k (sym (ap (λ (b : Bool). if b then Some s.session else None) p.0) ∙ e)))
   | inr p ↦ absurd (none-some k (sym (ap (λ (b : Bool). if b then Some s.session else None) p.0) ∙ e))
 ]
 
@@ -119,14 +125,19 @@ name_there None (Some b) h = absurd (cc)
 name_there (Some a) None h = absurd (cc)
 name_there (Some a) (Some b) h = refl
 
-pub met_name : {k : ℕ} {R : Bool → Texts → Texts → Type 0} {old new : Node} → Meets k R old new → name_of (attached_at new k) ≡ name_of (attached_at old k)
+pub met_name : {k : ℕ} {R : Bool → Texts → Texts → Type 0} {old new : Node} → Meets k R old new
+    → name_of (attached_at new k) ≡ name_of (attached_at old k)
 met_name {k = k} {R = R} {old = old} {new = new} m = both_name (R m.hit) (attached_at old k) (attached_at new k) m.here
 
-pub delivered_name : {c e : List ℕ} {p : Placed} {old new : Node} → Delivers c e p old new → (k : ℕ) → name_of (attached_at new k) ≡ name_of (attached_at old k)
-delivered_name {c = c} {e = e} {p = p} {old = old} {new = new} d k = both_name (Serves (is_in k d.hit) (delivering p) c (comes (delivering p) c (at_offset e p))) (attached_at old k) (attached_at new k) (d.each k)
+pub delivered_name : {c e : List ℕ} {p : Placed} {old new : Node} → Delivers c e p old new → (k : ℕ)
+    → name_of (attached_at new k) ≡ name_of (attached_at old k)
+delivered_name {c = c} {e = e} {p = p} {old = old} {new = new} d k =
+    both_name (Serves (is_in k d.hit) (delivering p) c (comes (delivering p) c (at_offset e p))) (attached_at old k)
+    (attached_at new k) (d.each k)
 
 -- the same names everywhere
-pub names_by : (k : ℕ) (old new : Node) → name_of (attached_at new k) ≡ name_of (attached_at old k) → OthersStay k old new → (j : ℕ) → name_of (attached_at new j) ≡ name_of (attached_at old j)
+pub names_by : (k : ℕ) (old new : Node) → name_of (attached_at new k) ≡ name_of (attached_at old k)
+    → OthersStay k old new → (j : ℕ) → name_of (attached_at new j) ≡ name_of (attached_at old j)
 names_by k old new h others j = elim (eqb_tells j k) [
   | inl e ↦ subst (λ (i : ℕ). name_of (attached_at new i) ≡ name_of (attached_at old i)) (sym e.1) h
   | inr e ↦ ap name_of (others j e.1)
@@ -146,7 +157,8 @@ pub record LinkGoes (table : NamespaceTable) (old new : ClientLink) : Type 0 whe
   pub served : (c : List ℕ) → is_off (new.session.subs c) ≡ false → MayAsk table c
 
 -- a session of it that begins nothing
-pub session_moves : {table : NamespaceTable} {lists : Lists} {o : Option Attached} {n : ℕ} {l : ClientLink} → IsSeated table lists o n l → (g : Session → Session) → Keeps g → LinkGoes table l (with_session (g l.session) l)
+pub session_moves : {table : NamespaceTable} {lists : Lists} {o : Option Attached} {n : ℕ} {l : ClientLink}
+    → IsSeated table lists o n l → (g : Session → Session) → Keeps g → LinkGoes table l (with_session (g l.session) l)
 session_moves {l = l} s g keeps = record {
   node = refl;
   name = refl;
@@ -159,7 +171,8 @@ session_moves {l = l} s g keeps = record {
 }
 
 -- a link whose session does the same, with whatever else of the client
-pub link_goes : {table : NamespaceTable} {lists : Lists} {o : Option Attached} {n : ℕ} {l : ClientLink} → IsSeated table lists o n l → (l' : ClientLink) → l'.node ≡ l.node → l'.name ≡ l.name → l'.way ≡ [] → l'.up ≡ []
+pub link_goes : {table : NamespaceTable} {lists : Lists} {o : Option Attached} {n : ℕ} {l : ClientLink}
+    → IsSeated table lists o n l → (l' : ClientLink) → l'.node ≡ l.node → l'.name ≡ l.name → l'.way ≡ [] → l'.up ≡ []
     → l'.channels ≡ l.channels → (g : Session → Session) → Keeps g → l'.session ≡ g l.session → LinkGoes table l l'
 link_goes {l = l} s l' node name way up channels g keeps session = record {
   node = node;
@@ -167,14 +180,17 @@ link_goes {l = l} s l' node name way up channels g keeps session = record {
   way = way;
   up = up;
   once = subst AreDistinct (sym channels) s.once;
-  listed = λ c h. ap (is_among c) channels ∙ s.listed c (keeps.ends l.session c (ap (λ (b : Session). is_off (b.subs c)) (sym session) ∙ h));
+  listed = λ c h. ap (is_among c) channels ∙ s.listed c
+      (keeps.ends l.session c (ap (λ (b : Session). is_off (b.subs c)) (sym session) ∙ h));
   shut = subst IsShutOff (sym session) (keeps.shut l.session s.shut);
   served = λ c h. s.served c (keeps.ends l.session c (ap (λ (b : Session). is_off (b.subs c)) (sym session) ∙ h));
 }
 
 -- a link whose session asks for a channel
-pub link_asks : {table : NamespaceTable} {lists : Lists} {o : Option Attached} {n : ℕ} {l : ClientLink} → IsSeated table lists o n l → (l' : ClientLink) → l'.node ≡ l.node → l'.name ≡ l.name → l'.way ≡ [] → l'.up ≡ []
-    → (w : Words) (c : List ℕ) (id : ℕ) (since : Option Position) → l'.channels ≡ and_also c l.channels → l'.session ≡ begins w c id since l.session → l.session.closed ≡ false → MayAsk table c → LinkGoes table l l'
+pub link_asks : {table : NamespaceTable} {lists : Lists} {o : Option Attached} {n : ℕ} {l : ClientLink}
+    → IsSeated table lists o n l → (l' : ClientLink) → l'.node ≡ l.node → l'.name ≡ l.name → l'.way ≡ [] → l'.up ≡ []
+    → (w : Words) (c : List ℕ) (id : ℕ) (since : Option Position) → l'.channels ≡ and_also c l.channels
+    → l'.session ≡ begins w c id since l.session → l.session.closed ≡ false → MayAsk table c → LinkGoes table l l'
 link_asks {table = table} {l = l} s l' node name way up w c id since channels session is_open set_up = record {
   node = node;
   name = name;
@@ -186,19 +202,24 @@ link_asks {table = table} {l = l} s l' node name way up w c id since channels se
   served = λ d h. served d (ap (λ (b : Session). is_off (b.subs d)) (sym session) ∙ h);
 }
   where
-    listed : (d : List ℕ) → is_off ((begins w c id since l.session).subs d) ≡ false → is_among d (and_also c l.channels) ≡ true
+    listed : (d : List ℕ) → is_off ((begins w c id since l.session).subs d) ≡ false
+        → is_among d (and_also c l.channels) ≡ true
     listed d h = elim (text_tells d c) [
       | inl p ↦ subst (λ (z : List ℕ). is_among z (and_also c l.channels) ≡ true) (sym p.1) (also_there c l.channels)
-      | inr p ↦ also_more c l.channels d (s.listed d (sym (ap (λ (b : Bool). is_off (if b then Asked id since w.empty else l.session.subs d)) p.0) ∙ h))
+      | inr p ↦ also_more c l.channels d (s.listed d
+          (sym (ap (λ (b : Bool). is_off (if b then Asked id since w.empty else l.session.subs d)) p.0) ∙ h))
     ]
 
     served : (d : List ℕ) → is_off ((begins w c id since l.session).subs d) ≡ false → MayAsk table d
     served d h = elim (text_tells d c) [
       | inl p ↦ subst (λ (z : List ℕ). MayAsk table z) (sym p.1) set_up
-      | inr p ↦ s.served d (sym (ap (λ (b : Bool). is_off (if b then Asked id since w.empty else l.session.subs d)) p.0) ∙ h)
+      | inr p ↦ s.served d (sym (ap (λ (b : Bool). is_off (if b then Asked id since w.empty else l.session.subs d)) p.0)
+          ∙ h)
     ]
 
-pub seated_goes : {table : NamespaceTable} {lists : Lists} {o o' : Option Attached} {n : ℕ} {l l' : ClientLink} → IsSeated table lists o n l → LinkGoes table l l' → name_of o' ≡ name_of o → SaysAt lists o' l'.session → IsSeated table lists o' n l'
+pub seated_goes : {table : NamespaceTable} {lists : Lists} {o o' : Option Attached} {n : ℕ} {l l' : ClientLink}
+    → IsSeated table lists o n l → LinkGoes table l l' → name_of o' ≡ name_of o → SaysAt lists o' l'.session
+    → IsSeated table lists o' n l'
 seated_goes s g name says = record {
   at = g.node ∙ s.at;
   name = name ∙ s.name ∙ ap Some (sym g.name);
@@ -213,38 +234,57 @@ seated_goes s g name says = record {
 }
 
 -- a channel that is off is left
-pub leaves_off : (lists : Lists) (o : Option Attached) (b : Session) (c : List ℕ) → is_off (b.subs c) ≡ true → SaysAt lists o b → SaysAt lists o (leaves c b)
+pub leaves_off : (lists : Lists) (o : Option Attached) (b : Session) (c : List ℕ) → is_off (b.subs c) ≡ true
+    → SaysAt lists o b → SaysAt lists o (leaves c b)
 leaves_off lists None b c e h = absurd h
 leaves_off lists (Some a) b c e h = record {
-  subs = λ d. with-all (λ i s. AlikeSub (IsKept lists i) (a.state.subs i) s) b.subs c Off (off (a.state.subs c) (b.subs c) e (h.subs c)) (λ i ne. h.subs i) d;
+  subs = λ d. with-all (λ i s. AlikeSub (IsKept lists i) (a.state.subs i) s) b.subs c Off
+      (off (a.state.subs c) (b.subs c) e (h.subs c)) (λ i ne. h.subs i) d;
   notes = h.notes;
   closed = h.closed;
 }
   where
-    off : (s : Subscription Held) (s' : Sub) → is_off s' ≡ true → AlikeSub (IsKept lists c) s s' → AlikeSub (IsKept lists c) s Off
+    off : (s : Subscription Held) (s' : Sub) → is_off s' ≡ true → AlikeSub (IsKept lists c) s s'
+        → AlikeSub (IsKept lists c) s Off
     off s Off f g = g
     off s (Asked id since k) f g = absurd (cc)
     off s (Ready id was r k) f g = absurd (cc)
     off s (On p mark) f g = absurd (cc)
 
-seated_stays : {table : NamespaceTable} {lists : Lists} {o o' : Option Attached} {n : ℕ} {l : ClientLink} → o' ≡ o → IsSeated table lists o n l → IsSeated table lists o' n l
-seated_stays {table = table} {lists = lists} {n = n} {l = l} e s = subst (λ (z : Option Attached). IsSeated table lists z n l) (sym e) s
+seated_stays : {table : NamespaceTable} {lists : Lists} {o o' : Option Attached} {n : ℕ} {l : ClientLink} → o' ≡ o
+    → IsSeated table lists o n l → IsSeated table lists o' n l
+seated_stays {table = table} {lists = lists} {n = n} {l = l} e s =
+    subst (λ (z : Option Attached). IsSeated table lists z n l) (sym e) s
 
-module _ {cfg : Config} {hubs : ℕ → Option Node} {seats : List ℕ → Option Seat} {m : World} (t : ShowsNodes cfg hubs seats m) where
+module _ {cfg : Config} {hubs : ℕ → Option Node} {seats : List ℕ → Option SessionAddress} {m : World}
+    (t : ShowsNodes cfg hubs seats m) where
   -- the seat of a client
-  pub seat_shows : (x : List ℕ) (s : Seat) → seats x ≡ Some s → IsSeated cfg.namespaces m.broker.lists (seated hubs s) s.node (m.links x)
-  seat_shows x s e = subst (λ (o : Option Seat). ShowsLink cfg.namespaces m.broker.lists hubs o (m.links x)) e (t.links x)
+  pub seat_shows : (x : List ℕ) (s : SessionAddress) → seats x ≡ Some s
+      → IsSeated cfg.namespaces m.broker.lists (seated hubs s) s.node (m.links x)
+  seat_shows x s e =
+      subst (λ (o : Option SessionAddress). ShowsLink cfg.namespaces m.broker.lists hubs o (m.links x)) e (t.links x)
 
   pub away_shows : (x : List ℕ) → seats x ≡ None → IsAway (m.links x)
-  away_shows x e = subst (λ (o : Option Seat). ShowsLink cfg.namespaces m.broker.lists hubs o (m.links x)) e (t.links x)
+  away_shows x e =
+      subst (λ (o : Option SessionAddress). ShowsLink cfg.namespaces m.broker.lists hubs o (m.links x)) e (t.links x)
 
   -- the same of a machine's world with the same parts
-  pub nodes_same : (m' : World) → ((n : ℕ) → m'.boots n ≡ m.boots n) → ((n : ℕ) → m'.counters n ≡ m.counters n) → m'.clients ≡ m.clients → m'.broker.lists ≡ m.broker.lists
+  pub nodes_same : (m' : World) → ((n : ℕ) → m'.boots n ≡ m.boots n) → ((n : ℕ) → m'.counters n ≡ m.counters n)
+      → m'.clients ≡ m.clients → m'.broker.lists ≡ m.broker.lists
       → ((x : List ℕ) → m'.links x ≡ m.links x) → ShowsNodes cfg hubs seats m'
   nodes_same m' boots counters clients lists links = record {
     nodes = t.nodes;
-    hub = λ n h e. let was = t.hub n h e in record { node = was.node; boot = was.boot ∙ sym (boots n); used = was.used ∙ sym (counters n); few = was.few; refused = was.refused };
-    links = λ x. subst (λ (z : Lists). ShowsLink cfg.namespaces z hubs (seats x) (m'.links x)) (sym lists) (subst (λ (l : ClientLink). ShowsLink cfg.namespaces m.broker.lists hubs (seats x) l) (sym (links x)) (t.links x));
+    hub = λ n h e. let was = t.hub n h e in
+        record {
+          node = was.node;
+          boot = was.boot ∙ sym (boots n);
+          used = was.used ∙ sym (counters n);
+          few = was.few;
+          refused = was.refused;
+        };
+    links = λ x. subst (λ (z : Lists). ShowsLink cfg.namespaces z hubs (seats x) (m'.links x)) (sym lists)
+        (subst (λ (l : ClientLink). ShowsLink cfg.namespaces m.broker.lists hubs (seats x) l) (sym (links x))
+        (t.links x));
     apart = t.apart;
     onto = t.onto;
     among = λ x s e. ap (is_among x) clients ∙ t.among x s e;
@@ -252,10 +292,12 @@ module _ {cfg : Config} {hubs : ℕ → Option Node} {seats : List ℕ → Optio
   }
 
   -- the publication lists grow
-  pub lists_grow : ((old new : Lists) (a : Texts) (b : Session) → Grown old new → SaysSession old a b → SaysSession new a b) → (b : Broker) → Grown m.broker.lists b.lists → ShowsNodes cfg hubs seats (broker_with b m)
+  pub lists_grow : ((old new : Lists) (a : Texts) (b : Session) → Grown old new → SaysSession old a b
+      → SaysSession new a b) → (b : Broker) → Grown m.broker.lists b.lists → ShowsNodes cfg hubs seats (broker_with b m)
   lists_grow grows b g = record {
     nodes = t.nodes;
-    hub = λ n h e. let was = t.hub n h e in record { node = was.node; boot = was.boot; used = was.used; few = was.few; refused = was.refused };
+    hub = λ n h e. let was = t.hub n h e in
+        record { node = was.node; boot = was.boot; used = was.used; few = was.few; refused = was.refused };
     links = λ x. by_seat (seats x) (m.links x) (t.links x);
     apart = t.apart;
     onto = t.onto;
@@ -267,13 +309,27 @@ module _ {cfg : Config} {hubs : ℕ → Option Node} {seats : List ℕ → Optio
       at_grows None s h = absurd h
       at_grows (Some a) s h = grows m.broker.lists b.lists a.state s g h
 
-      by_seat : (o : Option Seat) (l : ClientLink) → ShowsLink cfg.namespaces m.broker.lists hubs o l → ShowsLink cfg.namespaces b.lists hubs o l
+      by_seat : (o : Option SessionAddress) (l : ClientLink) → ShowsLink cfg.namespaces m.broker.lists hubs o l
+          → ShowsLink cfg.namespaces b.lists hubs o l
       by_seat None l h = h
-      by_seat (Some s) l h = record { at = h.at; name = h.name; named = h.named; says = at_grows (seated hubs s) l.session h.says; way = h.way; up = h.up; once = h.once; listed = h.listed; shut = h.shut; served = h.served }
+      by_seat (Some s) l h =
+          record {
+            at = h.at;
+            name = h.name;
+            named = h.named;
+            says = at_grows (seated hubs s) l.session h.says;
+            way = h.way;
+            up = h.up;
+            once = h.once;
+            listed = h.listed;
+            shut = h.shut;
+            served = h.served;
+          }
 
   -- ---- one hub changes
 
-  module _ (n : ℕ) (h h' : Node) (was : hubs n ≡ Some h) (hubs' : ℕ → Option Node) (now : hubs' n ≡ Some h') (others : (j : ℕ) → j ≢ n → hubs' j ≡ hubs j) where
+  module _ (n : ℕ) (h h' : Node) (was : hubs n ≡ Some h) (hubs' : ℕ → Option Node) (now : hubs' n ≡ Some h')
+      (others : (j : ℕ) → j ≢ n → hubs' j ≡ hubs j) where
     hub_by : (P : ℕ → Option Node → Type 0) → P n (Some h') → ((j : ℕ) → j ≢ n → P j (hubs j)) → (j : ℕ) → P j (hubs' j)
     hub_by P here there j = elim (eqb_tells j n) [
       | inl e ↦ subst (λ (i : ℕ). P i (hubs' i)) (sym e.1) (subst (λ (o : Option Node). P n o) (sym now) here)
@@ -281,42 +337,63 @@ module _ {cfg : Config} {hubs : ℕ → Option Node} {seats : List ℕ → Optio
     ]
 
     same_nodes : (j : ℕ) → is_some (hubs' j) ≡ nat_lt j cfg.nodes
-    same_nodes j = hub_by (λ i o. is_some o ≡ nat_lt i cfg.nodes) (sym (ap is_some was) ∙ t.nodes n) (λ i ne. t.nodes i) j
+    same_nodes j =
+        hub_by (λ i o. is_some o ≡ nat_lt i cfg.nodes) (sym (ap is_some was) ∙ t.nodes n) (λ i ne. t.nodes i) j
 
-    same_hubs : (m' : World) → IsNode n h' m' → ((j : ℕ) → j ≢ n → m'.boots j ≡ m.boots j) → ((j : ℕ) → j ≢ n → m'.counters j ≡ m.counters j) → (j : ℕ) (g : Node) → hubs' j ≡ Some g → IsNode j g m'
+    same_hubs : (m' : World) → IsNode n h' m' → ((j : ℕ) → j ≢ n → m'.boots j ≡ m.boots j)
+        → ((j : ℕ) → j ≢ n → m'.counters j ≡ m.counters j) → (j : ℕ) (g : Node) → hubs' j ≡ Some g → IsNode j g m'
     same_hubs m' is boots counters j =
         hub_by (λ i o. (g : Node) → o ≡ Some g → IsNode i g m')
         (λ g e. subst (λ (z : Node). IsNode n z m') (same_Some h' g e) is)
-        (λ i ne g e. let old = t.hub i g e in record { node = old.node; boot = old.boot ∙ sym (boots i ne); used = old.used ∙ sym (counters i ne); few = old.few; refused = old.refused }) j
+        (λ i ne g e. let old = t.hub i g e in record {
+          node = old.node;
+          boot = old.boot ∙ sym (boots i ne);
+          used = old.used ∙ sym (counters i ne);
+          few = old.few;
+          refused = old.refused;
+        }) j
 
     -- where a session of hub n is there it was there
-    still_onto : ((k : ℕ) → is_some (attached_at h' k) ≡ is_some (attached_at h k)) → (j k : ℕ) → is_some (session_in (hubs' j) k) ≡ true → (x : List ℕ) × (seats x ≡ Some (record { node = j; session = k }))
+    still_onto : ((k : ℕ) → is_some (attached_at h' k) ≡ is_some (attached_at h k)) → (j k : ℕ)
+        → is_some (session_in (hubs' j) k) ≡ true → (x : List ℕ) × (seats x ≡ Some (record { node = j; session = k }))
     still_onto there j =
-        hub_by (λ i o. (k : ℕ) → is_some (session_in o k) ≡ true → (x : List ℕ) × (seats x ≡ Some (record { node = i; session = k })))
+        hub_by (λ i o. (k : ℕ) → is_some (session_in o k) ≡ true → (x : List ℕ)
+        × (seats x ≡ Some (record { node = i; session = k })))
         (λ k e. t.onto n k (ap (λ (o : Option Node). is_some (session_in o k)) was ∙ sym (there k) ∙ e))
         (λ i ne k e. t.onto i k e) j
 
     -- a seat of another node
-    pub elsewhere : (s : Seat) → s.node ≢ n → seated hubs' s ≡ seated hubs s
+    pub elsewhere : (s : SessionAddress) → s.node ≢ n → seated hubs' s ≡ seated hubs s
     elsewhere s ne = ap (λ (o : Option Node). session_in o s.session) (others s.node ne)
 
-    pub seat_was : (s : Seat) → s.node ≡ n → seated hubs s ≡ attached_at h s.session
+    pub seat_was : (s : SessionAddress) → s.node ≡ n → seated hubs s ≡ attached_at h s.session
     seat_was s e = ap (λ (o : Option Node). session_in o s.session) (ap hubs e ∙ was)
 
-    pub seat_now : (s : Seat) → s.node ≡ n → seated hubs' s ≡ attached_at h' s.session
+    pub seat_now : (s : SessionAddress) → s.node ≡ n → seated hubs' s ≡ attached_at h' s.session
     seat_now s e = ap (λ (o : Option Node). session_in o s.session) (ap hubs' e ∙ now)
 
-    module _ (same : SameNode h h') (none : h'.refused ≡ 0) (names : (k : ℕ) → name_of (attached_at h' k) ≡ name_of (attached_at h k)) where
+    module _ (same : SameNode h h') (none : h'.refused ≡ 0)
+        (names : (k : ℕ) → name_of (attached_at h' k) ≡ name_of (attached_at h k)) where
       node_is : (m' : World) → m'.boots n ≡ m.boots n → m'.counters n ≡ m.counters n → IsNode n h' m'
       node_is m' boots counters =
           let old = t.hub n h was in
-          record { node = same.node ∙ old.node; boot = same.boot ∙ old.boot ∙ sym boots; used = same.used ∙ old.used ∙ sym counters; few = subst (λ (i : ℕ). i ≤ largest) (sym same.used) old.few; refused = none }
+          record {
+            node = same.node ∙ old.node;
+            boot = same.boot ∙ old.boot ∙ sym boots;
+            used = same.used ∙ old.used ∙ sym counters;
+            few =
+                subst (λ (i : ℕ). i ≤ largest) (sym same.used) old.few;
+            refused = none;
+          }
 
       -- the links are these
-      hub_goes : (links : List ℕ → ClientLink) → ((x : List ℕ) → ShowsLink cfg.namespaces m.broker.lists hubs' (seats x) (links x)) → ShowsNodes cfg hubs' seats (record m { links = links })
+      hub_goes : (links : List ℕ → ClientLink) → ((x : List ℕ)
+          → ShowsLink cfg.namespaces m.broker.lists hubs' (seats x) (links x))
+          → ShowsNodes cfg hubs' seats (record m { links = links })
       hub_goes links shows = record {
         nodes = same_nodes;
-        hub = same_hubs (record m { links = links }) (node_is (record m { links = links }) refl refl) (λ j ne. refl) (λ j ne. refl);
+        hub = same_hubs (record m { links = links }) (node_is (record m { links = links }) refl refl) (λ j ne. refl)
+            (λ j ne. refl);
         links = shows;
         apart = t.apart;
         onto = still_onto (λ k. name_there (attached_at h k) (attached_at h' k) (names k));
@@ -328,7 +405,8 @@ module _ {cfg : Config} {hubs : ℕ → Option Node} {seats : List ℕ → Optio
       pub still_goes : ((k : ℕ) → attached_at h' k ≡ attached_at h k) → ShowsNodes cfg hubs' seats m
       still_goes stay = hub_goes m.links (λ x. by_seat (seats x) (m.links x) (t.links x))
         where
-          by_seat : (o : Option Seat) (l : ClientLink) → ShowsLink cfg.namespaces m.broker.lists hubs o l → ShowsLink cfg.namespaces m.broker.lists hubs' o l
+          by_seat : (o : Option SessionAddress) (l : ClientLink) → ShowsLink cfg.namespaces m.broker.lists hubs o l
+              → ShowsLink cfg.namespaces m.broker.lists hubs' o l
           by_seat None l g = g
           by_seat (Some s) l g = elim (eqb_tells s.node n) [
             | inl is ↦ seated_stays (seat_now s is.1 ∙ stay s.session ∙ sym (seat_was s is.1)) g
@@ -337,48 +415,77 @@ module _ {cfg : Config} {hubs : ℕ → Option Node} {seats : List ℕ → Optio
 
       -- ---- a publication is delivered
 
-      pub deliver_goes : CallsAreAlike m.broker.lists → (c e : List ℕ) (p : Placed) → IsListed m.broker.lists c e p → Delivers c e p h h'
-          → ShowsNodes cfg hubs' seats (record m { links = λ x. if on_node n (m.links x).node then with_session (comes (spoken m.broker.lists) c (at_offset e p) (m.links x).session) (m.links x) else m.links x })
-      deliver_goes calls c e p listed d = hub_goes (λ x. if on_node n (m.links x).node then with_session (comes (spoken m.broker.lists) c (at_offset e p) (m.links x).session) (m.links x) else m.links x) (λ x. by_seat x (seats x) (m.links x) (t.links x))
+      pub deliver_goes : CallsAreAlike m.broker.lists → (c e : List ℕ) (p : Placed) → IsListed m.broker.lists c e p
+          → Delivers c e p h h'
+          → ShowsNodes cfg hubs' seats (record m {
+            links = λ x. if on_node n (m.links x).node then with_session
+                (comes (spoken m.broker.lists) c (at_offset e p) (m.links x).session) (m.links x) else m.links x;
+          })
+      deliver_goes calls c e p listed d =
+          hub_goes (λ x. if on_node n (m.links x).node then with_session
+          (comes (spoken m.broker.lists) c (at_offset e p) (m.links x).session) (m.links x) else m.links x)
+          (λ x. by_seat x (seats x) (m.links x) (t.links x))
         where
-          here : (s : Seat) (l : ClientLink) → IsSeated cfg.namespaces m.broker.lists (seated hubs s) s.node l → s.node ≡ n → IsSeated cfg.namespaces m.broker.lists (seated hubs' s) s.node (with_session (comes (spoken m.broker.lists) c (at_offset e p) l.session) l)
+          here : (s : SessionAddress) (l : ClientLink) → IsSeated cfg.namespaces m.broker.lists (seated hubs s) s.node l
+              → s.node ≡ n → IsSeated cfg.namespaces m.broker.lists (seated hubs' s) s.node
+              (with_session (comes (spoken m.broker.lists) c (at_offset e p) l.session) l)
           here s l g is =
-              seated_goes g (session_moves g (comes (spoken m.broker.lists) c (at_offset e p)) (comes_keeps (spoken m.broker.lists) c (at_offset e p)))
+              seated_goes g (session_moves g (comes (spoken m.broker.lists) c (at_offset e p))
+              (comes_keeps (spoken m.broker.lists) c (at_offset e p)))
               (ap name_of (seat_now s is) ∙ names s.session ∙ sym (ap name_of (seat_was s is)))
-              (subst (λ (o : Option Attached). SaysAt m.broker.lists o (comes (spoken m.broker.lists) c (at_offset e p) l.session)) (sym (seat_now s is))
-              (calls.delivers c e p h h' listed d none s.session l.session (subst (λ (o : Option Attached). SaysAt m.broker.lists o l.session) (seat_was s is) g.says)))
+              (subst (λ (o : Option Attached). SaysAt m.broker.lists o
+              (comes (spoken m.broker.lists) c (at_offset e p) l.session)) (sym (seat_now s is))
+              (calls.delivers c e p h h' listed d none s.session l.session
+              (subst (λ (o : Option Attached). SaysAt m.broker.lists o l.session) (seat_was s is) g.says)))
 
-          by_seat : (x : List ℕ) (o : Option Seat) (l : ClientLink) → ShowsLink cfg.namespaces m.broker.lists hubs o l
-              → ShowsLink cfg.namespaces m.broker.lists hubs' o (if on_node n l.node then with_session (comes (spoken m.broker.lists) c (at_offset e p) l.session) l else l)
-          by_seat x None l g = subst (λ (b : Bool). IsAway (if b then with_session (comes (spoken m.broker.lists) c (at_offset e p) l.session) l else l)) (sym (ap (on_node n) g.node)) g
+          by_seat : (x : List ℕ) (o : Option SessionAddress) (l : ClientLink)
+              → ShowsLink cfg.namespaces m.broker.lists hubs o l
+              → ShowsLink cfg.namespaces m.broker.lists hubs' o
+              (if on_node n l.node then with_session (comes (spoken m.broker.lists) c (at_offset e p) l.session) l
+              else l)
+          by_seat x None l g =
+              subst (λ (b : Bool). IsAway (if b then with_session
+              (comes (spoken m.broker.lists) c (at_offset e p) l.session) l else l)) (sym (ap (on_node n) g.node)) g
           by_seat x (Some s) l g = elim (eqb_tells s.node n) [
             | inl is ↦
-                subst (λ (b : Bool). IsSeated cfg.namespaces m.broker.lists (seated hubs' s) s.node (if b then with_session (comes (spoken m.broker.lists) c (at_offset e p) l.session) l else l)) (sym (ap (on_node n) g.at ∙ is.0)) (here s l g is.1)
+                subst (λ (b : Bool). IsSeated cfg.namespaces m.broker.lists (seated hubs' s) s.node
+                (if b then with_session (comes (spoken m.broker.lists) c (at_offset e p) l.session) l else l))
+                (sym (ap (on_node n) g.at ∙ is.0)) (here s l g is.1)
             | inr is ↦
-                subst (λ (b : Bool). IsSeated cfg.namespaces m.broker.lists (seated hubs' s) s.node (if b then with_session (comes (spoken m.broker.lists) c (at_offset e p) l.session) l else l)) (sym (ap (on_node n) g.at ∙ is.0))
+                subst (λ (b : Bool). IsSeated cfg.namespaces m.broker.lists (seated hubs' s) s.node
+                (if b then with_session (comes (spoken m.broker.lists) c (at_offset e p) l.session) l else l))
+                (sym (ap (on_node n) g.at ∙ is.0))
                 (seated_stays (elsewhere s is.1) g)
           ]
 
     -- ---- one session goes on, with its link
 
-    pub session_goes : (x : List ℕ) (s : Seat) → seats x ≡ Some s → s.node ≡ n → SameNode h h' → h'.refused ≡ 0 → OthersStay s.session h h' → name_of (attached_at h' s.session) ≡ name_of (attached_at h s.session)
-        → (l : ClientLink) → LinkGoes cfg.namespaces (m.links x) l → (SaysAt m.broker.lists (attached_at h s.session) (m.links x).session → SaysAt m.broker.lists (attached_at h' s.session) l.session)
+    pub session_goes : (x : List ℕ) (s : SessionAddress) → seats x ≡ Some s → s.node ≡ n → SameNode h h'
+        → h'.refused ≡ 0 → OthersStay s.session h h' → name_of (attached_at h' s.session)
+        ≡ name_of (attached_at h s.session)
+        → (l : ClientLink) → LinkGoes cfg.namespaces (m.links x) l
+        → (SaysAt m.broker.lists (attached_at h s.session) (m.links x).session
+        → SaysAt m.broker.lists (attached_at h' s.session) l.session)
         → ShowsNodes cfg hubs' seats (link_with x l m)
-    session_goes x s sits is same none stay name l goes says = hub_goes same none (names_by s.session h h' name stay) (with m.links x l) shows
+    session_goes x s sits is same none stay name l goes says =
+        hub_goes same none (names_by s.session h h' name stay) (with m.links x l) shows
       where
         mine : ShowsLink cfg.namespaces m.broker.lists hubs' (seats x) l
         mine =
             let g = seat_shows x s sits in
-            subst (λ (o : Option Seat). ShowsLink cfg.namespaces m.broker.lists hubs' o l) (sym sits)
+            subst (λ (o : Option SessionAddress). ShowsLink cfg.namespaces m.broker.lists hubs' o l) (sym sits)
             (seated_goes g goes (ap name_of (seat_now s is) ∙ name ∙ sym (ap name_of (seat_was s is)))
             (subst (λ (o : Option Attached). SaysAt m.broker.lists o l.session) (sym (seat_now s is))
-            (says (subst (λ (o : Option Attached). SaysAt m.broker.lists o (m.links x).session) (seat_was s is) g.says))))
+            (says (subst (λ (o : Option Attached). SaysAt m.broker.lists o (m.links x).session) (seat_was s is)
+            g.says))))
 
         -- another client's seat is another one
-        apart : (y : List ℕ) (o : Seat) → y ≢ x → seats y ≡ Some o → o.node ≡ n → o.session ≢ s.session
+        apart : (y : List ℕ) (o : SessionAddress) → y ≢ x → seats y ≡ Some o → o.node ≡ n → o.session ≢ s.session
         apart y o ne e f same_session = ne (t.apart y x s (e ∙ ap Some (seats_are o s (f ∙ sym is) same_session)) sits)
 
-        yours : (y : List ℕ) → y ≢ x → (o : Option Seat) → seats y ≡ o → ShowsLink cfg.namespaces m.broker.lists hubs o (m.links y) → ShowsLink cfg.namespaces m.broker.lists hubs' o (m.links y)
+        yours : (y : List ℕ) → y ≢ x → (o : Option SessionAddress) → seats y ≡ o
+            → ShowsLink cfg.namespaces m.broker.lists hubs o (m.links y)
+            → ShowsLink cfg.namespaces m.broker.lists hubs' o (m.links y)
         yours y ne None e g = g
         yours y ne (Some o) e g = elim (eqb_tells o.node n) [
           | inl f ↦ seated_stays (seat_now o f.1 ∙ stay o.session (apart y o ne e f.1) ∙ sym (seat_was o f.1)) g
@@ -386,17 +493,21 @@ module _ {cfg : Config} {hubs : ℕ → Option Node} {seats : List ℕ → Optio
         ]
 
         shows : (y : List ℕ) → ShowsLink cfg.namespaces m.broker.lists hubs' (seats y) (with m.links x l y)
-        shows y = with-all (λ z k. ShowsLink cfg.namespaces m.broker.lists hubs' (seats z) k) m.links x l mine (λ z ne. yours z ne (seats z) refl (t.links z)) y
+        shows y = with-all (λ z k. ShowsLink cfg.namespaces m.broker.lists hubs' (seats z) k) m.links x l mine
+            (λ z ne. yours z ne (seats z) refl (t.links z)) y
 
     -- ---- a session comes, or goes
 
-    module _ (x : List ℕ) (seats' : List ℕ → Option Seat) where
-      pub attach_goes : CallsAreAlike m.broker.lists → (k now_at : ℕ) (user : List ℕ) → seats x ≡ None → attached_at h k ≡ None → h.used ≢ largest → Opens k user now_at h h'
-          → ((y : List ℕ) → seats' y ≡ with seats x (Some (record { node = n; session = k })) y) → ShowsNodes cfg hubs' seats' (connects x n m)
+    module _ (x : List ℕ) (seats' : List ℕ → Option SessionAddress) where
+      pub attach_goes : CallsAreAlike m.broker.lists → (k now_at : ℕ) (user : List ℕ) → seats x ≡ None
+          → attached_at h k ≡ None → h.used ≢ largest → Opens k user now_at h h'
+          → ((y : List ℕ) → seats' y ≡ with seats x (Some (record { node = n; session = k })) y)
+          → ShowsNodes cfg hubs' seats' (connects x n m)
       attach_goes calls k now_at user none free not_last o sits = record {
         nodes = same_nodes;
         hub = same_hubs (connects x n m) is (λ j ne. refl) (λ j ne. other_count j ne);
-        links = λ y. subst (λ (v : Option Seat). ShowsLink cfg.namespaces m.broker.lists hubs' v ((connects x n m).links y)) (sym (sits y)) (shows y);
+        links = λ y. subst (λ (v : Option SessionAddress). ShowsLink cfg.namespaces m.broker.lists hubs' v
+            ((connects x n m).links y)) (sym (sits y)) (shows y);
         apart = λ y z s e f. apart y z s (sym (sits y) ∙ e) (sym (sits z) ∙ f);
         onto = onto;
         among = λ y s e. among y s (sym (sits y) ∙ e);
@@ -416,17 +527,22 @@ module _ {cfg : Config} {hubs : ℕ → Option Node} {seats : List ℕ → Optio
           is = record {
             node = o.node ∙ old.node;
             boot = o.boot ∙ old.boot;
-            used = o.used ∙ ap (λ (i : ℕ). i + 1) old.used ∙ sym (ap (λ (b : Bool). if b then m.counters n + 1 else m.counters n) (eq-eqb n n refl));
+            used = o.used ∙ ap (λ (i : ℕ). i + 1) old.used
+                ∙ sym (ap (λ (b : Bool). if b then m.counters n + 1 else m.counters n) (eq-eqb n n refl));
             few = last_but h.used h'.used largest o.used old.few not_last;
             refused = o.refused ∙ old.refused;
           }
 
-          there : (y : List ℕ) (s : Seat) → seats y ≡ Some s → s.node ≡ n → s.session ≢ k
+          there : (y : List ℕ) (s : SessionAddress) → seats y ≡ Some s → s.node ≡ n → s.session ≢ k
           there y s e f g =
               let shown = seat_shows y s e in
-              nobody m.broker.lists (attached_at h s.session) (ap (attached_at h) g ∙ free) (m.links y).session (subst (λ (v : Option Attached). SaysAt m.broker.lists v (m.links y).session) (seat_was s f) shown.says)
+              nobody m.broker.lists (attached_at h s.session) (ap (attached_at h) g ∙ free) (m.links y).session
+              (subst (λ (v : Option Attached). SaysAt m.broker.lists v (m.links y).session) (seat_was s f)
+              shown.says)
 
-          yours : (y : List ℕ) (v : Option Seat) → seats y ≡ v → ShowsLink cfg.namespaces m.broker.lists hubs v (m.links y) → ShowsLink cfg.namespaces m.broker.lists hubs' v (m.links y)
+          yours : (y : List ℕ) (v : Option SessionAddress) → seats y ≡ v
+              → ShowsLink cfg.namespaces m.broker.lists hubs v (m.links y)
+              → ShowsLink cfg.namespaces m.broker.lists hubs' v (m.links y)
           yours y None e g = g
           yours y (Some s) e g = elim (eqb_tells s.node n) [
             | inl f ↦ seated_stays (seat_now s f.1 ∙ o.others s.session (there y s e f.1) ∙ sym (seat_was s f.1)) g
@@ -440,68 +556,101 @@ module _ {cfg : Config} {hubs : ℕ → Option Node} {seats : List ℕ → Optio
           name =
               ap name_of o.here ∙ (λ i. Some (client_id (old.node i) (old.boot i) (old.used i + 1)))
 
-          came : IsSeated cfg.namespaces m.broker.lists (seated hubs' (seat_of n k)) n (record (m.links x) { node = Some n; name = machine_id n (m.boots n) (m.counters n + 1) })
+          came : IsSeated cfg.namespaces m.broker.lists (seated hubs' (seat_of n k)) n
+              (record (m.links x) { node = Some n; name = machine_id n (m.boots n) (m.counters n + 1) })
           came = record {
             at = refl;
             name = ap name_of (seat_now (seat_of n k) refl) ∙ name;
             named = id_there n (m.boots n) (m.counters n + 1);
-            says = subst (λ (v : Option Attached). SaysAt m.broker.lists v (m.links x).session) (sym (seat_now (seat_of n k) refl)) (subst (λ (b : Session). SaysAt m.broker.lists (attached_at h' k) b) (sym away.session) (calls.attaches k now_at user h h' o));
+            says = subst (λ (v : Option Attached). SaysAt m.broker.lists v (m.links x).session)
+                (sym (seat_now (seat_of n k) refl)) (subst (λ (b : Session). SaysAt m.broker.lists (attached_at h' k) b)
+                (sym away.session) (calls.attaches k now_at user h h' o));
             way = away.way;
             up = away.up;
             once = subst AreDistinct (sym away.channels) tt;
-            listed = λ c g. absurd (let none : true ≡ false = ap (λ (b : Session). is_off (b.subs c)) (sym away.session) ∙ g in cc);
+            listed = λ c g. absurd (let none : true ≡ false = ap (λ (b : Session). is_off (b.subs c)) (sym away.session)
+                ∙ g in cc);
             shut = subst IsShutOff (sym away.session) (λ e c. refl);
-            served = λ c g. absurd (let none : true ≡ false = ap (λ (b : Session). is_off (b.subs c)) (sym away.session) ∙ g in cc);
+            served = λ c g. absurd (let none : true ≡ false = ap (λ (b : Session). is_off (b.subs c)) (sym away.session)
+                ∙ g in cc);
           }
 
-          shows : (y : List ℕ) → ShowsLink cfg.namespaces m.broker.lists hubs' (with seats x (Some (seat_of n k)) y) ((connects x n m).links y)
+          shows : (y : List ℕ) → ShowsLink cfg.namespaces m.broker.lists hubs' (with seats x (Some (seat_of n k)) y)
+              ((connects x n m).links y)
           shows y =
-              with-both (λ z v l. ShowsLink cfg.namespaces m.broker.lists hubs' v l) seats m.links x (Some (seat_of n k)) (record (m.links x) { node = Some n; name = machine_id n (m.boots n) (m.counters n + 1) })
+              with-both (λ z v l. ShowsLink cfg.namespaces m.broker.lists hubs' v l) seats m.links x
+              (Some (seat_of n k)) (record (m.links x) {
+                node = Some n;
+                name = machine_id n (m.boots n) (m.counters n + 1);
+              })
               came (λ z ne. yours z (seats z) refl (t.links z)) y
 
-          fresh_seat : (y : List ℕ) (s : Seat) → seats y ≡ Some s → s ≡ (seat_of n k) → ⊥
-          fresh_seat y s e f = there y s e (ap (λ (z : Seat). z.node) f) (ap (λ (z : Seat). z.session) f)
+          fresh_seat : (y : List ℕ) (s : SessionAddress) → seats y ≡ Some s → s ≡ (seat_of n k) → ⊥
+          fresh_seat y s e f =
+              there y s e (ap (λ (z : SessionAddress). z.node) f) (ap (λ (z : SessionAddress). z.session) f)
 
-          apart : (y z : List ℕ) (s : Seat) → with seats x (Some (seat_of n k)) y ≡ Some s → with seats x (Some (seat_of n k)) z ≡ Some s → y ≡ z
+          apart : (y z : List ℕ) (s : SessionAddress) → with seats x (Some (seat_of n k)) y ≡ Some s
+              → with seats x (Some (seat_of n k)) z ≡ Some s → y ≡ z
           apart y z s e f = elim (text_tells y x) [
             | inl p ↦ elim (text_tells z x) [
               | inl q ↦ p.1 ∙ sym q.1
               | inr q ↦
                   absurd (fresh_seat z s (sym (with-other seats x (Some (seat_of n k)) z q.1) ∙ f)
-                  (sym (same_Some (seat_of n k) s (sym (ap (λ (b : Bool). if b then Some (seat_of n k) else seats y) p.0) ∙ e))))
+                  (sym (same_Some (seat_of n k) s (sym (ap (λ (b : Bool). if b then Some (seat_of n k) else seats y)
+                  p.0) ∙ e))))
             ]
             | inr p ↦ elim (text_tells z x) [
               | inl q ↦
                   absurd (fresh_seat y s (sym (with-other seats x (Some (seat_of n k)) y p.1) ∙ e)
-                  (sym (same_Some (seat_of n k) s (sym (ap (λ (b : Bool). if b then Some (seat_of n k) else seats z) q.0) ∙ f))))
-              | inr q ↦ t.apart y z s (sym (with-other seats x (Some (seat_of n k)) y p.1) ∙ e) (sym (with-other seats x (Some (seat_of n k)) z q.1) ∙ f)
+                  (sym (same_Some (seat_of n k) s (sym (ap (λ (b : Bool). if b then Some (seat_of n k) else seats z)
+                  q.0) ∙ f))))
+              | inr q ↦ t.apart y z s (sym (with-other seats x (Some (seat_of n k)) y p.1) ∙ e)
+                  (sym (with-other seats x (Some (seat_of n k)) z q.1) ∙ f)
             ]
           ]
 
-          still : (j i : ℕ) → (r : (y : List ℕ) × (seats y ≡ Some (record { node = j; session = i }))) → (y : List ℕ) × (seats' y ≡ Some (record { node = j; session = i }))
-          still j i r = (r.0, sits r.0 ∙ with-other seats x (Some (seat_of n k)) r.0 (λ e. none-some (record { node = j; session = i }) (sym none ∙ ap seats (sym e) ∙ r.1)) ∙ r.1)
+          still : (j i : ℕ) → (r : (y : List ℕ) × (seats y ≡ Some (record { node = j; session = i }))) → (y : List ℕ)
+              × (seats' y ≡ Some (record { node = j; session = i }))
+          still j i r = (
+            r.0,
+            sits r.0 ∙ with-other seats x (Some (seat_of n k)) r.0
+                (λ e. none-some (record { node = j; session = i }) (sym none ∙ ap seats (sym e) ∙ r.1)) ∙ r.1,
+          )
 
-          at_new : (i : ℕ) → is_some (attached_at h' i) ≡ true → (y : List ℕ) × (seats' y ≡ Some (record { node = n; session = i }))
+          at_new : (i : ℕ) → is_some (attached_at h' i) ≡ true → (y : List ℕ)
+              × (seats' y ≡ Some (record { node = n; session = i }))
           at_new i e = elim (eqb_tells i k) [
-            | inl p ↦ (x, sits x ∙ with-same seats x (Some (seat_of n k)) ∙ ap Some (seats_are (seat_of n k) (record { node = n; session = i }) refl (sym p.1)))
-            | inr p ↦ still n i (t.onto n i (ap (λ (v : Option Node). is_some (session_in v i)) was ∙ ap is_some (sym (o.others i p.1)) ∙ e))
+            | inl p ↦ (
+              x,
+              sits x ∙ with-same seats x (Some (seat_of n k))
+                  ∙ ap Some (seats_are (seat_of n k) (record { node = n; session = i }) refl (sym p.1)),
+            )
+            | inr p ↦ still n i (t.onto n i (ap (λ (v : Option Node). is_some (session_in v i)) was
+                ∙ ap is_some (sym (o.others i p.1)) ∙ e))
           ]
 
-          onto : (j i : ℕ) → is_some (session_in (hubs' j) i) ≡ true → (y : List ℕ) × (seats' y ≡ Some (record { node = j; session = i }))
-          onto j = hub_by (λ a v. (i : ℕ) → is_some (session_in v i) ≡ true → (y : List ℕ) × (seats' y ≡ Some (record { node = a; session = i }))) at_new (λ a ne i e. still a i (t.onto a i e)) j
+          onto : (j i : ℕ) → is_some (session_in (hubs' j) i) ≡ true → (y : List ℕ)
+              × (seats' y ≡ Some (record { node = j; session = i }))
+          onto j = hub_by (λ a v. (i : ℕ) → is_some (session_in v i) ≡ true → (y : List ℕ)
+              × (seats' y ≡ Some (record { node = a; session = i }))) at_new (λ a ne i e. still a i (t.onto a i e)) j
 
-          among : (y : List ℕ) (s : Seat) → with seats x (Some (seat_of n k)) y ≡ Some s → is_among y (and_also x m.clients) ≡ true
+          among : (y : List ℕ) (s : SessionAddress) → with seats x (Some (seat_of n k)) y ≡ Some s
+              → is_among y (and_also x m.clients) ≡ true
           among y s e = elim (text_tells y x) [
-            | inl p ↦ subst (λ (z : List ℕ). is_among z (and_also x m.clients) ≡ true) (sym p.1) (also_there x m.clients)
+            | inl p ↦ subst (λ (z : List ℕ). is_among z (and_also x m.clients) ≡ true) (sym p.1)
+                (also_there x m.clients)
             | inr p ↦ also_more x m.clients y (t.among y s (sym (with-other seats x (Some (seat_of n k)) y p.1) ∙ e))
           ]
 
-      pub detach_goes : (s : Seat) → seats x ≡ Some s → s.node ≡ n → SameRest h h' → OthersStay s.session h h' → attached_at h' s.session ≡ None
-          → ((y : List ℕ) → seats' y ≡ with seats x None y) → (l : ClientLink) → IsAway l → ShowsNodes cfg hubs' seats' (link_with x l m)
+      pub detach_goes : (s : SessionAddress) → seats x ≡ Some s → s.node ≡ n → SameRest h h' → OthersStay s.session h h'
+          → attached_at h' s.session ≡ None
+          → ((y : List ℕ) → seats' y ≡ with seats x None y) → (l : ClientLink) → IsAway l
+          → ShowsNodes cfg hubs' seats' (link_with x l m)
       detach_goes s sat at rest stay gone sits l away = record {
         nodes = same_nodes;
         hub = same_hubs (link_with x l m) is (λ j ne. refl) (λ j ne. refl);
-        links = λ y. subst (λ (v : Option Seat). ShowsLink cfg.namespaces m.broker.lists hubs' v (with m.links x l y)) (sym (sits y)) (shows y);
+        links = λ y. subst (λ (v : Option SessionAddress). ShowsLink cfg.namespaces m.broker.lists hubs' v
+            (with m.links x l y)) (sym (sits y)) (shows y);
         apart = λ y z o e f. t.apart y z o (before y o (sym (sits y) ∙ e)) (before z o (sym (sits z) ∙ f));
         onto = onto;
         among = λ y o e. t.among y o (before y o (sym (sits y) ∙ e));
@@ -512,60 +661,85 @@ module _ {cfg : Config} {hubs : ℕ → Option Node} {seats : List ℕ → Optio
           old = t.hub n h was
 
           is : IsNode n h' (link_with x l m)
-          is = record { node = rest.node ∙ old.node; boot = rest.boot ∙ old.boot; used = rest.used ∙ old.used; few = subst (λ (i : ℕ). i ≤ largest) (sym rest.used) old.few; refused = rest.refused ∙ old.refused }
+          is = record {
+            node = rest.node ∙ old.node;
+            boot = rest.boot ∙ old.boot;
+            used = rest.used ∙ old.used;
+            few = subst (λ (i : ℕ). i ≤ largest) (sym rest.used) old.few;
+            refused = rest.refused ∙ old.refused;
+          }
 
-          before : (y : List ℕ) (o : Seat) → with seats x None y ≡ Some o → seats y ≡ Some o
+          before : (y : List ℕ) (o : SessionAddress) → with seats x None y ≡ Some o → seats y ≡ Some o
           before y o e = elim (text_tells y x) [
             | inl p ↦ absurd (none-some o (sym (ap (λ (b : Bool). if b then None else seats y) p.0) ∙ e))
             | inr p ↦ sym (with-other seats x None y p.1) ∙ e
           ]
 
-          other : (y : List ℕ) (o : Seat) → y ≢ x → seats y ≡ Some o → o.node ≡ n → o.session ≢ s.session
+          other : (y : List ℕ) (o : SessionAddress) → y ≢ x → seats y ≡ Some o → o.node ≡ n → o.session ≢ s.session
           other y o ne e f g = ne (t.apart y x s (e ∙ ap Some (seats_are o s (f ∙ sym at) g)) sat)
 
-          yours : (y : List ℕ) → y ≢ x → (v : Option Seat) → seats y ≡ v → ShowsLink cfg.namespaces m.broker.lists hubs v (m.links y) → ShowsLink cfg.namespaces m.broker.lists hubs' v (m.links y)
+          yours : (y : List ℕ) → y ≢ x → (v : Option SessionAddress) → seats y ≡ v
+              → ShowsLink cfg.namespaces m.broker.lists hubs v (m.links y)
+              → ShowsLink cfg.namespaces m.broker.lists hubs' v (m.links y)
           yours y ne None e g = g
           yours y ne (Some o) e g = elim (eqb_tells o.node n) [
             | inl f ↦ seated_stays (seat_now o f.1 ∙ stay o.session (other y o ne e f.1) ∙ sym (seat_was o f.1)) g
             | inr f ↦ seated_stays (elsewhere o f.1) g
           ]
 
-          shows : (y : List ℕ) → ShowsLink cfg.namespaces m.broker.lists hubs' (with seats x None y) (with m.links x l y)
-          shows y = with-both (λ z v k. ShowsLink cfg.namespaces m.broker.lists hubs' v k) seats m.links x None l away (λ z ne. yours z ne (seats z) refl (t.links z)) y
+          shows : (y : List ℕ) → ShowsLink cfg.namespaces m.broker.lists hubs' (with seats x None y)
+              (with m.links x l y)
+          shows y = with-both (λ z v k. ShowsLink cfg.namespaces m.broker.lists hubs' v k) seats m.links x None l away
+              (λ z ne. yours z ne (seats z) refl (t.links z)) y
 
-          at_new : (i : ℕ) → is_some (attached_at h' i) ≡ true → (y : List ℕ) × (seats' y ≡ Some (record { node = n; session = i }))
+          at_new : (i : ℕ) → is_some (attached_at h' i) ≡ true → (y : List ℕ)
+              × (seats' y ≡ Some (record { node = n; session = i }))
           at_new i e = elim (eqb_tells i s.session) [
             | inl p ↦ absurd (let none : false ≡ true = sym (ap is_some (ap (attached_at h') p.1 ∙ gone)) ∙ e in cc)
-            | inr p ↦ still n i (λ a f. p.1 f) (t.onto n i (ap (λ (v : Option Node). is_some (session_in v i)) was ∙ ap is_some (sym (stay i p.1)) ∙ e))
+            | inr p ↦ still n i (λ a f. p.1 f) (t.onto n i
+                (ap (λ (v : Option Node). is_some (session_in v i)) was ∙ ap is_some (sym (stay i p.1)) ∙ e))
           ]
             where
-              still : (j i : ℕ) → (j ≡ n → i ≡ s.session → ⊥) → (r : (y : List ℕ) × (seats y ≡ Some (record { node = j; session = i }))) → (y : List ℕ) × (seats' y ≡ Some (record { node = j; session = i }))
+              still : (j i : ℕ) → (j ≡ n → i ≡ s.session → ⊥)
+                  → (r : (y : List ℕ) × (seats y ≡ Some (record { node = j; session = i }))) → (y : List ℕ)
+                  × (seats' y ≡ Some (record { node = j; session = i }))
               still j i apart r = (
                 r.0,
                 sits r.0 ∙ with-other seats x None r.0 (λ f.
-                    let same : s ≡ record { node = j; session = i } = same_Some s (record { node = j; session = i }) (sym sat ∙ ap seats (sym f) ∙ r.1) in
-                    apart (sym (ap (λ (z : Seat). z.node) same) ∙ at) (sym (ap (λ (z : Seat). z.session) same))) ∙ r.1,
+                    let same : s ≡ record { node = j; session = i } =
+                    same_Some s (record { node = j; session = i }) (sym sat ∙ ap seats (sym f) ∙ r.1) in
+                    apart (sym (ap (λ (z : SessionAddress). z.node) same) ∙ at)
+                    (sym (ap (λ (z : SessionAddress). z.session) same))) ∙ r.1,
               )
 
-          elsewhere_still : (j i : ℕ) → j ≢ n → (r : (y : List ℕ) × (seats y ≡ Some (record { node = j; session = i }))) → (y : List ℕ) × (seats' y ≡ Some (record { node = j; session = i }))
+          elsewhere_still : (j i : ℕ) → j ≢ n → (r : (y : List ℕ) × (seats y ≡ Some (record { node = j; session = i })))
+              → (y : List ℕ) × (seats' y ≡ Some (record { node = j; session = i }))
           elsewhere_still j i ne r = (
             r.0,
             sits r.0 ∙ with-other seats x None r.0 (λ f.
-                let same : s ≡ record { node = j; session = i } = same_Some s (record { node = j; session = i }) (sym sat ∙ ap seats (sym f) ∙ r.1) in
-                ne (sym (ap (λ (z : Seat). z.node) same) ∙ at)) ∙ r.1,
+                let same : s ≡ record { node = j; session = i } =
+                same_Some s (record { node = j; session = i }) (sym sat ∙ ap seats (sym f) ∙ r.1) in
+                ne (sym (ap (λ (z : SessionAddress). z.node) same) ∙ at)) ∙ r.1,
           )
 
-          onto : (j i : ℕ) → is_some (session_in (hubs' j) i) ≡ true → (y : List ℕ) × (seats' y ≡ Some (record { node = j; session = i }))
-          onto j = hub_by (λ a v. (i : ℕ) → is_some (session_in v i) ≡ true → (y : List ℕ) × (seats' y ≡ Some (record { node = a; session = i }))) at_new (λ a ne i e. elsewhere_still a i ne (t.onto a i e)) j
+          onto : (j i : ℕ) → is_some (session_in (hubs' j) i) ≡ true → (y : List ℕ)
+              × (seats' y ≡ Some (record { node = j; session = i }))
+          onto j = hub_by (λ a v. (i : ℕ) → is_some (session_in v i) ≡ true → (y : List ℕ)
+              × (seats' y ≡ Some (record { node = a; session = i }))) at_new
+              (λ a ne i e. elsewhere_still a i ne (t.onto a i e)) j
 
     -- ---- a node restarts
 
-    pub restart_goes : h' ≡ empty n (m.boots n + 1) → (seats' : List ℕ → Option Seat) → ((y : List ℕ) → seats' y ≡ leave_node n (seats y)) → ShowsNodes cfg hubs' seats' (restarts n m)
+    pub restart_goes : h' ≡ empty n (m.boots n + 1) → (seats' : List ℕ → Option SessionAddress)
+        → ((y : List ℕ) → seats' y ≡ leave_node n (seats y)) → ShowsNodes cfg hubs' seats' (restarts n m)
     restart_goes new seats' sits = record {
       nodes = same_nodes;
-      hub = same_hubs (restarts n m) is (λ j ne. with_at_other m.boots n (m.boots n + 1) j ne) (λ j ne. with_at_other m.counters n 0 j ne);
-      links = λ y. subst (λ (v : Option Seat). ShowsLink cfg.namespaces m.broker.lists hubs' v ((restarts n m).links y)) (sym (sits y)) (by_seat (seats y) (m.links y) (t.links y));
-      apart = λ y z s e f. t.apart y z s (before (seats y) s (sym (sits y) ∙ e)) (before (seats z) s (sym (sits z) ∙ f));
+      hub = same_hubs (restarts n m) is (λ j ne. with_at_other m.boots n (m.boots n + 1) j ne)
+          (λ j ne. with_at_other m.counters n 0 j ne);
+      links = λ y. subst (λ (v : Option SessionAddress). ShowsLink cfg.namespaces m.broker.lists hubs' v
+          ((restarts n m).links y)) (sym (sits y)) (by_seat (seats y) (m.links y) (t.links y));
+      apart = λ y z s e f. t.apart y z s (before (seats y) s (sym (sits y) ∙ e))
+          (before (seats z) s (sym (sits z) ∙ f));
       onto = onto;
       among = λ y s e. t.among y s (before (seats y) s (sym (sits y) ∙ e));
       distinct = t.distinct;
@@ -580,7 +754,7 @@ module _ {cfg : Config} {hubs : ℕ → Option Node} {seats : List ℕ → Optio
           refused = ap (λ (z : Node). z.refused) new;
         }
 
-        before : (v : Option Seat) (s : Seat) → leave_node n v ≡ Some s → v ≡ Some s
+        before : (v : Option SessionAddress) (s : SessionAddress) → leave_node n v ≡ Some s → v ≡ Some s
         before None s e = e
         before (Some o) s e = by_value (o.node == n) e
           where
@@ -588,35 +762,48 @@ module _ {cfg : Config} {hubs : ℕ → Option Node} {seats : List ℕ → Optio
             by_value true f = absurd (none-some s f)
             by_value false f = f
 
-        by_seat : (v : Option Seat) (l : ClientLink) → ShowsLink cfg.namespaces m.broker.lists hubs v l → ShowsLink cfg.namespaces m.broker.lists hubs' (leave_node n v) (if on_node n l.node then breaks l else l)
+        by_seat : (v : Option SessionAddress) (l : ClientLink) → ShowsLink cfg.namespaces m.broker.lists hubs v l
+            → ShowsLink cfg.namespaces m.broker.lists hubs' (leave_node n v) (if on_node n l.node then breaks l else l)
         by_seat None l g = subst (λ (b : Bool). IsAway (if b then breaks l else l)) (sym (ap (on_node n) g.node)) g
         by_seat (Some s) l g = elim (eqb_tells s.node n) [
           | inl p ↦
-              subst (λ (b : Bool). ShowsLink cfg.namespaces m.broker.lists hubs' (if b then None else Some s) (if on_node n l.node then breaks l else l)) (sym p.0)
-              (subst (λ (b : Bool). IsAway (if b then breaks l else l)) (sym (ap (on_node n) g.at ∙ p.0)) (record { node = refl; session = refl; channels = refl; way = refl; up = refl }))
+              subst (λ (b : Bool). ShowsLink cfg.namespaces m.broker.lists hubs' (if b then None else Some s)
+              (if on_node n l.node then breaks l else l)) (sym p.0)
+              (subst (λ (b : Bool). IsAway (if b then breaks l else l)) (sym (ap (on_node n) g.at ∙ p.0))
+              (record { node = refl; session = refl; channels = refl; way = refl; up = refl }))
           | inr p ↦
-              subst (λ (b : Bool). ShowsLink cfg.namespaces m.broker.lists hubs' (if b then None else Some s) (if on_node n l.node then breaks l else l)) (sym p.0)
-              (subst (λ (b : Bool). IsSeated cfg.namespaces m.broker.lists (seated hubs' s) s.node (if b then breaks l else l)) (sym (ap (on_node n) g.at ∙ p.0)) (seated_stays (elsewhere s p.1) g))
+              subst (λ (b : Bool). ShowsLink cfg.namespaces m.broker.lists hubs' (if b then None else Some s)
+              (if on_node n l.node then breaks l else l)) (sym p.0)
+              (subst (λ (b : Bool). IsSeated cfg.namespaces m.broker.lists (seated hubs' s) s.node
+              (if b then breaks l else l)) (sym (ap (on_node n) g.at ∙ p.0)) (seated_stays (elsewhere s p.1) g))
         ]
 
-        at_new : (i : ℕ) → is_some (attached_at h' i) ≡ true → (y : List ℕ) × (seats' y ≡ Some (record { node = n; session = i }))
+        at_new : (i : ℕ) → is_some (attached_at h' i) ≡ true → (y : List ℕ)
+            × (seats' y ≡ Some (record { node = n; session = i }))
         at_new i e = absurd (let none : false ≡ true = sym (ap (λ (z : Node). is_some (attached_at z i)) new) ∙ e in cc)
 
-        onto : (j i : ℕ) → is_some (session_in (hubs' j) i) ≡ true → (y : List ℕ) × (seats' y ≡ Some (record { node = j; session = i }))
+        onto : (j i : ℕ) → is_some (session_in (hubs' j) i) ≡ true → (y : List ℕ)
+            × (seats' y ≡ Some (record { node = j; session = i }))
         onto j =
-            hub_by (λ a v. (i : ℕ) → is_some (session_in v i) ≡ true → (y : List ℕ) × (seats' y ≡ Some (record { node = a; session = i }))) at_new
+            hub_by (λ a v. (i : ℕ) → is_some (session_in v i) ≡ true → (y : List ℕ)
+            × (seats' y ≡ Some (record { node = a; session = i }))) at_new
             (λ a ne i e.
-            let r = t.onto a i e in
-            (r.0, sits r.0 ∙ ap (leave_node n) r.1 ∙ ap (λ (b : Bool). if b then None else Some (record { node = a; session = i })) (ne_eqb a n ne)))
+            let r = t.onto a i e in (
+              r.0,
+              sits r.0 ∙ ap (leave_node n) r.1 ∙ ap (λ (b : Bool). if b then None
+                  else Some (record { node = a; session = i })) (ne_eqb a n ne),
+            ))
             j
 
   -- ---- the clients of one node, for counting
 
-  pub seats_at : (n : ℕ) (h : Node) → hubs n ≡ Some h → AreFollows h.rows → Agrees (attached_at h) h.rows → IsBounded (attached_at h) → Seats n h m.links m.clients (λ x. number_at n (seats x))
+  pub seats_at : (n : ℕ) (h : Node) → hubs n ≡ Some h → AreFollows h.rows → Agrees (attached_at h) h.rows
+      → IsBounded (attached_at h) → Seats n h m.links m.clients (λ x. number_at n (seats x))
   seats_at n h was follows agrees bounded = record {
     on = λ x. on_by (seats x) (m.links x) (t.links x);
     there = λ x k e. there x k (number_is n (seats x) k e);
-    apart = λ x y k e f. t.apart x y (record { node = n; session = k }) (number_is n (seats x) k e) (number_is n (seats y) k f);
+    apart = λ x y k e f. t.apart x y (record { node = n; session = k }) (number_is n (seats x) k e)
+        (number_is n (seats y) k f);
     onto = λ k e.
         let r = t.onto n k (ap (λ (v : Option Node). is_some (session_in v k)) was ∙ e) in
         (r.0, ap (number_at n) r.1 ∙ ap (λ (b : Bool). if b then Some k else None) (eq-eqb n n refl));
@@ -629,7 +816,8 @@ module _ {cfg : Config} {hubs : ℕ → Option Node} {seats : List ℕ → Optio
     bounded = bounded;
   }
     where
-      on_by : (v : Option Seat) (l : ClientLink) → ShowsLink cfg.namespaces m.broker.lists hubs v l → is_some (number_at n v) ≡ on_node n l.node
+      on_by : (v : Option SessionAddress) (l : ClientLink) → ShowsLink cfg.namespaces m.broker.lists hubs v l
+          → is_some (number_at n v) ≡ on_node n l.node
       on_by None l g = sym (ap (on_node n) g.node)
       on_by (Some s) l g = by_value (s.node == n) ∙ sym (ap (on_node n) g.at)
         where
@@ -637,17 +825,26 @@ module _ {cfg : Config} {hubs : ℕ → Option Node} {seats : List ℕ → Optio
           by_value true = refl
           by_value false = refl
 
-      there : (x : List ℕ) (k : ℕ) → seats x ≡ Some (record { node = n; session = k }) → (a : Attached) × (attached_at h k ≡ Some a) × ((c : List ℕ) → is_off (a.state.subs c) ≡ is_off ((m.links x).session.subs c))
+      there : (x : List ℕ) (k : ℕ) → seats x ≡ Some (record { node = n; session = k }) → (a : Attached)
+          × (attached_at h k ≡ Some a) × ((c : List ℕ) → is_off (a.state.subs c) ≡ is_off ((m.links x).session.subs c))
       there x k e =
           let g = seat_shows x (record { node = n; session = k }) e in
-          let says = subst (λ (v : Option Attached). SaysAt m.broker.lists v (m.links x).session) (ap (λ (v : Option Node). session_in v k) was) g.says in
-          let a = attached m.broker.lists (attached_at h k) (m.links x).session says in
-          (a.0, a.1, λ c. sym (ap (λ (v : Option Attached). is_off (sub_in v c)) a.1) ∙ off_at m.broker.lists (attached_at h k) (m.links x).session says c)
+          let says = subst (λ (v : Option Attached). SaysAt m.broker.lists v (m.links x).session)
+          (ap (λ (v : Option Node). session_in v k) was) g.says in
+          let a = attached m.broker.lists (attached_at h k) (m.links x).session says in (
+            a.0,
+            a.1,
+            λ c. sym (ap (λ (v : Option Attached). is_off (sub_in v c)) a.1)
+                ∙ off_at m.broker.lists (attached_at h k) (m.links x).session says c,
+          )
 
-      once_by : (v : Option Seat) (l : ClientLink) → ShowsLink cfg.namespaces m.broker.lists hubs v l → AreDistinct l.channels
+      once_by : (v : Option SessionAddress) (l : ClientLink) → ShowsLink cfg.namespaces m.broker.lists hubs v l
+          → AreDistinct l.channels
       once_by None l g = subst AreDistinct (sym g.channels) tt
       once_by (Some s) l g = g.once
 
-      listed_by : (v : Option Seat) (l : ClientLink) → ShowsLink cfg.namespaces m.broker.lists hubs v l → (c : List ℕ) → is_off (l.session.subs c) ≡ false → is_among c l.channels ≡ true
-      listed_by None l g c e = absurd (let none : true ≡ false = ap (λ (b : Session). is_off (b.subs c)) (sym g.session) ∙ e in cc)
+      listed_by : (v : Option SessionAddress) (l : ClientLink) → ShowsLink cfg.namespaces m.broker.lists hubs v l
+          → (c : List ℕ) → is_off (l.session.subs c) ≡ false → is_among c l.channels ≡ true
+      listed_by None l g c e =
+          absurd (let none : true ≡ false = ap (λ (b : Session). is_off (b.subs c)) (sym g.session) ∙ e in cc)
       listed_by (Some s) l g c e = g.listed c e

@@ -1,5 +1,6 @@
 -- What a session says leaves the notes of its client its own: only answers to calls have to be.
-use Rattle.std.proofs.Common.{◌≡◌, ℕ, zero, suc, ◌+◌, Bool, true, false, Option, List, [], ◌∷◌, ◌++◌, refl, if◌then◌else◌}
+use Rattle.std.proofs.Common.{◌≡◌, ℕ, zero, suc, ◌+◌, Bool, true, false, Option, List, [], ◌∷◌, ◌++◌, refl}
+use Rattle.std.proofs.Common.{if◌then◌else◌}
 use Rattle.std.specs.Prelude.{nat_le, sum_by}
 use Rattle.std.specs.List.{All}
 use Rattle.std.proofs.lemmas.List.Elements.{All-append}
@@ -8,7 +9,9 @@ use Rattle.cf_protocol.specs.Position.{Position}
 use Rattle.cf_model.specs.Verdict.{Verdict, Drop, Pass, Insufficient, verdict}
 use Rattle.cf_client.specs.ClientCalls.{State}
 use Rattle.cf_model.specs.PositionCheck.{Checked, Fine, Behind, Ended, position_check}
-use Rattle.cf_model.specs.SessionState.{Off, Asked, Ready, On, by_check, by_verdict, check_at, checks, closes, come_at, comes, finish_at, finish_notes, finished, finishes, most_waiting, push, put_sub, is_ready, read_at, reads, says, slow}
+use Rattle.cf_model.specs.SessionState.{Off, Asked, Ready, On, by_check, by_verdict, check_at, checks, closes, come_at}
+use Rattle.cf_model.specs.SessionState.{comes, finish_at, finish_notes, finished, finishes, most_waiting, push, put_sub}
+use Rattle.cf_model.specs.SessionState.{is_ready, read_at, reads, says, slow}
 use Rattle.cf_model.specs.Spoken.{pushes, spoken}
 use Rattle.cf_model.specs.Release.{falls_short, run_length}
 use Rattle.cf_model.specs.Verdict.{next}
@@ -20,20 +23,24 @@ use Rattle.cf_world.proofs.Sitting.{Owns}
 
 module _ (lists : Lists) (s : State) where
   push_by : (shut fits : Bool) (n : Note) (b : Session) → IsOwn s n → All (IsOwn s) b.notes
-      → All (IsOwn s) (if shut then b else if fits then record b { notes = b.notes ++ n ∷ [] } else closes (Close slow) b).notes
+      → All (IsOwn s) (if shut then b else if fits then record b { notes = b.notes ++ n ∷ [] }
+      else closes (Close slow) b).notes
   push_by true fits n b h k = k
   push_by false true n b h k = All-append (IsOwn s) b.notes (n ∷ []) k (all-one (IsOwn s) n h)
   push_by false false n b h k = All-append (IsOwn s) b.notes (Close slow ∷ []) k (all-one (IsOwn s) (Close slow) tt)
 
-  pub push-own : (n : Note) (b : Session) → IsOwn s n → All (IsOwn s) b.notes → All (IsOwn s) (push (spoken lists) n b).notes
-  push-own n b h k = push_by b.closed (nat_le (sum_by (spoken lists).weight b.notes + (spoken lists).weight n) most_waiting) n b h k
+  pub push-own : (n : Note) (b : Session) → IsOwn s n → All (IsOwn s) b.notes
+      → All (IsOwn s) (push (spoken lists) n b).notes
+  push-own n b h k =
+      push_by b.closed (nat_le (sum_by (spoken lists).weight b.notes + (spoken lists).weight n) most_waiting) n b h k
 
   -- notes that have to be nobody's
   abbrev Free : List Note → Type 0
   Free [] = Unit {0}
   Free (n ∷ ns) = IsOwn s n × Free ns
 
-  says-own : (ns : List Note) (b : Session) → Free ns → All (IsOwn s) b.notes → All (IsOwn s) (says (spoken lists) ns b).notes
+  says-own : (ns : List Note) (b : Session) → Free ns → All (IsOwn s) b.notes
+      → All (IsOwn s) (says (spoken lists) ns b).notes
   says-own [] b h k = k
   says-own (n ∷ ns) b h k = says-own ns (push (spoken lists) n b) h.1 (push-own n b h.0 k)
 
@@ -49,40 +56,48 @@ module _ (lists : Lists) (s : State) where
   free-end true c = (tt, tt)
   free-end false c = tt
 
-  finish_own : (c : List ℕ) (o : Sub) (b : Session) → All (IsOwn s) b.notes → All (IsOwn s) (finish_at (spoken lists) c o b).notes
+  finish_own : (c : List ℕ) (o : Sub) (b : Session) → All (IsOwn s) b.notes
+      → All (IsOwn s) (finish_at (spoken lists) c o b).notes
   finish_own c Off b k = k
   finish_own c (Asked id since a) b k = k
   finish_own c (Ready id was r a) b k =
       says-own (finish_notes (spoken lists) c id was r a) (put_sub c (finished (spoken lists) r a) b) (
         tt,
-        free-then (pushes c (record { epoch = r.epoch; offset = r.top }) (run_length a r)) (if falls_short a r then End c ∷ [] else [])
-            (free-pushes c (record { epoch = r.epoch; offset = r.top }) (run_length a r)) (free-end (falls_short a r) c),
+        free-then (pushes c (record { epoch = r.epoch; offset = r.top }) (run_length a r))
+            (if falls_short a r then End c ∷ [] else [])
+            (free-pushes c (record { epoch = r.epoch; offset = r.top }) (run_length a r))
+            (free-end (falls_short a r) c),
       ) k
   finish_own c (On p mark) b k = k
 
-  verdict_own : (c : List ℕ) (q : Position) (mark : Option ℕ) (v : Verdict) (b : Session) → All (IsOwn s) b.notes → All (IsOwn s) (by_verdict (spoken lists) c q mark v b).notes
+  verdict_own : (c : List ℕ) (q : Position) (mark : Option ℕ) (v : Verdict) (b : Session) → All (IsOwn s) b.notes
+      → All (IsOwn s) (by_verdict (spoken lists) c q mark v b).notes
   verdict_own c q mark Drop b k = k
   verdict_own c q mark Pass b k = push-own (Pub c q) (put_sub c (On q mark) b) tt k
   verdict_own c q mark Insufficient b k = push-own (End c) (put_sub c Off b) tt k
 
-  come_own : (c : List ℕ) (q : Position) (o : Sub) (b : Session) → All (IsOwn s) b.notes → All (IsOwn s) (come_at (spoken lists) c q o b).notes
+  come_own : (c : List ℕ) (q : Position) (o : Sub) (b : Session) → All (IsOwn s) b.notes
+      → All (IsOwn s) (come_at (spoken lists) c q o b).notes
   come_own c q Off b k = k
   come_own c q (Asked id since a) b k = k
   come_own c q (Ready id was r a) b k = k
   come_own c q (On p mark) b k = verdict_own c q mark (verdict p q) b k
 
-  checked_own : (c : List ℕ) (p : Position) (v : Checked) (b : Session) → All (IsOwn s) b.notes → All (IsOwn s) (by_check (spoken lists) c p v b).notes
+  checked_own : (c : List ℕ) (p : Position) (v : Checked) (b : Session) → All (IsOwn s) b.notes
+      → All (IsOwn s) (by_check (spoken lists) c p v b).notes
   checked_own c p Fine b k = k
   checked_own c p Behind b k = k
   checked_own c p Ended b k = push-own (End c) (put_sub c Off b) tt k
 
-  check_own : (c : List ℕ) (top : Option Position) (o : Sub) (b : Session) → All (IsOwn s) b.notes → All (IsOwn s) (check_at (spoken lists) c top o b).notes
+  check_own : (c : List ℕ) (top : Option Position) (o : Sub) (b : Session) → All (IsOwn s) b.notes
+      → All (IsOwn s) (check_at (spoken lists) c top o b).notes
   check_own c top Off b k = k
   check_own c top (Asked id since a) b k = k
   check_own c top (Ready id was r a) b k = k
   check_own c top (On p mark) b k = checked_own c p (position_check top p mark) b k
 
-  read_own : (c : List ℕ) (r : Reading) (o : Sub) (b : Session) → All (IsOwn s) b.notes → All (IsOwn s) (read_at (spoken lists) c r o b).notes
+  read_own : (c : List ℕ) (r : Reading) (o : Sub) (b : Session) → All (IsOwn s) b.notes
+      → All (IsOwn s) (read_at (spoken lists) c r o b).notes
   read_own c r Off b k = k
   read_own c r (Asked id since a) b k = k
   read_own c r (Ready id was x a) b k = k
@@ -102,13 +117,15 @@ reads-own lists c r s b k = read_own lists s c r (b.subs c) b k
 
 -- ---- nothing is to happen
 
-pub finish-rest : (lists : Lists) (c : List ℕ) (o : Sub) (b : Session) → is_ready o ≡ false → finish_at (spoken lists) c o b ≡ b
+pub finish-rest : (lists : Lists) (c : List ℕ) (o : Sub) (b : Session) → is_ready o ≡ false
+    → finish_at (spoken lists) c o b ≡ b
 finish-rest lists c Off b h = refl
 finish-rest lists c (Asked id since a) b h = refl
 finish-rest lists c (Ready id was r a) b h = absurd (cc)
 finish-rest lists c (On p mark) b h = refl
 
-pub check-rest : (lists : Lists) (c : List ℕ) (top : Option Position) (o : Sub) (b : Session) → is_on o ≡ false → check_at (spoken lists) c top o b ≡ b
+pub check-rest : (lists : Lists) (c : List ℕ) (top : Option Position) (o : Sub) (b : Session) → is_on o ≡ false
+    → check_at (spoken lists) c top o b ≡ b
 check-rest lists c top Off b h = refl
 check-rest lists c top (Asked id since a) b h = refl
 check-rest lists c top (Ready id was r a) b h = refl

@@ -1,5 +1,6 @@
 -- A client sends a command: the answers that wait stay its own, and so is the answer to this one.
-use Rattle.std.proofs.Common.{◌≡◌, ◌⊎◌, inl, inr, ℕ, suc, ◌<◌, ◌==◌, ◌||◌, Bool, true, false, if◌then◌else◌, Some, List, [], ◌∷◌, ◌++◌, map, refl, sym, subst, arith}
+use Rattle.std.proofs.Common.{◌≡◌, ◌⊎◌, inl, inr, ℕ, suc, ◌<◌, ◌==◌, ◌||◌, Bool, true, false, if◌then◌else◌, Some, List}
+use Rattle.std.proofs.Common.{[], ◌∷◌, ◌++◌, map, refl, sym, subst, arith}
 use mathlib.Core.List.{reverse_aux}
 use Rattle.std.proofs.lemmas.Bool.{or_left}
 use Rattle.std.proofs.lemmas.Bool.Decides.{eqb_tells}
@@ -20,11 +21,14 @@ abbrev pub AreOld : State → Type 0
 AreOld s = (i : ℕ) (c : List ℕ) → channel_under i s.out ≡ Some c → i < s.client.fresh
 
 -- a call that is out has its id out
-call_out : (i : ℕ) (c : List ℕ) (ks : List Call) → channel_under i ks ≡ Some c → is_out i (map (λ (k : Call). k.id) ks) ≡ true
+call_out : (i : ℕ) (c : List ℕ) (ks : List Call) → channel_under i ks ≡ Some c
+    → is_out i (map (λ (k : Call). k.id) ks) ≡ true
 call_out i c [] e = absurd (cc)
 call_out i c (k ∷ ks) e = by_value (k.id == i) e (call_out i c ks)
   where
-    by_value : (t : Bool) → (if t then Some k.channel else channel_under i ks) ≡ Some c → (channel_under i ks ≡ Some c → is_out i (map (λ (k : Call). k.id) ks) ≡ true) → (t || is_out i (map (λ (k : Call). k.id) ks)) ≡ true
+    by_value : (t : Bool) → (if t then Some k.channel else channel_under i ks) ≡ Some c
+        → (channel_under i ks ≡ Some c → is_out i (map (λ (k : Call). k.id) ks) ≡ true)
+        → (t || is_out i (map (λ (k : Call). k.id) ks)) ≡ true
     by_value true e more = refl
     by_value false e more = more e
 
@@ -39,9 +43,12 @@ over i (x ∷ xs) ys h = over i xs (x ∷ ys) (turned (x == i) (is_out i xs) (is
     turned false false d h = h
 
 pub old_of : (k : ClientView) → AreApart (state_of k).client → AreOld (state_of k)
-old_of k apart i c e = apart.calls_older i (over i (map (λ (k : Call). k.id) k.calls) [] (or_left (is_out i (map (λ (k : Call). k.id) k.calls)) false (call_out i c k.calls e)))
+old_of k apart i c e =
+    apart.calls_older i (over i (map (λ (k : Call). k.id) k.calls) []
+    (or_left (is_out i (map (λ (k : Call). k.id) k.calls)) false (call_out i c k.calls e)))
 
-calls-more : (i : ℕ) (c : List ℕ) (ks : List Call) (x : Call) → channel_under i (ks ++ x ∷ []) ≡ Some c → (channel_under i ks ≡ Some c) ⊎ ((x.id ≡ i) × (x.channel ≡ c))
+calls-more : (i : ℕ) (c : List ℕ) (ks : List Call) (x : Call) → channel_under i (ks ++ x ∷ []) ≡ Some c
+    → (channel_under i ks ≡ Some c) ⊎ ((x.id ≡ i) × (x.channel ≡ c))
 calls-more i c [] x h = elim (eqb_tells x.id i) [
   | inl e ↦ inr (e.1, same_Some x.channel c (rw e.0 at h))
   | inr e ↦ inl (rw e.0 at h)
@@ -58,19 +65,22 @@ module _ (s : State) where
   new-call : List ℕ → Call
   new-call c = record { id = s.client.fresh; channel = c }
 
-  calls-kept : (c : List ℕ) (id : ℕ) (d : List ℕ) → id < s.client.fresh → CallsAt id d s → (e : List ℕ) → channel_under id (s.out ++ record { id = s.client.fresh; channel = c } ∷ []) ≡ Some e → e ≡ d
+  calls-kept : (c : List ℕ) (id : ℕ) (d : List ℕ) → id < s.client.fresh → CallsAt id d s → (e : List ℕ)
+      → channel_under id (s.out ++ record { id = s.client.fresh; channel = c } ∷ []) ≡ Some e → e ≡ d
   calls-kept c id d less h e is = elim (calls-more id e s.out (record { id = s.client.fresh; channel = c }) is) [
     | inl j ↦ h e j
     | inr j ↦ absurd (not-less id (subst (λ n. id < n) j.0 less))
   ]
 
-  calls-sent : (e : ClientRequest) (id : ℕ) (d : List ℕ) → id < s.client.fresh → CallsAt id d s → CallsAt id d (sent_state e s)
+  calls-sent : (e : ClientRequest) (id : ℕ) (d : List ℕ) → id < s.client.fresh → CallsAt id d s
+      → CallsAt id d (sent_state e s)
   calls-sent (Subscribe c from) id d less h = h
   calls-sent (Unsubscribe c) id d less h = h
   calls-sent (Publish c key body) id d less h = calls-kept c id d less h
   calls-sent (History c limit) id d less h = calls-kept c id d less h
 
-  call-own : (c : List ℕ) → AreOld s → (e : List ℕ) → channel_under s.client.fresh (s.out ++ record { id = s.client.fresh; channel = c } ∷ []) ≡ Some e → e ≡ c
+  call-own : (c : List ℕ) → AreOld s → (e : List ℕ)
+      → channel_under s.client.fresh (s.out ++ record { id = s.client.fresh; channel = c } ∷ []) ≡ Some e → e ≡ c
   call-own c old e is = elim (calls-more s.client.fresh e s.out (record { id = s.client.fresh; channel = c }) is) [
     | inl j ↦ absurd (not-less s.client.fresh (old s.client.fresh e j))
     | inr j ↦ sym j.1
@@ -95,7 +105,9 @@ module _ (s : State) where
   pub new-less : (e : ClientRequest) → s.client.fresh < (sent_state e s).client.fresh
   new-less e = let f : (sent_state e s).client.fresh ≡ suc s.client.fresh = fresh-sent e in omega arith
 
-  old-more : (e : ClientRequest) (c : List ℕ) → AreOld s → (i : ℕ) (d : List ℕ) → channel_under i (s.out ++ record { id = s.client.fresh; channel = c } ∷ []) ≡ Some d → i < (sent_state e s).client.fresh
+  old-more : (e : ClientRequest) (c : List ℕ) → AreOld s → (i : ℕ) (d : List ℕ)
+      → channel_under i (s.out ++ record { id = s.client.fresh; channel = c } ∷ []) ≡ Some d
+      → i < (sent_state e s).client.fresh
   old-more e c old i d is = elim (calls-more i d s.out (record { id = s.client.fresh; channel = c }) is) [
     | inl j ↦ less-sent e i (old i d j)
     | inr j ↦ subst (λ n. n < (sent_state e s).client.fresh) j.0 (new-less e)
@@ -123,8 +135,10 @@ module _ (s : State) where
   own_sent e ns h = λ k d i. own-note e _ (h k d i)
 
 -- the error that answers it, and the history
-pub own_fails : (s : State) (e : ClientRequest) (code : ℕ) → AreOld s → IsOwn (sent_state e s) (Fails (channel_of e) s.client.fresh code)
+pub own_fails : (s : State) (e : ClientRequest) (code : ℕ) → AreOld s
+    → IsOwn (sent_state e s) (Fails (channel_of e) s.client.fresh code)
 own_fails s e code old = (new-less s e, calls-new s e old)
 
-pub own_listed : (s : State) (e : ClientRequest) (at : Position) (low count : ℕ) → AreOld s → IsOwn (sent_state e s) (Listed (channel_of e) s.client.fresh at low count)
+pub own_listed : (s : State) (e : ClientRequest) (at : Position) (low count : ℕ) → AreOld s
+    → IsOwn (sent_state e s) (Listed (channel_of e) s.client.fresh at low count)
 own_listed s e at low count old = (new-less s e, calls-new s e old)

@@ -1,5 +1,6 @@
 -- One client's session goes on with the machine.
-use Rattle.std.proofs.Common.{◌≡◌, ◌≢◌, ℕ, Bool, true, false, Option, Some, None, List, refl, sym, ap, subst, if◌then◌else◌, option_and_then}
+use Rattle.std.proofs.Common.{◌≡◌, ◌≢◌, ℕ, Bool, true, false, Option, Some, None, List, refl, sym, ap, subst}
+use Rattle.std.proofs.Common.{if◌then◌else◌, option_and_then}
 use Rattle.std.specs.List.{All}
 use Rattle.cf_protocol.specs.Note.{Lists}
 use Rattle.cf_protocol.specs.Settings.{NamespaceTable}
@@ -15,9 +16,9 @@ use Rattle.cf_machine.specs.World.{World}
 use Rattle.cf_world.specs.ClientTie.{IsOwn, ShowsClient, ShowsPeer}
 use Rattle.cf_world.specs.NodesTie.{ShowsNodes, name_of, session_in}
 use Rattle.cf_world.specs.Tie.{AreTied, seats_of}
-use Rattle.cf_world.specs.declared.broker.Broker.{Broker as Code}
+use Rattle.cf_world.specs.declared.broker.WorldBroker.{WorldBroker as Code}
 use Rattle.cf_world.specs.declared.clients.Peer.{Peer}
-use Rattle.cf_world.specs.declared.clients.Seat.{Seat}
+use Rattle.cf_world.specs.declared.clients.SessionAddress.{SessionAddress}
 use Rattle.cf_world.proofs.Ends.{Keeps}
 use Rattle.cf_machine.proofs.Names.{with-all}
 use Rattle.cf_world.proofs.NodesTie.{nodes_same, seat_shows, session_goes, session_moves}
@@ -27,11 +28,13 @@ use Rattle.cf_world.proofs.NodesTie.{nodes_same, seat_shows, session_goes, sessi
 pub seat_here : (peers : List ℕ → Option Peer) (x : List ℕ) (p : Peer) → peers x ≡ Some p → seats_of peers x ≡ p.seat
 seat_here peers x p e = ap (option_and_then (λ (q : Peer). q.seat)) e
 
-pub seat_found : (o : Option Peer) (s : Seat) → option_and_then (λ (q : Peer). q.seat) o ≡ Some s → (p : Peer) × (o ≡ Some p) × (p.seat ≡ Some s)
+pub seat_found : (o : Option Peer) (s : SessionAddress) → option_and_then (λ (q : Peer). q.seat) o ≡ Some s → (p : Peer)
+    × (o ≡ Some p) × (p.seat ≡ Some s)
 seat_found None s e = absurd (cc)
 seat_found (Some p) s e = (p, refl, e)
 
-there_by : (lists : Lists) (o : Option Node) (k : ℕ) (b : Session) → SaysAt lists (session_in o k) b → (h : Node) × (o ≡ Some h)
+there_by : (lists : Lists) (o : Option Node) (k : ℕ) (b : Session) → SaysAt lists (session_in o k) b → (h : Node)
+    × (o ≡ Some h)
 there_by lists None k b says = absurd says
 there_by lists (Some h) k b says = (h, refl)
 
@@ -39,35 +42,45 @@ there_by lists (Some h) k b says = (h, refl)
 abbrev pub Owns : (Session → Session) → Type 0
 Owns g = (s : State) (b : Session) → All (IsOwn s) b.notes → All (IsOwn s) (g b).notes
 
-module _ {cfg : Config} {table : NamespaceTable} {b : Code} {hubs : ℕ → Option Node} {peers : List ℕ → Option Peer} {m : World}
+module _ {cfg : Config} {table : NamespaceTable} {b : Code} {hubs : ℕ → Option Node} {peers : List ℕ → Option Peer}
+    {m : World}
     (t : AreTied cfg table b hubs peers m) where
   -- the hub of a seat
-  pub hub_there : (x : List ℕ) (s : Seat) → seats_of peers x ≡ Some s → (h : Node) × (hubs s.node ≡ Some h)
-  hub_there x s sat = let g = seat_shows t.nodes x s sat in there_by m.broker.lists (hubs s.node) s.session (m.links x).session g.says
+  pub hub_there : (x : List ℕ) (s : SessionAddress) → seats_of peers x ≡ Some s → (h : Node) × (hubs s.node ≡ Some h)
+  hub_there x s sat = let g = seat_shows t.nodes x s sat in
+      there_by m.broker.lists (hubs s.node) s.session (m.links x).session g.says
 
   pub client_here : (x : List ℕ) (p : Peer) → peers x ≡ Some p → ShowsPeer p (m.links x)
   client_here x p e = subst (λ (o : Option Peer). ShowsClient o (m.links x)) e (t.clients x)
 
-  module _ (x : List ℕ) (s : Seat) (sat : seats_of peers x ≡ Some s) (h h' : Node) (was : hubs s.node ≡ Some h)
+  module _ (x : List ℕ) (s : SessionAddress) (sat : seats_of peers x ≡ Some s) (h h' : Node)
+      (was : hubs s.node ≡ Some h)
       (hubs' : ℕ → Option Node) (now : hubs' s.node ≡ Some h') (others : (j : ℕ) → j ≢ s.node → hubs' j ≡ hubs j)
-      (same : SameNode h h') (none : h'.refused ≡ 0) (stay : OthersStay s.session h h') (name : name_of (attached_at h' s.session) ≡ name_of (attached_at h s.session))
+      (same : SameNode h h') (none : h'.refused ≡ 0) (stay : OthersStay s.session h h')
+      (name : name_of (attached_at h' s.session) ≡ name_of (attached_at h s.session))
       (g : Session → Session) (keeps : Keeps g) (owns : Owns g)
-      (says : (d : Session) → SaysAt m.broker.lists (attached_at h s.session) d → SaysAt m.broker.lists (attached_at h' s.session) (g d)) where
+      (says : (d : Session) → SaysAt m.broker.lists (attached_at h s.session) d
+      → SaysAt m.broker.lists (attached_at h' s.session) (g d)) where
     after : ShowsNodes cfg hubs' (seats_of peers) (at_session x g m)
     after =
-        session_goes t.nodes s.node h h' was hubs' now others x s sat refl same none stay name (with_session (g (m.links x).session) (m.links x))
+        session_goes t.nodes s.node h h' was hubs' now others x s sat refl same none stay name
+        (with_session (g (m.links x).session) (m.links x))
         (session_moves (seat_shows t.nodes x s sat) g keeps) (λ d. says (m.links x).session d)
 
-    own_by : (o : Option Peer) → peers x ≡ o → ShowsClient o (m.links x) → ShowsClient o (with_session (g (m.links x).session) (m.links x))
+    own_by : (o : Option Peer) → peers x ≡ o → ShowsClient o (m.links x)
+        → ShowsClient o (with_session (g (m.links x).session) (m.links x))
     own_by None e c = c
-    own_by (Some p) e c = record { client = c.client; connected = c.connected; own = owns (state_of p.client) (m.links x).session c.own }
+    own_by (Some p) e c =
+        record { client = c.client; connected = c.connected; own = owns (state_of p.client) (m.links x).session c.own }
 
     pub session-goes : AreTied cfg table b hubs' peers (at_session x g m)
     session-goes = record {
       namespaces = t.namespaces;
       broker = t.broker;
       nodes = after;
-      clients = λ y. with-all (λ z l. ShowsClient (peers z) l) m.links x (with_session (g (m.links x).session) (m.links x)) (own_by (peers x) refl (t.clients x)) (λ z ne. t.clients z) y;
+      clients = λ y. with-all (λ z l. ShowsClient (peers z) l) m.links x
+          (with_session (g (m.links x).session) (m.links x)) (own_by (peers x) refl (t.clients x)) (λ z ne. t.clients z)
+          y;
     }
 
     -- where nothing is to happen, nothing did
@@ -84,6 +97,7 @@ module _ {cfg : Config} {table : NamespaceTable} {b : Code} {hubs : ℕ → Opti
       clients = t.clients;
     }
 
-    pub session-may-go : (test : Bool) → (test ≡ false → g (m.links x).session ≡ (m.links x).session) → AreTied cfg table b hubs' peers (if test then at_session x g m else m)
+    pub session-may-go : (test : Bool) → (test ≡ false → g (m.links x).session ≡ (m.links x).session)
+        → AreTied cfg table b hubs' peers (if test then at_session x g m else m)
     session-may-go true rest = session-goes
     session-may-go false rest = session-stays (rest refl)

@@ -4,9 +4,11 @@ use Rattle.std.proofs.lemmas.Bool.Decides.{eqb_tells}
 use Rattle.std.specs.List.{All}
 use Rattle.cf_protocol.specs.Datum.{Placed}
 use Rattle.cf_protocol.specs.Note.{Note, Reply, Pub, End, Fails, Put as PutDone, Left, Listed, PingDue, Close}
-use Rattle.cf_protocol.specs.Outgoing.{Outcome, Connected, Subscribed, Unsubscribed, Published, Present, Counted, Past, Pinged, Failed, Publication, Unsubscribe, Outgoing, Ping, Answer, Push}
+use Rattle.cf_protocol.specs.Outgoing.{Outcome, Connected, Subscribed, Unsubscribed, Published, Present, Counted, Past}
+use Rattle.cf_protocol.specs.Outgoing.{Pinged, Failed, Publication, Unsubscribe, Outgoing, Ping, Answer, Push}
 use Rattle.cf_client.specs.AppItem.{AppItem}
-use Rattle.cf_client.specs.ClientCalls.{Call, State, Takes, TakesAnswer, TakesEnd, TakesPublication, answered, channel_under, moves}
+use Rattle.cf_client.specs.ClientCalls.{Call, State, Takes, TakesAnswer, TakesEnd, TakesPublication, answered}
+use Rattle.cf_client.specs.ClientCalls.{channel_under, moves}
 use Rattle.cf_model.specs.ClientState.{Mode, Idle, Asking, Live}
 use Rattle.cf_client.specs.OneMeaning.{CallsAt}
 use Rattle.cf_world.specs.ClientTie.{IsOwn}
@@ -20,9 +22,11 @@ same : (old new : State) → new ≡ old → Kept old new
 same old new e = subst (λ (s : State). Kept old s) (sym e) (record { connected = refl; fresh = refl; out = λ i c h. h })
 
 moved : (c : List ℕ) (m : Mode) (old new : State) → new ≡ moves c m old → Kept old new
-moved c m old new e = subst (λ (s : State). Kept old s) (sym e) (record { connected = refl; fresh = refl; out = λ i d h. h })
+moved c m old new e =
+    subst (λ (s : State). Kept old s) (sym e) (record { connected = refl; fresh = refl; out = λ i d h. h })
 
-fewer : (id : ℕ) (ks : List Call) (i : ℕ) (c : List ℕ) → channel_under i (filter (λ k. not (k.id == id)) ks) ≡ Some c → channel_under i ks ≡ Some c
+fewer : (id : ℕ) (ks : List Call) (i : ℕ) (c : List ℕ) → channel_under i (filter (λ k. not (k.id == id)) ks) ≡ Some c
+    → channel_under i ks ≡ Some c
 fewer id [] i c h = h
 fewer id (k ∷ ks) i c h = elim (eqb_tells k.id id) [
   | inl e ↦ elim (eqb_tells k.id i) [
@@ -46,19 +50,24 @@ fewer id (k ∷ ks) i c h = elim (eqb_tells k.id id) [
     ]
 
 answers-call : (id : ℕ) (old new : State) → new ≡ answered id old → Kept old new
-answers-call id old new e = subst (λ (s : State). Kept old s) (sym e) (record { connected = refl; fresh = refl; out = λ i c h. fewer id old.out i c h })
+answers-call id old new e =
+    subst (λ (s : State). Kept old s) (sym e) (record
+    { connected = refl; fresh = refl; out = λ i c h. fewer id old.out i c h })
 
-publication-kept : (c : List ℕ) (q : Placed) (m : Mode) (old new : State) (told : List AppItem) → TakesPublication c q m old new told → Kept old new
+publication-kept : (c : List ℕ) (q : Placed) (m : Mode) (old new : State) (told : List AppItem)
+    → TakesPublication c q m old new told → Kept old new
 publication-kept c q (Idle last) old new told h = same old new h.0
 publication-kept c q (Asking id from last) old new told h = same old new h.0
 publication-kept c q (Live p) old new told h = moved c _ old new h.0
 
-end-kept : (c : List ℕ) (code : ℕ) (m : Mode) (old new : State) (told : List AppItem) → TakesEnd c code m old new told → Kept old new
+end-kept : (c : List ℕ) (code : ℕ) (m : Mode) (old new : State) (told : List AppItem) → TakesEnd c code m old new told
+    → Kept old new
 end-kept c code (Idle last) old new told h = same old new h.0
 end-kept c code (Asking id from last) old new told h = same old new h.0
 end-kept c code (Live p) old new told h = moved c _ old new h.0
 
-answer-kept : (id : ℕ) (r : Outcome) (old new : State) (told : List AppItem) → TakesAnswer id r old new told → Kept old new
+answer-kept : (id : ℕ) (r : Outcome) (old new : State) (told : List AppItem) → TakesAnswer id r old new told
+    → Kept old new
 answer-kept id (Subscribed at ps recovered was) old new told h = elim h [
   | inl a ↦ moved a.channel _ old new a.moves
   | inr n ↦ same old new n.1.0

@@ -1,5 +1,6 @@
 -- A take that finds nothing, or the close.
-use Rattle.std.proofs.Common.{◌≡◌, ◌&&◌, ℕ, Bool, true, false, if◌then◌else◌, Option, Some, None, List, [], ◌∷◌, ◌++◌, is_some, drop, refl, sym, ap, ◌∙◌, subst}
+use Rattle.std.proofs.Common.{◌≡◌, ◌&&◌, ℕ, Bool, true, false, if◌then◌else◌, Option, Some, None, List, [], ◌∷◌, ◌++◌}
+use Rattle.std.proofs.Common.{is_some, drop, refl, sym, ap, ◌∙◌, subst}
 use Rattle.std.specs.List.{All}
 use Rattle.std.proofs.lemmas.List.Elements.{All-tail}
 use Rattle.cf_protocol.specs.Note.{Note, Close}
@@ -20,9 +21,9 @@ use Rattle.cf_world.specs.ClientTie.{IsOwn, Unseats}
 use Rattle.cf_world.specs.HubCalls.{AtHub, Gone, Taken}
 use Rattle.cf_world.specs.NodesTie.{session_in}
 use Rattle.cf_world.specs.Tie.{AreTied, seats_of}
-use Rattle.cf_world.specs.declared.broker.Broker.{Broker as Code}
+use Rattle.cf_world.specs.declared.broker.WorldBroker.{WorldBroker as Code}
 use Rattle.cf_world.specs.declared.clients.Peer.{Peer}
-use Rattle.cf_world.specs.declared.clients.Seat.{Seat}
+use Rattle.cf_world.specs.declared.clients.SessionAddress.{SessionAddress}
 use Rattle.cf_world.proofs.Breaking.{breaks-goes}
 use Rattle.cf_world.proofs.Ends.{takes_keeps}
 use Rattle.cf_world.proofs.NodesTie.{one_name, seat_shows}
@@ -36,7 +37,8 @@ takes-own s b k = by_notes b.notes k
     by_notes [] h = h
     by_notes (n ∷ ns) h = All-tail (IsOwn s) n ns h
 
-module _ {cfg : Config} {table : NamespaceTable} {b : Code} {hubs : ℕ → Option Node} {peers : List ℕ → Option Peer} {m : World}
+module _ {cfg : Config} {table : NamespaceTable} {b : Code} {hubs : ℕ → Option Node} {peers : List ℕ → Option Peer}
+    {m : World}
     (t : AreTied cfg table b hubs peers m) (x : List ℕ) where
   no-take : allows cfg m (Take x) ≡ false → (k : ℕ) → [] ≡ writes cfg k m (Take x)
   no-take none k = sym (ap (λ (v : Bool). if v then tells k m (Take x) else []) none)
@@ -50,9 +52,12 @@ module _ {cfg : Config} {table : NamespaceTable} {b : Code} {hubs : ℕ → Opti
   pub writes-away : seats_of peers x ≡ None → (k : ℕ) → [] ≡ writes cfg k m (Take x)
   writes-away none = no-take (away none)
 
-  module _ (s : Seat) (sat : seats_of peers x ≡ Some s) where
-    pub says-there : (h : Node) → hubs s.node ≡ Some h → SaysAt m.broker.lists (attached_at h s.session) (m.links x).session
-    says-there h was = subst (λ (z : Option Attached). SaysAt m.broker.lists z (m.links x).session) (ap (λ (z : Option Node). session_in z s.session) was) (seat_shows t.nodes x s sat).says
+  module _ (s : SessionAddress) (sat : seats_of peers x ≡ Some s) where
+    pub says-there : (h : Node) → hubs s.node ≡ Some h
+        → SaysAt m.broker.lists (attached_at h s.session) (m.links x).session
+    says-there h was =
+        subst (λ (z : Option Attached). SaysAt m.broker.lists z (m.links x).session)
+        (ap (λ (z : Option Node). session_in z s.session) was) (seat_shows t.nodes x s sat).says
 
     both-no : (p q : Bool) → q ≡ false → (p && q) ≡ false
     both-no true q e = e
@@ -65,21 +70,26 @@ module _ {cfg : Config} {table : NamespaceTable} {b : Code} {hubs : ℕ → Opti
       pub writes-none : (k : ℕ) → [] ≡ writes cfg k m (Take x)
       writes-none = no-take still
 
-      pub take-none : CallsAreAlike m.broker.lists → MovesAreAlike m.broker.lists → (hubs' : ℕ → Option Node) → AtHub s.node (Taken s.session) hubs hubs' → AreTied cfg table b hubs' peers (happens cfg m (Take x))
+      pub take-none : CallsAreAlike m.broker.lists → MovesAreAlike m.broker.lists → (hubs' : ℕ → Option Node)
+          → AtHub s.node (Taken s.session) hubs hubs' → AreTied cfg table b hubs' peers (happens cfg m (Take x))
       take-none calls moves hubs' at =
           let there = hub_there t x s sat in
           let one = at there.0 there.1 in
           let same = one.changes.same in
           let stays : AreTied cfg table b hubs' peers m =
-          session-may-go t x s sat there.0 one.hub there.1 hubs' one.now one.others (record { node = same.node; boot = same.boot; used = same.used })
-          (same.refused ∙ (t.nodes.hub s.node there.0 there.1).refused) one.changes.does.others (one_name one.changes.does) takes_front takes_keeps takes-own
+          session-may-go t x s sat there.0 one.hub there.1 hubs' one.now one.others
+          (record { node = same.node; boot = same.boot; used = same.used })
+          (same.refused ∙ (t.nodes.hub s.node there.0 there.1).refused) one.changes.does.others
+          (one_name one.changes.does) takes_front takes_keeps takes-own
           (λ d. calls.one s.session takes_front takes_front there.0 one.hub moves.takes one.changes.does d) false
-          (λ e. ap (λ (ns : List Note). record (m.links x).session { notes = drop 1 ns }) none ∙ sym (ap (λ (ns : List Note). record (m.links x).session { notes = ns }) none)) in
+          (λ e. ap (λ (ns : List Note). record (m.links x).session { notes = drop 1 ns }) none
+          ∙ sym (ap (λ (ns : List Note). record (m.links x).session { notes = ns }) none)) in
           rw still stays
 
     module _ (code : ℕ) (rest : List Note) (front : (m.links x).session.notes ≡ Close code ∷ rest) where
       may : allows cfg m (Take x) ≡ true
-      may = ap (λ (o : Option ℕ). is_some o && has_any (m.links x).session.notes) (seat_shows t.nodes x s sat).at ∙ ap has_any front
+      may = ap (λ (o : Option ℕ). is_some o && has_any (m.links x).session.notes) (seat_shows t.nodes x s sat).at
+          ∙ ap has_any front
 
       held : holds (m.links x) ≡ hold_first (Close code ∷ rest) (m.links x)
       held = ap (λ (ns : List Note). hold_first ns (m.links x)) front
@@ -87,14 +97,19 @@ module _ {cfg : Config} {table : NamespaceTable} {b : Code} {hubs : ℕ → Opti
       broken : receives (holds (m.links x)) ≡ breaks (m.links x)
       broken =
           ap receives held
-          ∙ ap (λ (ws : List Note). receive_first (ws ++ Close code ∷ []) (record (m.links x) { session = takes_front (m.links x).session; way = ws ++ Close code ∷ [] })) (seat_shows t.nodes x s sat).way
+          ∙ ap (λ (ws : List Note). receive_first (ws ++ Close code ∷ [])
+          (record (m.links x) { session = takes_front (m.links x).session; way = ws ++ Close code ∷ [] }))
+          (seat_shows t.nodes x s sat).way
 
       pub writes-close : (k : ℕ) → entries k x (Closed code ∷ []) ≡ writes cfg k m (Take x)
       writes-close k =
           sym (ap (λ (v : Bool). if v then tells k m (Take x) else []) may
-          ∙ ap (λ (ws : List Note). entries k x (first_items m.broker.lists (m.links x).client ws)) (ap (λ (l : ClientLink). l.way) held ∙ ap (λ (ws : List Note). ws ++ Close code ∷ []) (seat_shows t.nodes x s sat).way))
+          ∙ ap (λ (ws : List Note). entries k x (first_items m.broker.lists (m.links x).client ws))
+          (ap (λ (l : ClientLink). l.way) held ∙ ap (λ (ws : List Note). ws ++ Close code ∷ [])
+          (seat_shows t.nodes x s sat).way))
 
-      gone-through : (hubs' hubs'' : ℕ → Option Node) → AtHub s.node (Taken s.session) hubs hubs' → AtHub s.node (Gone s.session) hubs' hubs'' → AtHub s.node (Gone s.session) hubs hubs''
+      gone-through : (hubs' hubs'' : ℕ → Option Node) → AtHub s.node (Taken s.session) hubs hubs'
+          → AtHub s.node (Gone s.session) hubs' hubs'' → AtHub s.node (Gone s.session) hubs hubs''
       gone-through hubs' hubs'' first second = λ h was.
           let one = first h was in
           let two = second one.hub one.now in
@@ -114,9 +129,12 @@ module _ {cfg : Config} {table : NamespaceTable} {b : Code} {hubs : ℕ → Opti
             others = λ j ne. two.others j ne ∙ one.others j ne;
           }
 
-      pub take-close : (hubs' hubs'' : ℕ → Option Node) → AtHub s.node (Taken s.session) hubs hubs' → AtHub s.node (Gone s.session) hubs' hubs'' → (peers' : List ℕ → Option Peer)
-          → ((p : Peer) → peers x ≡ Some p → Unseats x p peers peers') → AreTied cfg table b hubs'' peers' (happens cfg m (Take x))
+      pub take-close : (hubs' hubs'' : ℕ → Option Node) → AtHub s.node (Taken s.session) hubs hubs'
+          → AtHub s.node (Gone s.session) hubs' hubs'' → (peers' : List ℕ → Option Peer)
+          → ((p : Peer) → peers x ≡ Some p → Unseats x p peers peers')
+          → AreTied cfg table b hubs'' peers' (happens cfg m (Take x))
       take-close hubs' hubs'' first second peers' unseats =
           subst (λ (w : World). AreTied cfg table b hubs'' peers' w)
-          (sym (ap (λ (v : Bool). if v then link_with x (receives (holds (m.links x))) m else m) may ∙ ap (λ (l : ClientLink). link_with x l m) broken))
+          (sym (ap (λ (v : Bool). if v then link_with x (receives (holds (m.links x))) m else m) may
+          ∙ ap (λ (l : ClientLink). link_with x l m) broken))
           (breaks-goes t x s sat hubs'' (gone-through hubs' hubs'' first second) peers' unseats)

@@ -22,13 +22,13 @@ use Rattle.cf_machine.specs.Lives.{life_at}
 use Rattle.cf_machine.specs.PublicationList.{Place, Broker, at_last_offset, can_open, is_repeat, opened, publish}
 use Rattle.cf_machine.specs.IntervalMachine.{size_by}
 use Rattle.cf_machine.specs.ReadBack.{IsDatum}
-use Rattle.cf_world.specs.declared.broker.Accepted.{Accepted}
-use Rattle.cf_world.specs.declared.broker.Published.{Published}
-use Rattle.cf_world.specs.declared.broker.Published.TheVariants as outcome
-use Rattle.cf_world.specs.declared.broker.Broker.{Broker as Code}
+use Rattle.cf_world.specs.declared.broker.AcceptedPublication.{AcceptedPublication}
+use Rattle.cf_world.specs.declared.broker.PublishOutcome.{PublishOutcome}
+use Rattle.cf_world.specs.declared.broker.PublishOutcome.TheVariants as outcome
+use Rattle.cf_world.specs.declared.broker.WorldBroker.{WorldBroker as Code}
 
 -- A publication stands at its place, now and when the lists have grown, and its text can be read back.
-pub record IsAccepted (lists : Lists) (a : Accepted) (p : Place) : Type 0 where
+pub record IsAccepted (lists : Lists) (a : AcceptedPublication) (p : Place) : Type 0 where
   pub place : p ≡ record {
     channel = string_bytes a.channel;
     at = record { epoch = a.epoch; offset = a.publication.offset };
@@ -114,7 +114,7 @@ size_in table m c = size_by (m.sizes c) (settings_of table c)
 
 -- what a publish under a key comes to: it is accepted; or it is a repeat, or the stream is at its last offset, or
 -- would open while no epoch waits, or the channel's namespace isn't set up, and then nothing changes
-abbrev pub Publishes : NamespaceTable → Broker → (channel key : List ℕ) → Datum → Code → Published
+abbrev pub Publishes : NamespaceTable → Broker → (channel key : List ℕ) → Datum → Code → PublishOutcome
     → Type 0
 Publishes table m c key d new outcome.Accepted =
     (is_some (settings_of table c) ≡ true) × (can_open c m ≡ true) × (is_repeat c key m ≡ false)
@@ -128,7 +128,7 @@ Publishes table m c key d new outcome.NoEpoch = (can_open c m ≡ false) × Show
 Publishes table m c key d new outcome.NotSetUp = (settings_of table c ≡ None) × ShowsBroker table new m
 
 -- the publication of a place
-abbrev pub Stands : Lists → Option Accepted → Option Place → Type 0
+abbrev pub Stands : Lists → Option AcceptedPublication → Option Place → Type 0
 Stands lists None None = ⊤
 Stands lists (Some a) (Some p) = IsAccepted lists a p
 Stands lists None (Some p) = ⊥

@@ -26,9 +26,9 @@ use Rattle.cf_world.specs.BrokerTie.{Histories, Publishes, ShowsBroker}
 use Rattle.cf_world.specs.ClientTie.{request_by}
 use Rattle.cf_session.specs.SessionMachine.{reply_text}
 use Rattle.cf_world.specs.HubCalls.{Asks, LeftTold, Told, error_text, who_in}
-use Rattle.cf_world.specs.declared.broker.Broker.{Broker as Code}
-use Rattle.cf_world.specs.declared.broker.Published.{Published}
-use Rattle.cf_world.specs.declared.broker.Published.TheVariants as outcome
+use Rattle.cf_world.specs.declared.broker.WorldBroker.{WorldBroker as Code}
+use Rattle.cf_world.specs.declared.broker.PublishOutcome.{PublishOutcome}
+use Rattle.cf_world.specs.declared.broker.PublishOutcome.TheVariants as outcome
 use Rattle.cf_world.specs.declared.client_command.ClientCommand.{ClientCommand}
 use Rattle.cf_world.specs.declared.clients.Peer.{Peer}
 
@@ -66,7 +66,7 @@ pub record IsGranted (cfg : Config) (m : World) (x : List ℕ) (p : Peer) (e : C
 -- ---- once it passed its checks
 
 -- what is said to a publish of session k
-abbrev pub PutAnswered : Published → ℕ → ℕ → Node → Node → Type 0
+abbrev pub PutAnswered : PublishOutcome → ℕ → ℕ → Node → Node → Type 0
 PutAnswered outcome.Accepted k id h g = Told k (reply_text id PutDone) h g
 PutAnswered outcome.Repeated k id h g = Told k (reply_text id PutDone) h g
 PutAnswered outcome.AtLastOffset k id h g = Told k (error_text id error.LimitExceeded) h g
@@ -76,7 +76,7 @@ PutAnswered outcome.NotSetUp k id h g = Told k (error_text id error.Internal) h 
 -- a client's datum, which names it, is published under a key, and the client is answered
 pub record Puts (table : NamespaceTable) (m : Broker) (k : ℕ) (c key body : List ℕ) (id : ℕ) (new : Code)
     (h g : Node) : Type 0 where
-  pub result : Published
+  pub result : PublishOutcome
   pub publishes : Publishes table m c key (record { body = body; info = who_in (attached_at h k) }) new result
   pub answered : PutAnswered result k id h g
 

@@ -22,7 +22,7 @@ use Rattle.cf_hub.specs.Wordings.{plain, reading}
 use Rattle.cf_stream.specs.declared.answer.Recovery.{Recovery}
 use Rattle.cf_protocol.specs.Datum.{Who}
 use Rattle.cf_world.specs.BrokerTie.{who_by}
-use Rattle.cf_world.specs.declared.clients.Seat.{Seat}
+use Rattle.cf_world.specs.declared.clients.SessionAddress.{SessionAddress}
 
 abbrev pub Hubs : Type 0
 Hubs = ℕ → Option Node
@@ -140,7 +140,7 @@ Attaches n (Some k) old new = (h : Node) × (old n ≡ Some h) × OneHub n (Sits
 abbrev pub error_text : ℕ → ErrorCode → List ℕ
 error_text id code = reply_text id (Failed (code_of code))
 
-abbrev pub Answered : Seat → ℕ → Outcome → Hubs → Hubs → Type 0
+abbrev pub Answered : SessionAddress → ℕ → Outcome → Hubs → Hubs → Type 0
 Answered s id o = AtHub s.node (Told s.session (reply_text id o))
 
 -- the session leaves the channel, and is told so

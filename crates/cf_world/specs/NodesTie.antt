@@ -16,14 +16,14 @@ use Rattle.cf_machine.specs.Config.{Config}
 use Rattle.cf_machine.specs.FreshEpochs.{AreDistinct}
 use Rattle.cf_machine.specs.Session.{Session}
 use Rattle.cf_machine.specs.World.{World}
-use Rattle.cf_world.specs.declared.clients.Seat.{Seat}
+use Rattle.cf_world.specs.declared.clients.SessionAddress.{SessionAddress}
 
 -- the session of a seat, if there is one
 abbrev pub session_in : Option Node → ℕ → Option Attached
 session_in None k = None
 session_in (Some h) k = attached_at h k
 
-abbrev pub seated : (ℕ → Option Node) → Seat → Option Attached
+abbrev pub seated : (ℕ → Option Node) → SessionAddress → Option Attached
 seated hubs s = session_in (hubs s.node) s.session
 
 abbrev pub name_of : Option Attached → Option (List ℕ)
@@ -60,7 +60,7 @@ pub record IsSeated (table : NamespaceTable) (lists : Lists) (o : Option Attache
   pub shut : IsShutOff l.session
   pub served : (c : List ℕ) → is_off (l.session.subs c) ≡ false → MayAsk table c
 
-abbrev pub ShowsLink : NamespaceTable → Lists → (ℕ → Option Node) → Option Seat → ClientLink → Type 0
+abbrev pub ShowsLink : NamespaceTable → Lists → (ℕ → Option Node) → Option SessionAddress → ClientLink → Type 0
 ShowsLink table lists hubs None l = IsAway l
 ShowsLink table lists hubs (Some s) l = IsSeated table lists (seated hubs s) s.node l
 
@@ -72,14 +72,14 @@ pub record IsNode (n : ℕ) (h : Node) (m : World) : Type 0 where
   pub few : h.used ≤ largest
   pub refused : h.refused ≡ 0
 
-pub record ShowsNodes (cfg : Config) (hubs : ℕ → Option Node) (seats : List ℕ → Option Seat)
+pub record ShowsNodes (cfg : Config) (hubs : ℕ → Option Node) (seats : List ℕ → Option SessionAddress)
     (m : World) : Type 0 where
   pub nodes : (n : ℕ) → is_some (hubs n) ≡ nat_lt n cfg.nodes
   pub hub : (n : ℕ) (h : Node) → hubs n ≡ Some h → IsNode n h m
   pub links : (x : List ℕ) → ShowsLink cfg.namespaces m.broker.lists hubs (seats x) (m.links x)
   -- each session is one client's, and each client is known
-  pub apart : (x y : List ℕ) (s : Seat) → seats x ≡ Some s → seats y ≡ Some s → x ≡ y
+  pub apart : (x y : List ℕ) (s : SessionAddress) → seats x ≡ Some s → seats y ≡ Some s → x ≡ y
   pub onto : (n k : ℕ) → is_some (session_in (hubs n) k) ≡ true
       → (x : List ℕ) × (seats x ≡ Some (record { node = n; session = k }))
-  pub among : (x : List ℕ) (s : Seat) → seats x ≡ Some s → is_among x m.clients ≡ true
+  pub among : (x : List ℕ) (s : SessionAddress) → seats x ≡ Some s → is_among x m.clients ≡ true
   pub distinct : AreDistinct m.clients

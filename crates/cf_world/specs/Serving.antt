@@ -23,9 +23,9 @@ use Rattle.cf_world.specs.Judging as judged
 use Rattle.cf_world.specs.Judging.{Judged, Judges}
 use Rattle.cf_world.specs.Stepping.{StaysLong, Steps}
 use Rattle.cf_world.specs.NodesTie.{seated}
-use Rattle.cf_world.specs.declared.broker.Broker.{Broker as Code}
+use Rattle.cf_world.specs.declared.broker.WorldBroker.{WorldBroker as Code}
 use Rattle.cf_world.specs.declared.clients.Peer.{Peer}
-use Rattle.cf_world.specs.declared.clients.Seat.{Seat}
+use Rattle.cf_world.specs.declared.clients.SessionAddress.{SessionAddress}
 
 -- ---- a session beside its hub's
 
@@ -118,5 +118,5 @@ Greets id s text t reply =
 -- each client that has a seat has its session there, which its hub's shows if that is open
 abbrev pub AreServed : NamespaceTable → (ℕ → Option Node) → (List ℕ → Option Peer) → Type 0
 AreServed table hubs peers =
-    (x : List ℕ) (p : Peer) (s : Seat) → peers x ≡ Some p → p.seat ≡ Some s
+    (x : List ℕ) (p : Peer) (s : SessionAddress) → peers x ≡ Some p → p.seat ≡ Some s
     → IsServedAt table (seated hubs s) p.session

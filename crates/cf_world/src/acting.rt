@@ -5,16 +5,16 @@ ghost use Rattle.cf_session.specs.Shown.{answer_kind, shown_action, shown_answer
 ghost use Rattle.cf_world.specs.Acting.{BeginsAs, ListsAs, Performs, PublishesAs, ReadsAs};
 ghost use Rattle.cf_world.specs.HubCalls.{Finished, Told};
 
-use crate::broker::{Broker, Published};
-use crate::short::Short;
+use crate::broker::{PublishOutcome, WorldBroker};
+use crate::out_of_memory::Short;
 use cf_hub::{Hub, HubRefusal};
 use cf_presence::Stats;
 use cf_protocol::{ErrorCode, Info, Outcome, Position};
 use cf_session::{Action, Answer, hub_error, reply_of};
 
 /// Carries out an action of the session of this number. The answer, if it is a call.
-pub(crate) fn perform(
-    broker: &mut Broker,
+pub(crate) fn carry_out_action(
+    broker: &mut WorldBroker,
     hub: &mut Hub,
     number: u32,
     action: Action,
@@ -102,7 +102,7 @@ fn begin(
 
 // The stream of a channel is read for a subscription that was begun.
 fn read(
-    broker: &mut Broker,
+    broker: &mut WorldBroker,
     hub: &mut Hub,
     number: u32,
     channel: &str,
@@ -131,7 +131,7 @@ fn finish(hub: &mut Hub, number: u32, channel: &str) -> Result<(), Short>
 
 // A client's datum is published under a key.
 fn publish(
-    broker: &mut Broker,
+    broker: &mut WorldBroker,
     channel: &str,
     key: &str,
     body: &str,
@@ -141,17 +141,17 @@ fn publish(
         (shown_answer (Answer.Publish r)) broker.old broker.new) }
 {
     match broker.publish(channel, key, body, Some(info.client.as_str()))? {
-        Published::Accepted => Ok(Ok(())),
-        Published::Repeated => Ok(Ok(())),
-        Published::AtLastOffset => Ok(Err(ErrorCode::LimitExceeded)),
-        Published::NoEpoch => Ok(Err(ErrorCode::Internal)),
-        Published::NotSetUp => Ok(Err(ErrorCode::Internal)),
+        PublishOutcome::Accepted => Ok(Ok(())),
+        PublishOutcome::Repeated => Ok(Ok(())),
+        PublishOutcome::AtLastOffset => Ok(Err(ErrorCode::LimitExceeded)),
+        PublishOutcome::NoEpoch => Ok(Err(ErrorCode::Internal)),
+        PublishOutcome::NotSetUp => Ok(Err(ErrorCode::Internal)),
     }
 }
 
 // The history of a channel is listed in the reply to the command `id`.
 fn history(
-    broker: &mut Broker,
+    broker: &mut WorldBroker,
     hub: &mut Hub,
     number: u32,
     channel: &str,

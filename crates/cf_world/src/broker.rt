@@ -7,7 +7,7 @@ ghost use Rattle.cf_machine.specs.ReadBack.{IsDatum};
 ghost use Rattle.cf_world.specs.BrokerTie.{ShowsBroker, Histories, Publishes, Reads, Stands, datum_from, who_by};
 
 use crate::epochs::WaitingEpochs;
-use crate::short::Short;
+use crate::out_of_memory::Short;
 use cf_protocol::{Epoch, Info, Namespaces, Position, Publication};
 use cf_stream::{History, Recovery, StreamRefusal, Streams};
 use std::alloc::{AllocError, Global};
@@ -17,7 +17,7 @@ pub(crate) const NOW: u64 = 0;
 
 /// A publication that was accepted, and where.
 #[derive(Drop)]
-pub(crate) struct Accepted {
+pub(crate) struct AcceptedPublication {
     pub(crate) channel: String,
     pub(crate) epoch: Epoch,
     pub(crate) publication: Publication,
@@ -25,7 +25,7 @@ pub(crate) struct Accepted {
 
 /// What became of a publish.
 #[derive(Clone, Copy)]
-pub(crate) enum Published {
+pub(crate) enum PublishOutcome {
     Accepted,
     /// It repeats a publication that stands: its key is among the last hundred of the stream.
     Repeated,
@@ -39,19 +39,19 @@ pub(crate) enum Published {
 
 /// The streams, the epochs that wait for them, and all that was accepted, over all channels and in order.
 #[derive(Drop)]
-pub(crate) struct Broker {
+pub(crate) struct WorldBroker {
     pub(crate) epochs: WaitingEpochs,
     pub(crate) streams: Streams,
-    accepted: Vec<Accepted>,
+    accepted: Vec<AcceptedPublication>,
     pub(crate) alloc: Global,
 }
 
-impl Broker {
+impl WorldBroker {
     /// A broker to which nothing was published.
-    pub(crate) fn new(alloc: Global, namespaces: &Namespaces) -> Result<Broker, AllocError>
+    pub(crate) fn new(alloc: Global, namespaces: &Namespaces) -> Result<WorldBroker, AllocError>
         ensures { IfOk result (λ b. ShowsBroker namespaces.now b new_broker) }
     {
-        Ok(Broker {
+        Ok(WorldBroker {
             epochs: WaitingEpochs::new(alloc),
             streams: Streams::new(alloc, namespaces)?,
             accepted: Vec::new(alloc),
@@ -70,21 +70,22 @@ impl Broker {
         !self.epochs.is_empty()
     }
 
-    /// Publishes to a channel, under a key, which may be the empty one, for the client of this id, if it is a client that publishes.
+    /// Publishes to a channel, under a key, which may be the empty one, for the client of this id, if it is a client
+    /// that publishes.
     pub(crate) fn publish(
         &mut self,
         channel: &str,
         key: &str,
         body: &str,
         client: Option<&str>,
-    ) -> Result<Published, Short>
+    ) -> Result<PublishOutcome, Short>
         ensures { IfOk result (λ r. (table : NamespaceTable) (m : Shared) → AreFresh m
             → IsDatum (datum_from body.now (option_map (λ c. c.now) client.entry))
             → ShowsBroker table self.old m → Publishes table m channel.now key.now
             (datum_from body.now (option_map (λ c. c.now) client.entry)) self.new r) }
     {
         if !self.streams.is_set_up(channel) {
-            return Ok(Published::NotSetUp);
+            return Ok(PublishOutcome::NotSetUp);
         }
         let sent = String::from_str(self.alloc, body)?;
         let under = String::from_str(self.alloc, key)?;
@@ -94,26 +95,27 @@ impl Broker {
             .publish(&mut self.epochs, channel, sent, under, info, NOW)
         {
             Ok(published) => published,
-            Err(StreamRefusal::AtLastOffset) => return Ok(Published::AtLastOffset),
-            Err(StreamRefusal::NoEpoch) => return Ok(Published::NoEpoch),
+            Err(StreamRefusal::AtLastOffset) => return Ok(PublishOutcome::AtLastOffset),
+            Err(StreamRefusal::NoEpoch) => return Ok(PublishOutcome::NoEpoch),
             Err(_) => return Err(Short),
         };
         if published.repeated {
-            return Ok(Published::Repeated);
+            return Ok(PublishOutcome::Repeated);
         }
         // It is the newest that its stream holds.
         let Some(newest) = self.streams.last(channel) else {
-            return Ok(Published::Accepted);
+            return Ok(PublishOutcome::Accepted);
         };
-        self.accepted.push(Accepted {
+        self.accepted.push(AcceptedPublication {
             channel: String::from_str(self.alloc, channel)?,
             epoch: published.position.epoch,
             publication: newest.copied()?,
         })?;
-        Ok(Published::Accepted)
+        Ok(PublishOutcome::Accepted)
     }
 
-    /// Reads a channel's stream for a subscription. None if its namespace is not set up, or no epoch waits for its stream.
+    /// Reads a channel's stream for a subscription. None if its namespace is not set up, or no epoch waits for its
+    /// stream.
     pub(crate) fn read(
         &mut self,
         channel: &str,
@@ -153,7 +155,7 @@ impl Broker {
     }
 
     /// The publication of this number, from 1, among all that were accepted.
-    pub(crate) fn accepted(&self, number: u64) -> Option<&Accepted>
+    pub(crate) fn accepted(&self, number: u64) -> Option<&AcceptedPublication>
         ensures { (table : NamespaceTable) (m : Shared) → ShowsBroker table self.now m
             → Stands m.lists (option_copied result) (publication number m) }
     {

@@ -21,6 +21,7 @@ pub(crate) enum ClientCommand<'a> {
         key: &'a str,
         body: &'a str,
     },
+    /// To be told the history: at most so many publications, or all if the limit is below 0.
     List {
         channel: &'a str,
         limit: i32,

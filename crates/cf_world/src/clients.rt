@@ -7,7 +7,7 @@ ghost use Rattle.cf_world.specs.ClientTie.{Heard, Joins, LeavesNode, Unseats, st
 ghost use Rattle.cf_world.specs.declared.clients.Peer.{Peer as AnyPeer};
 
 use crate::client_command::ClientCommand;
-use crate::short::Short;
+use crate::out_of_memory::Short;
 use crate::stepping::greet;
 use cf_client::{AppEvent, Client, ClientFault};
 use cf_protocol::laws::commands_read_back;
@@ -17,17 +17,19 @@ use std::collections::BTreeMap;
 
 /// Where a session is: its node, and its number there.
 #[derive(Clone, Copy, PartialEq, Eq)]
-pub struct Seat {
+pub struct SessionAddress {
+    /// The node's number.
     pub node: u8,
+    /// The session's number in the node's hub.
     pub session: u32,
 }
 
-/// A client, and where its session is while it is connected. The node's part of that session, which reads the client's texts, is
-/// the one that it has now, or had last.
+/// A client, and where its session is while it is connected. The node's part of that session, which reads the client's
+/// texts, is the one that it has now, or had last.
 #[derive(Drop)]
 pub(crate) struct Peer<'a> {
     pub(crate) client: Client,
-    pub(crate) seat: Option<Seat>,
+    pub(crate) seat: Option<SessionAddress>,
     pub(crate) session: Session<'a>,
 }
 
@@ -36,7 +38,7 @@ pub(crate) fn join<'a>(
     alloc: Global,
     clients: &mut BTreeMap<String, Peer<'a>>,
     name: &str,
-    seat: Seat,
+    seat: SessionAddress,
     session: Session<'a>,
     id: String,
 ) -> Result<(), Short>
@@ -133,9 +135,9 @@ impl Peer<'_> {
         }
     }
 
-    // The client connects here, and its session, which is new, hears the text and is attached under this id. The reply is no news
-    // to the client.
-    fn join(&mut self, seat: Seat, id: String) -> Result<(), Short>
+    // The client connects here, and its session, which is new, hears the text and is attached under this id. The reply
+    // is no news to the client.
+    fn join(&mut self, seat: SessionAddress, id: String) -> Result<(), Short>
         requires { is_idle self.old.session ≡ true }
         ensures state { OnOk result (state_of self.new.client
             ≡ connected (state_of self.old.client)) }

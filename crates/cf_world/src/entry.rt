@@ -22,6 +22,7 @@ pub struct Entry {
     pub at: usize,
     /// The client's name.
     pub client: String,
+    /// What the application got.
     pub item: Item,
     pub ghost is_got: { IsTrue (is_got item) },
 }

@@ -6,15 +6,15 @@ ghost use Rattle.cf_machine.specs.Event as said;
 ghost use Rattle.cf_world.specs.Tie.{GoesOn};
 
 use crate::broker::NOW;
-use crate::clients::{Seat, join, unseat, unseat_all};
-use crate::short::Short;
-use crate::world::World;
+use crate::clients::{SessionAddress, join, unseat, unseat_all};
+use crate::out_of_memory::Short;
+use crate::world::WorldParts;
 use cf_hub::laws::{calls_are_alike, sessions_are_counted};
 use cf_hub::{Hub, HubRefusal};
 use cf_session::Session;
 use std::alloc::Global;
 
-impl World<'_> {
+impl WorldParts<'_> {
     /// A client connects to a node, unless it is connected, there is no such node, or the node has no room.
     pub fn connect(&mut self, name: &str, node: u8) -> Result<(), Short>
         ensures { OnOk result (GoesOn (said.Connect name.now node) self.old self.new) }
@@ -31,7 +31,7 @@ impl World<'_> {
         match hub.attach(String::new(self.alloc), NOW) {
             Ok(session) => {
                 let id = id_at(hub, self.alloc, session)?;
-                let seat = Seat { node, session };
+                let seat = SessionAddress { node, session };
                 let waits = Session::without_tokens(self.alloc, self.namespaces);
                 join(self.alloc, &mut self.clients, name, seat, waits, id)
             }
@@ -53,7 +53,8 @@ impl World<'_> {
         }
     }
 
-    /// A node restarts: its sessions are gone, and its boot number grows. It answers `Short` too if the boot number is the last.
+    /// A node restarts: its sessions are gone, and its boot number grows. It answers `Short` too if the boot number is
+    /// the last.
     pub fn restart(&mut self, node: u8) -> Result<(), Short>
         ensures { OnOk result (GoesOn (said.Restart node) self.old self.new) }
     {

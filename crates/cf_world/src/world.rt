@@ -6,9 +6,9 @@ ghost use Rattle.cf_machine.specs.World.{start};
 ghost use Rattle.cf_world.specs.HubCalls.{AreNew};
 ghost use Rattle.cf_world.specs.Tie.{GoesOn, Tied, client_of, hub_of, streams_of};
 
-use crate::broker::Broker;
+use crate::broker::WorldBroker;
 use crate::clients::Peer;
-use crate::short::Short;
+use crate::out_of_memory::Short;
 use cf_client::Client;
 use cf_hub::Hub;
 use cf_hub::laws::what_is_said_stays;
@@ -23,23 +23,27 @@ const FIRST_BOOT: u64 = 1;
 
 /// The broker, nodes and clients, and all that lies between them.
 #[derive(Drop)]
-pub struct World<'a> {
+pub struct WorldParts<'a> {
     pub(crate) namespaces: &'a Namespaces,
-    pub(crate) broker: Broker,
+    pub(crate) broker: WorldBroker,
     pub(crate) hubs: Vec<Hub>,
     pub(crate) clients: BTreeMap<String, Peer<'a>>,
     pub(crate) alloc: Global,
 }
 
-impl<'a> World<'a> {
+impl<'a> WorldParts<'a> {
     /// A world in which nothing has happened, with so many nodes.
-    pub fn new(alloc: Global, nodes: u8, namespaces: &'a Namespaces) -> Result<World<'a>, Short>
+    pub fn new(
+        alloc: Global,
+        nodes: u8,
+        namespaces: &'a Namespaces,
+    ) -> Result<WorldParts<'a>, Short>
         ensures { IfOk result
             (λ w. Tied (record { nodes = nodes; namespaces = namespaces.now }) w start) }
     {
         let hubs = new_hubs(alloc, nodes)?;
-        let broker = Broker::new(alloc, namespaces)?;
-        Ok(World {
+        let broker = WorldBroker::new(alloc, namespaces)?;
+        Ok(WorldParts {
             namespaces,
             broker,
             hubs,
@@ -48,7 +52,8 @@ impl<'a> World<'a> {
         })
     }
 
-    /// Ends the world, and frees all that it holds. If a world is dropped instead, it is proved there how each of its parts is.
+    /// Ends the world, and frees all that it holds. If a world is dropped instead, it is proved there how each of its
+    /// parts is.
     pub fn end(self) {}
 
     /// A node's sessions.
@@ -85,8 +90,8 @@ impl<'a> World<'a> {
         Ok(())
     }
 
-    /// A datum is published under a key, which may be the empty one, unless the channel's namespace is not set up, no epoch waits
-    /// for its stream, the stream is full, or the key is among its last hundred.
+    /// A datum is published under a key, which may be the empty one, unless the channel's namespace is not set up, no
+    /// epoch waits for its stream, the stream is full, or the key is among its last hundred.
     pub fn publish(&mut self, channel: &str, key: &str, body: &str) -> Result<(), Short>
         requires { IsBody body.now }
         ensures { OnOk result
@@ -122,8 +127,8 @@ impl<'a> World<'a> {
         self.broker.streams.forget_all();
     }
 
-    /// Streams of a namespace hold at most so many publications from now on, if it is set up. Of those that hold more the newest
-    /// stay.
+    /// Streams of a namespace hold at most so many publications from now on, if it is set up. Of those that hold more
+    /// the newest stay.
     pub fn set_size(&mut self, name: &str, size: usize)
         requires { (1 ≤ size) × (size ≤ LARGEST_SIZE) }
         ensures { GoesOn (said.SetSize name.now size) self.old self.new }

@@ -6,7 +6,8 @@ use Rattle.cf_schedule.specs.LineRead.{IsUnspaced, CutsAtSpace}
 use Rattle.cf_schedule.proofs.Spacing.{lacks_at}
 use Rattle.cf_schedule.proofs.event.cut.Goals as goal
 
-cut_by : (s : List ℕ) (r : Option (Bor (List ℕ) × Bor (List ℕ))) → IsSplitOnceResult 32 s r → MatchOption r (IsUnspaced s) (λ p. CutsAtSpace s p.0.now p.1.now)
+cut_by : (s : List ℕ) (r : Option (Bor (List ℕ) × Bor (List ℕ))) → IsSplitOnceResult 32 s r
+    → MatchOption r (IsUnspaced s) (λ p. CutsAtSpace s p.0.now p.1.now)
 cut_by s None h = lacks_at 32 s (split_parts 32 s None h (omega arith))
 cut_by s (Some p) h =
     let parts = split_parts 32 s (Some p) h (omega arith) in

@@ -20,5 +20,6 @@ pub returns-in-Err-clause-err : goal.returns-in-Err-clause-err
 returns-in-Err-clause-err c =
     refused_name _ _ _ c.in-Err.ensures.unreadable (λ not_key k s h.
     let is = subst (λ (b : Bool). IsKeyBefore b k s c.args.text.now) c.if-not-is_keyed.false h in
-    let cut = same_cut c.args.text.now c.in-Some.key.now c.in-Some.«data».now k s c.in-Some.ensures (unspaced_key k is.0) is.1 in
+    let cut = same_cut c.args.text.now c.in-Some.key.now c.in-Some.«data».now k s c.in-Some.ensures
+    (unspaced_key k is.0) is.1 in
     not_key (subst IsKey cut.0 is.0))

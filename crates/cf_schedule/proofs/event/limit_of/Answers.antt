@@ -7,7 +7,8 @@ use Rattle.cf_schedule.proofs.event.limit_of.Goals as goal
 pub returns-in-Some : goal.returns-in-Some
 returns-in-Some c =
     let s = c.args.text.now in
-    limit_signed s c.in-Some.digits.now c.least_of.result (strip_prefix_char 45 s (Some c.in-Some.digits) c.in-Some.ensures.cases (omega arith)) c.least_of.ensures
+    limit_signed s c.in-Some.digits.now c.least_of.result
+    (strip_prefix_char 45 s (Some c.in-Some.digits) c.in-Some.ensures.cases (omega arith)) c.least_of.ensures
 
 pub returns-in-None : goal.returns-in-None
 returns-in-None c =

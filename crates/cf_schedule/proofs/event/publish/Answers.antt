@@ -8,7 +8,8 @@ use Rattle.cf_schedule.proofs.event.publish.Goals as goal
 
 pub returns-in-Ok : goal.returns-in-Ok
 returns-in-Ok c = λ nodes.
-    publish_said nodes c.args.is_keyed c.args.text.now c.in-Ok.channel (key_of c.in-Ok.key) c.in-Ok.body c.in-Ok.ensures.ok
+    publish_said nodes c.args.is_keyed c.args.text.now c.in-Ok.channel (key_of c.in-Ok.key) c.in-Ok.body
+    c.in-Ok.ensures.ok
 
 pub returns-in-Err : goal.returns-in-Err
 returns-in-Err c = λ nodes.

@@ -15,8 +15,10 @@ ends all rest later event same splits old = sym (same ∙ ap are_fresh splits �
 
 pub returns-then-not-is_new : goal.returns-then-not-is_new
 returns-then-not-is_new c =
-    ends c.args.events.now c.loop-event.rest.now c.in-Some.later.now c.in-Some.event.now c.loop-event.invariant c.in-Some.ensures.cases.0 (sym c.is_new.ensures ∙ c.if-not-is_new.true)
+    ends c.args.events.now c.loop-event.rest.now c.in-Some.later.now c.in-Some.event.now c.loop-event.invariant
+    c.in-Some.ensures.cases.0 (sym c.is_new.ensures ∙ c.if-not-is_new.true)
 
 pub loop-event-preserved : goal.loop-event-preserved
 loop-event-preserved c =
-    goes_on c.args.events.now c.loop-event.rest.now c.in-Some.later.now c.in-Some.event.now c.loop-event.invariant c.in-Some.ensures.cases.0 (sym c.is_new.ensures ∙ c.if-not-is_new.false)
+    goes_on c.args.events.now c.loop-event.rest.now c.in-Some.later.now c.in-Some.event.now c.loop-event.invariant
+    c.in-Some.ensures.cases.0 (sym c.is_new.ensures ∙ c.if-not-is_new.false)

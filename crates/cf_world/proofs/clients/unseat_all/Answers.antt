@@ -7,4 +7,5 @@ use Rattle.cf_world.proofs.Leaving.{retain_leaves}
 use Rattle.cf_world.proofs.clients.unseat_all.Goals as goal
 
 pub returns : goal.returns
-returns c = λ y. retain_leaves _ c.args.node _ (λ k v b w f' t. search rules) _ _ c.retain.ensures.filtered (is_at (λ k. slice_cmp nat_cmp y (string_bytes k)))
+returns c = λ y. retain_leaves _ c.args.node _ (λ k v b w f' t. search rules) _ _ c.retain.ensures.filtered
+    (is_at (λ k. slice_cmp nat_cmp y (string_bytes k)))

@@ -18,9 +18,14 @@ returns c =
     let w = c.next-2.new.session in
     let z = c.next-3.new.session in
     let long : is_short heard ≡ false = sym c.short.ensures ∙ c.if-short.false in
-    let hears = hears-long (tables_of s) (progress_of s) c.args.text.now (progress_of heard) (refusals heard) c.on_text.ensures.hears (long-now (is_short s) (is_short heard) (refusals heard) c.on_text.ensures.keeps.short long) in
+    let hears = hears-long (tables_of s) (progress_of s) c.args.text.now (progress_of heard) (refusals heard)
+    c.on_text.ensures.hears (long-now (is_short s) (is_short heard) (refusals heard) c.on_text.ensures.keeps.short
+    long) in
     let asks : c.in_ok-next.field-0 ≡ Some (action.Attach c.in-Some-Attach.field-0-0) = search rules in
     let says : c.in_ok-reply.field-0 ≡ Some (action.Say c.in-Some-Say.reply) = search rules in
-    greet-goes (string_bytes c.args.id) c.args.text.now (string_bytes c.in-Some-Say.reply) (string_bytes c.in-Some-Attach.field-0-0) s heard u v w z _ hears c.on_text.ensures.keeps.tables
-    (subst (λ (o : Option Action). Next heard u (option_map shown_action o)) asks c.in_ok-next.ensures) c.in_ok-answer_to.ensures.goes c.in_ok-answer_to.ensures.stays
-    (subst (λ (o : Option Action). Next v w (option_map shown_action o)) says c.in_ok-reply.ensures) c.in_ok-_more.ensures
+    greet-goes (string_bytes c.args.id) c.args.text.now (string_bytes c.in-Some-Say.reply)
+    (string_bytes c.in-Some-Attach.field-0-0) s heard u v w z _ hears c.on_text.ensures.keeps.tables
+    (subst (λ (o : Option Action). Next heard u (option_map shown_action o)) asks c.in_ok-next.ensures)
+    c.in_ok-answer_to.ensures.goes c.in_ok-answer_to.ensures.stays
+    (subst (λ (o : Option Action). Next v w (option_map shown_action o)) says c.in_ok-reply.ensures)
+    c.in_ok-_more.ensures

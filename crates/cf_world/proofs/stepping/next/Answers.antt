@@ -17,7 +17,8 @@ returns c =
     let long : is_short t ≡ false = sym c.short.ensures ∙ c.if-short.false in
     record {
       stays = record { tables = c.next_action-action.ensures.keeps.tables; long = long };
-      does = acts-does (tables_of s) (progress_of s) (option_map shown_action c.next_action-action.result) (progress_of t) (refusals t) c.next_action-action.ensures.acts
+      does = acts-does (tables_of s) (progress_of s) (option_map shown_action c.next_action-action.result)
+          (progress_of t) (refusals t) c.next_action-action.ensures.acts
           (long-now (is_short s) (is_short t) (refusals t) c.next_action-action.ensures.keeps.short long);
       idle = λ none rests. c.next_action-action.ensures.idle (map-none c.next_action-action.result none) rests;
     }

@@ -26,7 +26,8 @@ invariant_of-result c =
     let text : string_bytes c.in-Ok-compact.text ≡ compact_text t = c.in-Ok-compact.ensures.ok t found.2 in (
       t,
       record {
-        value = subst (λ v. Value t v []) (append-nil (compact_text t) ∙ sym text) (c.compact_reads_back.ensures.back t [] regular);
+        value = subst (λ v. Value t v []) (append-nil (compact_text t) ∙ sym text)
+            (c.compact_reads_back.ensures.back t [] regular);
         compact = sym text;
         shallow = subst (λ (n : ℕ). n ≤ max_data_depth) (c.depth.ensures t found.2) c.if-depth-gt-MAX_BODY_DEPTH.false;
       },
@@ -35,5 +36,6 @@ invariant_of-result c =
 pub returns-in-Ok-compact-clause-ok : goal.returns-in-Ok-compact-clause-ok
 returns-in-Ok-compact-clause-ok c =
     let found = c.in-Ok.ensures.found in
-    let shallow = subst (λ (n : ℕ). n ≤ max_data_depth) (c.depth.ensures found.0 found.2) c.if-depth-gt-MAX_BODY_DEPTH.false in
+    let shallow =
+    subst (λ (n : ℕ). n ≤ max_data_depth) (c.depth.ensures found.0 found.2) c.if-depth-gt-MAX_BODY_DEPTH.false in
     (found.0, c.in-Ok.span, found.1, shallow, c.in-Ok-compact.ensures.ok found.0 found.2)

@@ -12,7 +12,8 @@ pub returns-clause-unreadable : goal.returns-clause-unreadable
 returns-clause-unreadable c = (λ e. absurd (cc (e)), λ no. absurd (no (sym c.is_key.ensures ∙ c.if-not-is_key.false)))
 
 pub returns-then-not-is_key-clause-unreadable : goal.returns-then-not-is_key-clause-unreadable
-returns-then-not-is_key-clause-unreadable c = (λ e is. absurd (false≢true (sym c.if-not-is_key.true ∙ (c.is_key.ensures ∙ is))), λ no. refl)
+returns-then-not-is_key-clause-unreadable c =
+    (λ e is. absurd (false≢true (sym c.if-not-is_key.true ∙ (c.is_key.ensures ∙ is))), λ no. refl)
 
 pub returns-in_err-from_str-clause-unreadable : goal.returns-in_err-from_str-clause-unreadable
 returns-in_err-from_str-clause-unreadable c =

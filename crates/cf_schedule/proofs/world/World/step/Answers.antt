@@ -12,4 +12,5 @@ pub returns-clause-writes : goal.returns-clause-writes
 returns-clause-writes c =
     let next : c.in-Some.at ≡ c.self.inside.count + 1 = search rules in
     rw (← c.self.view_is)
-    (subst (λ (n : ℕ). IfOk c.carry_out-got.result (λ es. Writes n (seen c.args.event.now) c.self.inside.parts es.items)) next c.carry_out-got.ensures.writes)
+    (subst (λ (n : ℕ). IfOk c.carry_out-got.result
+    (λ es. Writes n (seen c.args.event.now) c.self.inside.parts es.items)) next c.carry_out-got.ensures.writes)

@@ -6,4 +6,6 @@ use Rattle.cf_world.specs.declared.client_command.ClientCommand.{ClientCommand}
 use Rattle.cf_world.proofs.clients.Peer.send.Goals as goal
 
 pub returns-in-AskFrom-clause-since : goal.returns-in-AskFrom-clause-since
-returns-in-AskFrom-clause-since c = subst (λ (e : ClientCommand). AsksFrom (request_by e (state_of c.args.self.now.client).client)) (sym c.in-AskFrom.is) c.ask_from.ensures.regular
+returns-in-AskFrom-clause-since c =
+    subst (λ (e : ClientCommand). AsksFrom (request_by e (state_of c.args.self.now.client).client))
+    (sym c.in-AskFrom.is) c.ask_from.ensures.regular
