@@ -9,12 +9,12 @@ use Rattle.cf_protocol.specs.Settings.{NamespaceTable}
 use Rattle.cf_order.specs.Passes.{PassState}
 use Rattle.cf_stream.specs.ChannelLists.{ShowsAt}
 use Rattle.cf_stream.specs.LogState.{life_in, opening, if_stands}
-use Rattle.cf_model.specs.Life.{Life}
+use Rattle.cf_model.specs.Streams.{Life}
 use Rattle.cf_stream.specs.Stream.{Shown, repeated_by, IsAtLast as IsStreamAtLast}
 use Rattle.cf_stream.specs.declared.answer.Published.{Published}
 use Rattle.cf_stream.proofs.ChannelChanges.{RepeatsAt-from}
 use Rattle.std.specs.Option.{option_map}
-use Rattle.cf_model.specs.StreamState.{last_offset}
+use Rattle.cf_model.specs.Streams.{last_offset}
 use Rattle.cf_stream.specs.Streams.{IsOfAnother, repeat_at, size_at, stream_of}
 use Rattle.cf_shard.specs.LogAnswer.{HasNoRoom, HasNone, IsAtLast, IsNew, IsOutside, RefusesEntry, RefusesHistory, RefusesPublish, RefusesRead}
 use Rattle.cf_shard.specs.Calls.{Leaves, LeavesAll, RefusalsOfHistory, RefusalsOfPublish, RefusalsOfRead, Stays}

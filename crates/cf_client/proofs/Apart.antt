@@ -6,7 +6,7 @@ use Rattle.cf_protocol.specs.Names.{with}
 use Rattle.cf_protocol.specs.Position.{Position}
 use Rattle.cf_protocol.specs.Datum.{Placed}
 use Rattle.cf_protocol.specs.Outgoing.{Outcome, Connected, Subscribed, Unsubscribed, Published, Present, Counted, Past, Pinged, Failed, Publication, Unsubscribe, Outgoing, Ping, Answer, Push}
-use Rattle.cf_model.specs.ClientState.{Client, Mode, Idle, Asking, Live, idle, is_out, without}
+use Rattle.cf_model.specs.Clients.{Client, Mode, Idle, Asking, Live, idle, is_out, without}
 use Rattle.cf_client.specs.ClientCalls.{State, asks_under, moves, answered, asked, left, called, reconnected, NoAsk, AnswersAsk, Takes, TakesAnswer, TakesPublication, TakesEnd, TakesAll}
 use Rattle.cf_client.specs.AppItem.{AppItem}
 use Rattle.cf_client.specs.OneAnswer.{AreApart, Keeps, TextsKeep, OneOutcome}

@@ -17,7 +17,7 @@ use Rattle.std.proofs.lemmas.Map.Text.{is_eq-slice_cmp}
 use Rattle.std.proofs.lemmas.Slice.Eq.{bytes_eq-Decides}
 use Rattle.cf_protocol.specs.Names.{with}
 use Rattle.cf_protocol.specs.Position.{Position}
-use Rattle.cf_model.specs.ClientState.{Mode, Idle, Asking, Live, idle, is_idle, last_of}
+use Rattle.cf_model.specs.Clients.{Mode, Idle, Asking, Live, idle, is_idle, last_of}
 use Rattle.cf_client.specs.ClientCalls.{Call, State, asks_under, called, channel_under, asked, left, moves, answered}
 use Rattle.cf_client.specs.ClientView.{ids_of}
 use Rattle.cf_client.specs.Draft.{changed_or, drafted_code, drafted_mode, drafted_calls, drafted}

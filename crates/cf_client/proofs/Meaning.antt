@@ -9,7 +9,7 @@ use Rattle.cf_protocol.specs.Datum.{Datum, Placed}
 use Rattle.cf_protocol.specs.Note.{Lists, Reading, Note, Reply, Pub, End, Fails, Put, Left, Listed as Listing, PingDue, Close, placed_from, placed_at, insufficient}
 use Rattle.cf_protocol.specs.Outgoing as sent
 use Rattle.cf_protocol.specs.Outgoing.{Outgoing, Push, Publication}
-use Rattle.cf_model.specs.ClientState.{Client, Mode, Idle, Asking, Live, idle, is_out, without, takes, hears}
+use Rattle.cf_model.specs.Clients.{Client, Mode, Idle, Asking, Live, idle, is_out, without, takes, hears}
 use Rattle.cf_client.specs.ClientCalls.{Call, State, asks_under, channel_under, moves, answered, TakesAnswer, TakesPublication, TakesEnd, Takes}
 use Rattle.cf_client.specs.ClientView.{ids_of}
 use Rattle.cf_client.specs.AppItem.{AppItem, Subscribed, Refused, Listed, published}

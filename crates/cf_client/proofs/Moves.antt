@@ -15,7 +15,7 @@ use Rattle.std.proofs.lemmas.Map.Text.{is_eq-slice_cmp}
 use Rattle.std.proofs.lemmas.Slice.Eq.{bytes_eq-Decides}
 use Rattle.cf_protocol.specs.Names.{with}
 use Rattle.cf_protocol.specs.Position.{Position}
-use Rattle.cf_model.specs.ClientState.{Mode, Asking, idle, last_of, without}
+use Rattle.cf_model.specs.Clients.{Mode, Asking, idle, last_of, without}
 use Rattle.cf_client.specs.ClientCalls.{Call, State, asked, answered}
 use Rattle.cf_client.specs.ClientView.{mode_in, ids_of}
 use Rattle.cf_client.specs.Shown.{Channels, modes_of, mode_or_idle, shown_mode, SetsMode, calls_of, shown_call}

@@ -2,7 +2,7 @@
 use Rattle.std.proofs.Common.{◌≡◌, List, ℕ, true, false, cond, Some, None, Option, refl, sym, ap, subst}
 use Rattle.std.specs.Prelude.{Result, Ok, Err, IfErr, IsErrAnd}
 use Rattle.cf_protocol.specs.Position.{Position}
-use Rattle.cf_model.specs.ClientState.{is_idle}
+use Rattle.cf_model.specs.Clients.{is_idle}
 use Rattle.cf_client.specs.Shown.{shown_mode}
 use Rattle.cf_client.specs.declared.channels.Mode.{Mode as CodeMode}
 use Rattle.cf_client.specs.declared.channels.Mode.TheVariants as code

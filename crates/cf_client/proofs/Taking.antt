@@ -6,7 +6,7 @@ use Rattle.std.proofs.lemmas.List.{append-nil, map-append}
 use Rattle.cf_protocol.specs.Position.{Position}
 use Rattle.cf_protocol.specs.Datum.{Placed}
 use Rattle.cf_protocol.specs.Outgoing.{Outgoing}
-use Rattle.cf_model.specs.ClientState.{Mode, Idle, Asking, Live}
+use Rattle.cf_model.specs.Clients.{Mode, Idle, Asking, Live}
 use Rattle.cf_client.specs.ClientCalls.{State, moves, asks_again, TakesPublication, TakesEnd, Takes, TakesAll}
 use Rattle.cf_client.specs.AppItem as item
 use Rattle.cf_client.specs.AppItem.{AppItem, published}

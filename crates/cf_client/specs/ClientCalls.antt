@@ -8,13 +8,13 @@ use Rattle.cf_protocol.specs.Datum.{Placed}
 use Rattle.cf_protocol.specs.Outgoing.{Outcome, Connected, Subscribed, Unsubscribed, Published, Present, Counted}
 use Rattle.cf_protocol.specs.Outgoing.{Past, Pinged, Failed, Pushed, Publication, Unsubscribe, Outgoing, Ping, Answer}
 use Rattle.cf_protocol.specs.Outgoing.{Push}
-use Rattle.cf_model.specs.ClientState.{Client, Mode, Idle, Asking, Live, idle, is_idle, new_client, asks, leaves}
-use Rattle.cf_model.specs.ClientState.{calls_for, reconnects, without}
+use Rattle.cf_model.specs.Clients.{Client, Mode, Idle, Asking, Live, idle, is_idle, new_client, asks, leaves}
+use Rattle.cf_model.specs.Clients.{calls_for, reconnects, without}
 use Rattle.cf_client.specs.AppItem as item
 use Rattle.cf_client.specs.AppItem.{AppItem, published}
 use Rattle.cf_client.specs.declared.fault.ClientFault.{ClientFault}
 use Rattle.cf_client.specs.declared.fault.ClientFault.TheVariants.{NotNow, AtLastId, Memory}
-use Rattle.cf_model.specs.Limits.{last_id}
+use Rattle.cf_model.specs.Streams.{last_id}
 
 -- a publish or a history that isn't answered yet
 pub record Call : Type 0 where

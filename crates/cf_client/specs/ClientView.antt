@@ -2,7 +2,7 @@
 -- knows.
 use Rattle.std.specs.Prelude.{ℕ, suc, Bool, None, List, [], ◌∷◌, map, reverse, if◌then◌else◌}
 use Rattle.std.specs.Str.{bytes_eq}
-use Rattle.cf_model.specs.ClientState.{Mode, Idle}
+use Rattle.cf_model.specs.Clients.{Mode, Idle}
 use Rattle.cf_client.specs.ClientCalls.{Call, State}
 
 pub record ClientView : Type 0 where

@@ -3,7 +3,7 @@ use Rattle.std.specs.Prelude.{ℕ, suc, ◌==◌, not, Option, Some, None, List,
 use Rattle.std.specs.BTreeMap.{get_by_text}
 use Rattle.std.specs.Option.{option_map}
 use Rattle.cf_client.specs.AppItem.{AppItem}
-use Rattle.cf_model.specs.ClientState.{Mode}
+use Rattle.cf_model.specs.Clients.{Mode}
 use Rattle.cf_client.specs.ClientCalls.{Call, State}
 use Rattle.cf_client.specs.ClientView.{ids_of}
 use Rattle.cf_client.specs.Shown.{Channels, mode_or_idle, calls_of, TellsAlso}

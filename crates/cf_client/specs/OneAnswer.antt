@@ -2,7 +2,7 @@
 -- client is one thing.
 use Rattle.std.specs.Prelude.{◌≡◌, ℕ, ◌<◌, true, false, List}
 use Rattle.cf_protocol.specs.Outgoing.{Outgoing}
-use Rattle.cf_model.specs.ClientState.{Client, is_out}
+use Rattle.cf_model.specs.Clients.{Client, is_out}
 use Rattle.cf_client.specs.ClientCalls.{State, asks_under, TakesAll}
 use Rattle.cf_client.specs.AppItem.{AppItem}
 

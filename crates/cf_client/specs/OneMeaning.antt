@@ -6,7 +6,7 @@ use Rattle.cf_protocol.specs.Position.{Position}
 use Rattle.cf_protocol.specs.Note.{Lists, Reading, Note, Reply, Pub, End, Fails, Put, Left, Listed as Listing}
 use Rattle.cf_protocol.specs.Note.{PingDue, Close, placed_from, placed_at, outgoing_of, insufficient}
 use Rattle.cf_protocol.specs.Outgoing.{Outgoing}
-use Rattle.cf_model.specs.ClientState.{Client, Mode, Idle, Asking, Live, read_to, is_out, hears}
+use Rattle.cf_model.specs.Clients.{Client, Mode, Idle, Asking, Live, read_to, is_out, hears}
 use Rattle.cf_client.specs.ClientCalls.{State, asks_under, channel_under, Takes}
 use Rattle.cf_client.specs.ClientView.{ids_of}
 use Rattle.cf_client.specs.AppItem.{AppItem, Subscribed, Resubscribing, Refused, Listed, PongDue, published}

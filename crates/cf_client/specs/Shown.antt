@@ -7,7 +7,7 @@ use Rattle.std.specs.declared.alloc.Global.{Global}
 use Rattle.cf_protocol.specs.Names.{with}
 use Rattle.cf_protocol.specs.Frame.{IsReplies}
 use Rattle.cf_protocol.specs.Outgoing.{Outgoing}
-use Rattle.cf_model.specs.ClientState.{Mode, Idle, Asking, Live}
+use Rattle.cf_model.specs.Clients.{Mode, Idle, Asking, Live}
 use Rattle.cf_client.specs.ClientCalls.{Call, State}
 use Rattle.cf_client.specs.ClientView.{ClientView, mode_in, state_of}
 use Rattle.cf_client.specs.AppItem as item

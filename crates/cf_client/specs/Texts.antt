@@ -6,7 +6,7 @@ use Rattle.std.specs.declared.alloc.Global.{Global}
 use Rattle.cf_protocol.specs.Position.{Position}
 use Rattle.cf_protocol.specs.Request.{Request}
 use Rattle.cf_protocol.specs.Written.{command_text}
-use Rattle.cf_model.specs.ClientState.{last_of}
+use Rattle.cf_model.specs.Clients.{last_of}
 use Rattle.cf_client.specs.ClientView.{ClientView, state_of}
 
 -- the text is that of a command with this id

@@ -4,7 +4,7 @@ ghost use Rattle.std.specs.Option.{option_map};
 ghost use Rattle.std.specs.Map.{update};
 ghost use Rattle.std.specs.Str.{bytes_eq};
 ghost use Rattle.std.specs.BTreeMap.{get_by_text};
-ghost use Rattle.cf_model.specs.ClientState.{idle, last_of};
+ghost use Rattle.cf_model.specs.Clients.{idle, last_of};
 ghost use Rattle.cf_client.specs.ClientCalls.{asks_under};
 ghost use Rattle.cf_client.specs.declared.channels.Mode.TheVariants as code;
 ghost use Rattle.cf_client.specs.Shown.{modes_of, shown_mode, SetsMode};

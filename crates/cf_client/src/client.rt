@@ -5,7 +5,7 @@ ghost use Rattle.cf_protocol.specs.Outgoing as sent;
 ghost use Rattle.cf_protocol.specs.Regular.{IsFrom};
 ghost use Rattle.cf_protocol.specs.Request as request;
 ghost use Rattle.cf_protocol.specs.Shown.{shown_request};
-ghost use Rattle.cf_model.specs.ClientState.{is_idle};
+ghost use Rattle.cf_model.specs.Clients.{is_idle};
 ghost use Rattle.cf_client.specs.ClientCalls.{new_state, connected, asked, left, called, reconnected, RefusedBy, connect_fault, call_fault, ask_fault, leave_fault, TakesAll};
 ghost use Rattle.cf_client.specs.ClientView.{state_of};
 ghost use Rattle.cf_client.specs.OneAnswer.{AreApart};

@@ -7,7 +7,7 @@ use Rattle.cf_queue.specs.OutQueue.{Item}
 use Rattle.cf_queue.specs.declared.queue.Out.{Out}
 use Rattle.cf_hub.specs.Hub.{Node, One, attached_at, moves, waits_in}
 use Rattle.cf_hub.specs.Session.{Attached}
-use Rattle.cf_model.specs.SessionState.{takes_front}
+use Rattle.cf_model.specs.Sessions.{takes_front}
 use Rattle.std.specs.VecDeque.{deque_capacity}
 use Rattle.cf_dispatch.specs.Outlet.{Outs, Takes, bytes_in, left_with, waits_at}
 

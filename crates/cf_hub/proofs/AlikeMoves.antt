@@ -5,17 +5,17 @@ use Rattle.cf_protocol.specs.Note.{Lists, Note, Reading}
 use Rattle.cf_protocol.specs.Note as note
 use Rattle.cf_protocol.specs.Position.{Position}
 use Rattle.cf_queue.specs.OutQueue.{Close}
-use Rattle.cf_model.specs.Arrivals.{arrives}
+use Rattle.cf_model.specs.Recovery.{arrives}
 use Rattle.cf_recovery.specs.ArrivalBuffer.{Arrival, IsWithin, ArrivalBuffer, StandsFor, places, with_arrival}
-use Rattle.cf_model.specs.Release.{falls_short, run_length}
+use Rattle.cf_model.specs.Recovery.{falls_short, run_length}
 use Rattle.cf_hub.specs.AlikeMoves.{AreAlike, CallsAreAlike, GoesOn, MovesAreAlike, Notes, Texts}
 use Rattle.cf_hub.specs.Finish.{FinishesAt}
 use Rattle.cf_hub.specs.Hub.{Delivers, InState, Meets, Node, attached_at, counted, is_in, moves, one_if, sub_at}
 use Rattle.cf_hub.specs.InNotes.{IsKept, IsListed, SaysAt, SaysNote, SaysSession}
 use Rattle.cf_hub.specs.Rows.{sub_in}
 use Rattle.cf_hub.specs.Session.{Attached}
-use Rattle.cf_model.specs.SessionState.{comes, finishes, opens}
-use Rattle.cf_model.specs.Spoken.{spoken}
+use Rattle.cf_model.specs.Sessions.{comes, finishes, opens}
+use Rattle.cf_model.specs.Sessions.{spoken}
 use Rattle.cf_hub.specs.WantOfMemory.{Both, OrCloses, Serves}
 use Rattle.cf_hub.specs.Wordings.{at_offset, delivering, plain, reading}
 use Rattle.cf_hub.proofs.Alikes.{begins_alike, checks_alike, closes_now_alike, comes_alike, leaves_alike, opens_alike, push_alike, reads_alike, takes_alike}

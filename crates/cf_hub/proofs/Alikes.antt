@@ -7,10 +7,10 @@ use Rattle.std.specs.Str.{bytes_eq}
 use Rattle.std.proofs.lemmas.List.Sums.{sum_by-cons}
 use Rattle.cf_protocol.specs.Note.{Reading}
 use Rattle.cf_protocol.specs.Position.{Position}
-use Rattle.cf_model.specs.Verdict.{Verdict, Drop, Pass, Insufficient, verdict}
+use Rattle.cf_model.specs.Recovery.{Verdict, Drop, Pass, Insufficient, verdict}
 use Rattle.cf_hub.specs.Alike.{Alike, AlikeSub}
-use Rattle.cf_model.specs.PositionCheck.{Checked, Fine, Behind, Ended, position_check}
-use Rattle.cf_model.specs.SessionState.{Subscription, Off, Asked, Ready, On, SessionState, Wording, begins, by_check, by_verdict, check_at, checks, closes, closes_now, come_at, comes, leaves, most_waiting, opens, push, put_sub, read_at, reads, says, slow, takes_front}
+use Rattle.cf_model.specs.Recovery.{Checked, Fine, Behind, Ended, position_check}
+use Rattle.cf_model.specs.Sessions.{Subscription, Off, Asked, Ready, On, SessionState, Wording, begins, by_check, by_verdict, check_at, checks, closes, closes_now, come_at, comes, leaves, most_waiting, opens, push, put_sub, read_at, reads, says, slow, takes_front}
 
 module _ {B C N M : Type 0} (R : List ℕ → ℕ → Option Reading → B → C → Type 0) (S : N → M → Type 0) where
   pub zip_more : (xs : List N) (ys : List M) (x : N) (y : M) → AllZip S xs ys → S x y → AllZip S (xs ++ x ∷ []) (ys ++ y ∷ [])

@@ -11,7 +11,7 @@ use Rattle.cf_hub.specs.Hub.{attached_in, is_open, moves}
 use Rattle.cf_hub.specs.Places.{Places}
 use Rattle.cf_hub.specs.Rows.{Agrees, sub_in}
 use Rattle.cf_hub.specs.Session.{Attached}
-use Rattle.cf_model.specs.SessionState.{Asked, begins, is_off}
+use Rattle.cf_model.specs.Sessions.{Asked, begins, is_off}
 use Rattle.cf_hub.specs.Wordings.{held, plain}
 
 follows_with : (rows : List Follow) (c : List ℕ) (k : ℕ) (d : List ℕ) (j : ℕ) → follows (with_follow rows c k) d j ≡ (follows rows d j || (bytes_eq c d && (k == j)))

@@ -5,7 +5,7 @@ use Rattle.cf_queue.specs.OutQueue.{Item}
 use Rattle.cf_hub.specs.Hub.{AreNumbered, attached_in, moves}
 use Rattle.cf_hub.specs.Places.{Places}
 use Rattle.cf_hub.specs.Session.{Attached}
-use Rattle.cf_model.specs.SessionState.{SessionState}
+use Rattle.cf_model.specs.Sessions.{SessionState}
 use Rattle.cf_hub.specs.WantOfMemory.{Both}
 use Rattle.cf_hub.specs.Wordings.{Held}
 

@@ -3,8 +3,8 @@ use Rattle.std.proofs.Common.{◌≡◌, ◌≢◌, ◌⊎◌, inl, inr, Bool, t
 use Rattle.cf_protocol.specs.Position.{Position}
 use Rattle.cf_queue.specs.OutQueue.{OutQueue, Item, Text, Close}
 use Rattle.cf_hub.specs.Checked.{answer_of, check_answer, mark_after, marked, place_of, stand_of}
-use Rattle.cf_model.specs.PositionCheck.{Checked, Fine, Behind, Ended, position_check}
-use Rattle.cf_model.specs.SessionState.{Subscription, Off, Asked, Ready, On, SessionState, by_check, check_at, checks, closes, is_off, no_memory, push, put_sub}
+use Rattle.cf_model.specs.Recovery.{Checked, Fine, Behind, Ended, position_check}
+use Rattle.cf_model.specs.Sessions.{Subscription, Off, Asked, Ready, On, SessionState, by_check, check_at, checks, closes, is_off, no_memory, push, put_sub}
 use Rattle.cf_hub.specs.Subscriptions.{SetsAt, Subscriptions, progress_at, sub_of}
 use Rattle.cf_hub.specs.WantOfMemory.{ClosesWith, OrCloses}
 use Rattle.cf_hub.specs.Wordings.{Held, end_text, plain}

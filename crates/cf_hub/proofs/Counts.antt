@@ -11,8 +11,8 @@ use Rattle.cf_protocol.specs.Position.{Position}
 use Rattle.cf_subscribers.specs.Follows.{AreOnce, Follow, channels_of, follows, is_of, without_follow, without_session}
 use Rattle.cf_hub.specs.Counts.{AreNamesOnce, AreNumbersOnce, CountsAll, CountsSession, CountsSessions, count_on}
 use Rattle.cf_hub.specs.Hub.{attached_at, is_in}
-use Rattle.cf_model.specs.Limits.{most_sessions}
-use Rattle.cf_model.specs.SessionState.{Subscription, is_off}
+use Rattle.cf_model.specs.Streams.{most_sessions}
+use Rattle.cf_model.specs.Sessions.{Subscription, is_off}
 use Rattle.cf_hub.proofs.Rows.{follows_without_follow, follows_without_session}
 
 abbrev one_if : Bool → ℕ

@@ -11,10 +11,10 @@ use Rattle.cf_hub.specs.declared.fate.Fate.TheVariants as fate
 use Rattle.cf_hub.specs.declared.delivered.Delivered.{Delivered}
 use Rattle.cf_hub.specs.Delivery.{fate_at, none, one_more, tally, total}
 use Rattle.cf_hub.specs.Hub.{AreNumbered, Node, Brings, Delivers, attached_at, counted, is_in, one_if}
-use Rattle.cf_model.specs.Limits.{largest}
+use Rattle.cf_model.specs.Streams.{largest}
 use Rattle.cf_hub.specs.Rows.{AgreedBefore, Agrees, off_after, rows_after, sub_in}
 use Rattle.cf_hub.specs.Session.{Attached}
-use Rattle.cf_model.specs.SessionState.{Subscription, Off, Asked, Ready, On, SessionState, come_at, is_off}
+use Rattle.cf_model.specs.Sessions.{Subscription, Off, Asked, Ready, On, SessionState, come_at, is_off}
 use Rattle.cf_hub.specs.Turns.{Turns, get_turns, gets_turn}
 use Rattle.cf_hub.specs.WantOfMemory.{Both}
 use Rattle.cf_hub.specs.Wordings.{Held, at_offset, delivering}

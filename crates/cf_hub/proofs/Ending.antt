@@ -6,7 +6,7 @@ use Rattle.cf_hub.specs.declared.fate.Fate.{Fate}
 use Rattle.cf_hub.specs.declared.fate.Fate.TheVariants as fate
 use Rattle.cf_hub.specs.Rows.{AgreedBefore, Agrees, TellsFate, WentOff, off_after, rows_after, sub_in}
 use Rattle.cf_hub.specs.Session.{Attached}
-use Rattle.cf_model.specs.SessionState.{is_off}
+use Rattle.cf_model.specs.Sessions.{is_off}
 use Rattle.cf_hub.proofs.Rows.{has, without, Once, follows_has, once_sessions, sessions_without_follow, sessions_without_session}
 use Rattle.cf_hub.proofs.Walks.{after_split, has_append, middle, once_before, once_drop, once_rest, rows_here, rows_there, without_split}
 

@@ -8,7 +8,7 @@ use Rattle.cf_hub.specs.Delivery.{fate_or}
 use Rattle.cf_hub.specs.Finish.{FinishesAt}
 use Rattle.cf_hub.specs.Reply.{IsAnswered, answer_notes}
 use Rattle.cf_hub.specs.Rows.{off_after}
-use Rattle.cf_model.specs.SessionState.{Subscription, Off, Asked, Ready, On, SessionState, is_ready, closes, finish_notes, is_off, no_memory, push, put_sub, says}
+use Rattle.cf_model.specs.Sessions.{Subscription, Off, Asked, Ready, On, SessionState, is_ready, closes, finish_notes, is_off, no_memory, push, put_sub, says}
 use Rattle.cf_hub.specs.Subscriptions.{reading_of}
 use Rattle.cf_hub.specs.WantOfMemory.{SaysAll}
 use Rattle.cf_hub.specs.Wordings.{Held, held, end_text, no_publication, plain, releasing, texts}

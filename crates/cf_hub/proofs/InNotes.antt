@@ -11,15 +11,15 @@ use Rattle.cf_protocol.specs.Position.{Position}
 use Rattle.cf_protocol.specs.Regular.{IsCode}
 use Rattle.cf_protocol.specs.Written.{text_or_none}
 use Rattle.cf_queue.specs.OutQueue.{Item, Text, Close}
-use Rattle.cf_model.specs.Arrivals.{arrives, has, overfull}
+use Rattle.cf_model.specs.Recovery.{arrives, has, overfull}
 use Rattle.cf_recovery.specs.ArrivalBuffer.{Arrival, IsRun, IsWithin, ArrivalBuffer, StandsFor, arrival, given_up, nothing_kept, places, with_arrival}
-use Rattle.cf_model.specs.Release.{falls_short, run_length}
-use Rattle.cf_model.specs.Verdict.{next}
+use Rattle.cf_model.specs.Recovery.{falls_short, run_length}
+use Rattle.cf_model.specs.Recovery.{next}
 use Rattle.cf_hub.specs.Alike.{AlikeSub}
 use Rattle.cf_hub.specs.Finish.{Finishes, FinishesAt}
 use Rattle.cf_hub.specs.InNotes.{AreMissed, Grown, IsKept, IsListed, IsSaid, MissedBy, SaysNote, SaysSession, placed_of}
-use Rattle.cf_model.specs.SessionState.{Subscription, Off, Asked, Ready, On, SessionState, finish_at, finish_notes, finished, finishes, put_sub, says}
-use Rattle.cf_model.specs.Spoken.{note_length, pushes, spoken}
+use Rattle.cf_model.specs.Sessions.{Subscription, Off, Asked, Ready, On, SessionState, finish_at, finish_notes, finished, finishes, put_sub, says}
+use Rattle.cf_model.specs.Sessions.{note_length, pushes, spoken}
 use Rattle.cf_hub.specs.Wordings.{Held, at_offset, end_text, held, item_weight, ping_text, push_text, releasing, reply_text}
 use Rattle.cf_hub.proofs.Alikes.{put_alike, says_alike, zip_both}
 

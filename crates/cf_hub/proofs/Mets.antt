@@ -7,7 +7,7 @@ use Rattle.cf_hub.specs.Hub.{Node, InState, Meets, PingStep, Pings, attached_at,
 use Rattle.cf_hub.specs.Places.{Places, numbered}
 use Rattle.cf_hub.specs.Rows.{Agrees, off_after, rows_after, sub_in}
 use Rattle.cf_hub.specs.Session.{Attached, shown_all}
-use Rattle.cf_model.specs.SessionState.{SessionState, is_off}
+use Rattle.cf_model.specs.Sessions.{SessionState, is_off}
 use Rattle.cf_hub.specs.Turns.{gets_turn}
 use Rattle.cf_hub.specs.WantOfMemory.{Both}
 use Rattle.cf_hub.specs.Wordings.{Held}

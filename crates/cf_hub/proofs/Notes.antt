@@ -4,7 +4,7 @@ use Rattle.std.specs.Prelude.{nat_le, sum_by, option_to_list}
 use Rattle.std.proofs.lemmas.Bool.Decides.{nat_tests}
 use Rattle.std.proofs.lemmas.List.Sums.{sum_by-cons}
 use Rattle.cf_queue.specs.OutQueue.{OutQueue, Item, Text, Close, waiting, weight, pushed, HasRoom, IsSlow}
-use Rattle.cf_model.specs.SessionState.{Subscription, SessionState, Wording, push, says, closes, closes_now, no_memory, slow, most_waiting}
+use Rattle.cf_model.specs.Sessions.{Subscription, SessionState, Wording, push, says, closes, closes_now, no_memory, slow, most_waiting}
 use Rattle.cf_hub.specs.WantOfMemory.{ClosesWith, SaysAll}
 use Rattle.cf_hub.specs.Wordings.{Held, plain, item_weight}
 use Rattle.cf_hub.proofs.States.{state_is, push_shut, says_shut}

@@ -10,7 +10,7 @@ use Rattle.cf_hub.specs.Hub.{Node, One, attached_in, is_open, moves}
 use Rattle.cf_hub.specs.Places.{Places, numbered}
 use Rattle.cf_hub.specs.Rows.{Agrees, off_after, rows_after, sub_in}
 use Rattle.cf_hub.specs.Session.{Attached, shown_all}
-use Rattle.cf_model.specs.SessionState.{SessionState, Subscription, Wording, Off, Asked, Ready, On, reads, read_at, closes, closes_now, leaves, is_off}
+use Rattle.cf_model.specs.Sessions.{SessionState, Subscription, Wording, Off, Asked, Ready, On, reads, read_at, closes, closes_now, leaves, is_off}
 use Rattle.cf_hub.specs.Wordings.{Held}
 use Rattle.cf_hub.proofs.States.{ends_off, puts_off}
 use Rattle.cf_hub.proofs.Walks.{agrees_by}

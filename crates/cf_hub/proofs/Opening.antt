@@ -6,11 +6,11 @@ use Rattle.cf_queue.specs.OutQueue.{Item}
 use Rattle.cf_hub.specs.declared.session.Session.{Session}
 use Rattle.cf_hub.specs.declared.fate.Fate.TheVariants as fate
 use Rattle.cf_hub.specs.Hub.{AreNumbered, attached_in, fresh}
-use Rattle.cf_model.specs.Limits.{most_sessions}
+use Rattle.cf_model.specs.Streams.{most_sessions}
 use Rattle.cf_hub.specs.Places.{Places}
 use Rattle.cf_hub.specs.Rows.{Agrees, sub_in}
 use Rattle.cf_hub.specs.Session.{attached_of, badge_of, state_of}
-use Rattle.cf_model.specs.SessionState.{SessionState, is_off, opens}
+use Rattle.cf_model.specs.Sessions.{SessionState, is_off, opens}
 use Rattle.cf_hub.specs.Wordings.{Held}
 use Rattle.cf_hub.proofs.Walks.{agrees_by}
 

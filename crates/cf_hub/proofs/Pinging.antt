@@ -4,7 +4,7 @@ use Rattle.std.specs.Prelude.{nat_le, IfSome}
 use Rattle.std.proofs.lemmas.Bool.Decides.{Decides-eqb, nat_tests}
 use Rattle.std.proofs.lemmas.List.Folds.{list_any-append}
 use Rattle.cf_hub.specs.Hub.{HasNoneFrom, IsBounded, IsNextFrom, Node, PingStep, Pings, Ticks, attached_at, counted, is_in, one_if}
-use Rattle.cf_model.specs.Limits.{most_sessions}
+use Rattle.cf_model.specs.Streams.{most_sessions}
 use Rattle.cf_hub.specs.Rows.{Agrees}
 use Rattle.cf_hub.specs.Session.{Attached}
 use Rattle.cf_hub.specs.Turns.{get_turns, gets_turn}

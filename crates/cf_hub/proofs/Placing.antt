@@ -13,7 +13,7 @@ use Rattle.cf_hub.specs.Rows.{off_after, sub_in}
 use Rattle.cf_hub.specs.Session.{Attached, attached_of, badge_of, state_of}
 use Rattle.cf_hub.specs.Sessions.{EndsAs, EndsIn, MeetsIn, Move, OthersStayIn}
 use Rattle.cf_hub.specs.WantOfMemory.{Both}
-use Rattle.cf_model.specs.SessionState.{is_off}
+use Rattle.cf_model.specs.Sessions.{is_off}
 
 abbrev Boxed : Type 0
 Boxed = Option (Box Session Global)

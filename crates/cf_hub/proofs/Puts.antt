@@ -9,7 +9,7 @@ use Rattle.cf_protocol.specs.Datum.{Placed}
 use Rattle.cf_protocol.specs.Names.{with}
 use Rattle.cf_protocol.specs.Position.{Position}
 use Rattle.cf_queue.specs.OutQueue.{OutQueue, Item, Text, Close}
-use Rattle.cf_model.specs.Verdict.{Verdict, Drop, Pass, Insufficient, verdict}
+use Rattle.cf_model.specs.Recovery.{Verdict, Drop, Pass, Insufficient, verdict}
 use Rattle.cf_recovery.specs.declared.verdict.Verdict.TheVariants as answer
 use Rattle.cf_hub.specs.declared.fate.Fate.{Fate}
 use Rattle.cf_hub.specs.declared.fate.Fate.TheVariants as fate
@@ -18,7 +18,7 @@ use Rattle.cf_hub.specs.declared.subscription.Meets.TheVariants as meets
 use Rattle.cf_hub.specs.declared.subscription.Met.{Met}
 use Rattle.cf_hub.specs.declared.subscription.Progress.{Progress}
 use Rattle.cf_hub.specs.declared.subscription.Progress.TheVariants as code
-use Rattle.cf_model.specs.SessionState.{Subscription, Off, On, SessionState, begins, put_sub, push, closes, comes, come_at, by_verdict, is_unfinished, no_memory}
+use Rattle.cf_model.specs.Sessions.{Subscription, Off, On, SessionState, begins, put_sub, push, closes, comes, come_at, by_verdict, is_unfinished, no_memory}
 use Rattle.cf_hub.specs.WantOfMemory.{Serves, ClosesWith, without_buffer}
 use Rattle.cf_hub.specs.Delivery.{fate_of, sub_fate}
 use Rattle.cf_hub.specs.Subscriptions.{IsGivenUp, SetsAt, Subscriptions, loses, meeting, progress_at, stands_by, sub_of, takes, verdict_code}

@@ -3,13 +3,13 @@ use Rattle.std.proofs.Common.{◌≡◌, ◌||◌, ◌+◌, ℕ, Bool, true, fal
 use Rattle.std.specs.Str.{bytes_eq}
 use Rattle.cf_queue.specs.OutQueue.{OutQueue, Item}
 use Rattle.cf_recovery.specs.ArrivalBuffer.{places}
-use Rattle.cf_model.specs.Release.{falls_short}
+use Rattle.cf_model.specs.Recovery.{falls_short}
 use Rattle.cf_stream.specs.declared.answer.Recovery.{Recovery}
 use Rattle.cf_hub.specs.declared.reply.Answered.{Answered}
 use Rattle.cf_hub.specs.declared.subscription.Progress.{Progress}
 use Rattle.cf_hub.specs.declared.subscription.Progress.TheVariants as code
 use Rattle.cf_hub.specs.Reply.{AnswersIn, IsAnswered, stands, was_read}
-use Rattle.cf_model.specs.SessionState.{Subscription, Off, On, SessionState, finished, put_sub, reads, read_at}
+use Rattle.cf_model.specs.Sessions.{Subscription, Off, On, SessionState, finished, put_sub, reads, read_at}
 use Rattle.cf_hub.specs.Subscriptions.{SetsAt, Subscriptions, progress_at, reading_of, sub_of}
 use Rattle.cf_hub.specs.Wordings.{Held, held, reading, releasing}
 use Rattle.cf_hub.proofs.States.{state_is}

@@ -8,7 +8,7 @@ use Rattle.std.proofs.lemmas.List.Filters.{length-filter_both}
 use Rattle.std.specs.Str.{bytes_eq}
 use Rattle.std.specs.Cmp.Lexicographic.{bytes_decides}
 use Rattle.cf_subscribers.specs.Follows.{Follow, follows, sessions_of, without_follow, without_session, AreOnce}
-use Rattle.cf_model.specs.Limits.{most_rows}
+use Rattle.cf_model.specs.Streams.{most_rows}
 
 abbrev pub has : ℕ → List ℕ → Bool
 has k ks = list_any (λ j. j == k) ks

@@ -11,7 +11,7 @@ use Rattle.std.proofs.lemmas.Map.Entries.{none_past_head}
 use Rattle.std.proofs.lemmas.Map.Keys.{IsDistinct-tail}
 use Rattle.std.specs.Map.{lookup, keys_of}
 use Rattle.indexmap.specs.IndexMap.{IsUnique}
-use Rattle.cf_model.specs.SessionState.{Subscription, Off, is_off, is_unfinished}
+use Rattle.cf_model.specs.Sessions.{Subscription, Off, is_off, is_unfinished}
 use Rattle.cf_hub.specs.Subscriptions.{Subscriptions, in_box, progress_at, sub_of}
 use Rattle.cf_hub.specs.Wordings.{Held}
 use Rattle.cf_hub.specs.declared.subscription.Progress.{Progress}

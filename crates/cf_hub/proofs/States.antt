@@ -4,10 +4,10 @@ use Rattle.std.specs.Prelude.{nat_le, sum_by}
 use Rattle.std.specs.Cmp.Lexicographic.{bytes_decides}
 use Rattle.std.specs.Str.{bytes_eq}
 use Rattle.cf_protocol.specs.Position.{Position}
-use Rattle.cf_model.specs.Verdict.{Verdict, Drop, Pass, Insufficient, verdict}
+use Rattle.cf_model.specs.Recovery.{Verdict, Drop, Pass, Insufficient, verdict}
 use Rattle.cf_hub.specs.declared.fate.Fate.{Fate}
 use Rattle.cf_hub.specs.declared.fate.Fate.TheVariants as fate
-use Rattle.cf_model.specs.SessionState.{Subscription, Off, Asked, Ready, On, SessionState, Wording, put_sub, push, says, closes, closes_now, comes, come_at, by_verdict, is_off, is_unfinished, most_waiting, no_memory, slow}
+use Rattle.cf_model.specs.Sessions.{Subscription, Off, Asked, Ready, On, SessionState, Wording, put_sub, push, says, closes, closes_now, comes, come_at, by_verdict, is_off, is_unfinished, most_waiting, no_memory, slow}
 use Rattle.cf_hub.specs.WantOfMemory.{Serves, ClosesWith, GivesUp, SaysAll, without_buffer}
 use Rattle.cf_hub.specs.Delivery.{fate_of, fate_or, sub_fate, verdict_fate}
 use Rattle.cf_hub.specs.Rows.{off_after}

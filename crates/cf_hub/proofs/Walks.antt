@@ -10,7 +10,7 @@ use Rattle.cf_hub.specs.Delivery.{fate_at, one_more, tally, total}
 use Rattle.cf_hub.specs.Hub.{Brings}
 use Rattle.cf_hub.specs.Rows.{Agrees, sub_in, rows_after, off_after}
 use Rattle.cf_hub.specs.Session.{Attached}
-use Rattle.cf_model.specs.SessionState.{is_off}
+use Rattle.cf_model.specs.Sessions.{is_off}
 use Rattle.cf_hub.specs.WantOfMemory.{Both}
 use Rattle.cf_hub.specs.Wordings.{at_offset, delivering}
 use Rattle.cf_hub.proofs.Rows.{has, without, Once, follows_without_follow, follows_without_session}

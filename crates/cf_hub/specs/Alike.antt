@@ -4,7 +4,7 @@
 use Rattle.std.specs.Prelude.{◌≡◌, ⊤, ℕ, Option, Some, None, List}
 use Rattle.std.specs.List.{AllZip}
 use Rattle.cf_protocol.specs.Note.{Reading}
-use Rattle.cf_model.specs.SessionState.{Subscription, Off, Asked, Ready, On, SessionState}
+use Rattle.cf_model.specs.Sessions.{Subscription, Off, Asked, Ready, On, SessionState}
 
 abbrev pub AlikeSub : {B C : Type 0} → (ℕ → Option Reading → B → C → Type 0) → Subscription B
     → Subscription C → Type 0

@@ -9,9 +9,9 @@ use Rattle.cf_queue.specs.OutQueue.{Item, Close}
 use Rattle.cf_hub.specs.Finish.{FinishesAt}
 use Rattle.cf_hub.specs.Hub.{Delivers, Meets, Node, One, Opens, OthersStay, attached_at, sub_at}
 use Rattle.cf_hub.specs.InNotes.{AreMissed, IsListed, SaysAt, SaysNote, SaysSession}
-use Rattle.cf_model.specs.SessionState.{SessionState, begins, checks, closes_now, comes, finishes, leaves, opens, push}
-use Rattle.cf_model.specs.SessionState.{reads, takes_front}
-use Rattle.cf_model.specs.Spoken.{spoken}
+use Rattle.cf_model.specs.Sessions.{SessionState, begins, checks, closes_now, comes, finishes, leaves, opens, push}
+use Rattle.cf_model.specs.Sessions.{reads, takes_front}
+use Rattle.cf_model.specs.Sessions.{spoken}
 use Rattle.cf_hub.specs.WantOfMemory.{OrCloses}
 use Rattle.cf_hub.specs.Wordings.{Held, at_offset, delivering, plain, reading}
 

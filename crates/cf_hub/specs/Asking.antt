@@ -1,6 +1,6 @@
 -- A subscription for which the stream was not read yet, as the code answers it.
 use Rattle.std.specs.Prelude.{Option, Some, None}
-use Rattle.cf_model.specs.SessionState.{Subscription, Off, Asked, Ready, On}
+use Rattle.cf_model.specs.Sessions.{Subscription, Off, Asked, Ready, On}
 use Rattle.cf_hub.specs.declared.asking.Asked.{Asked as Answer}
 
 abbrev pub asked_of : {B : Type 0} → Subscription B → Option Answer

@@ -1,8 +1,8 @@
 -- What a position check answers, as the code has it.
 use Rattle.std.specs.Prelude.{ℕ, Option, Some, None}
 use Rattle.cf_protocol.specs.Position.{Position}
-use Rattle.cf_model.specs.PositionCheck.{Checked, Fine, Behind, Ended, position_check}
-use Rattle.cf_model.specs.SessionState.{Subscription, Off, Asked, Ready, On}
+use Rattle.cf_model.specs.Recovery.{Checked, Fine, Behind, Ended, position_check}
+use Rattle.cf_model.specs.Sessions.{Subscription, Off, Asked, Ready, On}
 use Rattle.cf_hub.specs.declared.checked.Checked.{Checked as Answer}
 use Rattle.cf_hub.specs.declared.checked.Checked.TheVariants as answer
 use Rattle.cf_hub.specs.declared.subscription.Progress.{Progress}

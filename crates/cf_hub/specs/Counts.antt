@@ -6,9 +6,9 @@ use Rattle.cf_protocol.specs.Names.{is_among}
 use Rattle.cf_protocol.specs.Position.{Position}
 use Rattle.cf_subscribers.specs.Follows.{AreFollows, channels_of, follows}
 use Rattle.cf_hub.specs.Hub.{IsBounded, Node, attached_at, is_in, sub_at}
-use Rattle.cf_model.specs.Limits.{most_sessions}
+use Rattle.cf_model.specs.Streams.{most_sessions}
 use Rattle.cf_hub.specs.Rows.{Agrees}
-use Rattle.cf_model.specs.SessionState.{Subscription, is_off}
+use Rattle.cf_model.specs.Sessions.{Subscription, is_off}
 
 -- how many of these channels are not off
 abbrev pub count_on : {B : Type 0} → (List ℕ → Subscription B) → List (List ℕ) → ℕ

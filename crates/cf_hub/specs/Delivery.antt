@@ -1,9 +1,9 @@
 -- What a call did with one session, and how many sessions a delivery met by what it did with them.
 use Rattle.std.specs.Prelude.{ℕ, ◌+◌, ◌&&◌, not, if◌then◌else◌, Option, Some, None, List, [], ◌∷◌}
 use Rattle.cf_protocol.specs.Position.{Position}
-use Rattle.cf_model.specs.Verdict.{Verdict, Drop, Pass, Insufficient, verdict}
+use Rattle.cf_model.specs.Recovery.{Verdict, Drop, Pass, Insufficient, verdict}
 use Rattle.cf_hub.specs.Session.{Attached}
-use Rattle.cf_model.specs.SessionState.{Subscription, Off, Asked, Ready, On, SessionState}
+use Rattle.cf_model.specs.Sessions.{Subscription, Off, Asked, Ready, On, SessionState}
 use Rattle.cf_hub.specs.declared.delivered.Delivered.{Delivered}
 use Rattle.cf_hub.specs.declared.fate.Fate.{Fate}
 use Rattle.cf_hub.specs.declared.fate.Fate.TheVariants.{Passed, Kept, Dropped, Ended, Closed}

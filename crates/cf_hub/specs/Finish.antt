@@ -4,8 +4,8 @@ use Rattle.cf_protocol.specs.Datum.{Placed}
 use Rattle.cf_protocol.specs.Note.{Reading}
 use Rattle.cf_queue.specs.OutQueue.{Item}
 use Rattle.cf_recovery.specs.ArrivalBuffer.{IsRun}
-use Rattle.cf_model.specs.SessionState.{Subscription, Off, Asked, Ready, On, SessionState, finish_notes, finished}
-use Rattle.cf_model.specs.SessionState.{put_sub}
+use Rattle.cf_model.specs.Sessions.{Subscription, Off, Asked, Ready, On, SessionState, finish_notes, finished}
+use Rattle.cf_model.specs.Sessions.{put_sub}
 use Rattle.cf_hub.specs.WantOfMemory.{SaysAll}
 use Rattle.cf_hub.specs.Wordings.{Held, releasing}
 

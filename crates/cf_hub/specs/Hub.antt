@@ -10,13 +10,13 @@ use Rattle.cf_protocol.specs.Datum.{Placed}
 use Rattle.cf_protocol.specs.Position.{Position}
 use Rattle.cf_queue.specs.OutQueue.{Item}
 use Rattle.cf_subscribers.specs.Follows.{Follow, channels_of, sessions_of, with_follow}
-use Rattle.cf_model.specs.Limits.{most_channels, most_rows}
+use Rattle.cf_model.specs.Streams.{most_channels, most_rows}
 use Rattle.cf_hub.specs.Delivery.{fate_at, none, tally}
 use Rattle.cf_hub.specs.declared.delivered.Delivered.{Delivered}
 use Rattle.cf_hub.specs.Places.{Places, session_in}
 use Rattle.cf_hub.specs.Rows.{Agrees, sub_in}
 use Rattle.cf_hub.specs.Session.{Attached, Shown, attached_shown, attached_of, ticked, ticks}
-use Rattle.cf_model.specs.SessionState.{SessionState, Subscription, begins, comes, is_off, opens}
+use Rattle.cf_model.specs.Sessions.{SessionState, Subscription, begins, comes, is_off, opens}
 use Rattle.cf_hub.specs.WantOfMemory.{Both, OrCloses, Serves}
 use Rattle.cf_hub.specs.Turns.{Turns, first_turn, get_turns, gets_turn, no_turns, turns_left}
 use Rattle.cf_hub.specs.Wordings.{Held, at_offset, delivering, plain}
@@ -24,7 +24,7 @@ use Rattle.cf_hub.specs.declared.refusal.HubRefusal.{HubRefusal}
 use Rattle.cf_hub.specs.declared.refusal.HubRefusal.TheVariants as refusal
 use Rattle.cf_hub.specs.declared.queued.Queued.{Queued}
 use Rattle.cf_hub.specs.declared.queued.Queued.TheVariants as queued
-use Rattle.cf_model.specs.Limits.{largest, most_sessions}
+use Rattle.cf_model.specs.Streams.{largest, most_sessions}
 
 -- what contracts see of a hub: its node, its boot number, and how many client ids it has used; its sessions by
 -- number; which session follows which channel; how many requests for memory were refused, up to the largest number of

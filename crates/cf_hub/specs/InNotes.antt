@@ -14,7 +14,7 @@ use Rattle.cf_queue.specs.OutQueue.{Item, Text, Close}
 use Rattle.cf_recovery.specs.ArrivalBuffer.{Arrival, IsWithin, StandsFor}
 use Rattle.cf_hub.specs.Alike.{Alike}
 use Rattle.cf_hub.specs.Session.{Attached}
-use Rattle.cf_model.specs.SessionState.{SessionState}
+use Rattle.cf_model.specs.Sessions.{SessionState}
 use Rattle.cf_hub.specs.Wordings.{Held}
 
 -- these lists go on from those

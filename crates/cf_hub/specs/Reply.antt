@@ -3,9 +3,9 @@ use Rattle.std.specs.Prelude.{◌≡◌, ◌+◌, ◌||◌, ◌∷◌, ◌++◌,
 use Rattle.std.specs.Prelude.{Some, None}
 use Rattle.cf_queue.specs.OutQueue.{Item, Text}
 use Rattle.cf_recovery.specs.ArrivalBuffer.{ArrivalBuffer, IsRun, ended_at, places}
-use Rattle.cf_model.specs.Release.{falls_short}
+use Rattle.cf_model.specs.Recovery.{falls_short}
 use Rattle.cf_stream.specs.declared.answer.Recovery.{Recovery}
-use Rattle.cf_model.specs.SessionState.{Ready, SessionState, finished, put_sub}
+use Rattle.cf_model.specs.Sessions.{Ready, SessionState, finished, put_sub}
 use Rattle.cf_hub.specs.Subscriptions.{reading_of}
 use Rattle.cf_hub.specs.Wordings.{Held, end_text, held, push_text, releasing, reply_text}
 use Rattle.cf_hub.specs.declared.reply.Answered.{Answered}

@@ -3,7 +3,7 @@ use Rattle.std.specs.Prelude.{◌≡◌, ℕ, not, Bool, true, false, if◌then�
 use Rattle.std.specs.Str.{bytes_eq}
 use Rattle.cf_subscribers.specs.Follows.{Follow, follows, without_follow, without_session}
 use Rattle.cf_hub.specs.Session.{Attached}
-use Rattle.cf_model.specs.SessionState.{Subscription, Off, is_off}
+use Rattle.cf_model.specs.Sessions.{Subscription, Off, is_off}
 use Rattle.cf_hub.specs.Wordings.{Held}
 use Rattle.cf_hub.specs.declared.fate.Fate.{Fate}
 use Rattle.cf_hub.specs.declared.fate.Fate.TheVariants as fate

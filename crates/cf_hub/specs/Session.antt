@@ -5,7 +5,7 @@ use Rattle.std.specs.Str.{bytes_eq}
 use Rattle.std.specs.declared.alloc.Global.{Global}
 use Rattle.std.specs.declared.string.String.{String}
 use Rattle.cf_queue.specs.OutQueue.{Item, OutQueue, waiting}
-use Rattle.cf_model.specs.SessionState.{SessionState, Wording, closes_now, push, no_pong}
+use Rattle.cf_model.specs.Sessions.{SessionState, Wording, closes_now, push, no_pong}
 use Rattle.cf_hub.specs.Subscriptions.{in_box, sub_of}
 use Rattle.cf_hub.specs.Wordings.{Held}
 use Rattle.cf_hub.specs.declared.session.Session.{Session}

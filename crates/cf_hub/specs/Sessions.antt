@@ -12,8 +12,8 @@ use Rattle.cf_hub.specs.Hub.{InState, attached_in, moves}
 use Rattle.cf_hub.specs.Places.{Places}
 use Rattle.cf_hub.specs.Rows.{off_after, sub_in}
 use Rattle.cf_hub.specs.Session.{Attached, Badge, badge_of, state_of, ticks}
-use Rattle.cf_model.specs.SessionState.{Off, SessionState, closes_now, comes, is_off, push, put_sub, reads}
-use Rattle.cf_model.specs.SessionState.{no_memory, slow}
+use Rattle.cf_model.specs.Sessions.{Off, SessionState, closes_now, comes, is_off, push, put_sub, reads}
+use Rattle.cf_model.specs.Sessions.{no_memory, slow}
 use Rattle.cf_hub.specs.Subscriptions.{reading_of}
 use Rattle.cf_hub.specs.WantOfMemory.{Both, OrCloses, SaysAll, Serves}
 use Rattle.cf_hub.specs.Wordings.{Held, at_offset, delivering, plain, push_text, reading}

@@ -12,14 +12,14 @@ use Rattle.cf_protocol.specs.Datum.{Placed}
 use Rattle.cf_protocol.specs.Note.{Reading}
 use Rattle.cf_protocol.specs.Position.{Position}
 use Rattle.cf_recovery.specs.ArrivalBuffer.{arrival, given_up, with_arrival}
-use Rattle.cf_model.specs.Verdict.{Verdict, Drop, Pass, Insufficient, verdict}
+use Rattle.cf_model.specs.Recovery.{Verdict, Drop, Pass, Insufficient, verdict}
 use Rattle.cf_recovery.specs.declared.verdict.Verdict.{Verdict as Answer}
 use Rattle.cf_recovery.specs.declared.verdict.Verdict.TheVariants as answer
 use Rattle.cf_hub.specs.declared.subscription.Meets.{Meets}
 use Rattle.cf_hub.specs.declared.subscription.Met.{Met}
 use Rattle.cf_hub.specs.declared.subscription.Meets.TheVariants as meets
 use Rattle.cf_stream.specs.declared.answer.Recovery.{Recovery}
-use Rattle.cf_model.specs.SessionState.{Subscription, Off, Asked, Ready, On}
+use Rattle.cf_model.specs.Sessions.{Subscription, Off, Asked, Ready, On}
 use Rattle.cf_hub.specs.Wordings.{Held, at_offset, held}
 use Rattle.cf_hub.specs.declared.subscription.Progress.{Progress}
 use Rattle.cf_hub.specs.declared.subscription.Progress.TheVariants as code

@@ -1,7 +1,7 @@
 -- What a call makes of a session for which memory was refused.
 use Rattle.std.specs.Prelude.{◌≡◌, ◌⊎◌, ⊤, Bool, true, false, Option, Some, None, List, ◌++◌, ℕ}
-use Rattle.cf_model.specs.SessionState.{Subscription, Off, Asked, Ready, On, SessionState, Wording, closes, says}
-use Rattle.cf_model.specs.SessionState.{put_sub, is_unfinished, no_memory}
+use Rattle.cf_model.specs.Sessions.{Subscription, Off, Asked, Ready, On, SessionState, Wording, closes, says}
+use Rattle.cf_model.specs.Sessions.{put_sub, is_unfinished, no_memory}
 
 -- the session was open, and is closed with this note
 pub record ClosesWith {B N : Type 0} (n : N) (a b : SessionState B N) : Type 0 where

@@ -7,8 +7,8 @@ use Rattle.cf_protocol.specs.Position.{Position}
 use Rattle.cf_protocol.specs.Written.{outgoing_text}
 use Rattle.cf_queue.specs.OutQueue.{Item, Text, Close}
 use Rattle.cf_recovery.specs.ArrivalBuffer.{ArrivalBuffer, arrival, given_up, nothing_kept, places, with_arrival}
-use Rattle.cf_model.specs.Release.{falls_short}
-use Rattle.cf_model.specs.SessionState.{Wording}
+use Rattle.cf_model.specs.Recovery.{falls_short}
+use Rattle.cf_model.specs.Sessions.{Wording}
 
 -- what the code has of a subscription before its reply: the publications that came, and those that the read gave
 pub record Held : Type 0 where

@@ -2,7 +2,7 @@
 ghost use Rattle.std.specs.Prelude.{◌≡◌, ◌↔◌, ℕ, List, false, true, not, IsTrue};
 ghost use Rattle.std.specs.List.{list_all};
 ghost use Rattle.std.specs.String.{string_eq};
-ghost use Rattle.cf_model.specs.SessionState.{is_unfinished};
+ghost use Rattle.cf_model.specs.Sessions.{is_unfinished};
 ghost use Rattle.cf_hub.specs.Subscriptions.{sub_of};
 ghost use Rattle.indexmap.specs.IndexMap.{IsUnique};
 
@@ -22,7 +22,7 @@ impl Hub {
     ghost use Rattle.std.specs.Prelude.{◌≡◌, ◌↔◌, ℕ, List, false, IsTrue};
     ghost use Rattle.cf_hub.specs.Asking.{asked_of};
     ghost use Rattle.cf_hub.specs.Hub.{sub_at};
-    ghost use Rattle.cf_model.specs.SessionState.{is_unfinished};
+    ghost use Rattle.cf_model.specs.Sessions.{is_unfinished};
 
     /// The subscription of a session to a channel, while the stream was not read for it. It takes no memory.
     pub fn asked(&self, session: u32, channel: &str) -> Option<Asked>

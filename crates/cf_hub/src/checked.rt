@@ -1,7 +1,7 @@
 //! The position check.
 ghost use Rattle.std.specs.Prelude.{◌≡◌};
 ghost use Rattle.cf_hub.specs.Checked.{answer_of};
-ghost use Rattle.cf_model.specs.PositionCheck.{position_check};
+ghost use Rattle.cf_model.specs.Recovery.{position_check};
 
 use cf_protocol::Position;
 

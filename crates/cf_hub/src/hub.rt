@@ -6,8 +6,8 @@ ghost use Rattle.cf_queue.specs.OutQueue.{Close};
 ghost use Rattle.cf_hub.specs.Delivery.{total};
 ghost use Rattle.cf_hub.specs.Hub.{Delivers, EachGetsTurn, IsBounded, One, OthersStay, SameNode, SameRest, attached_at, empty, met_refusal, sub_at, tallied};
 ghost use Rattle.cf_hub.specs.Rows.{Agrees};
-ghost use Rattle.cf_model.specs.Limits.{largest};
-ghost use Rattle.cf_model.specs.SessionState.{closes_now, is_off, leaves, takes_front};
+ghost use Rattle.cf_model.specs.Streams.{largest};
+ghost use Rattle.cf_model.specs.Sessions.{closes_now, is_off, leaves, takes_front};
 ghost use Rattle.cf_hub.specs.Turns.{gets_turn};
 ghost use Rattle.cf_hub.specs.Wordings.{IsWritten};
 

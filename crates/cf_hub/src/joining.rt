@@ -13,11 +13,11 @@ use std::alloc::{AllocError, Global};
 impl Hub {
     ghost use Rattle.std.specs.Prelude.{◌≡◌, ◌≢◌, ◌↔◌, ◌<◌, ◌≤◌, ◌⊎◌, ℕ, not, IfOk, IfErr, MatchOption, OnOk, OnErr, IsErrOf, Some, None, true, false, is_some, option_map, string_bytes, length};
     ghost use Rattle.cf_subscribers.specs.Follows.{channels_of, follows};
-    ghost use Rattle.cf_model.specs.Limits.{most_rows};
+    ghost use Rattle.cf_model.specs.Streams.{most_rows};
     ghost use Rattle.cf_hub.specs.Checked.{stand_of};
     ghost use Rattle.cf_hub.specs.Hub.{Begins, IsFull, IsLeastFree, NoRoom, Opens, attached_at, is_open, sub_at, IsOpenWith, IsRefused, IsSame};
-    ghost use Rattle.cf_model.specs.Limits.{largest, most_channels, most_sessions};
-    ghost use Rattle.cf_model.specs.SessionState.{is_off};
+    ghost use Rattle.cf_model.specs.Streams.{largest, most_channels, most_sessions};
+    ghost use Rattle.cf_model.specs.Sessions.{is_off};
     ghost use Rattle.cf_hub.specs.Turns.{SameTurns};
 
     /// A new session, by its number: the least that no session has.

@@ -7,7 +7,7 @@ ghost use Rattle.cf_hub.specs.Hub.{Brings, IsNextTurn, Pings, attached_in, count
 ghost use Rattle.cf_hub.specs.Checked.{check_answer};
 ghost use Rattle.cf_hub.specs.Rows.{AgreedBefore, Agrees, TellsFate, rows_after, sub_in};
 ghost use Rattle.cf_hub.specs.Session.{badge_ponged};
-ghost use Rattle.cf_model.specs.SessionState.{begins, checks, closes_now, is_asked, is_off, is_ready, leaves, takes_front};
+ghost use Rattle.cf_model.specs.Sessions.{begins, checks, closes_now, is_asked, is_off, is_ready, leaves, takes_front};
 ghost use Rattle.cf_hub.specs.Sessions.{ActsIn, BecomesIn, EndsIn, FinishesIn, MeetsIn, MovesIn, OthersStayIn, says_one, takes_read};
 ghost use Rattle.cf_hub.specs.Wordings.{IsWritten, at_offset, plain};
 

@@ -2,7 +2,7 @@
 ghost use Rattle.std.specs.Prelude.{◌≡◌, ◌+◌, ◌⊎◌, ℕ, List, Bool, length, map, MatchOption, Some, option_map, is_some, false};
 ghost use Rattle.cf_protocol.specs.Datum.{numbered};
 ghost use Rattle.cf_hub.specs.Reply.{Answers, AnswersIn, stands, was_read};
-ghost use Rattle.cf_model.specs.SessionState.{is_asked, is_ready};
+ghost use Rattle.cf_model.specs.Sessions.{is_asked, is_ready};
 ghost use Rattle.cf_hub.specs.Subscriptions.{SetsAt, names, progress_at, sub_of};
 
 use crate::fate::Fate;
@@ -146,7 +146,7 @@ impl Session {
     ghost use Rattle.std.specs.Prelude.{◌≡◌, ◌&&◌, not, if◌then◌else◌, MatchOption, List, ℕ, true, false};
     ghost use Rattle.cf_hub.specs.Reply.{answer_notes, finish_texts};
     ghost use Rattle.cf_hub.specs.Session.{badge_of, state_of};
-    ghost use Rattle.cf_model.specs.SessionState.{is_asked, is_ready};
+    ghost use Rattle.cf_model.specs.Sessions.{is_asked, is_ready};
     ghost use Rattle.cf_hub.specs.Sessions.{EndsAs, FinishesSession, Moves, Tells, closed_or, finish_fate, leaves_if};
 
     /// The channel's subscription ends, if so.

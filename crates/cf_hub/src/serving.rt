@@ -16,9 +16,9 @@ impl Hub {
     ghost use Rattle.cf_hub.specs.Checked.{check_answer, stand_of};
     ghost use Rattle.cf_hub.specs.Finish.{FinishesAt};
     ghost use Rattle.cf_hub.specs.Hub.{HasNoneFrom, IsNextFrom, IsNextTurn, Meets, One, PingStep, SameNode, SameRest, Ticks, attached_at, is_open, queued_in, sub_at, waits_in};
-    ghost use Rattle.cf_model.specs.Limits.{most_sessions};
+    ghost use Rattle.cf_model.specs.Streams.{most_sessions};
     ghost use Rattle.cf_hub.specs.Session.{badge_ponged};
-    ghost use Rattle.cf_model.specs.SessionState.{checks, is_asked, is_ready, push, reads};
+    ghost use Rattle.cf_model.specs.Sessions.{checks, is_asked, is_ready, push, reads};
     ghost use Rattle.cf_hub.specs.Subscriptions.{reading_of};
     ghost use Rattle.cf_hub.specs.Turns.{gets_turn};
     ghost use Rattle.cf_hub.specs.WantOfMemory.{OrCloses};

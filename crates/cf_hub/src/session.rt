@@ -31,7 +31,7 @@ impl Session {
     ghost use Rattle.std.specs.Prelude.{◌≡◌, ◌⊎◌, ◌||◌, ◌∷◌, [], Some, None, true, false, IfSome, string_bytes, not, ◌&&◌, if◌then◌else◌, map};
     ghost use Rattle.cf_queue.specs.OutQueue.{Text, Close};
     ghost use Rattle.cf_hub.specs.Session.{badge_of, state_of};
-    ghost use Rattle.cf_model.specs.SessionState.{Off, closes_now, is_off, opens, put_sub};
+    ghost use Rattle.cf_model.specs.Sessions.{Off, closes_now, is_off, opens, put_sub};
     ghost use Rattle.cf_hub.specs.Sessions.{Acts, EndsAs, IsBrought, Moves, SaysText, Tells, closed_or, fate_brought, new_badge, pushes, says_one, unsaid, wants_memory};
     ghost use Rattle.cf_hub.specs.Wordings.{IsWritten, push_text};
 

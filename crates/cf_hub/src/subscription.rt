@@ -3,7 +3,7 @@ ghost use Rattle.std.specs.Prelude.{◌≡◌, ◌⊎◌, ◌++◌, ◌∷◌, [
 ghost use Rattle.std.specs.Str.{bytes_eq};
 ghost use Rattle.indexmap.specs.IndexSet.{remove_key};
 ghost use Rattle.cf_recovery.specs.ArrivalBuffer.{arrival, given_up, nothing_kept, with_arrival};
-ghost use Rattle.cf_model.specs.Verdict.{verdict};
+ghost use Rattle.cf_model.specs.Recovery.{verdict};
 ghost use Rattle.cf_hub.specs.Subscriptions.{IsGivenUp, SetsAt, TakesAt, coming, loses, meeting, names, progress_at, stands_after, takes, verdict_code};
 ghost use Rattle.cf_hub.specs.Wordings.{at_offset};
 

@@ -59,7 +59,7 @@ impl Session {
     ghost use Rattle.std.specs.Prelude.{◌≡◌, ◌&&◌, ◌-◌, nat_le, List, ℕ, Some, None, []};
     ghost use Rattle.cf_hub.specs.Checked.{check_answer};
     ghost use Rattle.cf_hub.specs.Session.{badge_of, state_of, ticked};
-    ghost use Rattle.cf_model.specs.SessionState.{checks};
+    ghost use Rattle.cf_model.specs.Sessions.{checks};
     ghost use Rattle.cf_hub.specs.Sessions.{Acts, EndsAs, ticks_of};
     ghost use Rattle.cf_hub.specs.Wordings.{plain};
 

@@ -13,8 +13,8 @@ use Rattle.cf_queue.specs.OutQueue.{Item, Text, Close}
 use Rattle.cf_hub.specs.Alike.{AlikeSub}
 use Rattle.cf_hub.specs.AlikeMoves.{Notes, Texts}
 use Rattle.cf_hub.specs.InNotes.{SaysNote}
-use Rattle.cf_model.specs.SessionState.{Subscription, Wording, closes, closes_now, most_waiting, push, put_sub, says, slow, takes_front}
-use Rattle.cf_model.specs.Spoken.{spoken}
+use Rattle.cf_model.specs.Sessions.{Subscription, Wording, closes, closes_now, most_waiting, push, put_sub, says, slow, takes_front}
+use Rattle.cf_model.specs.Sessions.{spoken}
 use Rattle.cf_hub.specs.Wordings.{Held, item_weight, texts}
 use Rattle.cf_hub.proofs.InNotes.{weighs}
 use Rattle.cf_hub_moves.specs.Held.{IsHeld}

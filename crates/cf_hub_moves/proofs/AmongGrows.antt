@@ -8,7 +8,7 @@ use Rattle.cf_queue.specs.OutQueue.{Item, Text, Close}
 use Rattle.cf_hub.specs.Alike.{AlikeSub}
 use Rattle.cf_hub.specs.AlikeMoves.{Notes, Texts}
 use Rattle.cf_hub.specs.InNotes.{Grown, IsListed, MissedBy, SaysNote, placed_of}
-use Rattle.cf_model.specs.SessionState.{Subscription, Off, Asked, Ready, On}
+use Rattle.cf_model.specs.Sessions.{Subscription, Off, Asked, Ready, On}
 use Rattle.cf_hub.specs.Wordings.{Held}
 use Rattle.cf_hub.proofs.InNotes.{grown_then}
 use Rattle.cf_hub_moves.specs.Held.{IsHeld}

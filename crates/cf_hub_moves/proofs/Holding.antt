@@ -6,9 +6,9 @@ use Rattle.cf_protocol.specs.Datum.{Placed}
 use Rattle.cf_protocol.specs.Note.{Lists, Reading}
 use Rattle.cf_protocol.specs.Position.{Position}
 use Rattle.cf_protocol.specs.Regular.{IsCode}
-use Rattle.cf_model.specs.Arrivals.{arrives, has, overfull}
+use Rattle.cf_model.specs.Recovery.{arrives, has, overfull}
 use Rattle.cf_recovery.specs.ArrivalBuffer.{Arrival, IsWithin, ArrivalBuffer, StandsFor, arrival, given_up, nothing_kept, places, with_arrival}
-use Rattle.cf_model.specs.Release.{falls_short, run_length}
+use Rattle.cf_model.specs.Recovery.{falls_short, run_length}
 use Rattle.cf_hub.specs.InNotes.{AreMissed, IsListed, placed_of}
 use Rattle.cf_hub.specs.Wordings.{Held, at_offset, held}
 use Rattle.cf_hub_moves.specs.Held.{IsHeld}

@@ -7,17 +7,17 @@ use Rattle.cf_protocol.specs.Note.{Lists, Note, Reading, Reply, Pub, End}
 use Rattle.cf_protocol.specs.Note as note
 use Rattle.cf_protocol.specs.Position.{Position}
 use Rattle.cf_queue.specs.OutQueue.{Item, Text, Close}
-use Rattle.cf_model.specs.Arrivals.{arrives}
+use Rattle.cf_model.specs.Recovery.{arrives}
 use Rattle.cf_recovery.specs.ArrivalBuffer.{Arrival, IsWithin, ArrivalBuffer, StandsFor, arrival, ended_at, given_up, nothing_kept, places, with_arrival}
-use Rattle.cf_model.specs.Release.{falls_short, run_length}
-use Rattle.cf_model.specs.Verdict.{Verdict, Drop, Pass, Insufficient, verdict}
+use Rattle.cf_model.specs.Recovery.{falls_short, run_length}
+use Rattle.cf_model.specs.Recovery.{Verdict, Drop, Pass, Insufficient, verdict}
 use Rattle.cf_hub.specs.Alike.{AlikeSub}
 use Rattle.cf_hub.specs.AlikeMoves.{Notes, Texts}
 use Rattle.cf_hub.specs.Finish.{Finishes, FinishesAt}
 use Rattle.cf_hub.specs.InNotes.{AreMissed, IsKept, IsListed, SaysNote}
-use Rattle.cf_model.specs.PositionCheck.{Checked, Fine, Behind, Ended, position_check}
-use Rattle.cf_model.specs.SessionState.{Subscription, Off, Asked, Ready, On, by_check, by_verdict, check_at, checks, closes, closes_now, come_at, comes, finish_at, finish_notes, finished, finishes, is_unfinished, no_memory, push, put_sub, read_at, says, slow}
-use Rattle.cf_model.specs.Spoken.{spoken}
+use Rattle.cf_model.specs.Recovery.{Checked, Fine, Behind, Ended, position_check}
+use Rattle.cf_model.specs.Sessions.{Subscription, Off, Asked, Ready, On, by_check, by_verdict, check_at, checks, closes, closes_now, come_at, comes, finish_at, finish_notes, finished, finishes, is_unfinished, no_memory, push, put_sub, read_at, says, slow}
+use Rattle.cf_model.specs.Sessions.{spoken}
 use Rattle.cf_hub.specs.WantOfMemory.{ClosesWith, OrCloses, Serves, without_buffer}
 use Rattle.cf_hub.specs.Wordings.{Held, at_offset, delivering, end_text, held, no_publication, plain, push_text, reading, releasing, reply_text}
 use Rattle.cf_hub.proofs.InNotes.{all_said, falls, many, says_end, says_place, says_reply}

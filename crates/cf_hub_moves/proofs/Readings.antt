@@ -9,8 +9,8 @@ use Rattle.cf_stream.specs.ChannelLists.{life_or}
 use Rattle.cf_stream.specs.LogState.{life_in, opening}
 use Rattle.cf_stream.specs.PublicationList.{IsRead, opened, state_of}
 use Rattle.cf_stream.proofs.LogStates.{life_in-append}
-use Rattle.cf_model.specs.Life.{Life}
-use Rattle.cf_model.specs.StreamAnswer.{read_of}
+use Rattle.cf_model.specs.Streams.{Life}
+use Rattle.cf_model.specs.Streams.{read_of}
 use Rattle.cf_machine.proofs.Names.{itself}
 use Rattle.cf_machine.proofs.Readings.{reading-is as answer-is}
 use Rattle.cf_hub_moves.specs.Readings.{answered}

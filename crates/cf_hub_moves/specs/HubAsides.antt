@@ -12,9 +12,9 @@ use Rattle.cf_hub.specs.Alike.{AlikeSub}
 use Rattle.cf_hub.specs.AlikeMoves.{Notes, Texts}
 use Rattle.cf_hub.specs.Finish.{FinishesAt}
 use Rattle.cf_hub.specs.InNotes.{AreMissed, IsListed, SaysNote}
-use Rattle.cf_model.specs.SessionState.{begins, checks, closes_now, comes, finishes, leaves, opens, push, reads}
-use Rattle.cf_model.specs.SessionState.{takes_front}
-use Rattle.cf_model.specs.Spoken.{spoken}
+use Rattle.cf_model.specs.Sessions.{begins, checks, closes_now, comes, finishes, leaves, opens, push, reads}
+use Rattle.cf_model.specs.Sessions.{takes_front}
+use Rattle.cf_model.specs.Sessions.{spoken}
 use Rattle.cf_hub.specs.WantOfMemory.{OrCloses, Serves}
 use Rattle.cf_hub.specs.Wordings.{at_offset, delivering, plain, reading}
 use Rattle.cf_machine.specs.ClientLink.{finishes_over, finishes_amid}

@@ -1,7 +1,7 @@
 -- Three sentences of stream safety as an automaton that goes through what befalls one client at one channel.
 use Rattle.std.specs.Prelude.{◌≡◌, Bool, true, false, if◌then◌else◌, Option, Some, None, List, [], ◌∷◌}
 use Rattle.cf_protocol.specs.Position.{Position}
-use Rattle.cf_model.specs.StreamState.{StreamState}
+use Rattle.cf_model.specs.Streams.{StreamState}
 use Rattle.cf_machine.specs.Marks.{Mark, Asks, Reads, Subscribed, Published, Stops}
 use Rattle.cf_machine.specs.StreamSafety.{sets_out, Follows, all_places, IsHonest}
 

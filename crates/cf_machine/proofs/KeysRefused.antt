@@ -8,7 +8,7 @@ use Rattle.cf_machine.specs.Event.{SetSize}
 use Rattle.cf_machine.specs.LooseRun.{lines}
 use Rattle.cf_machine.specs.Marks.{Mark, Asks, Reads, Subscribed, Published, Stops}
 use Rattle.cf_machine.specs.StreamSafety.{Safe}
-use Rattle.cf_model.specs.Spoken.{note_length}
+use Rattle.cf_model.specs.Sessions.{note_length}
 use Rattle.cf_machine.specs.Weights.{command_length}
 use Rattle.cf_machine.specs.Examples.{ann, keeping, news, place, plain, tells_lost, tells_pub, tells_sub}
 use Rattle.cf_machine.specs.KeyExamples.{grows, sent_twice, tells_all_missed}

@@ -10,8 +10,8 @@ use Rattle.cf_protocol.specs.Fields.{max_u64}
 use Rattle.cf_protocol.specs.Note.{Reading, placed_from}
 use Rattle.cf_protocol.specs.Position.{Position}
 use Rattle.cf_protocol.specs.Regular.{ArePlaced, IsBody}
-use Rattle.cf_model.specs.StreamState.{StreamState, position_of}
-use Rattle.cf_model.specs.StreamAnswer.{most_in_reply, read_of, still_held}
+use Rattle.cf_model.specs.Streams.{StreamState, position_of}
+use Rattle.cf_model.specs.Streams.{most_in_reply, read_of, still_held}
 use Rattle.cf_machine.specs.ReadBack.{IsDatum}
 use Rattle.cf_machine.proofs.Names.{by_test}
 

@@ -10,7 +10,7 @@ use Rattle.cf_machine.specs.LooseRun.{Happening, lines}
 use Rattle.cf_machine.specs.Trace.{Published as ToldPublished, Subscribed as ToldSubscribed}
 use Rattle.cf_machine.specs.Marks.{Mark, Asks, Reads, Subscribed, Published, Stops}
 use Rattle.cf_machine.specs.StreamSafety.{Safe, befell}
-use Rattle.cf_model.specs.Spoken.{note_length}
+use Rattle.cf_model.specs.Sessions.{note_length}
 use Rattle.cf_machine.specs.Weights.{command_length}
 use Rattle.cf_machine.specs.Examples.{ann, bob, asks_again, asks_alone, breaks_first, keeping, leaves_first, lost, news, place, plain, recovered, tells_again, tells_lost, tells_pub, tells_recovered, tells_sub, told_by, two_come}
 

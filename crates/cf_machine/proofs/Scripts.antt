@@ -3,7 +3,7 @@ use Rattle.std.proofs.Common.{◌≡◌, [], ◌∷◌, refl}
 use Rattle.std.specs.Fmt.{digits}
 use Rattle.cf_json.specs.Quoting.{escape, short_letter}
 use Rattle.cf_protocol.specs.Written.{command_text, outgoing_text}
-use Rattle.cf_model.specs.Spoken.{note_length}
+use Rattle.cf_model.specs.Sessions.{note_length}
 use Rattle.cf_machine.specs.Weights.{command_length}
 use Rattle.cf_machine.specs.Examples.{buffered_gap, buffered_reordering, delivery_after_node_restart, first_publication, gap_ends_subscription, keeping, late_but_there, leave_and_return, as_lines, lists_and_refusals, lost, new_epoch_after_restart, no_epoch_yet, plain, position_check, recovered, shown, take, two_breaks}
 

@@ -4,7 +4,7 @@ use Rattle.cf_protocol.specs.Position.{Position}
 use Rattle.cf_protocol.specs.Note.{Lists}
 use Rattle.cf_machine.specs.Trace.{Published as ToldPublished, Entry}
 use Rattle.cf_machine.specs.Marks.{Mark, Asks, Reads, Subscribed, Published, Stops}
-use Rattle.cf_model.specs.Verdict.{next}
+use Rattle.cf_model.specs.Recovery.{next}
 use Rattle.cf_machine.specs.StreamSafety.{IsTrueTo, AreTrueTo, IsOneOf, OneDatum, last_position, old_position, asks_now, last_read, run_of, onto, all_of, Unbroken, RecoveredRun, HonestRecovery, places, all_places}
 use Rattle.cf_machine.proofs.Automaton.{Seen, nothing_seen, sees, sees_all, AreSound, IsWhole, IsSafe}
 

@@ -4,11 +4,11 @@ use Rattle.std.specs.Str.{bytes_eq}
 use Rattle.cf_protocol.specs.Names.{with}
 use Rattle.cf_protocol.specs.Position.{Position}
 use Rattle.cf_protocol.specs.Note.{Lists, Reading, Note, Reply, Pub, End, Close}
-use Rattle.cf_model.specs.Release.{run_length, falls_short}
-use Rattle.cf_model.specs.Verdict.{next}
-use Rattle.cf_model.specs.SessionState.{Off, Asked, Ready, On, all_off, closes, closes_now, finish_at, most_waiting, push, put_sub, says, slow}
-use Rattle.cf_model.specs.Spoken.{pushes}
-use Rattle.cf_model.specs.ClientState.{read_to}
+use Rattle.cf_model.specs.Recovery.{run_length, falls_short}
+use Rattle.cf_model.specs.Recovery.{next}
+use Rattle.cf_model.specs.Sessions.{Off, Asked, Ready, On, all_off, closes, closes_now, finish_at, most_waiting, push, put_sub, says, slow}
+use Rattle.cf_model.specs.Sessions.{pushes}
+use Rattle.cf_model.specs.Clients.{read_to}
 use Rattle.cf_machine.specs.ClientLink.{amid_at, over_at}
 use Rattle.cf_machine.specs.Session.{Sub, Session}
 use Rattle.cf_machine.specs.Weights.{wording}

@@ -4,8 +4,8 @@ use Rattle.std.proofs.lemmas.List.{append-nil}
 use Rattle.std.specs.Str.{bytes_eq}
 use Rattle.cf_protocol.specs.Position.{Position}
 use Rattle.cf_protocol.specs.Note.{Lists, Reading, Note, Reply, Pub, End, Fails, Put as PutDone, Left, Listed as Listing, PingDue, Close}
-use Rattle.cf_model.specs.Verdict.{next}
-use Rattle.cf_model.specs.ClientState.{Mode, Idle, Asking, Live, Client, read_to, is_out}
+use Rattle.cf_model.specs.Recovery.{next}
+use Rattle.cf_model.specs.Clients.{Mode, Idle, Asking, Live, Client, read_to, is_out}
 use Rattle.cf_machine.specs.Config.{Config}
 use Rattle.cf_machine.specs.Event.{Event, Ask, AskFrom, Read, Take, Break, Leave, Restart}
 use Rattle.cf_machine.specs.ClientLink.{holds}

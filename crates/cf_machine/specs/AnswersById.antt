@@ -2,7 +2,7 @@
 -- channel that asks.
 use Rattle.std.specs.Prelude.{◌≡◌, ℕ, List, [], ◌∷◌}
 use Rattle.cf_protocol.specs.Note.{Note, Reply, Fails}
-use Rattle.cf_model.specs.ClientState.{Mode, Asking}
+use Rattle.cf_model.specs.Clients.{Mode, Asking}
 
 abbrev pub IsForChannel : List ℕ → Mode → Note → Type 0
 IsForChannel c (Asking id from last) (Reply d k was r) = k ≡ id → d ≡ c

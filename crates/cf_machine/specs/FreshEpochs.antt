@@ -1,7 +1,7 @@
 -- No epoch is drawn twice, and none is empty: the machine sees to that by itself, whatever epochs come.
 use Rattle.std.specs.Prelude.{◌≡◌, ◌≢◌, ℕ, false, true, Some, List, [], ◌∷◌}
 use Rattle.cf_protocol.specs.Names.{is_among}
-use Rattle.cf_model.specs.StreamState.{StreamState}
+use Rattle.cf_model.specs.Streams.{StreamState}
 use Rattle.cf_machine.specs.PublicationList.{Broker}
 
 abbrev pub AreDistinct : List (List ℕ) → Type 0

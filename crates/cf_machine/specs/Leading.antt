@@ -3,9 +3,9 @@ use Rattle.std.specs.Prelude.{◌≡◌, ℕ, ◌≤◌, Bool, true, false, Opti
 use Rattle.std.specs.Str.{bytes_eq}
 use Rattle.cf_protocol.specs.Position.{Position}
 use Rattle.cf_protocol.specs.Note.{Note, Reply, Pub, End, Fails, Put as Accepted, Left, Listed, PingDue, Close}
-use Rattle.cf_model.specs.Verdict.{next}
-use Rattle.cf_model.specs.SessionState.{On}
-use Rattle.cf_model.specs.ClientState.{Mode, Idle, Asking, Live}
+use Rattle.cf_model.specs.Recovery.{next}
+use Rattle.cf_model.specs.Sessions.{On}
+use Rattle.cf_model.specs.Clients.{Mode, Idle, Asking, Live}
 use Rattle.cf_machine.specs.ClientLink.{ClientLink}
 use Rattle.cf_machine.specs.Session.{Sub}
 

@@ -2,8 +2,8 @@
 use Rattle.std.specs.Prelude.{ℕ, suc, ◌==◌, Bool, true, false, if◌then◌else◌, Option, Some, None, List, [], ◌∷◌, ◌++◌}
 use Rattle.std.specs.Str.{bytes_eq}
 use Rattle.cf_protocol.specs.Position.{Position}
-use Rattle.cf_model.specs.StreamState.{StreamState}
-use Rattle.cf_model.specs.SessionState.{Asked}
+use Rattle.cf_model.specs.Streams.{StreamState}
+use Rattle.cf_model.specs.Sessions.{Asked}
 use Rattle.cf_machine.specs.Config.{Config}
 use Rattle.cf_machine.specs.Event.{Event, Ask, AskFrom, Read, Break, Leave, Restart}
 use Rattle.cf_machine.specs.PublicationList.{opened}

@@ -2,7 +2,7 @@
 use Rattle.std.specs.Prelude.{List}
 use Rattle.cf_protocol.specs.Position.{Position}
 use Rattle.cf_protocol.specs.Note.{Note}
-use Rattle.cf_model.specs.SessionState.{SessionState, Subscription, Wording}
+use Rattle.cf_model.specs.Sessions.{SessionState, Subscription, Wording}
 
 abbrev pub Sub : Type 0
 Sub = Subscription (List Position)

@@ -6,9 +6,9 @@ use Rattle.std.specs.Prelude.{◌≡◌, ℕ, zero, suc, ◌-◌, ◌≤◌, ◌
 use Rattle.std.specs.Prelude.{Option, Some, None, List, [], ◌∷◌, ◌++◌, ◌⊎◌, length, take}
 use Rattle.cf_protocol.specs.Position.{Position}
 use Rattle.cf_protocol.specs.Note.{Lists}
-use Rattle.cf_model.specs.StreamState.{StreamState, position_of}
-use Rattle.cf_model.specs.StreamAnswer.{most_in_reply}
-use Rattle.cf_model.specs.Verdict.{next}
+use Rattle.cf_model.specs.Streams.{StreamState, position_of}
+use Rattle.cf_model.specs.Streams.{most_in_reply}
+use Rattle.cf_model.specs.Recovery.{next}
 use Rattle.cf_machine.specs.Config.{Config}
 use Rattle.cf_machine.specs.PublicationList.{body_at}
 use Rattle.cf_machine.specs.World.{start}

@@ -4,8 +4,8 @@ use Rattle.std.specs.Prelude.{ℕ, zero, suc, ◌-◌, ◌==◌, ◌||◌, Bool,
 use Rattle.cf_protocol.specs.Position.{Position}
 use Rattle.cf_protocol.specs.Note.{Lists, Reading, Note, Reply, Pub, End, Fails, Put as Accepted, Left}
 use Rattle.cf_protocol.specs.Note.{Listed as Listing, PingDue, Close, insufficient}
-use Rattle.cf_model.specs.Verdict.{next}
-use Rattle.cf_model.specs.ClientState.{Client, Mode, Idle, Asking, Live, moved_on, read_to, is_out}
+use Rattle.cf_model.specs.Recovery.{next}
+use Rattle.cf_model.specs.Clients.{Client, Mode, Idle, Asking, Live, moved_on, read_to, is_out}
 use Rattle.cf_machine.specs.Config.{Config}
 use Rattle.cf_machine.specs.Trace.{Item, Subscribed, Published, Resubscribing, Refused, Listed, Closed, Entry}
 use Rattle.cf_machine.specs.Event.{Event, Take}

@@ -5,7 +5,7 @@ use Rattle.std.specs.Prelude.{ℕ, length}
 use Rattle.cf_protocol.specs.Note.{Lists}
 use Rattle.cf_protocol.specs.Request.{Command}
 use Rattle.cf_protocol.specs.Written.{command_text}
-use Rattle.cf_model.specs.Spoken.{spoken}
+use Rattle.cf_model.specs.Sessions.{spoken}
 use Rattle.cf_machine.specs.Session.{Words}
 
 unfoldable pub command_length : Command → ℕ

@@ -2,7 +2,7 @@
 use Rattle.std.specs.Prelude.{ℕ, suc, ◌+◌, ◌==◌, ◌&&◌, ◌||◌, not, Bool, false, if◌then◌else◌, is_some, Option, Some}
 use Rattle.std.specs.Prelude.{None, List, [], ◌∷◌}
 use Rattle.cf_protocol.specs.Names.{with}
-use Rattle.cf_model.specs.SessionState.{is_off, is_unfinished}
+use Rattle.cf_model.specs.Sessions.{is_off, is_unfinished}
 use Rattle.cf_machine.specs.PublicationList.{Broker, new_broker}
 use Rattle.cf_machine.specs.ClientLink.{ClientLink, no_link}
 use Rattle.cf_machine.specs.Session.{Sub}

@@ -2,7 +2,7 @@
 //!
 //! Each law is a function that does nothing: its contract is the law.
 ghost use Rattle.std.specs.Prelude.{◌≡◌, [], ◌∷◌, ◌++◌, ◌+◌, All, List, length, ℕ};
-ghost use Rattle.cf_model.specs.ClientState.{last_of};
+ghost use Rattle.cf_model.specs.Clients.{last_of};
 ghost use Rattle.cf_machine.specs.AnswersById.{AreForChannel};
 ghost use Rattle.cf_machine.specs.Config.{Config};
 ghost use Rattle.cf_machine.specs.Event.{Event};

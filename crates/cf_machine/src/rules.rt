@@ -1,7 +1,7 @@
 //! One short schedule for each rule of the machine, computed on the definitions; and what each refusal is told by.
 ghost use Rattle.std.specs.Prelude.{◌≡◌, ◌≤◌, ℕ, [], ◌∷◌, Some, codes, false, true};
-ghost use Rattle.cf_model.specs.Release.{falls_short, run_length};
-ghost use Rattle.cf_model.specs.StreamAnswer.{read_of};
+ghost use Rattle.cf_model.specs.Recovery.{falls_short, run_length};
+ghost use Rattle.cf_model.specs.Streams.{read_of};
 ghost use Rattle.cf_machine.specs.Event.{Connect, PublishBy};
 ghost use Rattle.cf_machine.specs.ClientLink.{ClientLink};
 ghost use Rattle.cf_machine.specs.Refusals.{has_no_room};

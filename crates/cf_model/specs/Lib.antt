@@ -1,12 +1,5 @@
-pub mod Limits
-pub mod StreamState
-pub mod StreamAnswer
+pub mod Streams
 pub mod Keys
-pub mod Arrivals
-pub mod Release
-pub mod Verdict
-pub mod PositionCheck
-pub mod SessionState
-pub mod Spoken
-pub mod ClientState
-pub mod Life
+pub mod Recovery
+pub mod Sessions
+pub mod Clients

@@ -15,7 +15,7 @@ use Rattle.cf_queue.specs.OutQueue.{Text}
 use Rattle.cf_hub.specs.Wordings.{plain, reading}
 use Rattle.cf_hub.specs.InNotes.{AreMissed}
 use Rattle.cf_hub.specs.declared.refusal.HubRefusal.{HubRefusal}
-use Rattle.cf_model.specs.SessionState.{begins, push, reads}
+use Rattle.cf_model.specs.Sessions.{begins, push, reads}
 use Rattle.cf_hub.specs.AlikeMoves.{Texts}
 use Rattle.cf_order.specs.Passes.{PassState}
 use Rattle.cf_shard.specs.Shards.{IsSameBut, number_of, pass_at}

@@ -15,9 +15,9 @@ use Rattle.cf_protocol.specs.Settings.{NamespaceTable}
 use Rattle.cf_hub.specs.InNotes.{IsSaid}
 use Rattle.cf_hub.proofs.InNotes.{read_stays}
 use Rattle.cf_machine.proofs.Names.{by_test}
-use Rattle.cf_model.specs.Life.{Life}
-use Rattle.cf_model.specs.StreamState.{StreamState}
-use Rattle.cf_model.specs.StreamAnswer.{Listing, allowed_by, history_of, listed_above}
+use Rattle.cf_model.specs.Streams.{Life}
+use Rattle.cf_model.specs.Streams.{StreamState}
+use Rattle.cf_model.specs.Streams.{Listing, allowed_by, history_of, listed_above}
 use Rattle.cf_order.specs.Passes.{PassState}
 use Rattle.cf_stream.specs.ChannelLists.{life_or}
 use Rattle.cf_stream.specs.LogState.{epoch_in, holding_in, keys_in, life_in, list_in}

@@ -12,8 +12,8 @@ use Rattle.cf_order.specs.Passes.{PassState}
 use Rattle.cf_stream.specs.ChannelLists.{life_or}
 use Rattle.cf_stream.specs.LogState.{epoch_in, holding_in, keys_in, life_in, list_in}
 use Rattle.cf_stream.specs.PublicationList.{state_of}
-use Rattle.cf_model.specs.Life.{Life}
-use Rattle.cf_model.specs.StreamAnswer.{read_of}
+use Rattle.cf_model.specs.Streams.{Life}
+use Rattle.cf_model.specs.Streams.{read_of}
 use Rattle.cf_shard.specs.LogAnswer.{IsReadAnswer}
 use Rattle.cf_shard.proofs.Standing.{of-life}
 use Rattle.cf_hub_moves.specs.Readings.{answered}

@@ -9,8 +9,8 @@ use Rattle.cf_protocol.specs.Datum.{Datum}
 use Rattle.cf_protocol.specs.LogEntry.{Entry}
 use Rattle.cf_protocol.specs.LogEntry.Entry.{Open, Publish, Trim, Forget, Size}
 use Rattle.cf_protocol.specs.Settings.{NamespaceTable}
-use Rattle.cf_model.specs.Life.{Life}
-use Rattle.cf_model.specs.StreamState.{in_namespace}
+use Rattle.cf_model.specs.Streams.{Life}
+use Rattle.cf_model.specs.Streams.{in_namespace}
 use Rattle.cf_stream.specs.LogState.{epoch_in, holding_in, keys_in, life_in, list_in, sizes_in}
 use Rattle.cf_stream.specs.PublicationList.{kept_newest, opened, published}
 use Rattle.cf_stream.specs.Streams.{size_at}

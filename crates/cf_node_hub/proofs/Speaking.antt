@@ -17,8 +17,8 @@ use Rattle.cf_hub.specs.Session.{Attached, badge_ponged, is_ping_due, is_unanswe
 use Rattle.cf_hub.specs.WantOfMemory.{Both, OrCloses, Serves}
 use Rattle.cf_hub.specs.Wordings.{at_offset, delivering, ping_text, plain, reading}
 use Rattle.cf_hub.proofs.InNotes.{says_ping}
-use Rattle.cf_model.specs.SessionState.{begins, checks, closes_now, comes, leaves, no_pong, opens, push, reads, takes_front}
-use Rattle.cf_model.specs.Spoken.{spoken}
+use Rattle.cf_model.specs.Sessions.{begins, checks, closes_now, comes, leaves, no_pong, opens, push, reads, takes_front}
+use Rattle.cf_model.specs.Sessions.{spoken}
 use Rattle.cf_order.specs.Passes.{PassState}
 use Rattle.cf_hub_moves.specs.HubAsides.{FinishesAmong, MovesAmong, MovesOrCloses, SaysAmong}
 use Rattle.cf_node_hub.specs.Seen.{SeesOn, seen_lists}

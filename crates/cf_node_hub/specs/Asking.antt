@@ -3,7 +3,7 @@ use Rattle.std.specs.Prelude.{◌≡◌, ℕ, List, Option, Some}
 use Rattle.cf_protocol.specs.LogEntry.{Entry}
 use Rattle.cf_protocol.specs.Position.{Position}
 use Rattle.cf_protocol.specs.Settings.{NamespaceTable}
-use Rattle.cf_model.specs.SessionState.{Subscription}
+use Rattle.cf_model.specs.Sessions.{Subscription}
 use Rattle.cf_stream.specs.declared.answer.Recovery.{Recovery}
 use Rattle.cf_hub.specs.Asking.{asked_of}
 use Rattle.cf_hub.specs.Hub.{Begins}

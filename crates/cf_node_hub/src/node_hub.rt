@@ -1,6 +1,6 @@
 //! A node's hub, beside what the node has seen of the shards' logs.
 ghost use Rattle.std.specs.Prelude.{◌≡◌, ◌≢◌, ◌≤◌, ◌<◌, ◌↔◌, IfErr, IfOk, IsErrOf, None, false, true, length, not, slice_get, option_map, option_and_then, string_bytes};
-ghost use Rattle.cf_model.specs.SessionState.{closes_now, is_off, leaves, takes_front};
+ghost use Rattle.cf_model.specs.Sessions.{closes_now, is_off, leaves, takes_front};
 ghost use Rattle.cf_queue.specs.Meaning.{meaning};
 ghost use Rattle.cf_queue.specs.OutQueue.{Close};
 ghost use Rattle.cf_subscribers.specs.Follows.{channels_of, sessions_of};

@@ -1,6 +1,6 @@
 //! What a node's sessions are told: reads, replies, texts, checks and pings.
 ghost use Rattle.std.specs.Prelude.{◌≡◌, ◌≢◌, ◌↔◌, ℕ, [], IfSome, IsFalse, IsTrue, not, option_map, string_bytes};
-ghost use Rattle.cf_model.specs.SessionState.{checks, is_ready, push, reads};
+ghost use Rattle.cf_model.specs.Sessions.{checks, is_ready, push, reads};
 ghost use Rattle.cf_queue.specs.OutQueue.{Text};
 ghost use Rattle.cf_hub.specs.Checked.{check_answer};
 ghost use Rattle.cf_hub.specs.Finish.{FinishesAt};

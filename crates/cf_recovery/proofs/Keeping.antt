@@ -7,7 +7,7 @@ use Rattle.std.proofs.lemmas.List.{reverse-append, length-reverse, length-map, l
 use Rattle.std.proofs.lemmas.List.Sorted.{list_any-IsPermutation, IsPermutation-reverse}
 use Rattle.cf_protocol.specs.Datum.{Placed}
 use Rattle.cf_protocol.specs.Position.{Position}
-use Rattle.cf_model.specs.Arrivals.{has, highest, arrives, overfull, most_kept}
+use Rattle.cf_model.specs.Recovery.{has, highest, arrives, overfull, most_kept}
 use Rattle.cf_recovery.specs.ArrivalBuffer.{Arrival, arrival, places, ArrivalBuffer, TakesRoom, IsWithin, StandsFor, with_arrival, given_up}
 use Rattle.cf_recovery.specs.Stored.{stored, is_at, kept_of, IsStored}
 use Rattle.cf_recovery.proofs.Runs.{below-highest}

@@ -9,8 +9,8 @@ use Rattle.std.proofs.lemmas.List.{length-reverse}
 use Rattle.std.proofs.lemmas.List.Sorted.{length_permutation, Contains-permutation, IsPermutation-reverse, IsPermutation-sym}
 use Rattle.cf_protocol.specs.Datum.{Placed, numbered}
 use Rattle.cf_protocol.specs.Position.{Position}
-use Rattle.cf_model.specs.Arrivals.{has, highest, overfull, all_within}
-use Rattle.cf_model.specs.Release.{all_arrived, greatest, run_length, falls_short}
+use Rattle.cf_model.specs.Recovery.{has, highest, overfull, all_within}
+use Rattle.cf_model.specs.Recovery.{all_arrived, greatest, run_length, falls_short}
 use Rattle.cf_recovery.specs.ArrivalBuffer.{Arrival, arrival, places, ArrivalBuffer, IsWithin, IsRun, StandsFor, ended_at}
 use Rattle.cf_recovery.specs.Stored.{stored, is_at}
 use Rattle.cf_recovery.proofs.Keeping.{has-permutation, has-reverse, has-at, has-none}

@@ -5,8 +5,8 @@ use Rattle.std.proofs.lemmas.Slice.Eq.{bytes_eq-Decides}
 use Rattle.std.proofs.lemmas.Bool.Decides.{nat_tests}
 use Rattle.cf_protocol.specs.Position.{Position}
 use Rattle.cf_protocol.specs.Note.{Reading}
-use Rattle.cf_model.specs.Arrivals.{has, arrives, overfull, highest, all_within, AreOnce}
-use Rattle.cf_model.specs.Release.{all_arrived, greatest, run_length, falls_short, Reaches, LiesWithin}
+use Rattle.cf_model.specs.Recovery.{has, arrives, overfull, highest, all_within, AreOnce}
+use Rattle.cf_model.specs.Recovery.{all_arrived, greatest, run_length, falls_short, Reaches, LiesWithin}
 
 -- which way a test of two names went
 pub text_tells : (a b : List ℕ) → ((bytes_eq a b ≡ true) × (a ≡ b)) ⊎ ((bytes_eq a b ≡ false) × (a ≢ b))

@@ -6,8 +6,8 @@ use Rattle.std.specs.List.{All, Contains}
 use Rattle.cf_protocol.specs.Datum.{Datum, Placed, numbered}
 use Rattle.cf_protocol.specs.Note.{Reading}
 use Rattle.cf_protocol.specs.Position.{Position}
-use Rattle.cf_model.specs.Arrivals.{has, overfull, AreOnce}
-use Rattle.cf_model.specs.Release.{run_length}
+use Rattle.cf_model.specs.Recovery.{has, overfull, AreOnce}
+use Rattle.cf_model.specs.Recovery.{run_length}
 
 -- a publication that came: its place, and what was published
 pub record Arrival : Type 0 where

@@ -1,5 +1,5 @@
 -- The verdict on a delivery, as the code answers it.
-use Rattle.cf_model.specs.Verdict.{Verdict, Drop, Pass, Insufficient}
+use Rattle.cf_model.specs.Recovery.{Verdict, Drop, Pass, Insufficient}
 use Rattle.cf_recovery.specs.declared.verdict.Verdict.{Verdict as Answer}
 use Rattle.cf_recovery.specs.declared.verdict.Verdict.TheVariants as answer
 

@@ -2,7 +2,7 @@
 use Rattle.std.specs.Prelude.{◌≡◌, ℕ, zero, suc, ◌==◌, ◌&&◌, Bool, false, List, [], ◌∷◌, length, reverse}
 use Rattle.std.specs.Str.{bytes_eq}
 use Rattle.cf_protocol.specs.Datum.{Placed}
-use Rattle.cf_model.specs.Arrivals.{highest}
+use Rattle.cf_model.specs.Recovery.{highest}
 use Rattle.cf_recovery.specs.ArrivalBuffer.{Arrival, arrival, places, ArrivalBuffer, IsWithin}
 
 -- publications and, beside them, their epochs, in order of arrival

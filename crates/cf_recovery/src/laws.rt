@@ -3,9 +3,9 @@ ghost use Rattle.std.specs.Prelude.{◌≡◌, ◌+◌, ◌≤◌, ◌↔◌, �
 ghost use Rattle.std.specs.Str.{bytes_eq};
 ghost use Rattle.cf_protocol.specs.Note.{Reading};
 ghost use Rattle.cf_protocol.specs.Position.{Position};
-ghost use Rattle.cf_model.specs.Arrivals.{AreOnce, arrives, has, overfull};
+ghost use Rattle.cf_model.specs.Recovery.{AreOnce, arrives, has, overfull};
 ghost use Rattle.cf_recovery.specs.ArrivalBuffer.{Arrival, IsWithin, ArrivalBuffer, StandsFor, places, with_arrival};
-ghost use Rattle.cf_model.specs.Release.{LiesWithin, Reaches, falls_short, run_length};
+ghost use Rattle.cf_model.specs.Recovery.{LiesWithin, Reaches, falls_short, run_length};
 
 /// What arrives is a set: a position that comes is in it, none other becomes so, and each is there once.
 pub fn arrivals_are_a_set()

@@ -2,7 +2,7 @@
 ghost use Rattle.std.specs.Prelude.{◌≡◌, ◌+◌, ◌≤◌, ◌<◌, ℕ, ◌==◌, ◌&&◌, nat_le, length, IfSome, IfNone, false, true};
 ghost use Rattle.std.specs.List.Sorted.{IsPermutation};
 ghost use Rattle.std.specs.Str.{bytes_eq};
-ghost use Rattle.cf_model.specs.Arrivals.{all_within};
+ghost use Rattle.cf_model.specs.Recovery.{all_within};
 ghost use Rattle.cf_recovery.specs.ArrivalBuffer.{places};
 ghost use Rattle.cf_recovery.specs.Stored.{stored, is_at};
 

@@ -1,7 +1,7 @@
 //! What a delivered publication means for a subscription that stands at a position.
 ghost use Rattle.std.specs.Prelude.{◌≡◌};
 ghost use Rattle.cf_recovery.specs.Meaning.{meaning};
-ghost use Rattle.cf_model.specs.Verdict.{verdict};
+ghost use Rattle.cf_model.specs.Recovery.{verdict};
 
 use cf_protocol::{Epoch, Position};
 

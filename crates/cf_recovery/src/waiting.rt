@@ -1,9 +1,9 @@
 //! Publications that come while a subscription is being asked for.
 ghost use Rattle.std.specs.Prelude.{◌≡◌, ◌≤◌, ◌||◌, [], ◌∷◌, List, true, false, length, OnOk, OnErr};
 ghost use Rattle.cf_protocol.specs.Position.{Position};
-ghost use Rattle.cf_model.specs.Arrivals.{arrives, has, overfull};
+ghost use Rattle.cf_model.specs.Recovery.{arrives, has, overfull};
 ghost use Rattle.cf_recovery.specs.ArrivalBuffer.{arrival, places, nothing_kept, given_up, with_arrival, TakesRoom, IsWithin, StandsFor, IsRun, ended_at};
-ghost use Rattle.cf_model.specs.Release.{falls_short, run_length};
+ghost use Rattle.cf_model.specs.Recovery.{falls_short, run_length};
 
 use crate::stored::{are_within, find, gather};
 use cf_protocol::{Epoch, Position, Publication};

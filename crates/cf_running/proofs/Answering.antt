@@ -4,14 +4,14 @@ use Rattle.std.proofs.Common.{◌≡◌, inl, inr, ℕ, suc, zero, ◌+◌, nat_
 use Rattle.cf_protocol.specs.Position.{Position}
 use Rattle.cf_protocol.specs.Datum.{Who}
 use Rattle.cf_protocol.specs.Note.{Lists, Reading, Note, Reply, Pub, End, Fails, Put, Left, Listed, PingDue, Close}
-use Rattle.cf_model.specs.Arrivals.{arrives}
-use Rattle.cf_model.specs.Life.{Life}
-use Rattle.cf_model.specs.PositionCheck.{Checked, Fine, Behind, Ended, position_check}
-use Rattle.cf_model.specs.Release.{falls_short, run_length}
-use Rattle.cf_model.specs.SessionState.{Off, Asked, Ready, On, closes, closes_now, push, says as says_all, put_sub, takes_front, begins, leaves, read_at, reads, come_at, comes, by_verdict, check_at, checks, by_check, finish_at, finishes, finished, finish_notes, is_off, most_waiting, slow}
-use Rattle.cf_model.specs.Spoken.{pushes}
-use Rattle.cf_model.specs.StreamAnswer.{read_of}
-use Rattle.cf_model.specs.Verdict.{Verdict, Drop, Pass, Insufficient, verdict, next}
+use Rattle.cf_model.specs.Recovery.{arrives}
+use Rattle.cf_model.specs.Streams.{Life}
+use Rattle.cf_model.specs.Recovery.{Checked, Fine, Behind, Ended, position_check}
+use Rattle.cf_model.specs.Recovery.{falls_short, run_length}
+use Rattle.cf_model.specs.Sessions.{Off, Asked, Ready, On, closes, closes_now, push, says as says_all, put_sub, takes_front, begins, leaves, read_at, reads, come_at, comes, by_verdict, check_at, checks, by_check, finish_at, finishes, finished, finish_notes, is_off, most_waiting, slow}
+use Rattle.cf_model.specs.Sessions.{pushes}
+use Rattle.cf_model.specs.Streams.{read_of}
+use Rattle.cf_model.specs.Recovery.{Verdict, Drop, Pass, Insufficient, verdict, next}
 use Rattle.cf_stream.specs.PublicationList.{state_of}
 use Rattle.cf_machine.specs.ClientRequest.{ClientRequest, SentCommand, Subscribe, Unsubscribe, Publish as PublishRequest, History}
 use Rattle.cf_machine.specs.ClientLink.{over_at, finishes_over, amid_at, finishes_amid}

@@ -7,9 +7,9 @@ use Rattle.cf_protocol.specs.LogEntry.{Entry}
 use Rattle.cf_protocol.specs.LogEntry.Entry.{Open, Publish, Trim, Forget, Size}
 use Rattle.cf_protocol.specs.Position.{Position}
 use Rattle.cf_protocol.specs.Note.{Reading, Note, Reply, Pub, End, Fails, Put, Left, Listed, PingDue, Close}
-use Rattle.cf_model.specs.ClientState.{Mode, Idle, Asking, Live, takes}
-use Rattle.cf_model.specs.SessionState.{Asked}
-use Rattle.cf_model.specs.SessionState as session
+use Rattle.cf_model.specs.Clients.{Mode, Idle, Asking, Live, takes}
+use Rattle.cf_model.specs.Sessions.{Asked}
+use Rattle.cf_model.specs.Sessions as session
 use Rattle.cf_machine.specs.ClientLink.{finishes_over}
 use Rattle.cf_machine.proofs.Names.{by_test}
 use Rattle.cf_running.specs.Server as server

@@ -15,12 +15,12 @@ use Rattle.cf_protocol.specs.Settings.{NamespaceTable, settings_of}
 use Rattle.cf_model.specs.Keys.{repeat_of}
 use Rattle.cf_stream.specs.LogState.{life_in, sizes_in}
 use Rattle.cf_stream.specs.Streams.{size_at}
-use Rattle.cf_model.specs.StreamState.{in_namespace}
+use Rattle.cf_model.specs.Streams.{in_namespace}
 use Rattle.cf_stream.specs.PublicationList.{opened as opened_life, published, kept_newest}
-use Rattle.cf_model.specs.Life.{Life}
-use Rattle.cf_model.specs.StreamState.{StreamState, last_offset}
+use Rattle.cf_model.specs.Streams.{Life}
+use Rattle.cf_model.specs.Streams.{StreamState, last_offset}
 use Rattle.cf_stream.proofs.LogStates.{changed}
-use Rattle.cf_model.specs.ClientState.{Client}
+use Rattle.cf_model.specs.Clients.{Client}
 use Rattle.cf_machine.specs.ClientLink.{ClientLink}
 use Rattle.cf_machine.specs.Config.{Config}
 use Rattle.cf_machine.specs.IntervalMachine.{size_of}

@@ -16,12 +16,12 @@ use Rattle.cf_protocol.specs.Settings.{NamespaceTable, entry_at, namespace_of, s
 use Rattle.cf_protocol.specs.declared.settings.Settings.{Settings}
 use Rattle.cf_protocol.proofs.Sizes.{entry_at-with_size}
 use Rattle.cf_model.specs.Keys.{repeat_of}
-use Rattle.cf_model.specs.StreamState.{StreamState, last_offset, opens_in, with_one_more, with_at_most}
+use Rattle.cf_model.specs.Streams.{StreamState, last_offset, opens_in, with_one_more, with_at_most}
 use Rattle.cf_stream.specs.PublicationList.{opened as opened_life, published, kept_newest}
-use Rattle.cf_model.specs.Life.{Life}
+use Rattle.cf_model.specs.Streams.{Life}
 use Rattle.cf_stream.specs.LogState.{life_in, sizes_after, sizes_in}
 use Rattle.cf_stream.specs.Streams.{size_at, size_of as size_among}
-use Rattle.cf_model.specs.StreamState.{in_namespace}
+use Rattle.cf_model.specs.Streams.{in_namespace}
 use Rattle.cf_stream.proofs.LogStates.{changed, life_in-append, sizes_in-append}
 use Rattle.cf_machine.specs.Config.{Config}
 use Rattle.cf_machine.specs.IntervalMachine.{size_by, size_of}

@@ -4,10 +4,10 @@ use Rattle.std.proofs.Math.Nat.{le_refl}
 use Rattle.cf_protocol.specs.Names.{with}
 use Rattle.cf_protocol.specs.Position.{Position}
 use Rattle.cf_protocol.specs.Note.{Reading, Note, Reply, Pub, End, Fails, Put, Left, Listed, PingDue, Close}
-use Rattle.cf_model.specs.ClientState.{Client, Mode, Idle, Asking, Live, hears, reconnects, last_of}
-use Rattle.cf_model.specs.Life.{Life}
-use Rattle.cf_model.specs.Limits.{last_id}
-use Rattle.cf_model.specs.StreamAnswer.{read_of}
+use Rattle.cf_model.specs.Clients.{Client, Mode, Idle, Asking, Live, hears, reconnects, last_of}
+use Rattle.cf_model.specs.Streams.{Life}
+use Rattle.cf_model.specs.Streams.{last_id}
+use Rattle.cf_model.specs.Streams.{read_of}
 use Rattle.cf_stream.specs.PublicationList.{state_of}
 use Rattle.cf_machine.specs.ClientLink.{client_sends}
 use Rattle.cf_machine.specs.ClientRequest.{ClientRequest, Subscribe, Unsubscribe, Publish as PublishRequest, History}

@@ -3,11 +3,11 @@ use Rattle.std.proofs.Common.{◌≡◌, ◌⊎◌, inl, inr, ◌<◌, ◌≤◌
 use Rattle.std.proofs.lemmas.Bool.Decides.{nat_tests}
 use Rattle.cf_protocol.specs.Position.{Position}
 use Rattle.cf_protocol.specs.Note.{Lists, Reading, Note, Reply, Pub, End, Fails, Put, Left, Listed as ListedNote, PingDue, Close}
-use Rattle.cf_model.specs.ClientState.{Client, Mode, Idle, Asking, Live, read_to}
-use Rattle.cf_model.specs.Life.{Life}
-use Rattle.cf_model.specs.StreamAnswer.{read_of, still_held, most_in_reply}
-use Rattle.cf_model.specs.StreamState.{StreamState, position_of}
-use Rattle.cf_model.specs.Verdict.{next}
+use Rattle.cf_model.specs.Clients.{Client, Mode, Idle, Asking, Live, read_to}
+use Rattle.cf_model.specs.Streams.{Life}
+use Rattle.cf_model.specs.Streams.{read_of, still_held, most_in_reply}
+use Rattle.cf_model.specs.Streams.{StreamState, position_of}
+use Rattle.cf_model.specs.Recovery.{next}
 use Rattle.cf_stream.specs.PublicationList.{state_of}
 use Rattle.cf_machine.specs.ClientLink.{ClientLink}
 use Rattle.cf_machine.specs.LooseRun.{loose_run}

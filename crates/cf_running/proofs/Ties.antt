@@ -6,12 +6,12 @@ use Rattle.cf_protocol.specs.Position.{Position}
 use Rattle.cf_protocol.specs.Note.{placed_from}
 use Rattle.cf_protocol.specs.LogEntry.{Entry}
 use Rattle.cf_protocol.specs.Settings.{NamespaceTable, settings_of}
-use Rattle.cf_model.specs.StreamState.{StreamState}
+use Rattle.cf_model.specs.Streams.{StreamState}
 use Rattle.cf_stream.specs.ChannelLists.{stands_at as life_stands}
 use Rattle.cf_stream.specs.LogState.{life_in, sizes_in}
-use Rattle.cf_model.specs.StreamAnswer.{read_of}
+use Rattle.cf_model.specs.Streams.{read_of}
 use Rattle.cf_stream.specs.PublicationList.{IsRead, IsListed, state_of}
-use Rattle.cf_model.specs.Life.{Life}
+use Rattle.cf_model.specs.Streams.{Life}
 use Rattle.cf_machine.specs.Config.{Config}
 use Rattle.cf_machine.specs.LooseRun.{Happening}
 use Rattle.cf_machine.specs.PublicationList.{Broker, StandsOver, is_repeat, repeats, stands_at}

@@ -18,13 +18,13 @@ use Rattle.cf_stream.specs.ChannelLists.{stands_at}
 use Rattle.cf_model.specs.Keys.{repeat_of}
 use Rattle.cf_stream.specs.LogState.{life_in}
 use Rattle.cf_stream.specs.PublicationList.{state_of}
-use Rattle.cf_model.specs.Life.{Life}
-use Rattle.cf_model.specs.StreamState.{last_offset}
-use Rattle.cf_model.specs.StreamAnswer.{read_of, listed_above}
-use Rattle.cf_model.specs.SessionState.{opens, begins, leaves, reads, comes, finishes, checks, closes_now, push}
-use Rattle.cf_model.specs.SessionState.{takes_front, is_off}
-use Rattle.cf_model.specs.ClientState.{Client, new_client, last_of, is_idle, hears, reconnects}
-use Rattle.cf_model.specs.Limits.{last_id}
+use Rattle.cf_model.specs.Streams.{Life}
+use Rattle.cf_model.specs.Streams.{last_offset}
+use Rattle.cf_model.specs.Streams.{read_of, listed_above}
+use Rattle.cf_model.specs.Sessions.{opens, begins, leaves, reads, comes, finishes, checks, closes_now, push}
+use Rattle.cf_model.specs.Sessions.{takes_front, is_off}
+use Rattle.cf_model.specs.Clients.{Client, new_client, last_of, is_idle, hears, reconnects}
+use Rattle.cf_model.specs.Streams.{last_id}
 use Rattle.cf_machine.specs.ClientLink.{client_sends, finishes_over, finishes_amid}
 use Rattle.cf_machine.specs.ClientRequest.{ClientRequest, SentCommand, Subscribe, Unsubscribe}
 use Rattle.cf_machine.specs.ClientRequest.{Publish as PublishRequest, History}

@@ -12,14 +12,14 @@ use Rattle.cf_protocol.specs.Position.{Position}
 use Rattle.cf_protocol.specs.LogEntry.{Entry}
 use Rattle.cf_protocol.specs.LogEntry.Entry.{Open, Publish, Trim, Forget, Size}
 use Rattle.cf_protocol.specs.Settings.{NamespaceTable, settings_of}
-use Rattle.cf_model.specs.StreamState.{StreamState, last_offset, position_of}
+use Rattle.cf_model.specs.Streams.{StreamState, last_offset, position_of}
 use Rattle.cf_model.specs.Keys.{repeat_of}
 use Rattle.cf_stream.specs.LogState.{life_in, sizes_in}
 use Rattle.cf_stream.specs.PublicationList.{state_of}
-use Rattle.cf_model.specs.Life.{Life}
-use Rattle.cf_model.specs.StreamAnswer.{read_of, history_of, Listing}
+use Rattle.cf_model.specs.Streams.{Life}
+use Rattle.cf_model.specs.Streams.{read_of, history_of, Listing}
 use Rattle.cf_stream.specs.Streams.{size_at}
-use Rattle.cf_model.specs.StreamState.{in_namespace}
+use Rattle.cf_model.specs.Streams.{in_namespace}
 use Rattle.cf_machine.specs.Config.{Config}
 use Rattle.cf_machine.specs.Event.{Trim as TrimEvent, Forget as ForgetEvent}
 use Rattle.cf_machine.specs.IntervalMachine.{size_by}

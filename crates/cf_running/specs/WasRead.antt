@@ -4,9 +4,9 @@ use Rattle.std.specs.Prelude.{◌≡◌, ◌<◌, ◌≤◌, ◌↔◌, ◌-◌,
 use Rattle.std.specs.Prelude.{[], ◌∷◌, length, slice_get, take}
 use Rattle.cf_protocol.specs.Position.{Position}
 use Rattle.cf_protocol.specs.Note.{Lists}
-use Rattle.cf_model.specs.ClientState.{Mode, Idle, Asking, Live}
-use Rattle.cf_model.specs.Life.{Life}
-use Rattle.cf_model.specs.StreamState.{position_of}
+use Rattle.cf_model.specs.Clients.{Mode, Idle, Asking, Live}
+use Rattle.cf_model.specs.Streams.{Life}
+use Rattle.cf_model.specs.Streams.{position_of}
 use Rattle.cf_stream.specs.PublicationList.{state_of}
 use Rattle.cf_machine.specs.ClientRequest.{Subscribe}
 use Rattle.cf_machine.specs.StreamSafety.{StillHeld}

@@ -7,7 +7,7 @@ ghost use Rattle.cf_protocol.specs.Settings.{NamespaceTable};
 ghost use Rattle.cf_stream.specs.ChannelLists.{stands_at as stands_in};
 ghost use Rattle.cf_stream.specs.LogState.{life_in};
 ghost use Rattle.cf_stream.specs.PublicationList.{IsListed, IsRead};
-ghost use Rattle.cf_model.specs.Life.{Life};
+ghost use Rattle.cf_model.specs.Streams.{Life};
 ghost use Rattle.cf_machine.specs.Config.{Config};
 ghost use Rattle.cf_machine.specs.LooseRun.{Happening};
 ghost use Rattle.cf_machine.specs.PublicationList.{is_repeat, stands_at};

@@ -11,10 +11,10 @@ use Rattle.cf_protocol.specs.LogEntry.Entry.{Open, Publish, Trim, Forget, Size}
 use Rattle.cf_protocol.specs.Settings.{NamespaceTable}
 use Rattle.cf_stream.specs.LogState.{life_in, sizes_in}
 use Rattle.cf_stream.specs.PublicationList.{kept_newest, opened, published}
-use Rattle.cf_model.specs.Life.{Life}
-use Rattle.cf_model.specs.StreamState.{last_offset}
+use Rattle.cf_model.specs.Streams.{Life}
+use Rattle.cf_model.specs.Streams.{last_offset}
 use Rattle.cf_stream.specs.Streams.{size_at}
-use Rattle.cf_model.specs.StreamState.{in_namespace}
+use Rattle.cf_model.specs.Streams.{in_namespace}
 use Rattle.cf_stream.proofs.LogStates.{changed}
 use Rattle.cf_machine.specs.Config.{Config}
 use Rattle.cf_running.specs.Server.{is_below, may_gain}

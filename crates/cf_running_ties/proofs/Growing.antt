@@ -7,7 +7,7 @@ use Rattle.cf_protocol.specs.Datum.{Datum}
 use Rattle.cf_protocol.specs.LogEntry.{Entry}
 use Rattle.cf_protocol.specs.LogEntry.Entry.{Open, Publish, Trim, Forget, Size}
 use Rattle.cf_protocol.specs.Note.{Note, Close}
-use Rattle.cf_model.specs.Limits.{last_id}
+use Rattle.cf_model.specs.Streams.{last_id}
 use Rattle.cf_hub.specs.InNotes.{Grown}
 use Rattle.cf_machine.specs.PublicationList.{Place}
 use Rattle.cf_machine.proofs.Names.{by_test}

@@ -10,9 +10,9 @@ use Rattle.cf_protocol.specs.Outgoing.{Answer as Reply, Failed, Published, Unsub
 use Rattle.cf_protocol.specs.Position.{Position}
 use Rattle.cf_protocol.specs.declared.codes.ErrorCode.{ErrorCode}
 use Rattle.cf_stream.specs.PublicationList.{state_of}
-use Rattle.cf_model.specs.Life.{Life}
-use Rattle.cf_model.specs.StreamAnswer.{listed_above, read_of}
-use Rattle.cf_model.specs.SessionState.{begins as begins_now, finishes, is_off}
+use Rattle.cf_model.specs.Streams.{Life}
+use Rattle.cf_model.specs.Streams.{listed_above, read_of}
+use Rattle.cf_model.specs.Sessions.{begins as begins_now, finishes, is_off}
 use Rattle.cf_session.specs.Calls.{Answer, Done, Found, Refused}
 use Rattle.cf_session.specs.CommandScripts.{after_begin, after_finish, after_leave, after_lost, after_read, granted, refuses, replies}
 use Rattle.cf_session.specs.Script.{Script}

@@ -18,11 +18,11 @@ use Rattle.cf_stream.specs.ChannelLists.{life_or, stands_at}
 use Rattle.cf_model.specs.Keys.{is_no_key, offset_of, repeat_of}
 use Rattle.cf_stream.specs.LogState.{life_in, publishing, sizes_in}
 use Rattle.cf_stream.specs.PublicationList.{IsPublished as IsPublishedIn, opened, published}
-use Rattle.cf_model.specs.Life.{Life}
+use Rattle.cf_model.specs.Streams.{Life}
 use Rattle.cf_stream.specs.Stream.{answer_by}
 use Rattle.cf_stream.specs.Streams.{size_at}
 use Rattle.cf_stream.specs.declared.answer.Published.{Published}
-use Rattle.cf_model.specs.StreamState.{StreamState, last_offset}
+use Rattle.cf_model.specs.Streams.{StreamState, last_offset}
 use Rattle.cf_hub.specs.InNotes.{IsListed}
 use Rattle.cf_link.specs.Link.{AreLeft}
 use Rattle.cf_machine.specs.Lives.{life_by}

@@ -4,7 +4,7 @@ use Rattle.cf_protocol.specs.Note as note
 use Rattle.cf_hub.specs.AlikeMoves.{Notes, Texts}
 use Rattle.cf_hub.specs.Hub.{InState, Meets, Node, One, moves as moved_by, Opens, OthersStay, attached_at, client_id, empty, fresh}
 use Rattle.cf_hub.specs.Session.{Attached}
-use Rattle.cf_model.specs.SessionState.{closes_now, opens}
+use Rattle.cf_model.specs.Sessions.{closes_now, opens}
 use Rattle.cf_hub.specs.WantOfMemory.{Both}
 use Rattle.cf_running.specs.Server as server
 use Rattle.cf_running.specs.Server.{Attaches, Closes, Connection, Detaches, Section, Server, Site, Wanders, after, at_number, at_session, change, lists_of, nowhere, start}

@@ -14,7 +14,7 @@ use Rattle.cf_hub.specs.InNotes.{SaysNote}
 use Rattle.cf_client.specs.AppItem as item
 use Rattle.cf_client.specs.AppItem.{AppItem}
 use Rattle.cf_client.specs.ClientCalls.{Call, PassesOver, State, Takes, TakesAll, answered, channel_under}
-use Rattle.cf_model.specs.ClientState.{is_out, without}
+use Rattle.cf_model.specs.Clients.{is_out, without}
 use Rattle.cf_hub_moves.specs.HubAsides.{IsAside, SaysSome}
 use Rattle.cf_hub_moves.specs.Asides.{IsAsideAnswer, IsPassedOver, SaysAside}
 use Rattle.cf_running_ties.specs.Passing.{AllPassed, AreEnough, IsUnasked, TakesItems, TakesText}

@@ -12,8 +12,8 @@ use Rattle.cf_protocol.specs.Regular.{ArePlaced, IsBody, IsPosition}
 use Rattle.cf_stream.specs.ChannelLists.{life_or}
 use Rattle.cf_stream.specs.LogState.{life_in, opening}
 use Rattle.cf_stream.specs.PublicationList.{IsListed, IsRead, state_of}
-use Rattle.cf_model.specs.Life.{Life}
-use Rattle.cf_model.specs.StreamAnswer.{Listing, allowed_by, listed_above, read_of}
+use Rattle.cf_model.specs.Streams.{Life}
+use Rattle.cf_model.specs.Streams.{Listing, allowed_by, listed_above, read_of}
 use Rattle.cf_hub.specs.InNotes.{AreMissed, Grown}
 use Rattle.cf_hub.proofs.InNotes.{read_stays}
 use Rattle.cf_machine.specs.ReadBack.{IsDatum}

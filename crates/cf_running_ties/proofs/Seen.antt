@@ -15,8 +15,8 @@ use Rattle.cf_protocol.specs.LogEntry.Entry.{Open, Publish, Trim, Forget, Size}
 use Rattle.cf_protocol.specs.Names.{is_among}
 use Rattle.cf_protocol.specs.Note.{placed_at}
 use Rattle.cf_protocol.specs.Regular.{IsBody, IsPlaced, IsPosition}
-use Rattle.cf_model.specs.Life.{Life}
-use Rattle.cf_model.specs.StreamState.{last_offset}
+use Rattle.cf_model.specs.Streams.{Life}
+use Rattle.cf_model.specs.Streams.{last_offset}
 use Rattle.cf_stream.specs.LogState.{epoch_in, holding_in, keys_in, life_in, list_in}
 use Rattle.cf_machine.specs.Config.{Config}
 use Rattle.cf_machine.specs.ReadBack.{IsDatum}

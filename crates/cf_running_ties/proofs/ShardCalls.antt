@@ -13,9 +13,9 @@ use Rattle.cf_model.specs.Keys.{repeat_of}
 use Rattle.cf_stream.specs.declared.answer.Published.{Published}
 use Rattle.cf_stream.specs.LogState.{IsState, life_in, opening, if_stands}
 use Rattle.cf_stream.specs.PublicationList.{IsPublished, Shows, opened}
-use Rattle.cf_model.specs.Life.{Life}
+use Rattle.cf_model.specs.Streams.{Life}
 use Rattle.cf_stream.specs.Stream.{Shown, answer_by}
-use Rattle.cf_model.specs.StreamState.{last_offset}
+use Rattle.cf_model.specs.Streams.{last_offset}
 use Rattle.cf_stream.specs.Streams.{StreamMap, size_at, stream_of}
 use Rattle.cf_stream.proofs.PublicationLists.{repeats_alike}
 use Rattle.cf_machine.specs.Config.{Config}

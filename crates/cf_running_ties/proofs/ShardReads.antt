@@ -6,9 +6,9 @@ use Rattle.cf_protocol.specs.Position.{Position}
 use Rattle.cf_stream.specs.ChannelLists.{ReadsAt, ShowsAt, life_or}
 use Rattle.cf_stream.specs.LogState.{IsState, life_in, opening}
 use Rattle.cf_stream.specs.PublicationList.{IsRead, opened, state_of}
-use Rattle.cf_model.specs.Life.{Life}
+use Rattle.cf_model.specs.Streams.{Life}
 use Rattle.cf_stream.specs.Stream.{Shown}
-use Rattle.cf_model.specs.StreamAnswer.{read_of}
+use Rattle.cf_model.specs.Streams.{read_of}
 use Rattle.cf_stream.specs.Streams.{StreamMap, size_at, stream_of}
 use Rattle.cf_machine.specs.Config.{Config}
 use Rattle.cf_shard.specs.ShardLog.{entries_of_use}

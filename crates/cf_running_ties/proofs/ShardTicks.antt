@@ -19,7 +19,7 @@ use Rattle.cf_stream.specs.declared.due.Due.TheVariants.{Forget as ToForget, Emp
 use Rattle.cf_stream.specs.ChannelLists.{ShowsAt}
 use Rattle.cf_stream.specs.LogState.{IsState, due_entries, due_entry, life_in}
 use Rattle.cf_stream.specs.PublicationList.{kept_newest}
-use Rattle.cf_model.specs.Life.{Life}
+use Rattle.cf_model.specs.Streams.{Life}
 use Rattle.cf_stream.specs.Stream.{Shown}
 use Rattle.cf_stream.specs.Streams.{StreamMap, due_channels, due_of, seconds_at, size_at}
 use Rattle.cf_stream.proofs.Channels.{same_key}

@@ -11,8 +11,8 @@ use Rattle.cf_hub.specs.AlikeMoves.{Texts}
 use Rattle.cf_hub.specs.Hub.{Brings, Delivers as HubDelivers, Node, Pings as HubPings, Ticks, attached_at, is_in}
 use Rattle.cf_hub.specs.InNotes.{SaysNote}
 use Rattle.cf_hub.specs.Session.{Attached, is_ping_due, is_unanswered}
-use Rattle.cf_model.specs.SessionState.{closes, closes_now, comes, no_memory, no_pong, push}
-use Rattle.cf_model.specs.Spoken.{spoken}
+use Rattle.cf_model.specs.Sessions.{closes, closes_now, comes, no_memory, no_pong, push}
+use Rattle.cf_model.specs.Sessions.{spoken}
 use Rattle.cf_hub.specs.WantOfMemory.{Both, ClosesWith, OrCloses}
 use Rattle.cf_hub.specs.Wordings.{at_offset, ping_text, plain}
 use Rattle.cf_machine.specs.PublicationList.{Place}

@@ -8,7 +8,7 @@ use Rattle.cf_protocol.specs.Note.{Fails, Left, Listed, Lists, Note, Put}
 use Rattle.cf_protocol.specs.Outgoing.{Answer as Reply, Outcome, Past}
 use Rattle.cf_protocol.specs.Position.{Position}
 use Rattle.cf_protocol.specs.declared.codes.ErrorCode.{ErrorCode}
-use Rattle.cf_model.specs.SessionState.{is_off}
+use Rattle.cf_model.specs.Sessions.{is_off}
 use Rattle.cf_session.specs.Calls.{Answer, Done, History as ListCall, Leave, Publish as PublishCall, Refused}
 use Rattle.cf_session.specs.CommandScripts.{after_lost, after_read, replies, to_finish, to_read}
 use Rattle.cf_session.specs.Script.{Ask, Say, Script}

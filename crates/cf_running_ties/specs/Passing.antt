@@ -9,7 +9,7 @@ use Rattle.cf_queue.specs.OutQueue.{Item, Text, Close}
 use Rattle.cf_hub.specs.InNotes.{SaysNote}
 use Rattle.cf_client.specs.AppItem.{AppItem}
 use Rattle.cf_client.specs.ClientCalls.{NoAsk, PassesOver, State, TakesAll, channel_under, reconnected}
-use Rattle.cf_model.specs.ClientState.{is_out}
+use Rattle.cf_model.specs.Clients.{is_out}
 use Rattle.cf_hub_moves.specs.Asides.{IsPassedOver}
 
 abbrev pub AllPassed : List Outgoing → Type 0

@@ -7,8 +7,8 @@ use Rattle.cf_protocol.specs.Outgoing.{Answer, Outgoing, Past}
 use Rattle.cf_protocol.specs.Position.{Position}
 use Rattle.cf_protocol.specs.Regular.{IsCode, IsRegular}
 use Rattle.cf_stream.specs.PublicationList.{state_of}
-use Rattle.cf_model.specs.Life.{Life}
-use Rattle.cf_model.specs.StreamAnswer.{listed_above, read_of}
+use Rattle.cf_model.specs.Streams.{Life}
+use Rattle.cf_model.specs.Streams.{listed_above, read_of}
 use Rattle.cf_hub.specs.InNotes.{AreMissed, Grown}
 use Rattle.cf_machine.specs.ReadBack.{IsDatum}
 use Rattle.cf_running.specs.Server.{Publishes, Section, Server, Site, ToPublish, Work, life_of, lists_of}

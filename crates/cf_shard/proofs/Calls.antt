@@ -18,7 +18,7 @@ use Rattle.cf_order.specs.Passes.{OwnerState, PassState, caught_up, publishes}
 use Rattle.cf_stream.specs.Stream.{position_of, Shown, answer_by, answer_to, given, pushed, repeated_by, used_at}
 use Rattle.cf_model.specs.Keys.{is_no_key}
 use Rattle.cf_stream.specs.Streams.{StreamMap, repeat_at, stream_of, size_at, stood_or, stood_or_opened}
-use Rattle.cf_model.specs.Life.{Life}
+use Rattle.cf_model.specs.Streams.{Life}
 use Rattle.cf_stream.specs.ChannelLists.{ShowsAt, StandsAt, PublishesAt, ReadsAt, ListsAt}
 use Rattle.cf_stream.specs.LogState.{IsState, Adds, life_in, opening, publishing, if_stands}
 use Rattle.cf_shard.specs.Shard.{IsShard, after_publish}

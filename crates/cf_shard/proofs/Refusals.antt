@@ -6,7 +6,7 @@ use mathlib.Core.List.{IsPrefix}
 use Rattle.cf_protocol.specs.Datum.{Datum}
 use Rattle.cf_protocol.specs.LogEntry.{Entry}
 use Rattle.cf_protocol.specs.LogEntry.Entry.{Publish}
-use Rattle.cf_model.specs.StreamState.{last_offset}
+use Rattle.cf_model.specs.Streams.{last_offset}
 use Rattle.cf_protocol.specs.declared.position.Position.{Position}
 use Rattle.cf_stream.specs.declared.answer.History.{History}
 use Rattle.cf_stream.specs.declared.answer.Published.{Published}

@@ -14,8 +14,8 @@ use Rattle.cf_stream.specs.declared.due.Due.{Due}
 use Rattle.cf_stream.specs.ChannelLists.{life_or, repeats_at, stands_at}
 use Rattle.cf_stream.specs.LogState.{life_in, opening, publishing, if_stands, due_entries}
 use Rattle.cf_stream.specs.PublicationList.{IsPublished as IsPublishedIn, IsRead, IsListed}
-use Rattle.cf_model.specs.Life.{Life}
-use Rattle.cf_model.specs.StreamState.{last_offset}
+use Rattle.cf_model.specs.Streams.{Life}
+use Rattle.cf_model.specs.Streams.{last_offset}
 use Rattle.cf_stream.specs.declared.answer.Published.{Published}
 use Rattle.cf_shard.specs.Shard.{IsFull}
 use Rattle.cf_shard.specs.declared.refusal.Refused.{Refused}

@@ -8,7 +8,7 @@ use Rattle.cf_protocol.specs.declared.codes.CloseCode.{CloseCode}
 use Rattle.cf_queue.specs.OutQueue.{Item, Close}
 use Rattle.cf_hub.specs.Hub.{Node, attached_at, moves}
 use Rattle.cf_hub.specs.Session.{Attached}
-use Rattle.cf_model.specs.SessionState.{takes_front}
+use Rattle.cf_model.specs.Sessions.{takes_front}
 use Rattle.cf_speak.specs.Conversation.{Leaves, Takes, left_at, line_of, lines_of, takes_at}
 use Rattle.cf_speak.specs.Scene.{Scene, close_of, member, member_in, notes_in, waits}
 use Rattle.cf_speak.proofs.Turns.{adds_lines, adds_none}

@@ -8,7 +8,7 @@ use Rattle.std.specs.Str.{IsUtf8}
 use Rattle.cf_protocol.specs.Codes.{close_reason_by}
 use Rattle.cf_queue.specs.OutQueue.{Item, Text, Close}
 use Rattle.cf_hub.specs.Hub.{Node, One, attached_at, moves, OthersStay}
-use Rattle.cf_model.specs.SessionState.{takes_front}
+use Rattle.cf_model.specs.Sessions.{takes_front}
 use Rattle.std.specs.Option.{option_map}
 use Rattle.cf_session.specs.CommandScripts.{Tables}
 use Rattle.cf_session.specs.Script.{Served}

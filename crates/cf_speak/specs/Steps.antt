@@ -23,7 +23,7 @@ use Rattle.cf_hub.specs.Hub.{Node, attached_at, Begins, InState, IsFull, IsLeast
 use Rattle.cf_hub.specs.Hub.{One, Opens, OthersStay, client_id, is_open, sub_at}
 use Rattle.cf_hub.specs.Rows.{Agrees, sub_in}
 use Rattle.cf_hub.specs.Session.{Attached, badge_ponged}
-use Rattle.cf_model.specs.SessionState.{SessionState, closes_now, comes, leaves, push, reads}
+use Rattle.cf_model.specs.Sessions.{SessionState, closes_now, comes, leaves, push, reads}
 use Rattle.cf_hub.specs.Subscriptions.{reading_of}
 use Rattle.cf_hub.specs.WantOfMemory.{Both}
 use Rattle.cf_hub.specs.Wordings.{Held, at_offset, delivering, plain, reading}

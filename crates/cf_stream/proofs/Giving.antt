@@ -5,7 +5,7 @@ use Rattle.std.proofs.lemmas.List.{length-map}
 use Rattle.cf_protocol.specs.Datum.{Datum, Placed}
 use Rattle.cf_protocol.specs.declared.position.Position.{Position}
 use Rattle.cf_model.specs.Keys.{KeyAt}
-use Rattle.cf_model.specs.StreamState.{last_offset}
+use Rattle.cf_model.specs.Streams.{last_offset}
 use Rattle.cf_stream.specs.Calls.{RefusalsOfOne}
 use Rattle.cf_stream.specs.Ring.{IsRing}
 use Rattle.cf_stream.specs.Stream.{Shown, IsWithin, RecoversFrom, after, answer_by, answer_to, given, is_over, pushed, repeated_by, start_of, ticked, used_at}

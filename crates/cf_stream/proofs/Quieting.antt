@@ -20,7 +20,7 @@ use Rattle.cf_stream.specs.declared.due.Due.TheVariants.{Forget as ToForget, Emp
 use Rattle.cf_model.specs.Keys.{newest}
 use Rattle.cf_stream.specs.Stream.{Shown, stays, is_over, given, pushed, repeated_by, resized, trimmed, used_at, unused_seconds}
 use Rattle.cf_stream.specs.Streams.{StreamMap, SetsAt, by_channel, due_at, due_channels, due_of, due_to, resized_in, seconds_at, seconds_of, stood_or}
-use Rattle.cf_model.specs.StreamState.{in_namespace}
+use Rattle.cf_model.specs.Streams.{in_namespace}
 use Rattle.cf_stream.specs.Quiet.{AreQuiet, IsQuiet}
 use Rattle.cf_stream.proofs.Channels.{by_bytes, get-by_channel}
 use Rattle.cf_stream.proofs.LogTicks.{due_exact}

@@ -5,7 +5,7 @@ ghost use Rattle.cf_stream.specs.Stream.{datum_of, started, given, pushed, answe
 ghost use Rattle.cf_stream.specs.PublicationList.{unkeyed, Shows, GoesOn, AnswersPublish, AnswersRead, AnswersHistory, opened, offered, kept_newest, same};
 ghost use Rattle.cf_protocol.specs.Datum.{Datum};
 ghost use Rattle.cf_stream.specs.Calls.{RefusalsOfOne};
-ghost use Rattle.cf_model.specs.StreamAnswer.{allowed_by};
+ghost use Rattle.cf_model.specs.Streams.{allowed_by};
 ghost use Rattle.cf_stream.specs.Streams.{due_of, repeat_at};
 ghost use Rattle.cf_stream.specs.Quiet.{IsQuiet};
 

@@ -9,7 +9,7 @@ use Rattle.std.proofs.lemmas.List.{length-map, length-append}
 use Rattle.std.proofs.lemmas.List.Filters.{length-filter_both}
 use Rattle.std.proofs.lemmas.List.Folds.{list_any-append}
 use Rattle.cf_subscribers.specs.Follows.{Follow, follows, is_of, follow, with_follow, without_session, channels_of, AreOnce, AreFollows}
-use Rattle.cf_model.specs.Limits.{most_rows}
+use Rattle.cf_model.specs.Streams.{most_rows}
 
 -- what passes a test in no element passes it in none that a filter keeps
 any_fewer : {X : Type 0} (p : Follow → Bool) (f : X → Follow) (q : X → Bool) (xs : List X) → list_any p (map f xs) ≡ false → list_any p (map f (filter q xs)) ≡ false

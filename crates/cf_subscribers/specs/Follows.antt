@@ -4,7 +4,7 @@ use Rattle.std.specs.Prelude.{◌≡◌, ℕ, ◌≤◌, ◌==◌, ◌&&◌, not
 use Rattle.std.specs.Prelude.{◌++◌, length, map, filter, slice_get}
 use Rattle.std.specs.List.{list_any}
 use Rattle.std.specs.Str.{bytes_eq}
-use Rattle.cf_model.specs.Limits.{most_rows}
+use Rattle.cf_model.specs.Streams.{most_rows}
 
 pub record Follow : Type 0 where
   pub channel : List ℕ

@@ -1,7 +1,7 @@
 //! The table of rows.
 ghost use Rattle.std.specs.Prelude.{◌≡◌, ◌↔◌, [], length, false, OnOk, OnErr, IsErrOf, slice_get};
 ghost use Rattle.cf_subscribers.specs.Follows.{AreFollows, after_in, channels_of, follows, sessions_of, with_follow, without_follow, without_session};
-ghost use Rattle.cf_model.specs.Limits.{most_rows};
+ghost use Rattle.cf_model.specs.Streams.{most_rows};
 
 use crate::named_rows::{add_first_row, remove_row};
 use crate::names::Names;

@@ -13,8 +13,8 @@ use Rattle.cf_queue.specs.OutQueue.{Text}
 use Rattle.cf_hub.specs.AlikeMoves.{CallsAreAlike, MovesAreAlike}
 use Rattle.cf_hub.specs.Hub.{Begins, Node, attached_at}
 use Rattle.cf_hub.specs.InNotes.{Grown, IsSaid, SaysAt}
-use Rattle.cf_model.specs.SessionState.{begins, closes_now, push}
-use Rattle.cf_model.specs.Spoken.{spoken}
+use Rattle.cf_model.specs.Sessions.{begins, closes_now, push}
+use Rattle.cf_model.specs.Sessions.{spoken}
 use Rattle.cf_hub.specs.Wordings.{plain}
 use Rattle.cf_machine.specs.ClientLink.{ClientLink}
 use Rattle.cf_machine.specs.ClientRequest.{SentCommand, command_of, request_of}

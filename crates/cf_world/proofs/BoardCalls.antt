@@ -14,12 +14,12 @@ use Rattle.cf_protocol.specs.Position.{Position}
 use Rattle.cf_protocol.specs.Settings.{NamespaceTable, entry_at, namespace_of, settings_of, with_size}
 use Rattle.cf_protocol.specs.declared.settings.Settings.{Settings}
 use Rattle.cf_stream.specs.Stream.{Shown}
-use Rattle.cf_model.specs.StreamState.{StreamState, last_offset, with_at_most}
-use Rattle.cf_model.specs.StreamAnswer.{Listing, listed_above, read_of}
+use Rattle.cf_model.specs.Streams.{StreamState, last_offset, with_at_most}
+use Rattle.cf_model.specs.Streams.{Listing, listed_above, read_of}
 use Rattle.cf_stream.specs.Streams.{StreamMap, size_of as stream_size, stream_of}
-use Rattle.cf_model.specs.StreamState.{in_namespace}
+use Rattle.cf_model.specs.Streams.{in_namespace}
 use Rattle.cf_stream.specs.PublicationList.{kept_newest, state_of, IsListed, IsRead}
-use Rattle.cf_model.specs.Life.{Life}
+use Rattle.cf_model.specs.Streams.{Life}
 use Rattle.cf_stream.specs.ChannelLists.{AreShown, ChangesAt, ChangesSize, ListsAt, ReadsAt, StandsAt, life_or}
 use Rattle.cf_stream.specs.ChannelLists.{stands_at as life_stands}
 use Rattle.cf_stream.specs.FreshEpochs.{Draws}

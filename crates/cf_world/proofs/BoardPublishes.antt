@@ -16,10 +16,10 @@ use Rattle.cf_protocol.specs.Regular.{IsPlaced, IsBody, IsInfo}
 use Rattle.cf_protocol.specs.Settings.{NamespaceTable, namespace_of, settings_of}
 use Rattle.cf_model.specs.Keys.{KeyAt, recent, repeat_of, repeated_in}
 use Rattle.cf_stream.specs.Stream.{Shown, IsAtLast, answer_by, answer_to, repeated_by}
-use Rattle.cf_model.specs.StreamState.{StreamState, last_offset, with_one_more}
+use Rattle.cf_model.specs.Streams.{StreamState, last_offset, with_one_more}
 use Rattle.cf_stream.specs.Streams.{stream_of, stood_or, size_at}
 use Rattle.cf_stream.specs.PublicationList.{offered, published}
-use Rattle.cf_model.specs.Life.{Life}
+use Rattle.cf_model.specs.Streams.{Life}
 use Rattle.cf_stream.specs.ChannelLists.{ChangesAt, life_with}
 use Rattle.cf_stream.specs.declared.answer.Published.{Published}
 use Rattle.cf_stream.specs.FreshEpochs.{Draws, DrawsNone, IsNoEpoch}

@@ -13,10 +13,10 @@ use Rattle.cf_protocol.specs.Datum.{Datum}
 use Rattle.cf_protocol.specs.Settings.{NamespaceTable}
 use Rattle.cf_model.specs.Keys.{is_no_key, offset_of, recent, repeat_of}
 use Rattle.cf_stream.specs.Stream.{Shown}
-use Rattle.cf_model.specs.StreamState.{StreamState, last_offset, opens_in}
+use Rattle.cf_model.specs.Streams.{StreamState, last_offset, opens_in}
 use Rattle.cf_stream.specs.Streams.{StreamMap, stream_of, stood_or, size_at}
 use Rattle.cf_stream.specs.PublicationList.{Shows, opened as opened_life}
-use Rattle.cf_model.specs.Life.{Life}
+use Rattle.cf_model.specs.Streams.{Life}
 use Rattle.cf_stream.specs.ChannelLists.{ShowsAt, AreShown, ChangesAt, life_or}
 use Rattle.cf_stream.specs.FreshEpochs.{Draws}
 use Rattle.cf_world.specs.BrokerTie.{AreSized, IsAccepted, IsStanding, ShowsBroker}

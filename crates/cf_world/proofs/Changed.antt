@@ -9,7 +9,7 @@ use Rattle.std.specs.Vec.{vec_len}
 use Rattle.cf_queue.specs.OutQueue.{Text}
 use Rattle.cf_hub.specs.Hub.{InState, IsRefused, Node, after_refusal, attached_at, counted, one_if}
 use Rattle.cf_hub.specs.Session.{Attached}
-use Rattle.cf_model.specs.SessionState.{push}
+use Rattle.cf_model.specs.Sessions.{push}
 use Rattle.cf_hub.specs.WantOfMemory.{Both, OrCloses}
 use Rattle.cf_hub.specs.Wordings.{plain}
 use Rattle.cf_hub.specs.declared.refusal.HubRefusal.{HubRefusal}

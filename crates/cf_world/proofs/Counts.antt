@@ -14,10 +14,10 @@ use Rattle.cf_protocol.specs.Names.{is_among}
 use Rattle.cf_subscribers.specs.Follows.{AreFollows, channels_of, follows}
 use Rattle.cf_hub.specs.Counts.{AreNumbersOnce, CountsAll, CountsSession, CountsSessions, IsHub}
 use Rattle.cf_hub.specs.Hub.{IsBounded, Node, attached_at, is_in}
-use Rattle.cf_model.specs.Limits.{most_sessions}
+use Rattle.cf_model.specs.Streams.{most_sessions}
 use Rattle.cf_hub.specs.Rows.{Agrees, sub_in}
 use Rattle.cf_hub.specs.Session.{Attached}
-use Rattle.cf_model.specs.SessionState.{Off, Asked, Ready, On, is_off, is_unfinished}
+use Rattle.cf_model.specs.Sessions.{Off, Asked, Ready, On, is_off, is_unfinished}
 use Rattle.cf_machine.specs.ClientLink.{ClientLink}
 use Rattle.cf_machine.specs.FreshEpochs.{AreDistinct}
 use Rattle.cf_machine.specs.Session.{Sub}

@@ -6,11 +6,11 @@ use Rattle.std.specs.Cmp.Lexicographic.{bytes_decides}
 use Rattle.std.specs.Str.{bytes_eq}
 use Rattle.cf_protocol.specs.Note.{Note, Reading}
 use Rattle.cf_protocol.specs.Position.{Position}
-use Rattle.cf_model.specs.Verdict.{Verdict, Drop, Pass, Insufficient, verdict}
-use Rattle.cf_model.specs.PositionCheck.{Checked, Fine, Behind, Ended, position_check}
-use Rattle.cf_model.specs.SessionState.{Off, Asked, Ready, On, by_check, by_verdict, check_at, checks, closes}
-use Rattle.cf_model.specs.SessionState.{closes_now, come_at, comes, finish_at, finish_notes, finished, finishes, is_off}
-use Rattle.cf_model.specs.SessionState.{leaves, most_waiting, push, put_sub, read_at, reads, says, slow, takes_front}
+use Rattle.cf_model.specs.Recovery.{Verdict, Drop, Pass, Insufficient, verdict}
+use Rattle.cf_model.specs.Recovery.{Checked, Fine, Behind, Ended, position_check}
+use Rattle.cf_model.specs.Sessions.{Off, Asked, Ready, On, by_check, by_verdict, check_at, checks, closes}
+use Rattle.cf_model.specs.Sessions.{closes_now, come_at, comes, finish_at, finish_notes, finished, finishes, is_off}
+use Rattle.cf_model.specs.Sessions.{leaves, most_waiting, push, put_sub, read_at, reads, says, slow, takes_front}
 use Rattle.cf_machine.specs.Session.{Session, Sub, Words}
 use Rattle.cf_world.specs.NodesTie.{IsShutOff}
 

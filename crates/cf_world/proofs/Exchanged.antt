@@ -6,9 +6,9 @@ use Rattle.std.specs.Str.{bytes_eq}
 use Rattle.cf_protocol.specs.Names.{with, and_also}
 use Rattle.cf_protocol.specs.Position.{Position}
 use Rattle.cf_protocol.specs.Note.{Lists, Fails, Put as PutDone, Left, Listed, Close}
-use Rattle.cf_model.specs.StreamState.{StreamState}
-use Rattle.cf_model.specs.StreamAnswer.{listed_above}
-use Rattle.cf_model.specs.SessionState.{Off, Asked, Ready, On, begins, closes_now, is_unfinished, leaves, push}
+use Rattle.cf_model.specs.Streams.{StreamState}
+use Rattle.cf_model.specs.Streams.{listed_above}
+use Rattle.cf_model.specs.Sessions.{Off, Asked, Ready, On, begins, closes_now, is_unfinished, leaves, push}
 use Rattle.cf_machine.specs.ClientLink.{ClientLink, asked, client_sends, hears, hears_subscribe, is_heard, is_waiting}
 use Rattle.cf_machine.specs.ClientLink.{sends}
 use Rattle.cf_machine.specs.ClientRequest.{ClientRequest, SentCommand, Subscribe, Unsubscribe, Publish, History}

@@ -6,7 +6,7 @@ use Rattle.cf_protocol.specs.Names.{is_among}
 use Rattle.cf_protocol.specs.Note.{Lists}
 use Rattle.cf_protocol.specs.Settings.{NamespaceTable}
 use Rattle.cf_model.specs.Keys.{repeat_of}
-use Rattle.cf_model.specs.StreamState.{StreamState, last_offset}
+use Rattle.cf_model.specs.Streams.{StreamState, last_offset}
 use Rattle.cf_hub.specs.AlikeMoves.{Notes, Texts}
 use Rattle.cf_hub.specs.Hub.{Node}
 use Rattle.cf_hub.specs.InNotes.{Grown, SaysSession}

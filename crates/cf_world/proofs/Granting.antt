@@ -16,7 +16,7 @@ use Rattle.cf_protocol.specs.Regular.{ArePlaced, IsBody, IsCode, IsInfo}
 use Rattle.cf_protocol.specs.Settings.{NamespaceTable, settings_of}
 use Rattle.cf_protocol.specs.declared.codes.ErrorCode.{ErrorCode}
 use Rattle.cf_protocol.specs.declared.codes.ErrorCode.TheVariants as error
-use Rattle.cf_model.specs.ClientState.{Client}
+use Rattle.cf_model.specs.Clients.{Client}
 use Rattle.cf_client.specs.ClientView.{state_of}
 use Rattle.cf_queue.specs.OutQueue.{Text}
 use Rattle.cf_hub.specs.AlikeMoves.{CallsAreAlike, MovesAreAlike}
@@ -25,11 +25,11 @@ use Rattle.cf_hub.specs.Hub.{Node, attached_at, is_open}
 use Rattle.cf_hub.specs.InNotes.{IsSaid, SaysAt}
 use Rattle.cf_hub.specs.Rows.{sub_in}
 use Rattle.cf_hub.specs.Session.{Attached}
-use Rattle.cf_model.specs.SessionState.{begins, is_off, is_unfinished, leaves, push}
-use Rattle.cf_model.specs.Spoken.{spoken}
+use Rattle.cf_model.specs.Sessions.{begins, is_off, is_unfinished, leaves, push}
+use Rattle.cf_model.specs.Sessions.{spoken}
 use Rattle.cf_hub.specs.Wordings.{plain}
-use Rattle.cf_model.specs.StreamAnswer.{Listing, listed_above}
-use Rattle.cf_model.specs.StreamState.{StreamState, position_of}
+use Rattle.cf_model.specs.Streams.{Listing, listed_above}
+use Rattle.cf_model.specs.Streams.{StreamState, position_of}
 use Rattle.cf_stream.specs.declared.answer.History.{History}
 use Rattle.cf_machine.specs.ClientLink.{ClientLink}
 use Rattle.cf_machine.specs.ClientRequest.{ClientRequest, SentCommand, Subscribe, Unsubscribe, Publish}

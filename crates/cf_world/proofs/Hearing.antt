@@ -16,8 +16,8 @@ use Rattle.cf_client.specs.ClientView.{state_of}
 use Rattle.cf_hub.specs.AlikeMoves.{CallsAreAlike, MovesAreAlike}
 use Rattle.cf_hub.specs.Hub.{Node}
 use Rattle.cf_hub.specs.InNotes.{IsSaid}
-use Rattle.cf_model.specs.SessionState.{Off, closes, closes_now, is_off, is_unfinished, leaves, push}
-use Rattle.cf_model.specs.Spoken.{spoken}
+use Rattle.cf_model.specs.Sessions.{Off, closes, closes_now, is_off, is_unfinished, leaves, push}
+use Rattle.cf_model.specs.Sessions.{spoken}
 use Rattle.cf_machine.specs.ClientLink.{ClientLink}
 use Rattle.cf_machine.specs.ClientRequest.{ClientRequest, SentCommand, Subscribe, Unsubscribe, Publish, History}
 use Rattle.cf_machine.specs.ClientRequest.{channel_of, command_of, request_of}

@@ -6,7 +6,7 @@ use Rattle.std.specs.List.{All}
 use Rattle.std.specs.Map.{lookup}
 use Rattle.cf_protocol.specs.Settings.{NamespaceTable}
 use Rattle.cf_client.specs.ClientCalls.{State, reconnected}
-use Rattle.cf_model.specs.ClientState.{reconnects}
+use Rattle.cf_model.specs.Clients.{reconnects}
 use Rattle.cf_client.specs.ClientView.{state_of}
 use Rattle.cf_hub.specs.Hub.{Node, empty}
 use Rattle.cf_machine.specs.ClientLink.{ClientLink, breaks}

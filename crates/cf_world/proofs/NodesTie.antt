@@ -17,12 +17,12 @@ use Rattle.cf_hub.specs.Alike.{AlikeSub}
 use Rattle.cf_hub.specs.AlikeMoves.{CallsAreAlike, Texts}
 use Rattle.cf_hub.specs.Hub.{Delivers, InState, IsBounded, Meets, Node, One, Opens, OthersStay, SameNode, SameRest}
 use Rattle.cf_hub.specs.Hub.{attached_at, client_id, empty, is_in, moves}
-use Rattle.cf_model.specs.Limits.{largest}
+use Rattle.cf_model.specs.Streams.{largest}
 use Rattle.cf_hub.specs.InNotes.{Grown, IsKept, IsListed, SaysAt, SaysSession}
 use Rattle.cf_hub.specs.Rows.{Agrees, sub_in}
 use Rattle.cf_hub.specs.Session.{Attached}
-use Rattle.cf_model.specs.SessionState.{Subscription, Off, Asked, Ready, On, begins, comes, is_off, leaves}
-use Rattle.cf_model.specs.Spoken.{spoken}
+use Rattle.cf_model.specs.Sessions.{Subscription, Off, Asked, Ready, On, begins, comes, is_off, leaves}
+use Rattle.cf_model.specs.Sessions.{spoken}
 use Rattle.cf_hub.specs.WantOfMemory.{Both, Serves}
 use Rattle.cf_hub.specs.Wordings.{Held, at_offset, delivering}
 use Rattle.cf_machine.specs.ClientLink.{ClientLink, breaks, with_session}

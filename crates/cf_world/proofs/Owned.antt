@@ -6,15 +6,15 @@ use Rattle.std.specs.List.{All}
 use Rattle.std.proofs.lemmas.List.Elements.{All-append}
 use Rattle.cf_protocol.specs.Note.{Lists, Note, Reading, Pub, End, Close}
 use Rattle.cf_protocol.specs.Position.{Position}
-use Rattle.cf_model.specs.Verdict.{Verdict, Drop, Pass, Insufficient, verdict}
+use Rattle.cf_model.specs.Recovery.{Verdict, Drop, Pass, Insufficient, verdict}
 use Rattle.cf_client.specs.ClientCalls.{State}
-use Rattle.cf_model.specs.PositionCheck.{Checked, Fine, Behind, Ended, position_check}
-use Rattle.cf_model.specs.SessionState.{Off, Asked, Ready, On, by_check, by_verdict, check_at, checks, closes, come_at}
-use Rattle.cf_model.specs.SessionState.{comes, finish_at, finish_notes, finished, finishes, most_waiting, push, put_sub}
-use Rattle.cf_model.specs.SessionState.{is_ready, read_at, reads, says, slow}
-use Rattle.cf_model.specs.Spoken.{pushes, spoken}
-use Rattle.cf_model.specs.Release.{falls_short, run_length}
-use Rattle.cf_model.specs.Verdict.{next}
+use Rattle.cf_model.specs.Recovery.{Checked, Fine, Behind, Ended, position_check}
+use Rattle.cf_model.specs.Sessions.{Off, Asked, Ready, On, by_check, by_verdict, check_at, checks, closes, come_at}
+use Rattle.cf_model.specs.Sessions.{comes, finish_at, finish_notes, finished, finishes, most_waiting, push, put_sub}
+use Rattle.cf_model.specs.Sessions.{is_ready, read_at, reads, says, slow}
+use Rattle.cf_model.specs.Sessions.{pushes, spoken}
+use Rattle.cf_model.specs.Recovery.{falls_short, run_length}
+use Rattle.cf_model.specs.Recovery.{next}
 use Rattle.cf_machine.specs.IntervalMachine.{is_on}
 use Rattle.cf_machine.specs.Session.{Session, Sub}
 use Rattle.cf_world.specs.ClientTie.{IsOwn}

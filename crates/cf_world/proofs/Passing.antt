@@ -10,9 +10,9 @@ use Rattle.cf_protocol.specs.Request.{Command}
 use Rattle.cf_protocol.specs.Settings.{NamespaceTable, settings_of}
 use Rattle.cf_protocol.specs.Written.{command_text}
 use Rattle.cf_protocol.specs.declared.codes.ErrorCode.{ErrorCode}
-use Rattle.cf_model.specs.ClientState.{Client}
+use Rattle.cf_model.specs.Clients.{Client}
 use Rattle.cf_client.specs.ClientView.{state_of}
-use Rattle.cf_model.specs.StreamState.{StreamState}
+use Rattle.cf_model.specs.Streams.{StreamState}
 use Rattle.cf_machine.specs.ClientLink.{ClientLink}
 use Rattle.cf_machine.specs.ClientRequest.{ClientRequest, SentCommand, Subscribe, Unsubscribe, Publish, History}
 use Rattle.cf_machine.specs.ClientRequest.{command_of, request_of}

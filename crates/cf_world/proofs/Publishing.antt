@@ -3,8 +3,8 @@ use Rattle.std.proofs.Common.{◌≡◌, ℕ, ◌&&◌, not, Bool, true, false, 
 use Rattle.std.proofs.Common.{subst, if◌then◌else◌}
 use Rattle.cf_protocol.specs.Datum.{Datum}
 use Rattle.cf_protocol.specs.Settings.{NamespaceTable, entry_at, settings_of}
-use Rattle.cf_model.specs.StreamState.{StreamState}
-use Rattle.cf_model.specs.StreamState.{in_namespace}
+use Rattle.cf_model.specs.Streams.{StreamState}
+use Rattle.cf_model.specs.Streams.{in_namespace}
 use Rattle.cf_hub.specs.Hub.{Node}
 use Rattle.cf_machine.specs.Config.{Config}
 use Rattle.cf_machine.specs.Event.{Forget, Publish, SetSize, Trim}

@@ -4,16 +4,16 @@ use Rattle.std.proofs.Common.{sym, ap, ◌∙◌, subst}
 use Rattle.cf_protocol.specs.Note.{Lists, Reading}
 use Rattle.cf_protocol.specs.Position.{Position}
 use Rattle.cf_protocol.specs.Settings.{NamespaceTable, settings_of}
-use Rattle.cf_model.specs.StreamState.{StreamState}
-use Rattle.cf_model.specs.StreamAnswer.{read_of}
+use Rattle.cf_model.specs.Streams.{StreamState}
+use Rattle.cf_model.specs.Streams.{read_of}
 use Rattle.cf_stream.specs.declared.answer.Recovery.{Recovery}
 use Rattle.cf_hub.specs.AlikeMoves.{AreAlike, CallsAreAlike, MovesAreAlike}
 use Rattle.cf_hub.specs.Asking.{asked_of}
 use Rattle.cf_hub.specs.Hub.{Node, attached_at, sub_at}
 use Rattle.cf_hub.specs.InNotes.{AreMissed, SaysAt}
 use Rattle.cf_hub.specs.Session.{Attached}
-use Rattle.cf_model.specs.SessionState.{Off, Asked, Ready, On, is_asked, is_off, reads}
-use Rattle.cf_model.specs.Spoken.{spoken}
+use Rattle.cf_model.specs.Sessions.{Off, Asked, Ready, On, is_asked, is_off, reads}
+use Rattle.cf_model.specs.Sessions.{spoken}
 use Rattle.cf_hub.specs.Subscriptions.{reading_of}
 use Rattle.cf_hub.specs.Wordings.{reading}
 use Rattle.cf_hub.specs.declared.asking.Asked.{Asked as Answer}

@@ -7,8 +7,8 @@ use Rattle.cf_protocol.specs.Note.{Lists, Reading, placed_from}
 use Rattle.cf_protocol.specs.Position.{Position}
 use Rattle.cf_protocol.specs.Regular.{ArePlaced, IsBody, IsPosition}
 use Rattle.cf_protocol.specs.Settings.{NamespaceTable}
-use Rattle.cf_model.specs.StreamState.{StreamState, last_offset}
-use Rattle.cf_model.specs.StreamAnswer.{read_of}
+use Rattle.cf_model.specs.Streams.{StreamState, last_offset}
+use Rattle.cf_model.specs.Streams.{read_of}
 use Rattle.cf_stream.specs.declared.answer.Recovery.{Recovery}
 use Rattle.cf_hub.specs.InNotes.{AreMissed}
 use Rattle.cf_hub.specs.Subscriptions.{reading_of}

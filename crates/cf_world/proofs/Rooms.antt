@@ -4,10 +4,10 @@ use Rattle.std.proofs.Common.{if◌then◌else◌, is_some, length, Option, Some
 use Rattle.std.proofs.Common.{subst}
 use Rattle.std.proofs.lemmas.Bool.Decides.{nat_tests}
 use Rattle.cf_subscribers.specs.Follows.{AreFollows, channels_of}
-use Rattle.cf_model.specs.Limits.{most_rows}
+use Rattle.cf_model.specs.Streams.{most_rows}
 use Rattle.cf_hub.specs.Counts.{CountsAll, CountsSession, CountsSessions}
 use Rattle.cf_hub.specs.Hub.{IsBounded, IsFull, Node, NoRoom, attached_at}
-use Rattle.cf_model.specs.Limits.{largest, most_channels, most_sessions}
+use Rattle.cf_model.specs.Streams.{largest, most_channels, most_sessions}
 use Rattle.cf_hub.specs.Rows.{Agrees}
 use Rattle.cf_machine.specs.Config.{Config}
 use Rattle.cf_machine.specs.Refusals.{has_no_room, node_is_full}

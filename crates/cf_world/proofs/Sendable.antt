@@ -4,11 +4,11 @@ use Rattle.std.proofs.Common.{Option, Some, None, is_some, List, [], ◌∷◌, 
 use Rattle.std.proofs.lemmas.Bool.{and_left, and_right}
 use Rattle.cf_protocol.specs.Names.{is_among}
 use Rattle.cf_client.specs.ClientCalls.{State, call_fault}
-use Rattle.cf_model.specs.Limits.{last_id}
-use Rattle.cf_model.specs.ClientState.{Client, is_idle}
+use Rattle.cf_model.specs.Streams.{last_id}
+use Rattle.cf_model.specs.Clients.{Client, is_idle}
 use Rattle.cf_client.specs.declared.fault.ClientFault.{ClientFault}
 use Rattle.cf_client.specs.declared.fault.ClientFault.TheVariants.{NotNow, AtLastId}
-use Rattle.cf_model.specs.SessionState.{Off, Asked, Ready, On, is_off, is_unfinished}
+use Rattle.cf_model.specs.Sessions.{Off, Asked, Ready, On, is_off, is_unfinished}
 use Rattle.cf_machine.specs.ClientLink.{ClientLink}
 use Rattle.cf_machine.specs.ClientRequest.{ClientRequest}
 use Rattle.cf_machine.specs.Config.{Config}

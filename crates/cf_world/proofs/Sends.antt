@@ -17,13 +17,13 @@ use Rattle.cf_protocol.specs.Written.{command_text}
 use Rattle.cf_protocol.specs.declared.codes.ErrorCode.{ErrorCode}
 use Rattle.cf_protocol.specs.declared.codes.ErrorCode.TheVariants as error
 use Rattle.cf_client.specs.ClientCalls.{State, call_fault}
-use Rattle.cf_model.specs.Limits.{last_id}
-use Rattle.cf_model.specs.ClientState.{Client}
+use Rattle.cf_model.specs.Streams.{last_id}
+use Rattle.cf_model.specs.Clients.{Client}
 use Rattle.cf_client.specs.ClientView.{ClientView, state_of}
 use Rattle.cf_hub.specs.AlikeMoves.{CallsAreAlike, MovesAreAlike}
 use Rattle.cf_hub.specs.Hub.{Node, is_open}
 use Rattle.cf_hub.specs.Rows.{sub_in}
-use Rattle.cf_model.specs.SessionState.{is_unfinished}
+use Rattle.cf_model.specs.Sessions.{is_unfinished}
 use Rattle.cf_machine.specs.ClientLink.{ClientLink}
 use Rattle.cf_machine.specs.ClientRequest.{ClientRequest, SentCommand, channel_of, command_of, request_of}
 use Rattle.cf_machine.specs.Config.{Config}

@@ -9,7 +9,7 @@ use Rattle.std.specs.List.{All}
 use Rattle.cf_protocol.specs.Note.{Note, Reply, Pub, End, Fails, Put as PutDone, Left, Listed, PingDue, Close}
 use Rattle.cf_protocol.specs.Position.{Position}
 use Rattle.cf_client.specs.ClientCalls.{Call, State, channel_under}
-use Rattle.cf_model.specs.ClientState.{is_out}
+use Rattle.cf_model.specs.Clients.{is_out}
 use Rattle.cf_client.specs.ClientView.{ClientView, state_of}
 use Rattle.cf_client.specs.OneAnswer.{AreApart}
 use Rattle.cf_client.specs.OneMeaning.{CallsAt}

@@ -10,8 +10,8 @@ use Rattle.cf_protocol.specs.Settings.{NamespaceTable}
 use Rattle.cf_hub.specs.AlikeMoves.{CallsAreAlike, MovesAreAlike}
 use Rattle.cf_hub.specs.Hub.{Node, attached_at}
 use Rattle.cf_hub.specs.InNotes.{IsListed}
-use Rattle.cf_model.specs.SessionState.{checks, comes, finishes, is_ready}
-use Rattle.cf_model.specs.Spoken.{spoken}
+use Rattle.cf_model.specs.Sessions.{checks, comes, finishes, is_ready}
+use Rattle.cf_model.specs.Sessions.{spoken}
 use Rattle.cf_hub.specs.Wordings.{at_offset, plain}
 use Rattle.cf_machine.specs.ClientLink.{ClientLink, with_session}
 use Rattle.cf_machine.specs.Config.{Config}

@@ -9,7 +9,7 @@ use Rattle.std.specs.Ordering.{nat_cmp}
 use Rattle.std.proofs.lemmas.Bool.Decides.{nat_tests}
 use Rattle.cf_protocol.specs.Settings.{NamespaceTable}
 use Rattle.cf_hub.specs.Hub.{Node, attached_at, empty}
-use Rattle.cf_model.specs.Limits.{largest}
+use Rattle.cf_model.specs.Streams.{largest}
 use Rattle.cf_machine.specs.PublicationList.{new_broker}
 use Rattle.cf_machine.specs.World.{start}
 use Rattle.cf_world.specs.BrokerTie.{ShowsBroker}

@@ -9,7 +9,7 @@ use Rattle.cf_protocol.specs.Outgoing.{Pinged, Failed, Publication, Unsubscribe,
 use Rattle.cf_client.specs.AppItem.{AppItem}
 use Rattle.cf_client.specs.ClientCalls.{Call, State, Takes, TakesAnswer, TakesEnd, TakesPublication, answered}
 use Rattle.cf_client.specs.ClientCalls.{channel_under, moves}
-use Rattle.cf_model.specs.ClientState.{Mode, Idle, Asking, Live}
+use Rattle.cf_model.specs.Clients.{Mode, Idle, Asking, Live}
 use Rattle.cf_client.specs.OneMeaning.{CallsAt}
 use Rattle.cf_world.specs.ClientTie.{IsOwn}
 

@@ -9,7 +9,7 @@ use Rattle.cf_hub.specs.AlikeMoves.{CallsAreAlike, MovesAreAlike}
 use Rattle.cf_hub.specs.Hub.{Node, attached_at}
 use Rattle.cf_hub.specs.InNotes.{SaysAt}
 use Rattle.cf_hub.specs.Session.{Attached}
-use Rattle.cf_model.specs.SessionState.{takes_front}
+use Rattle.cf_model.specs.Sessions.{takes_front}
 use Rattle.cf_machine.specs.ClientLink.{ClientLink, breaks, hold_first, holds, receive_first, receives}
 use Rattle.cf_machine.specs.Config.{Config}
 use Rattle.cf_machine.specs.Event.{Take}

@@ -10,7 +10,7 @@ use Rattle.cf_protocol.specs.Outgoing.{Outgoing, Push, Publication}
 use Rattle.cf_protocol.specs.Position.{Position}
 use Rattle.cf_client.specs.AppItem as item
 use Rattle.cf_client.specs.AppItem.{published}
-use Rattle.cf_model.specs.ClientState.{Client, Mode, Idle, Asking, Live, is_out, read_to}
+use Rattle.cf_model.specs.Clients.{Client, Mode, Idle, Asking, Live, is_out, read_to}
 use Rattle.cf_client.specs.ClientCalls as client
 use Rattle.cf_client.specs.OneMeaning as told
 use Rattle.cf_machine.specs.PublicationList.{body_at, body_of}

@@ -12,7 +12,7 @@ use Rattle.cf_client.specs.ClientCalls.{State, call_fault}
 use Rattle.cf_client.specs.ClientView.{state_of}
 use Rattle.cf_client.specs.declared.fault.ClientFault.{ClientFault}
 use Rattle.cf_client.specs.declared.fault.ClientFault.TheVariants.{NotNow}
-use Rattle.cf_model.specs.ClientState.{is_idle}
+use Rattle.cf_model.specs.Clients.{is_idle}
 use Rattle.cf_hub.specs.AlikeMoves.{CallsAreAlike, MovesAreAlike}
 use Rattle.cf_hub.specs.Counts.{CountsAll, CountsSession}
 use Rattle.cf_hub.specs.Hub.{Node, attached_at, is_open}

@@ -11,8 +11,8 @@ use Rattle.cf_protocol.specs.Note.{Lists, placed_at, placed_from}
 use Rattle.cf_protocol.specs.Position.{Position}
 use Rattle.cf_protocol.specs.Regular.{IsPlaced, IsBody}
 use Rattle.cf_protocol.specs.Settings.{NamespaceTable, entry_at, settings_of}
-use Rattle.cf_model.specs.StreamState.{StreamState, last_offset, position_of}
-use Rattle.cf_model.specs.StreamAnswer.{listed_above, read_of}
+use Rattle.cf_model.specs.Streams.{StreamState, last_offset, position_of}
+use Rattle.cf_model.specs.Streams.{listed_above, read_of}
 use Rattle.cf_stream.specs.ChannelLists.{AreShown}
 use Rattle.cf_stream.specs.Streams.{size_at}
 use Rattle.cf_stream.specs.declared.answer.History.{History}

@@ -12,7 +12,7 @@ use Rattle.cf_protocol.specs.declared.codes.ErrorCode.TheVariants as error
 use Rattle.cf_client.specs.ClientView.{state_of}
 use Rattle.cf_client.specs.OneAnswer.{AreApart}
 use Rattle.cf_hub.specs.Hub.{Node, attached_at}
-use Rattle.cf_model.specs.SessionState.{is_unfinished}
+use Rattle.cf_model.specs.Sessions.{is_unfinished}
 use Rattle.cf_stream.specs.declared.answer.History.{History}
 use Rattle.cf_machine.specs.ClientRequest.{ClientRequest, SentCommand, Subscribe, Unsubscribe, Publish}
 use Rattle.cf_machine.specs.ClientRequest.{History as ListHistory, command_of, request_of}

@@ -14,7 +14,7 @@ use Rattle.cf_hub.specs.Hub.{is_open, sub_at, IsBounded, IsFull, NoRoom, Opens}
 use Rattle.cf_subscribers.specs.Follows.{AreFollows}
 use Rattle.cf_hub.specs.Rows.{Agrees, sub_in}
 use Rattle.cf_hub.specs.Session.{Attached}
-use Rattle.cf_model.specs.SessionState.{checks, closes_now, is_off, is_unfinished, leaves, push, reads, takes_front}
+use Rattle.cf_model.specs.Sessions.{checks, closes_now, is_off, is_unfinished, leaves, push, reads, takes_front}
 use Rattle.cf_hub.specs.Subscriptions.{reading_of}
 use Rattle.cf_hub.specs.WantOfMemory.{OrCloses}
 use Rattle.cf_session.specs.SessionMachine.{reply_text}

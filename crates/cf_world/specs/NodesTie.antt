@@ -7,10 +7,10 @@ use Rattle.cf_protocol.specs.Note.{Lists}
 use Rattle.cf_protocol.specs.Request.{Subscribe}
 use Rattle.cf_protocol.specs.Settings.{NamespaceTable}
 use Rattle.cf_hub.specs.Hub.{Node, attached_at}
-use Rattle.cf_model.specs.Limits.{largest}
+use Rattle.cf_model.specs.Streams.{largest}
 use Rattle.cf_hub.specs.InNotes.{SaysAt}
 use Rattle.cf_hub.specs.Session.{Attached}
-use Rattle.cf_model.specs.SessionState.{is_off, opens}
+use Rattle.cf_model.specs.Sessions.{is_off, opens}
 use Rattle.cf_machine.specs.ClientLink.{ClientLink}
 use Rattle.cf_machine.specs.Config.{Config}
 use Rattle.cf_machine.specs.FreshEpochs.{AreDistinct}

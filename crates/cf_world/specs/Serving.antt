@@ -9,7 +9,7 @@ use Rattle.cf_protocol.specs.Settings.{NamespaceTable}
 use Rattle.cf_hub.specs.Hub.{Node, OthersStay, attached_at, is_open}
 use Rattle.cf_hub.specs.Rows.{sub_in}
 use Rattle.cf_hub.specs.Session.{Attached}
-use Rattle.cf_model.specs.SessionState.{Subscription, Off, Asked, Ready, On, is_unfinished}
+use Rattle.cf_model.specs.Sessions.{Subscription, Off, Asked, Ready, On, is_unfinished}
 use Rattle.cf_session.specs.CommandScripts.{to_finish, to_read}
 use Rattle.cf_session.specs.Script.{Script, Served}
 use Rattle.cf_protocol.specs.Outgoing.{Connected}

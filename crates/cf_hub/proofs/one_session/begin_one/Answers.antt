@@ -10,7 +10,7 @@ use Rattle.cf_hub.specs.Wordings.{plain}
 use Rattle.cf_hub.specs.declared.session.Session.{Session}
 use Rattle.cf_hub.specs.declared.subscription.Progress.{Progress}
 use Rattle.cf_hub.specs.declared.subscription.Progress.TheVariants as code
-use Rattle.cf_model.specs.SessionState.{begins, is_off}
+use Rattle.cf_model.specs.Sessions.{begins, is_off}
 use Rattle.cf_hub.proofs.Placing.{moved_here, stands}
 use Rattle.cf_hub.proofs.Puts.{put_begun}
 use Rattle.cf_hub.proofs.one_session.begin_one.Goals as goal

@@ -5,7 +5,7 @@ use Rattle.std.specs.Option.{option_copied_mut}
 use Rattle.cf_hub.specs.Hub.{InState}
 use Rattle.cf_hub.specs.WantOfMemory.{OrCloses}
 use Rattle.cf_hub.specs.Wordings.{plain}
-use Rattle.cf_model.specs.SessionState.{checks}
+use Rattle.cf_model.specs.Sessions.{checks}
 use Rattle.cf_hub.proofs.Placing.{ends_here, ends_none, met_here, met_none, others_here}
 use Rattle.cf_hub.proofs.one_session.check_one.Goals as goal
 

@@ -4,7 +4,7 @@ use Rattle.std.specs.Prelude.{IsTrue}
 use Rattle.cf_hub.specs.Places.{session_in}
 use Rattle.cf_hub.specs.Rows.{TellsFate}
 use Rattle.cf_hub.specs.Session.{attached_of, state_of}
-use Rattle.cf_model.specs.SessionState.{is_off}
+use Rattle.cf_model.specs.Sessions.{is_off}
 use Rattle.cf_hub.specs.declared.fate.Fate.TheVariants as fate
 use Rattle.cf_hub.specs.declared.session.Session.{Session}
 use Rattle.cf_hub.proofs.Ending.{tells_ended}

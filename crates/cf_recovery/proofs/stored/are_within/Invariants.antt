@@ -1,6 +1,6 @@
 -- The loop keeps that the places left are within exactly if all are.
 use Rattle.std.proofs.Common.{◌≡◌, ◌+◌, drop}
-use Rattle.cf_model.specs.Arrivals.{all_within}
+use Rattle.cf_model.specs.Recovery.{all_within}
 use Rattle.cf_recovery.specs.ArrivalBuffer.{places}
 use Rattle.cf_recovery.specs.Stored.{stored}
 use Rattle.cf_recovery.proofs.stored.are_within.Given as goal

@@ -8,7 +8,7 @@ use Rattle.cf_hub.specs.Hub.{Node, InState, attached_at, counted}
 use Rattle.cf_hub.specs.Session.{Attached}
 use Rattle.cf_hub.specs.WantOfMemory.{Both}
 use Rattle.cf_hub.specs.Wordings.{at_offset, delivering}
-use Rattle.cf_model.specs.SessionState.{comes}
+use Rattle.cf_model.specs.Sessions.{comes}
 use Rattle.cf_speak.specs.Steps.{Delivers, brings, brings_newest}
 use Rattle.cf_speak.proofs.local_node.bring_newest.Goals as goal
 

@@ -1,7 +1,7 @@
 -- The lemma `asked_path` has the state behind an ask; each early end says which refusal it is, or that memory was short.
 use Rattle.std.proofs.Common.{◌≡◌, true, false, refl, sym, ap, subst, ◌∙◌}
 use Rattle.std.specs.Prelude.{Err}
-use Rattle.cf_model.specs.ClientState.{is_idle, last_of}
+use Rattle.cf_model.specs.Clients.{is_idle, last_of}
 use Rattle.cf_client.specs.ClientView.{state_of}
 use Rattle.cf_client.specs.declared.fault.ClientFault.TheVariants.{NotNow}
 use Rattle.cf_client.proofs.Refusing.{refused_as, refused_memory, refused_not, asks_busy, asks_idle, not_idle}

@@ -3,7 +3,7 @@ use Rattle.std.proofs.Common.{◌≡◌, ◌∙◌, refl, ◌∷◌, [], ap, sym
 use Rattle.std.proofs.lemmas.Result.{on_ok_weaker}
 use Rattle.std.specs.Prelude.{option_to_list}
 use Rattle.std.specs.Option.{option_map}
-use Rattle.cf_model.specs.ClientState.{Mode, idle}
+use Rattle.cf_model.specs.Clients.{Mode, idle}
 use Rattle.cf_client.specs.ClientCalls.{channel_under, moves}
 use Rattle.cf_client.specs.AppItem.{Refused}
 use Rattle.cf_client.specs.Draft.{drafted, drafted_mode}

@@ -3,7 +3,7 @@ use Rattle.std.proofs.Common.{◌≡◌, ◌∙◌, [], ◌∷◌, sym, ap, subs
 use Rattle.std.proofs.lemmas.List.{append-nil}
 use Rattle.std.proofs.lemmas.Result.{on_ok_weaker}
 use Rattle.std.specs.String.{string_bytes}
-use Rattle.cf_model.specs.ClientState.{Live}
+use Rattle.cf_model.specs.Clients.{Live}
 use Rattle.cf_client.specs.ClientCalls.{moves}
 use Rattle.cf_client.specs.AppItem.{published}
 use Rattle.cf_client.specs.Draft.{drafted, drafted_mode}

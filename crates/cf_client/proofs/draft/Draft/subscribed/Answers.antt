@@ -2,7 +2,7 @@
 use Rattle.std.proofs.Common.{[], ◌∷◌, map, sym, ap, ◌∙◌, refl, List, ℕ, inl, inr}
 use Rattle.std.proofs.lemmas.List.{append-nil}
 use Rattle.std.proofs.lemmas.Result.{on_ok_weaker}
-use Rattle.cf_model.specs.ClientState.{Live}
+use Rattle.cf_model.specs.Clients.{Live}
 use Rattle.cf_client.specs.AppItem.{Subscribed, published}
 use Rattle.cf_client.specs.Draft.{drafted}
 use Rattle.cf_client.proofs.Drafting.{moves_asking}

@@ -5,7 +5,7 @@ use Rattle.std.proofs.lemmas.Result.{on_ok_weaker}
 use Rattle.cf_client.specs.Shown.{shown_item}
 use Rattle.std.proofs.lemmas.Bool.Decides.{nat_tests}
 use Rattle.std.specs.String.{string_bytes}
-use Rattle.cf_model.specs.ClientState.{Idle, Live}
+use Rattle.cf_model.specs.Clients.{Idle, Live}
 use Rattle.cf_client.specs.AppItem.{Resubscribing}
 use Rattle.cf_client.specs.Draft.{drafted, drafted_mode}
 use Rattle.cf_client.specs.Shown.{shown_mode}

@@ -5,7 +5,7 @@ use Rattle.std.specs.Ordering.{nat_cmp}
 use Rattle.cf_subscribers.specs.Follows.{AreFollows, sessions_of}
 use Rattle.cf_hub.specs.declared.delivered.Delivered.{Delivered}
 use Rattle.cf_hub.specs.Hub.{AreNumbered, Node, attached_at, attached_in}
-use Rattle.cf_model.specs.Limits.{largest}
+use Rattle.cf_model.specs.Streams.{largest}
 use Rattle.cf_hub.specs.Places.{numbered}
 use Rattle.cf_hub.specs.Rows.{AgreedBefore, Agrees}
 use Rattle.cf_hub.specs.Session.{Attached, attached_shown, shown_all}

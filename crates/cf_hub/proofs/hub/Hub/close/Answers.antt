@@ -6,7 +6,7 @@ use Rattle.cf_queue.specs.OutQueue.{Close}
 use Rattle.cf_hub.specs.declared.fate.Fate.TheVariants as fate
 use Rattle.cf_hub.specs.Hub.{Node, attached_in}
 use Rattle.cf_hub.specs.Rows.{Agrees}
-use Rattle.cf_model.specs.SessionState.{closes_now}
+use Rattle.cf_model.specs.Sessions.{closes_now}
 use Rattle.cf_hub.proofs.Bounds.{bounded_move}
 use Rattle.cf_hub.proofs.Ones.{one_agrees, one_seen, closes_off, stays_off, opened, shut}
 use Rattle.cf_hub.proofs.hub.Hub.close.Goals as goal

@@ -6,7 +6,7 @@ use Rattle.cf_hub.specs.declared.fate.Fate.TheVariants as fate
 use Rattle.cf_hub.specs.Hub.{Node, attached_in}
 use Rattle.cf_hub.specs.Rows.{Agrees, sub_in}
 use Rattle.cf_hub.specs.Session.{Attached, attached_of}
-use Rattle.cf_model.specs.SessionState.{is_off}
+use Rattle.cf_model.specs.Sessions.{is_off}
 use Rattle.cf_hub.proofs.Walks.{agrees_by}
 use Rattle.cf_hub.proofs.Hubs.{seen, seen_in, agrees_shown}
 use Rattle.cf_hub.proofs.Bounds.{bounded_gone}

@@ -3,7 +3,7 @@ use Rattle.std.proofs.Common.{◌∙◌, ℕ, Option, sym, ap, refl}
 use Rattle.cf_hub.specs.Hub.{Node, counted, one_if}
 use Rattle.cf_hub.specs.Rows.{sub_in}
 use Rattle.cf_hub.specs.Session.{Attached}
-use Rattle.cf_model.specs.SessionState.{is_ready}
+use Rattle.cf_model.specs.Sessions.{is_ready}
 use Rattle.cf_hub.proofs.Bounds.{bounded_both}
 use Rattle.cf_hub.proofs.Hubs.{seen}
 use Rattle.cf_hub.proofs.Mets.{met_agrees, met_seen_at}

@@ -4,7 +4,7 @@ use Rattle.std.specs.Prelude.{IsTrue}
 use Rattle.std.specs.Option.{option_copied}
 use Rattle.cf_hub.specs.Rows.{sub_in}
 use Rattle.cf_hub.specs.Session.{Attached, attached_of, state_of}
-use Rattle.cf_model.specs.SessionState.{is_unfinished}
+use Rattle.cf_model.specs.Sessions.{is_unfinished}
 use Rattle.cf_hub.proofs.Settling.{ready}
 use Rattle.cf_hub.proofs.hub.Hub.is_settled.Goals as goal
 

@@ -5,7 +5,7 @@ use Rattle.cf_hub.specs.declared.fate.Fate.TheVariants as fate
 use Rattle.cf_hub.specs.Hub.{Node, attached_in}
 use Rattle.cf_hub.specs.Rows.{Agrees, sub_in}
 use Rattle.cf_hub.specs.Session.{Attached}
-use Rattle.cf_model.specs.SessionState.{leaves, is_off}
+use Rattle.cf_model.specs.Sessions.{leaves, is_off}
 use Rattle.cf_hub.proofs.Hubs.{seen}
 use Rattle.cf_hub.proofs.Bounds.{bounded_move}
 use Rattle.cf_hub.proofs.Ones.{one_agrees, one_seen, leaves_off}

@@ -4,7 +4,7 @@ use Rattle.cf_hub.specs.declared.fate.Fate.TheVariants as fate
 use Rattle.cf_hub.specs.Hub.{Node}
 use Rattle.cf_hub.specs.Rows.{sub_in}
 use Rattle.cf_hub.specs.Session.{Attached}
-use Rattle.cf_model.specs.SessionState.{is_asked, reads}
+use Rattle.cf_model.specs.Sessions.{is_asked, reads}
 use Rattle.cf_hub.proofs.Bounds.{bounded_move}
 use Rattle.cf_hub.proofs.Hubs.{seen}
 use Rattle.cf_hub.proofs.Ones.{one_agrees, one_seen, reads_off}

@@ -2,7 +2,7 @@
 use Rattle.std.proofs.Common.{◌∙◌, [], sym, ap, refl}
 use Rattle.cf_queue.specs.OutQueue.{Text}
 use Rattle.cf_hub.specs.Hub.{Node, queued_in, counted, one_if}
-use Rattle.cf_model.specs.SessionState.{push}
+use Rattle.cf_model.specs.Sessions.{push}
 use Rattle.cf_hub.proofs.Bounds.{bounded_both}
 use Rattle.cf_hub.proofs.Hubs.{seen_in}
 use Rattle.cf_hub.proofs.Mets.{met_agrees, met_seen}

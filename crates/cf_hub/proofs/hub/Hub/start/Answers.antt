@@ -4,7 +4,7 @@ use Rattle.std.proofs.Common.{◌≡◌, ◌∙◌, ℕ, Option, List, option_ma
 use Rattle.cf_hub.specs.Hub.{Node, attached_in, is_open, moves}
 use Rattle.cf_hub.specs.Rows.{Agrees, sub_in}
 use Rattle.cf_hub.specs.Session.{Attached}
-use Rattle.cf_model.specs.SessionState.{is_off, begins}
+use Rattle.cf_model.specs.Sessions.{is_off, begins}
 use Rattle.cf_hub.specs.Wordings.{plain}
 use Rattle.cf_subscribers.specs.Follows.{Follow, follows, with_follow, without_follow}
 use Rattle.cf_hub.proofs.Hubs.{seen, seen_in, agrees_shown}

@@ -3,7 +3,7 @@ use Rattle.std.proofs.Common.{◌∙◌, Option, [], ℕ, sym, ap, refl, option_
 use Rattle.cf_hub.specs.declared.fate.Fate.TheVariants as fate
 use Rattle.cf_hub.specs.Hub.{Node}
 use Rattle.cf_hub.specs.Session.{Attached}
-use Rattle.cf_model.specs.SessionState.{takes_front}
+use Rattle.cf_model.specs.Sessions.{takes_front}
 use Rattle.cf_hub.proofs.Hubs.{seen}
 use Rattle.cf_hub.proofs.Bounds.{bounded_move}
 use Rattle.cf_hub.proofs.Ones.{one_agrees, one_seen}

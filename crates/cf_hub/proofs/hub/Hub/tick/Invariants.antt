@@ -1,6 +1,6 @@
 use Rattle.std.proofs.Common.{◌≤◌, ◌-◌}
 use Rattle.cf_hub.specs.Hub.{SameNode}
-use Rattle.cf_model.specs.Limits.{most_sessions}
+use Rattle.cf_model.specs.Streams.{most_sessions}
 use Rattle.cf_hub.proofs.Pinging.{IsPinging}
 use Rattle.cf_hub.proofs.hub.Hub.tick.Given as goal
 

@@ -3,7 +3,7 @@
 use Rattle.std.proofs.Common.{rules, ◌≡◌, Bool, sym, subst, ◌∙◌}
 use Rattle.cf_recovery.specs.declared.verdict.Verdict.TheVariants as answer
 use Rattle.cf_hub.specs.declared.subscription.Meets.TheVariants as meets
-use Rattle.cf_model.specs.SessionState.{comes}
+use Rattle.cf_model.specs.Sessions.{comes}
 use Rattle.cf_hub.specs.WantOfMemory.{Serves}
 use Rattle.cf_hub.specs.Subscriptions.{meeting, progress_at}
 use Rattle.cf_hub.specs.Session.{state_of}

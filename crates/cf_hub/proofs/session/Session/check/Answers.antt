@@ -5,7 +5,7 @@ use Rattle.cf_hub.specs.declared.fate.Fate.TheVariants as fate
 use Rattle.cf_hub.specs.declared.step.Step.{Step}
 use Rattle.cf_hub.specs.Rows.{off_after}
 use Rattle.cf_hub.specs.Session.{state_of}
-use Rattle.cf_model.specs.SessionState.{SessionState, is_off, no_memory, checks}
+use Rattle.cf_model.specs.Sessions.{SessionState, is_off, no_memory, checks}
 use Rattle.cf_hub.specs.WantOfMemory.{OrCloses}
 use Rattle.cf_hub.specs.Wordings.{plain, end_text}
 use Rattle.cf_hub.proofs.Checks.{checked, ended, left, still_on}

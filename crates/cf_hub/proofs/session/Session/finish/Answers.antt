@@ -5,7 +5,7 @@ use Rattle.cf_queue.specs.OutQueue.{Item}
 use Rattle.cf_hub.specs.declared.fate.Fate.TheVariants as fate
 use Rattle.cf_hub.specs.Rows.{off_after}
 use Rattle.cf_hub.specs.Session.{state_of}
-use Rattle.cf_model.specs.SessionState.{SessionState, is_off}
+use Rattle.cf_model.specs.Sessions.{SessionState, is_off}
 use Rattle.cf_hub.specs.Reply.{finish_texts}
 use Rattle.cf_hub.specs.declared.step.Step.{Step}
 use Rattle.cf_hub.specs.Subscriptions.{progress_at}

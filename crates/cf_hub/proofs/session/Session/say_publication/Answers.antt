@@ -1,7 +1,7 @@
 -- The text is the push's, and the queue that took it is the definition's.
 use Rattle.std.proofs.Common.{rules, ◌≡◌, ℕ, List, inl, subst}
 use Rattle.cf_queue.specs.OutQueue.{Text}
-use Rattle.cf_model.specs.SessionState.{push}
+use Rattle.cf_model.specs.Sessions.{push}
 use Rattle.cf_hub.specs.Wordings.{plain, push_text}
 use Rattle.cf_hub.proofs.Notes.{with_queue, queue_fits}
 use Rattle.cf_hub.proofs.Puts.{subs_of}

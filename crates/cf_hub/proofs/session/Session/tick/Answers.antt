@@ -4,7 +4,7 @@ use Rattle.cf_queue.specs.OutQueue.{Text, Close}
 use Rattle.cf_hub.specs.declared.fate.Fate.TheVariants as fate
 use Rattle.cf_hub.specs.Rows.{off_after}
 use Rattle.cf_hub.specs.Session.{state_of}
-use Rattle.cf_model.specs.SessionState.{is_off, no_memory}
+use Rattle.cf_model.specs.Sessions.{is_off, no_memory}
 use Rattle.cf_hub.specs.Wordings.{plain, ping_text}
 use Rattle.cf_hub.proofs.States.{said_off, closed_now_off}
 use Rattle.cf_hub.proofs.session.Session.tick.Goals as goal

@@ -1,5 +1,5 @@
 use Rattle.cf_hub.specs.Wordings.{plain}
-use Rattle.cf_model.specs.SessionState.{checks}
+use Rattle.cf_model.specs.Sessions.{checks}
 use Rattle.cf_node_hub.specs.Told.{IsReply}
 use Rattle.cf_node_hub.specs.Seen.{seen_lists}
 use Rattle.cf_node_hub.proofs.Speaking.{checks-keep, meets-says}

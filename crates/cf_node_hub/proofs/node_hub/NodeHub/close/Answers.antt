@@ -1,5 +1,5 @@
 use Rattle.cf_queue.specs.OutQueue.{Close}
-use Rattle.cf_model.specs.SessionState.{closes_now}
+use Rattle.cf_model.specs.Sessions.{closes_now}
 use Rattle.cf_node_hub.specs.Told.{IsReply}
 use Rattle.cf_node_hub.proofs.Calls.{one_kept}
 use Rattle.cf_node_hub.proofs.Speaking.{closes-keep}

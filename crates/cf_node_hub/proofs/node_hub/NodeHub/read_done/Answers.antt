@@ -2,7 +2,7 @@ use Rattle.std.proofs.Common.{◌∙◌, ap, subst, List, ℕ}
 use Rattle.cf_hub.specs.Hub.{One}
 use Rattle.cf_hub.specs.Subscriptions.{reading_of}
 use Rattle.cf_hub.specs.Wordings.{reading}
-use Rattle.cf_model.specs.SessionState.{reads}
+use Rattle.cf_model.specs.Sessions.{reads}
 use Rattle.cf_shard.specs.Shards.{number_of}
 use Rattle.cf_node_hub.proofs.Calls.{learned_kept, read_kept, sees_on}
 use Rattle.cf_node_hub.proofs.node_hub.NodeHub.read_done.Goals as goal

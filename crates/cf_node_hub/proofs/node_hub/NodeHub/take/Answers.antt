@@ -1,4 +1,4 @@
-use Rattle.cf_model.specs.SessionState.{takes_front}
+use Rattle.cf_model.specs.Sessions.{takes_front}
 use Rattle.cf_node_hub.specs.Told.{IsReply}
 use Rattle.cf_node_hub.proofs.Calls.{one_kept}
 use Rattle.cf_node_hub.proofs.Speaking.{takes-keep}

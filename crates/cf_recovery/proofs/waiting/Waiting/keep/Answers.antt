@@ -1,7 +1,7 @@
 -- By whether the buffer was given up, has the place already, or is full: what is kept is the definition's, and stands for what
 -- arrived.
 use Rattle.std.proofs.Common.{◌≡◌, ◌∷◌, ◌∙◌, sym, subst, false}
-use Rattle.cf_model.specs.Arrivals.{has, arrives, overfull}
+use Rattle.cf_model.specs.Recovery.{has, arrives, overfull}
 use Rattle.cf_recovery.specs.ArrivalBuffer.{ArrivalBuffer, arrival, places, TakesRoom, StandsFor, with_arrival, given_up}
 use Rattle.cf_recovery.proofs.Keeping.{neither, with_arrival-full, with_arrival-kept, stands_more, within-push, on_ok}
 use Rattle.cf_recovery.proofs.waiting.Waiting.keep.Goals as goal

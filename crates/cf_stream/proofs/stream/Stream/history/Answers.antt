@@ -1,6 +1,6 @@
 -- The list answers what the definition does (`AnswersHistory-from`), and a list of another epoch is refused.
 use Rattle.std.proofs.Common.{◌≡◌, ap, ◌∙◌, ◌-◌, take, refl, rules}
-use Rattle.cf_model.specs.StreamAnswer.{allowed_by}
+use Rattle.cf_model.specs.Streams.{allowed_by}
 use Rattle.cf_stream.specs.Stream.{after}
 use Rattle.cf_stream.proofs.Giving.{wrong_epoch_none, wrong_epoch_not}
 use Rattle.cf_stream.proofs.PublicationLists.{AnswersHistory-from, GoesOn-used}

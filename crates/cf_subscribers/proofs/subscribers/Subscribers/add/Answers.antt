@@ -4,7 +4,7 @@ use Rattle.std.proofs.lemmas.List.{length-map}
 use Rattle.std.proofs.lemmas.Result.{on_ok_weaker, on_err_weaker}
 use Rattle.cf_subs.specs.declared.table.Row.{Row}
 use Rattle.cf_subscribers.specs.Follows.{AreFollows, follow, follows}
-use Rattle.cf_model.specs.Limits.{most_rows}
+use Rattle.cf_model.specs.Streams.{most_rows}
 use Rattle.cf_subscribers.specs.Names.{AreUsed, by_name, name_at, named, number_at}
 use Rattle.cf_subscribers.proofs.ByName.{covers_known, follows_known, with_named}
 use Rattle.cf_subscribers.proofs.Keeping.{AreFollows-push}

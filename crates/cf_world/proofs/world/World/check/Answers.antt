@@ -10,7 +10,7 @@ use Rattle.cf_world.proofs.BoardCalls.{top-stands}
 use Rattle.cf_world.proofs.Changed.{changed, missing, unrefused}
 use Rattle.cf_world.proofs.Served.{check-away, check-goes}
 use Rattle.cf_hub.specs.Wordings.{plain}
-use Rattle.cf_model.specs.SessionState.{checks}
+use Rattle.cf_model.specs.Sessions.{checks}
 use Rattle.cf_world.proofs.Changed.{lends}
 use Rattle.cf_world.proofs.Staying.{checks-waits, keeps-one, served-each}
 use Rattle.cf_world.proofs.Waiting.{keeps-or-closes}

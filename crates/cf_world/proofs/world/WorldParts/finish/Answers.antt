@@ -4,7 +4,7 @@ use Rattle.std.proofs.Common.{sym, ap}
 use Rattle.std.proofs.lemmas.Map.Text.{btree_map_updates_text}
 use Rattle.std.specs.BTreeMap.{get_by_text}
 use Rattle.cf_hub.specs.Hub.{Node, sub_at}
-use Rattle.cf_model.specs.SessionState.{is_ready}
+use Rattle.cf_model.specs.Sessions.{is_ready}
 use Rattle.cf_session.specs.declared.session.Session.{Session}
 use Rattle.cf_world.specs.Sending.{PeerMoves}
 use Rattle.cf_world.specs.declared.clients.Peer.{Peer}

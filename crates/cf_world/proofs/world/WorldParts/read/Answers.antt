@@ -5,7 +5,7 @@ use Rattle.std.specs.BTreeMap.{get_by_text}
 use Rattle.cf_hub.specs.Asking.{asked_of}
 use Rattle.cf_hub.specs.Hub.{Node, sub_at}
 use Rattle.cf_hub.specs.declared.asking.Asked.{Asked}
-use Rattle.cf_model.specs.SessionState.{is_asked}
+use Rattle.cf_model.specs.Sessions.{is_asked}
 use Rattle.cf_session.specs.declared.session.Session.{Session}
 use Rattle.cf_machine.specs.Event.{Read}
 use Rattle.cf_machine.specs.IntervalMachine.{run}

@@ -1,5 +1,5 @@
--- What a client knows, and what a note that it takes makes of it. (Centrifugo's client protocol: subscription states,
--- positions.) The client looks for no gap and no repeat: it believes what it is sent.
+-- What a client knows of its channels, and what each note that it takes makes of that.
+-- It looks for no gap and no repeat: it believes what it is sent.
 use Rattle.std.specs.Prelude.{ℕ, suc, ◌==◌, ◌&&◌, ◌||◌, Bool, true, false, if◌then◌else◌, Option, Some, None, List}
 use Rattle.std.specs.Prelude.{[], ◌∷◌}
 use Rattle.std.specs.Str.{bytes_eq}
@@ -30,7 +30,7 @@ last_of (Asking id from last) = last
 last_of (Live at) = Some at
 
 abbrev pub idle : Mode → Mode
-idle m = Idle (last_of m)
+idle mode = Idle (last_of mode)
 
 abbrev pub is_idle : Mode → Bool
 is_idle (Idle last) = true
@@ -39,14 +39,14 @@ is_idle (Live at) = false
 
 -- the position at which a reading ends
 abbrev pub read_to : Reading → Position
-read_to r = record { epoch = r.epoch; offset = r.top }
+read_to reading = record { epoch = reading.epoch; offset = reading.top }
 
 -- Ids count from 1 on each connection, and 1 is that of the connect.
 abbrev pub first_id : ℕ
 first_id = 2
 
 abbrev pub no_channel : List ℕ → Mode
-no_channel c = Idle None
+no_channel channel = Idle None
 
 -- a client that never connected
 abbrev pub new_client : Client
@@ -55,54 +55,66 @@ new_client = record { fresh = first_id; modes = no_channel; calls = [] }
 -- ---- what it does of itself
 
 abbrev pub asks : List ℕ → Option Position → Client → Client
-asks c from x = record x { fresh = suc x.fresh; modes = with x.modes c (Asking x.fresh from (last_of (x.modes c))) }
+asks channel from client =
+    record client {
+      fresh = suc client.fresh;
+      modes = with client.modes channel (Asking client.fresh from (last_of (client.modes channel)));
+    }
 
 abbrev pub leaves : List ℕ → Client → Client
-leaves c x = record x { fresh = suc x.fresh; modes = with x.modes c (idle (x.modes c)) }
+leaves channel client =
+    record client { fresh = suc client.fresh; modes = with client.modes channel (idle (client.modes channel)) }
 
 -- it publishes, or asks for a history
 abbrev pub calls_for : Client → Client
-calls_for x = record x { fresh = suc x.fresh; calls = x.fresh ∷ x.calls }
+calls_for client = record client { fresh = suc client.fresh; calls = client.fresh ∷ client.calls }
 
 -- its connection is gone
 abbrev pub reconnects : Client → Client
-reconnects x = record { fresh = first_id; modes = λ c. idle (x.modes c); calls = [] }
+reconnects client = record { fresh = first_id; modes = λ channel. idle (client.modes channel); calls = [] }
 
 -- ---- what it takes
 
 -- A push names an offset and no epoch: the client keeps the epoch that it has.
 abbrev pub moved_on : Position → Position → Position
-moved_on p q = record { epoch = p.epoch; offset = q.offset }
+moved_on at published = record { epoch = at.epoch; offset = published.offset }
 
--- What a note makes of channel c. A reply counts if it answers the ask that is out, a push while the channel is
+-- What a note makes of a channel. A reply counts if it answers the ask that is out, a push while the channel is
 -- live.
 abbrev pub takes : List ℕ → Mode → Note → Mode
-takes c (Idle last) n = Idle last
-takes c (Asking id from last) (Reply d k was r) =
-    if bytes_eq d c && (k == id) then Live (read_to r) else Asking id from last
-takes c (Asking id from last) (Fails d k code) = if bytes_eq d c && (k == id) then Idle last else Asking id from last
-takes c (Asking id from last) (Close code) = Idle last
-takes c (Asking id from last) n = Asking id from last
-takes c (Live p) (Pub d q) = if bytes_eq d c then Live (moved_on p q) else Live p
-takes c (Live p) (End d) = if bytes_eq d c then Idle (Some p) else Live p
-takes c (Live p) (Close code) = Idle (Some p)
-takes c (Live p) n = Live p
+takes channel (Idle last) note = Idle last
+takes channel (Asking id from last) (Reply named answered was reading) =
+    if bytes_eq named channel && (answered == id) then Live (read_to reading) else Asking id from last
+takes channel (Asking id from last) (Fails named answered code) =
+    if bytes_eq named channel && (answered == id) then Idle last else Asking id from last
+takes channel (Asking id from last) (Close code) = Idle last
+takes channel (Asking id from last) note = Asking id from last
+takes channel (Live at) (Pub named published) =
+    if bytes_eq named channel then Live (moved_on at published) else Live at
+takes channel (Live at) (End named) = if bytes_eq named channel then Idle (Some at) else Live at
+takes channel (Live at) (Close code) = Idle (Some at)
+takes channel (Live at) note = Live at
 
 abbrev pub is_out : ℕ → List ℕ → Bool
-is_out k [] = false
-is_out k (i ∷ is) = (i == k) || is_out k is
+is_out id [] = false
+is_out id (first ∷ ids) = (first == id) || is_out id ids
 
 abbrev pub without : ℕ → List ℕ → List ℕ
-without k [] = []
-without k (i ∷ is) = if i == k then without k is else i ∷ without k is
+without id [] = []
+without id (first ∷ ids) = if first == id then without id ids else first ∷ without id ids
 
 -- the calls that are still out
 abbrev pub answers : List ℕ → Note → List ℕ
-answers is (Fails d k code) = without k is
-answers is (Accepted k) = without k is
-answers is (Listed d k at low count) = without k is
-answers is n = is
+answers ids (Fails named answered code) = without answered ids
+answers ids (Accepted answered) = without answered ids
+answers ids (Listed named answered at low count) = without answered ids
+answers ids note = ids
 
 -- a note other than a close
 abbrev pub hears : Note → Client → Client
-hears n x = record { fresh = x.fresh; modes = λ c. takes c (x.modes c) n; calls = answers x.calls n }
+hears note client =
+    record {
+      fresh = client.fresh;
+      modes = λ channel. takes channel (client.modes channel) note;
+      calls = answers client.calls note;
+    }
