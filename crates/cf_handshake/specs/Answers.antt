@@ -4,8 +4,8 @@ use Rattle.std.specs.Prelude.{ℕ, Bool, true, false, List, [], ◌++◌, length
 use Rattle.std.specs.Fmt.{decimal}
 use Rattle.websocket.specs.Headers.{crlf, field_line}
 use Rattle.cf_handshake.specs.declared.answer.Opening.{Opening}
-use Rattle.cf_handshake.specs.declared.answer.Refusal.{Refusal}
-use Rattle.cf_handshake.specs.declared.answer.Refusal.TheVariants.{BadRequest, UpgradeRequired}
+use Rattle.cf_handshake.specs.declared.answer.HandshakeError.{HandshakeError}
+use Rattle.cf_handshake.specs.declared.answer.HandshakeError.TheVariants.{BadRequest, UpgradeRequired}
 
 abbrev pub status_line : List ℕ → List ℕ
 status_line status = codes "HTTP/1.1 " ++ status ++ crlf
@@ -35,7 +35,7 @@ closing_text status lines options body =
     ++ field_line (codes "Connection") (codes "close" ++ options)
     ++ crlf ++ body
 
-abbrev pub refusal_text : Refusal → List ℕ
+abbrev pub refusal_text : HandshakeError → List ℕ
 refusal_text BadRequest = closing_text (codes "400 Bad Request") [] [] (codes "bad request\n")
 refusal_text UpgradeRequired =
     closing_text (codes "426 Upgrade Required")

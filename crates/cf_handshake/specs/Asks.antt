@@ -8,9 +8,9 @@ use Rattle.websocket.specs.Headers.{Fields}
 use Rattle.websocket.specs.Handshake.{IsValidKey, accept_key_of}
 use Rattle.cf_handshake.specs.Lines.{has_line, lists, only_value}
 use Rattle.cf_handshake.specs.declared.lines.Case.TheVariants.{Matters, Ignored}
-use Rattle.cf_handshake.specs.declared.answer.Refusal.TheVariants.{BadRequest, UpgradeRequired}
-use Rattle.cf_handshake.specs.declared.asked.Asked.{Asked}
-use Rattle.cf_handshake.specs.declared.asked.Asked.TheVariants.{Socket, Health, Refused}
+use Rattle.cf_handshake.specs.declared.answer.HandshakeError.TheVariants.{BadRequest, UpgradeRequired}
+use Rattle.cf_handshake.specs.declared.asked.HeadAsk.{HeadAsk}
+use Rattle.cf_handshake.specs.declared.asked.HeadAsk.TheVariants.{Socket, Health, Refused}
 
 -- a request's parts: of its version the minor number, of each line the name and the value without the white space
 -- around it
@@ -48,7 +48,7 @@ abbrev pub is_health : List ℕ → Bool
 is_health target = bytes_eq target (codes "/health") || starts_with ◌==◌ target (codes "/health?")
 
 -- without an upgrade
-abbrev pub asked_plainly : List ℕ → Asked
+abbrev pub asked_plainly : List ℕ → HeadAsk
 asked_plainly target = cond (is_health target) Health (Refused UpgradeRequired)
 
 -- the protocols asked for have `websocket`, and the options of the connection `upgrade`
@@ -70,7 +70,7 @@ abbrev pub offers_json : Fields → Bool
 offers_json lines = lists Matters (codes "centrifuge-json") lines (codes "Sec-WebSocket-Protocol")
 
 -- a valid key opens a WebSocket by the key that answers it
-abbrev pub AsksWithKey : Option (List ℕ) → Bool → Asked → Type 0
+abbrev pub AsksWithKey : Option (List ℕ) → Bool → HeadAsk → Type 0
 AsksWithKey None json asked = asked ≡ Refused BadRequest
 AsksWithKey (Some key) json (Socket opening) =
     IsValidKey key × (opening.accept ≡ accept_key_of key) × (opening.offers_json ≡ json)
@@ -78,12 +78,12 @@ AsksWithKey (Some key) json Health = ⊥
 AsksWithKey (Some key) json (Refused refusal) = ¬ (IsValidKey key) × (refusal ≡ BadRequest)
 
 -- by the one key, if all else is as it is to be
-abbrev pub AsksByKey : Fields → Asked → Type 0
+abbrev pub AsksByKey : Fields → HeadAsk → Type 0
 AsksByKey lines asked = AsksWithKey (only_value lines (codes "Sec-WebSocket-Key")) (offers_json lines) asked
 
 -- the first rule that is broken decides: 1. `GET`, and one host; 2. if no line asks for an upgrade, the path; 3.
 -- HTTP/1.1, and an upgrade to `websocket`; 4. version 13; 5. one key, the base64 of sixteen bytes
-abbrev pub Asks : Request → Asked → Type 0
+abbrev pub Asks : Request → HeadAsk → Type 0
 Asks r asked =
     cond (not (bytes_eq r.method (codes "GET")) || not (has_host r.minor r.lines)) (asked ≡ Refused BadRequest)
     (cond (not (has_line r.lines (codes "Upgrade"))) (asked ≡ asked_plainly r.target)

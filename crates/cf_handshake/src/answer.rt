@@ -15,7 +15,7 @@ pub struct Opening {
 
 /// Why a request is refused.
 #[derive(Clone, Copy, Debug, PartialEq, Eq)]
-pub enum Refusal {
+pub enum HandshakeError {
     /// It is no request, or no opening handshake of a WebSocket.
     BadRequest,
     /// It asks for no upgrade, or for another version of the protocol.
@@ -47,15 +47,15 @@ impl Opening {
     }
 }
 
-impl Refusal {
+impl HandshakeError {
     /// The answer, after which the connection is to be closed.
     pub fn answer(self) -> &'static [u8]
         ensures { result.now ≡ refusal_text self }
     {
         match self {
-            Refusal::BadRequest =>
+            HandshakeError::BadRequest =>
                 b"HTTP/1.1 400 Bad Request\r\nContent-Type: text/plain\r\nContent-Length: 12\r\nConnection: close\r\n\r\nbad request\n",
-            Refusal::UpgradeRequired =>
+            HandshakeError::UpgradeRequired =>
                 b"HTTP/1.1 426 Upgrade Required\r\nUpgrade: websocket\r\nSec-WebSocket-Version: 13\r\nContent-Type: text/plain\r\nContent-Length: 17\r\nConnection: close, Upgrade\r\n\r\nupgrade required\n",
         }
     }

@@ -6,5 +6,5 @@ mod answer;
 mod asked;
 mod lines;
 
-pub use answer::{Opening, Refusal, health_answer};
-pub use asked::{Asked, asked_of};
+pub use answer::{Opening, HandshakeError, health_answer};
+pub use asked::{HeadAsk, asked_of};

@@ -6,8 +6,8 @@ use Rattle.std.proofs.lemmas.Bool.{and_parts, ne_eqb, not-true, le-ltb}
 use Rattle.cf_json.specs.Bytes.{is_plain, is_space, is_visible}
 use Rattle.cf_json.specs.Reading.{text_end}
 use Rattle.cf_json.specs.Squeeze.{keeps, kept, next}
-use Rattle.cf_json.specs.declared.squeeze.Mode.{Mode}
-use Rattle.cf_json.specs.declared.squeeze.Mode.TheVariants.{Between, Within, Escaped}
+use Rattle.cf_json.specs.declared.squeeze.SqueezeMode.{SqueezeMode}
+use Rattle.cf_json.specs.declared.squeeze.SqueezeMode.TheVariants.{Between, Within, Escaped}
 use Rattle.cf_json.specs.declared.token.Within.TheVariants as within
 use Rattle.cf_json.proofs.Tokens.{text_takes}
 use Rattle.cf_json.proofs.Squeezed.{kept-append, quoted_walks}
@@ -45,12 +45,12 @@ visible_no_space x h =
     let above = leb-true 33 x h in
     rw (ne_eqb x 32 (λ e. omega (arith, above, e)), ne_eqb x 9 (λ e. omega (arith, above, e)), ne_eqb x 10 (λ e. omega (arith, above, e)), ne_eqb x 13 (λ e. omega (arith, above, e))) refl
 
-visible_keeps : (m : Mode) (x : ℕ) → is_visible x ≡ true → keeps m x ≡ true
+visible_keeps : (m : SqueezeMode) (x : ℕ) → is_visible x ≡ true → keeps m x ≡ true
 visible_keeps Between x h = ap not (visible_no_space x h)
 visible_keeps Within x h = refl
 visible_keeps Escaped x h = refl
 
-pub visible_kept : (m : Mode) (xs : List ℕ) → list_all is_visible xs ≡ true → kept m xs ≡ xs
+pub visible_kept : (m : SqueezeMode) (xs : List ℕ) → list_all is_visible xs ≡ true → kept m xs ≡ xs
 unfolding kept
 visible_kept m [] h = refl
 visible_kept m (x ∷ xs) h =

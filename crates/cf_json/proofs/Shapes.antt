@@ -9,8 +9,8 @@ use Rattle.cf_json.specs.Spans.{Span, IsAt}
 use Rattle.cf_json.specs.Kinds.{kind_of, kind_from}
 use Rattle.cf_json.specs.Squeeze.{next}
 use Rattle.cf_json.specs.Levels.{level_after, deepest}
-use Rattle.cf_json.specs.declared.squeeze.Mode.{Mode}
-use Rattle.cf_json.specs.declared.squeeze.Mode.TheVariants.{Between, Within, Escaped}
+use Rattle.cf_json.specs.declared.squeeze.SqueezeMode.{SqueezeMode}
+use Rattle.cf_json.specs.declared.squeeze.SqueezeMode.TheVariants.{Between, Within, Escaped}
 use Rattle.cf_json.specs.declared.kinds.Kind.TheVariants.{Number}
 use Rattle.cf_json.proofs.Numbers.{number_begins}
 use Rattle.cf_json.proofs.Nexts.{first}
@@ -167,7 +167,7 @@ mutual
       flat_then (max (depth t) (parts_depth ps)) s h.2 r (flat_both s h.0 h.2 (subst (λ u. Flat u h.0) (sym h.6) (comma_flat h.0)) (flat_both h.0 h.1 h.2 (space_flat h.0 h.1 h.7) (key_flat keyed k h.1 h.2 h.8)))
       (opens_then (depth t) (parts_depth ps) h.2 h.4 r (then_flat (depth t) h.2 h.3 h.4 (value_opens t h.2 h.3 h.9) (space_flat h.3 h.4 h.10)) (more_opens keyed ps h.5 h.4 r h.11))
 
-deepest-nil : (m : Mode) (l d : ℕ) → deepest m l d [] ≡ d
+deepest-nil : (m : SqueezeMode) (l d : ℕ) → deepest m l d [] ≡ d
 unfolding deepest
 deepest-nil m l d = refl
 
@@ -181,11 +181,11 @@ depth_at all t s utf8 h =
     ap (deepest Between 0 0) own ∙ value_opens t m.0 [] alone 0 0 (omega arith) ∙ deepest-nil Between 0 (max 0 (0 + depth t)) ∙ omega arith
 
 -- one byte more, as the loop reads it
-pub one_level : (m n : Mode) (l k d e x y : ℕ) (s xs : List ℕ) → s ≡ x ∷ xs → n ≡ next m y → y ≡ x → k ≡ level_after m x l → e ≡ max d k → deepest n k e xs ≡ deepest m l d s
+pub one_level : (m n : SqueezeMode) (l k d e x y : ℕ) (s xs : List ℕ) → s ≡ x ∷ xs → n ≡ next m y → y ≡ x → k ≡ level_after m x l → e ≡ max d k → deepest n k e xs ≡ deepest m l d s
 unfolding deepest
 one_level m n l k d e x y s xs is mode same level highest = rw (is, mode, same, highest, level) refl
 
-pub level_after-le : (m : Mode) (x l : ℕ) → level_after m x l ≤ l + 1
+pub level_after-le : (m : SqueezeMode) (x l : ℕ) → level_after m x l ≤ l + 1
 unfolding level_after
 level_after-le Between x l = up_or_down (is_opening x) (is_closing x)
   where

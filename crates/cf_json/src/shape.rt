@@ -4,11 +4,11 @@ ghost use Rattle.cf_json.specs.Grammar.{Tree, depth};
 ghost use Rattle.cf_json.specs.Spans.{IsAt};
 ghost use Rattle.cf_json.specs.Kinds.{kind_of, kind_from};
 ghost use Rattle.cf_json.specs.Levels.{level_after, deepest};
-ghost use Rattle.cf_json.specs.declared.squeeze.Mode.TheVariants as Mode;
+ghost use Rattle.cf_json.specs.declared.squeeze.SqueezeMode.TheVariants as Mode;
 
 use crate::kinds::Kind;
 use crate::span::Span;
-use crate::squeeze::{Mode, next};
+use crate::squeeze::{SqueezeMode, next};
 
 #[tactic(auto, unfolding(crate::specs::Kinds::kind_from))]
 fn kind_from(byte: u8) -> Kind
@@ -35,29 +35,29 @@ pub fn kind(text: &str, span: Span) -> Kind
 }
 
 #[tactic(auto, unfolding(crate::specs::Levels::level_after, crate::specs::Bytes::is_opening, crate::specs::Bytes::is_closing))]
-fn level_after(mode: Mode, byte: u8, level: usize) -> usize
+fn level_after(mode: SqueezeMode, byte: u8, level: usize) -> usize
     requires { level < usize.MAX }
     ensures { result ≡ level_after mode byte level }
 {
     match mode {
-        Mode::Between => if byte == b'[' || byte == b'{' {
+        SqueezeMode::Between => if byte == b'[' || byte == b'{' {
             level + 1
         } else if byte == b']' || byte == b'}' {
             level.saturating_sub(1)
         } else {
             level
         },
-        Mode::Within | Mode::Escaped => level,
+        SqueezeMode::Within | SqueezeMode::Escaped => level,
     }
 }
 
 // The deepest level that the brackets of the text reach.
 #[tactic(auto, unfolding(crate::specs::Levels::deepest))]
 fn deepest(text: &[u8]) -> usize
-    ensures { result ≡ deepest Mode.Between 0 0 text.now }
+    ensures { result ≡ deepest SqueezeMode.Between 0 0 text.now }
 {
     let mut rest = text;
-    let mut mode = Mode::Between;
+    let mut mode = SqueezeMode::Between;
     let mut level = 0;
     let mut highest = 0;
     while let Some((byte, more)) = rest.split_first() {

@@ -78,9 +78,9 @@ impl<T> Lesson<T, Log<T>> for Receives {
 }
 
 /// An end tells what it knows: a pass that may do nothing knows it too.
-pub struct Tells;
+pub struct TellsLog;
 
-impl<T> Split<Log<T>> for Tells {
+impl<T> Split<Log<T>> for TellsLog {
     ghost use Rattle.std.specs.Prelude.{false};
     ghost use Rattle.cf_link.specs.Rule.{log};
 

@@ -3,7 +3,7 @@ ghost use Rattle.std.specs.Prelude.{◌≡◌};
 ghost use Rattle.cf_link.specs.Link.{IsSameEnd};
 
 use crate::ends::{Receiver, Sender};
-use crate::log::{HearsReceived, HearsSent, Log, Tells};
+use crate::log::{HearsReceived, HearsSent, Log, TellsLog};
 use crossbeam_queue::Pass;
 use std::marker::Model;
 
@@ -38,7 +38,7 @@ impl<T> Sender<T> {
         ensures sent { result.sent ≡ self.old.items }
         ensures received { result.received ≡ self.old.told }
     {
-        let pass = self.line.another::<Tells>(&mut self.pass);
+        let pass = self.line.another::<TellsLog>(&mut self.pass);
         Told { pass }
     }
 
@@ -61,7 +61,7 @@ impl<T> Receiver<T> {
         ensures sent { result.sent ≡ self.old.told }
         ensures received { result.received ≡ self.old.items }
     {
-        let pass = self.line.another::<Tells>(&mut self.pass);
+        let pass = self.line.another::<TellsLog>(&mut self.pass);
         Told { pass }
     }
 

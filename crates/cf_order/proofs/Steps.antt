@@ -10,7 +10,7 @@ use Rattle.cf_protocol.specs.LogEntry.{Entry}
 use Rattle.cf_order.specs.Passes.{longer, published}
 use Rattle.cf_order.specs.View.{View, opening_view, spent_view}
 use Rattle.cf_order.specs.ShardRule.{Fits, HasOwner, IsOneLog}
-use Rattle.cf_order.specs.ShardStep.{looked, added, given, with_share, joined, compared, HasLooked, HasAdded, HasTold, Looked, Knows}
+use Rattle.cf_order.specs.ShardStep.{looked, added, word_given, with_share, joined, compared, HasLooked, HasAdded, HasTold, Looked, Knows}
 use Rattle.cf_order.proofs.Prefixes.{prefix_self, prefix_none, prefix_front, prefix_trans, prefix_shorter, prefix_whole, prefix_length, longer_fits, longer_below}
 use Rattle.cf_order.proofs.Sums.{published-append, published_le, shares-set, shares-append, share_le}
 
@@ -158,10 +158,10 @@ adds slots id me e owns room s k len at small =
     (w, keeps, tt, kept, (refl, knows s.words s.views k id v at, is))
 
 -- a seat gives a new one what it knows and a part of its share
-pub splits : (id : ℕ) (v : View) (a b : ℕ) → a + b ≡ v.share → Splits holds id v (with_share v a) (given v b)
+pub splits : (id : ℕ) (v : View) (a b : ℕ) → a + b ≡ v.share → Splits holds id v (with_share v a) (word_given v b)
 splits id v a b sum s k at =
     let l = with_share v a in
-    let r = given v b in
+    let r = word_given v b in
     let f = k.fits id v at in
     let own = owner_set s.views k.seat k.log k.owner id v l at f refl (λ _. refl) in
     let fits = fits_set k.seat k.log s.views id l (λ j u _ e. k.fits j u e) (record { owns = f.owns; seen = f.seen; found = f.found; met = f.met }) in

@@ -15,8 +15,8 @@ abbrev pub added : View → Entry → View
 added v e = record v { log = v.log ++ e ∷ []; found = v.found ++ e ∷ []; share = v.share + publishes e }
 
 -- a split: what the new seat is given, with this share, and what the old one is left with
-abbrev pub given : View → ℕ → View
-given v n = record { owns = false; log = v.log; met = []; found = v.found; looks = 0; share = n }
+abbrev pub word_given : View → ℕ → View
+word_given v n = record { owns = false; log = v.log; met = []; found = v.found; looks = 0; share = n }
 
 abbrev pub with_share : View → ℕ → View
 with_share v n = record v { share = n }

@@ -39,9 +39,9 @@ impl Play<u8, View> for Looks {
 }
 
 /// Tell: a load that changes no view, and tells how the last two logs compare.
-pub struct Tells;
+pub struct TellsView;
 
-impl Play<u8, View> for Tells {
+impl Play<u8, View> for TellsView {
     ghost use Rattle.cf_order.specs.ShardStep.{HasTold};
 
     ghost then = { HasTold };
@@ -76,22 +76,22 @@ impl<E: Added> Play<u8, View> for Adds<E> {
 pub struct Gives;
 
 impl Split<View> for Gives {
-    ghost use Rattle.cf_order.specs.ShardStep.{given, with_share};
+    ghost use Rattle.cf_order.specs.ShardStep.{word_given, with_share};
 
     ghost left = { λ v. with_share v 0 };
 
-    ghost right = { λ v. given v v.share };
+    ghost right = { λ v. word_given v v.share };
 }
 
 /// Split: a new seat has no share.
 pub struct Lends;
 
 impl Split<View> for Lends {
-    ghost use Rattle.cf_order.specs.ShardStep.{given};
+    ghost use Rattle.cf_order.specs.ShardStep.{word_given};
 
     ghost left = { λ v. v };
 
-    ghost right = { λ v. given v 0 };
+    ghost right = { λ v. word_given v 0 };
 }
 
 /// Join: a pass takes in another.

@@ -2,10 +2,10 @@
 ghost use Rattle.std.specs.Prelude.{◌≡◌, ◌+◌, ◌^◌, ◌<◌, ◌≤◌, ◌↔◌, [], ◌∷◌, ◌++◌, length, true, false, IfOk, IsTrue};
 ghost use mathlib.Core.List.{IsPrefix};
 ghost use Rattle.cf_order.specs.Passes.{first_pass, met, caught_up, publishes, published, entry_of};
-ghost use Rattle.cf_order.specs.ShardStep.{Knows, added, compared, joined, given, with_share};
+ghost use Rattle.cf_order.specs.ShardStep.{Knows, added, compared, joined, word_given, with_share};
 
 use crate::entry::Entry;
-use crate::view::{Added, Adds, Compares, Gives, Joins, Law, Lends, Looks, Tells, View};
+use crate::view::{Added, Adds, Compares, Gives, Joins, Law, Lends, Looks, TellsView, View};
 use atomic_table::{Seat, Shared, Table};
 use std::alloc::{AllocError, Global};
 use std::marker::{Brand, Model};
@@ -225,7 +225,7 @@ fn take_in(table: &Shared<u8, View, (), Law>, owner: &mut Seat<u8, View>, pass: 
     requires owns { (owner.old.me.0.owns ≡ true) × (pass.old.me.0.owns ≡ false) }
     ensures owner { (owner.new.table_id ≡ owner.old.table_id)
         × (owner.new.me
-        ≡ (compared owner.old.me.0 (given pass.old.me.0 pass.old.me.0.share), owner.old.me.1)) }
+        ≡ (compared owner.old.me.0 (word_given pass.old.me.0 pass.old.me.0.share), owner.old.me.1)) }
     ensures pass { (pass.new.table_id ≡ pass.old.table_id)
         × (pass.new.me ≡ (with_share pass.old.me.0 0, pass.old.me.1)) }
 {
@@ -246,7 +246,7 @@ fn give_back(
         × (owner.new.me ≡ (with_share owner.old.me.0 0, owner.old.me.1)) }
     ensures pass { (pass.new.table_id ≡ pass.old.table_id)
         × (pass.new.me
-        ≡ (joined pass.old.me.0 (given owner.old.me.0 owner.old.me.0.share), pass.old.me.1)) }
+        ≡ (joined pass.old.me.0 (word_given owner.old.me.0 owner.old.me.0.share), pass.old.me.1)) }
 {
     let new = table.split_seat::<Gives>(owner);
     table.join_seat::<Joins>(pass, new);
@@ -258,7 +258,7 @@ fn tell(table: &Shared<u8, View, (), Law>, seat: &mut Seat<u8, View>) -> u64
     ensures same { (seat.new.table_id ≡ seat.old.table_id) × (seat.new.me ≡ seat.old.me) }
     ensures told { Knows seat.old.me.0 result }
 {
-    table.load::<Tells>(seat, 0)
+    table.load::<TellsView>(seat, 0)
 }
 
 // One step of the owner's seat, which adds the entry that E names.

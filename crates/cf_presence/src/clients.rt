@@ -11,7 +11,7 @@ ghost use Rattle.cf_presence.specs.UserCounts.{clients_with};
 
 use crate::maps::put;
 use crate::presence::Stats;
-use crate::refusal::PresenceRefusal;
+use crate::refusal::PresenceError;
 use crate::users::{add_user, drop_gone, drop_user};
 use std::alloc::Global;
 use std::collections::BTreeMap;
@@ -22,12 +22,12 @@ pub const ENTRY_SECONDS: u64 = 60;
 
 /// A client that is there: its user, and the moment at which it entered last, in seconds.
 #[derive(Drop)]
-pub(crate) struct Entry {
+pub(crate) struct PresenceEntry {
     user: String,
     at: u64,
 }
 
-impl Model for Entry {
+impl Model for PresenceEntry {
     ghost use Rattle.std.specs.String.{string_bytes};
     ghost use Rattle.cf_presence.specs.Presence.{Seen, coded_seen};
 
@@ -38,7 +38,7 @@ impl Model for Entry {
     ghost view = { λ e. record { user = string_bytes e.user; at = e.at } };
 }
 
-impl Entry {
+impl PresenceEntry {
     /// Whether the entry still stands at a moment.
     pub(crate) fn stands(&self, now: u64) -> bool
         ensures { result ≡ stays now self.now }
@@ -63,7 +63,7 @@ impl Entry {
 /// The clients of one channel, by their ids, and how many of them each user has.
 #[derive(Drop)]
 pub(crate) struct ChannelClients {
-    map: BTreeMap<String, Entry>,
+    map: BTreeMap<String, PresenceEntry>,
     users: BTreeMap<String, u64>,
     alloc: Global,
 }
@@ -100,7 +100,7 @@ impl ChannelClients {
         client: &str,
         user: &str,
         now: u64,
-    ) -> Result<(), PresenceRefusal>
+    ) -> Result<(), PresenceError>
         ensures ok { OnOk result
             (self.new ≡ fin.insert self.old client.now (record { user = user.now; at = now })) }
         ensures err { OnErr result (self.new ≡ self.old) }
@@ -150,7 +150,7 @@ impl ChannelClients {
     }
 
     /// The user of each client.
-    pub(crate) fn list(&self) -> Result<BTreeMap<String, String>, PresenceRefusal>
+    pub(crate) fn list(&self) -> Result<BTreeMap<String, String>, PresenceError>
         ensures { IfOk result (λ users. shown_users users ≡ users_of self.now) }
     {
         let mut users = BTreeMap::new(self.alloc);
@@ -176,12 +176,12 @@ impl ChannelClients {
 
 /// Puts the entry of a client that enters at a moment, and answers the one that was there.
 fn put_entry(
-    map: &mut BTreeMap<String, Entry>,
+    map: &mut BTreeMap<String, PresenceEntry>,
     alloc: Global,
     client: &str,
     user: &str,
     now: u64,
-) -> Result<Option<Entry>, PresenceRefusal>
+) -> Result<Option<PresenceEntry>, PresenceError>
     ensures puts { IfOk result (λ before. Puts map.old map.new client.now
         (record { user = user.now; at = now }) before) }
     ensures sets { OnOk result
@@ -189,12 +189,12 @@ fn put_entry(
     ensures err { OnErr result (map.new.entries ≡ map.old.entries) }
 {
     let user = String::from_str(alloc, user)?;
-    put(map, alloc, client, Entry { user, at: now })
+    put(map, alloc, client, PresenceEntry { user, at: now })
 }
 
 /// Sets the moment of a client that is there under this user, if it is. It takes no memory.
 #[tactic(auto, using(std::proofs::lemmas::Map::Text::text_keys))]
-fn renew(map: &mut BTreeMap<String, Entry>, client: &str, user: &str, now: u64) -> bool
+fn renew(map: &mut BTreeMap<String, PresenceEntry>, client: &str, user: &str, now: u64) -> bool
     ensures renewed { IsTrue result
         → SetsAt map.old map.new client.now (Some (record { user = user.now; at = now })) }
     ensures users { (u : List ℕ)

@@ -11,4 +11,4 @@ mod users;
 
 pub use clients::ENTRY_SECONDS;
 pub use presence::{Presence, Stats};
-pub use refusal::PresenceRefusal;
+pub use refusal::PresenceError;

@@ -2,7 +2,7 @@
 ghost use Rattle.std.specs.Prelude.{◌≡◌, IfOk, OnOk, OnErr, Some};
 ghost use Rattle.cf_presence.specs.Maps.{SetsAt, Puts};
 
-use crate::refusal::PresenceRefusal;
+use crate::refusal::PresenceError;
 use std::alloc::{AllocFailed, Global};
 use std::collections::BTreeMap;
 
@@ -12,7 +12,7 @@ pub(crate) fn put<V: Drop>(
     alloc: Global,
     key: &str,
     value: V,
-) -> Result<Option<V>, PresenceRefusal>
+) -> Result<Option<V>, PresenceError>
     ensures puts { IfOk result (λ before. Puts map.old map.new key.now value before) }
     ensures sets { OnOk result (SetsAt map.old map.new key.now (Some value)) }
     ensures err { OnErr result (map.new.entries ≡ map.old.entries) }
@@ -24,6 +24,6 @@ pub(crate) fn put<V: Drop>(
             AllocFailed {
                 value: (_key, _value),
             },
-        ) => Err(PresenceRefusal::Memory),
+        ) => Err(PresenceError::Memory),
     }
 }

@@ -8,7 +8,7 @@ ghost use Rattle.cf_presence.specs.Maps.{SetsAt, if_any};
 
 use crate::clients::ChannelClients;
 use crate::maps::put;
-use crate::refusal::PresenceRefusal;
+use crate::refusal::PresenceError;
 use std::alloc::Global;
 use std::collections::BTreeMap;
 use std::marker::Model;
@@ -63,7 +63,7 @@ impl Presence {
         client: &str,
         user: &str,
         now: u64,
-    ) -> Result<(), PresenceRefusal>
+    ) -> Result<(), PresenceError>
         ensures ok { OnOk result (self.new ≡ entered self.old channel.now client.now user.now now) }
         ensures err { OnErr result (self.new ≡ self.old) }
         ensures again { IsThere (clients_of self.old channel.now) client.now user.now
@@ -80,7 +80,7 @@ impl Presence {
     }
 
     /// The user of each client that is there in a channel, by the client's id. `Memory` if a growth was refused.
-    pub fn list(&self, channel: &str) -> Result<BTreeMap<String, String>, PresenceRefusal>
+    pub fn list(&self, channel: &str) -> Result<BTreeMap<String, String>, PresenceError>
         ensures { IfOk result
             (λ users. shown_users users ≡ users_of (clients_of self.now channel.now)) }
     {
@@ -123,7 +123,7 @@ fn enter_in(
     client: &str,
     user: &str,
     now: u64,
-) -> Result<(), PresenceRefusal>
+) -> Result<(), PresenceError>
     ensures ok { OnOk result
         (SetsAt map.old map.new channel.now
         (Some

@@ -6,9 +6,9 @@ ghost use Rattle.cf_presence.specs.Maps.{SetsAt};
 ghost use Rattle.cf_presence.specs.Presence.{stays};
 ghost use Rattle.cf_presence.specs.UserCounts.{CountsUsers, Tallies, clients_with, counted};
 
-use crate::clients::Entry;
+use crate::clients::PresenceEntry;
 use crate::maps::put;
-use crate::refusal::PresenceRefusal;
+use crate::refusal::PresenceError;
 use std::alloc::Global;
 use std::collections::BTreeMap;
 
@@ -18,7 +18,7 @@ pub(crate) fn add_user(
     users: &mut BTreeMap<String, u64>,
     alloc: Global,
     user: &str,
-) -> Result<(), PresenceRefusal>
+) -> Result<(), PresenceError>
     ensures ok { OnOk result
         (SetsAt users.old users.new user.now
         (Some (unwrap_or (get_by_text users.old user.now) 0 + 1))) }
@@ -27,7 +27,7 @@ pub(crate) fn add_user(
     match users.get_mut(user) {
         Some(count) => {
             if *count == u64::MAX {
-                return Err(PresenceRefusal::Memory);
+                return Err(PresenceError::Memory);
             }
             *count += 1;
             Ok(())
@@ -57,7 +57,7 @@ pub(crate) fn drop_user(users: &mut BTreeMap<String, u64>, user: &str)
 /// Takes the clients whose entries no longer stand at a moment out of the count. It takes no memory.
 pub(crate) fn drop_gone(
     users: &mut BTreeMap<String, u64>,
-    clients: &BTreeMap<String, Entry>,
+    clients: &BTreeMap<String, PresenceEntry>,
     now: u64,
 )
     requires { CountsUsers users.old clients.now }

@@ -4,8 +4,8 @@ use Rattle.cf_hub.specs.declared.refusal.HubRefusal.{HubRefusal}
 use Rattle.cf_hub.specs.declared.refusal.HubRefusal.TheVariants as hub
 use Rattle.cf_stream.specs.declared.refusal.StreamRefusal.{StreamRefusal}
 use Rattle.cf_stream.specs.declared.refusal.StreamRefusal.TheVariants as stream
-use Rattle.cf_presence.specs.declared.refusal.PresenceRefusal.{PresenceRefusal}
-use Rattle.cf_presence.specs.declared.refusal.PresenceRefusal.TheVariants as presence
+use Rattle.cf_presence.specs.declared.refusal.PresenceError.{PresenceError}
+use Rattle.cf_presence.specs.declared.refusal.PresenceError.TheVariants as presence
 
 abbrev pub of_hub : HubRefusal → Refusal
 of_hub hub.NoSession = NoSession
@@ -19,5 +19,5 @@ of_stream stream.WrongEpoch = OtherEpoch
 of_stream stream.NoEpoch = NoEpoch
 of_stream stream.Memory = NoMemory
 
-abbrev pub of_presence : PresenceRefusal → Refusal
+abbrev pub of_presence : PresenceError → Refusal
 of_presence presence.Memory = NoMemory

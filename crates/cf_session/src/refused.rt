@@ -4,7 +4,7 @@ ghost use Rattle.cf_protocol.specs.Checks.{refusal_code};
 ghost use Rattle.cf_session.specs.Refusals.{of_hub, of_stream, of_presence};
 
 use cf_hub::HubRefusal;
-use cf_presence::PresenceRefusal;
+use cf_presence::PresenceError;
 use cf_protocol::ErrorCode;
 use cf_stream::StreamRefusal;
 
@@ -34,10 +34,10 @@ pub fn stream_error(refusal: &StreamRefusal) -> ErrorCode
 }
 
 /// The error code with which a reply says that presence refused a call: 100.
-pub fn presence_error(refusal: &PresenceRefusal) -> ErrorCode
+pub fn presence_error(refusal: &PresenceError) -> ErrorCode
     ensures { result ≡ refusal_code (of_presence refusal.now) }
 {
     match refusal {
-        PresenceRefusal::Memory => ErrorCode::Internal,
+        PresenceError::Memory => ErrorCode::Internal,
     }
 }

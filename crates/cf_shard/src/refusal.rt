@@ -3,7 +3,7 @@ ghost use Rattle.std.specs.Prelude.{◌≡◌};
 ghost use Rattle.cf_shard.specs.declared.refusal.Refused.TheVariants.{Memory};
 ghost use Rattle.cf_shard.specs.Shard.{refused_of};
 
-use cf_presence::PresenceRefusal;
+use cf_presence::PresenceError;
 use cf_stream::StreamRefusal;
 use std::alloc::{AllocError, AllocFailed};
 use thiserror::Error;
@@ -44,10 +44,10 @@ impl<T: Drop> From<AllocFailed<T>> for Refused {
     }
 }
 
-impl From<PresenceRefusal> for Refused {
+impl From<PresenceError> for Refused {
     ghost from_gives = { λ _ e. e ≡ Memory };
 
-    fn from(_error: PresenceRefusal) -> Refused {
+    fn from(_error: PresenceError) -> Refused {
         Refused::Memory
     }
 }

@@ -12,7 +12,7 @@ ghost use Rattle.cf_speak.specs.Steps.{SaysAndBrings, brings_due, brings_newest,
 
 use crate::epochs::GivenEpochs;
 use cf_hub::Hub;
-use cf_presence::{Presence, PresenceRefusal, Stats};
+use cf_presence::{Presence, PresenceError, Stats};
 use cf_protocol::{CloseCode, ErrorCode, Info, Namespaces, Outcome, Position};
 use cf_queue::Out;
 use cf_session::{Node, hub_error, presence_error, reply_of, stream_error};
@@ -153,7 +153,7 @@ fn enter(
     presence: &mut Presence,
     number: u32,
     channel: &str,
-) -> Result<(), PresenceRefusal>
+) -> Result<(), PresenceError>
     ensures { OnOk result
         (presence.new ≡ enters_now channel.now (attached_at hub.now number) presence.old) }
 {

@@ -10,7 +10,7 @@ use Rattle.lru.specs.Linked.{IsApart}
 use Rattle.lru.proofs.Splits.{all_right}
 use Rattle.cf_subs.specs.declared.blocks.At.{At}
 use Rattle.cf_subs.specs.declared.table.Row.{Row}
-use Rattle.cf_subs.specs.declared.seat.Seat.{Seat}
+use Rattle.cf_subs.specs.declared.linked_row.LinkedRow.{LinkedRow}
 use Rattle.cf_subs.specs.Held.{Held, places, found, without}
 use Rattle.cf_subs.specs.Rows.{AreOnce, after_in, channels_of, follows, is_among, is_of, sessions_of, without_row, without_session}
 use Rattle.cf_subs.specs.Threads.{at, first_of}
@@ -21,7 +21,7 @@ use Rattle.cf_subs.proofs.Threads.{some_eq, same_number, same_refl}
 use Rattle.cf_subs.proofs.Walks.{Step, found_here, from_here, walk_step}
 
 abbrev H : Type 0
-H = Held Seat
+H = Held LinkedRow
 
 -- ---- the walks as filters of the blocks
 
@@ -134,7 +134,7 @@ row_goes c s hs a e d once =
     ∙ sym (goes c s (rows_of p.before) p.here.value.row (rows_of p.after) p.is (follows_none c s p.before p.none) (subst AreOnce split once)) ∙ ap (λ l. without_row l c s) (sym split)
 
 -- one block less
-pub one_less : (hs : List H) (p : Ptr) (s : Seat) → Some s ≡ found hs p → IsApart (places hs) → length (rows_of (without hs p)) + 1 ≡ length (rows_of hs)
+pub one_less : (hs : List H) (p : Ptr) (s : LinkedRow) → Some s ≡ found hs p → IsApart (places hs) → length (rows_of (without hs p)) + 1 ≡ length (rows_of hs)
 one_less hs p s e d =
     let cut = cut_at hs p (subst (λ o. IsSome o) e refl) in
     let left = ap (λ l. length (rows_of l)) (rest_of hs (at p) cut.before cut.here cut.after cut.cut (ap at cut.place) d) in let all = ap (λ l. length (rows_of l)) cut.cut in
@@ -144,7 +144,7 @@ one_less hs p s e d =
 
 -- ---- the first row of a number goes
 
-pub record First (key : Seat → ℕ) (k : ℕ) (hs : List H) (a : At) : Type 0 where
+pub record First (key : LinkedRow → ℕ) (k : ℕ) (hs : List H) (a : At) : Type 0 where
   pub before : List H
   pub here : H
   pub after : List H
@@ -152,7 +152,7 @@ pub record First (key : Seat → ℕ) (k : ℕ) (hs : List H) (a : At) : Type 0 
   pub place : at here.at ≡ a
   pub number : (key here.value == k) ≡ true
 
-pub first_cut : (key : Seat → ℕ) (k : ℕ) (a : At) (hs : List H) → first_of key k hs ≡ Some a → First key k hs a
+pub first_cut : (key : LinkedRow → ℕ) (k : ℕ) (a : At) (hs : List H) → first_of key k hs ≡ Some a → First key k hs a
 first_cut key k a [] e = absurd cc
 first_cut key k a (h ∷ hs) e = (elim (key h.value == k) as (λ y. (key h.value == k) ≡ y → cond y (Some (at h.at)) (first_of key k hs) ≡ Some a → First key k (h ∷ hs) a) [
   | true ↦ λ is e'. record { before = []; here = h; after = hs; cut = refl; place = some_eq (at h.at) a e'; number = is }
@@ -166,15 +166,15 @@ first_cut key k a (h ∷ hs) e = (elim (key h.value == k) as (λ y. (key h.value
   }
 ]) refl e
 
-found_first : (key : Seat → ℕ) (k : ℕ) (hs : List H) (a : At) (f : First key k hs a) → IsApart (places hs) → found hs a.ptr ≡ Some f.here.value
+found_first : (key : LinkedRow → ℕ) (k : ℕ) (hs : List H) (a : At) (f : First key k hs a) → IsApart (places hs) → found hs a.ptr ≡ Some f.here.value
 found_first key k hs a f d =
     let P : H → Type 0 = λ u. found hs u.at ≡ Some u.value in
     ap (λ (b : At). found hs b.ptr) (sym f.place) ∙ (all_right P f.before (f.here ∷ f.after) (subst (AllByRecursion P) f.cut (found_here hs d))).0
 
-pub first_is_held : (key : Seat → ℕ) (k : ℕ) (hs : List H) (a : At) → first_of key k hs ≡ Some a → IsApart (places hs) → IsSome (found hs a.ptr)
+pub first_is_held : (key : LinkedRow → ℕ) (k : ℕ) (hs : List H) (a : At) → first_of key k hs ≡ Some a → IsApart (places hs) → IsSome (found hs a.ptr)
 first_is_held key k hs a e d = subst (λ o. IsSome o) (sym (found_first key k hs a (first_cut key k a hs e) d)) refl
 
-pub first_less : (key : Seat → ℕ) (k : ℕ) (hs : List H) (a : At) → first_of key k hs ≡ Some a → IsApart (places hs) → length (rows_of (without hs a.ptr)) + 1 ≡ length (rows_of hs)
+pub first_less : (key : LinkedRow → ℕ) (k : ℕ) (hs : List H) (a : At) → first_of key k hs ≡ Some a → IsApart (places hs) → length (rows_of (without hs a.ptr)) + 1 ≡ length (rows_of hs)
 first_less key k hs a e d = let f = first_cut key k a hs e in one_less hs a.ptr f.here.value (sym (found_first key k hs a f d)) d
 
 gone : (k : ℕ) (us : List H) (g : H) (vs : List H) → (g.value.row.session == k) ≡ true → without_session (rows_of (us ++ vs)) k ≡ without_session (rows_of (us ++ g ∷ vs)) k
@@ -196,7 +196,7 @@ none_left k (h ∷ hs) e = (elim (h.value.row.session == k) as (λ y. cond y (So
 ]) e
 
 -- no row at all
-pub all_none : (key : Seat → ℕ) (hs : List H) → ((k : ℕ) → first_of key k hs ≡ None) → hs ≡ []
+pub all_none : (key : LinkedRow → ℕ) (hs : List H) → ((k : ℕ) → first_of key k hs ≡ None) → hs ≡ []
 all_none key [] none = refl
 all_none key (h ∷ hs) none = absurd (let bad = none (key h.value) in let is = ap (λ y. cond y (Some (at h.at)) (first_of key (key h.value) hs)) (same_refl (key h.value)) in cc)
 
@@ -206,7 +206,7 @@ all_none key (h ∷ hs) none = absurd (let bad = none (key h.value) in let is = 
 abbrev pub WayTo : ℕ → ℕ → List H → Option At → Type 0
 WayTo c s hs o = IsSessionWalk hs s o × (place_of c s (of_number session_of s (onward hs o)) ≡ place_of c s hs)
 
-read : {Y : Type 0} (f : Seat → Y) (x : Seat) (o : Option Seat) (y : Y) → o ≡ Some x → Some y ≡ option_map f o → y ≡ f x
+read : {Y : Type 0} (f : LinkedRow → Y) (x : LinkedRow) (o : Option LinkedRow) (y : Y) → o ≡ Some x → Some y ≡ option_map f o → y ≡ f x
 read f x o y e g = some_eq y (f x) (g ∙ ap (option_map f) e)
 
 met : (hs : List H) (s : ℕ) (a : At) (linked : AreLinkedBySession hs) (stands : StandsIn session_of hs s (Some a)) → IsApart (places hs) → Step session_of (λ x. x.before_in_session) (λ x. x.after_in_session) hs s a stands.0
@@ -257,7 +257,7 @@ held_less hs p e d =
     let cut = cut_at hs p e in let less = one_less hs p cut.here.value (sym cut.value) d in omega (arith, less)
 
 -- the first block of a list is held
-pub any_held : (key : Seat → ℕ) (hs : List H) (k : ℕ) (o : Option At) → o ≡ first_of key k hs → IsApart (places hs) → IfSome o (λ at. IsSome (found hs at.ptr))
+pub any_held : (key : LinkedRow → ℕ) (hs : List H) (k : ℕ) (o : Option At) → o ≡ first_of key k hs → IsApart (places hs) → IfSome o (λ at. IsSome (found hs at.ptr))
 any_held key hs k None e d = tt
 any_held key hs k (Some a) e d = first_is_held key k hs a (sym e) d
 
@@ -309,7 +309,7 @@ pub behind : (c s : ℕ) (hs : List H) (a : At) (o : Option At) → place_of c s
 behind c s hs a o e linked d g =
     let p = placed c s hs a e in let n = p.here in let same = is_row c s n.value.row p.is in
     let at_a = found_placed c s hs a p d in let walk : IsChannelWalk hs c (Some a) = (linked, (n.value, at_a, same.0)) in
-    let step = channel_step hs c a n.value.row o walk d (sym (ap (option_map (λ (x : Seat). x.row)) at_a)) g in
+    let step = channel_step hs c a n.value.row o walk d (sym (ap (option_map (λ (x : LinkedRow). x.row)) at_a)) g in
     let here : onward hs (Some a) ≡ n ∷ p.after =
     (λ i. onward (p.cut i) (Some (sym p.place i))) ∙ from_here channel_of (λ x. x.before_in_channel) (λ x. x.after_in_channel) c p.before n p.after (subst AreLinkedByChannel p.cut linked) (subst (λ l. IsApart (places l)) p.cut d) same.0 in
     let first : List ℕ = map (λ (h : H). h.value.row.session) (of_number channel_of c p.before) in

@@ -6,7 +6,7 @@ use Rattle.std.specs.List.{list_any}
 use denote.RawPtr.{Ptr}
 use Rattle.lru.specs.Linked.{IsApart}
 use Rattle.cf_subs.specs.declared.blocks.At.{At}
-use Rattle.cf_subs.specs.declared.ends.Ends.{Ends}
+use Rattle.cf_subs.specs.declared.ends.ListEnds.{ListEnds}
 use Rattle.cf_subs.specs.Ends.{EndsMap, IsHeaded, SetsAt, ends, ends_of, grown, shrunk}
 use Rattle.cf_subs.specs.Held.{Held, found, places, without}
 use Rattle.cf_subs.specs.Threads.{AreThreaded, at, first_of, last_of, noted, nowhere}
@@ -114,10 +114,10 @@ module _ {X : Type 0} (key : X → ℕ) where
 
   -- what a map's entry says of the list
   pub first_is : (m : EndsMap) (hs : List (Held X)) (k : ℕ) → IsHeaded key m hs → option_map (λ e. e.first) (get nat_eq m k) ≡ first_of key k hs
-  first_is m hs k headed = ap (option_map (λ (e : Ends). e.first)) (headed k) ∙ first_end (first_of key k hs) (last_of key nowhere hs k) (both_ends k hs)
+  first_is m hs k headed = ap (option_map (λ (e : ListEnds). e.first)) (headed k) ∙ first_end (first_of key k hs) (last_of key nowhere hs k) (both_ends k hs)
 
   pub last_is : (m : EndsMap) (hs : List (Held X)) (k : ℕ) → IsHeaded key m hs → option_map (λ e. e.last) (get nat_eq m k) ≡ last_of key nowhere hs k
-  last_is m hs k headed = ap (option_map (λ (e : Ends). e.last)) (headed k) ∙ last_end (first_of key k hs) (last_of key nowhere hs k) (both_ends k hs)
+  last_is m hs k headed = ap (option_map (λ (e : ListEnds). e.last)) (headed k) ∙ last_end (first_of key k hs) (last_of key nowhere hs k) (both_ends k hs)
 
   pub none_is : (m : EndsMap) (hs : List (Held X)) (k : ℕ) → IsHeaded key m hs → get nat_eq m k ≡ None → first_of key k hs ≡ None
   none_is m hs k headed none = no_ends (first_of key k hs) (last_of key nowhere hs k) (both_ends k hs) (sym (headed k) ∙ none)

@@ -5,43 +5,43 @@ use Rattle.std.specs.List.{IsDistinct}
 use denote.RawPtr.{Ptr}
 use Rattle.lru.specs.Linked.{IsApart}
 use Rattle.cf_subs.specs.declared.blocks.At.{At}
-use Rattle.cf_subs.specs.declared.seat.Seat.{Seat}
+use Rattle.cf_subs.specs.declared.linked_row.LinkedRow.{LinkedRow}
 use Rattle.cf_subs.specs.Held.{Held, places, found, without}
 use Rattle.cf_subs.specs.Threads.{at, leads_to, nowhere, IsHeld, changed, first_of, last_of, AreThreaded}
 use Rattle.cf_subs.specs.Seats.{AreLinked, before_in_channel, after_in_channel, before_in_session, after_in_session, channel_of, session_of, rows_of, SameEnds}
 use Rattle.cf_subs.proofs.Threads.{changed_append, changed_around, places_changed, right_fresh, apart_right, found_left, found_right, held_changed, last_held, first_held, last_past, first_past, th_right, th_kept, linked_in, unlinked, last_changed, first_changed, some_eq}
 use Rattle.cf_subs.proofs.Places.{cut_at, without_cut}
 
-pub rows_changed : (change : Seat → Seat) (o : Option At) → ((x : Seat) → (change x).row ≡ x.row) → (hs : List (Held Seat)) → rows_of (changed change o hs) ≡ rows_of hs
+pub rows_changed : (change : LinkedRow → LinkedRow) (o : Option At) → ((x : LinkedRow) → (change x).row ≡ x.row) → (hs : List (Held LinkedRow)) → rows_of (changed change o hs) ≡ rows_of hs
 rows_changed change o K [] = refl
 rows_changed change o K (h ∷ hs) = (λ i. (elim (leads_to o h.at) as (λ y. (cond y (change h.value) h.value).row ≡ h.value.row) [ true ↦ K h.value | false ↦ refl ]) i ∷ rows_changed change o K hs i)
 
-pub ends_changed : (key : Seat → ℕ) (change : Seat → Seat) (o : Option At) → ((x : Seat) → key (change x) ≡ key x) → (hs ws : List (Held Seat)) → SameEnds key hs ws → SameEnds key (changed change o hs) ws
+pub ends_changed : (key : LinkedRow → ℕ) (change : LinkedRow → LinkedRow) (o : Option At) → ((x : LinkedRow) → key (change x) ≡ key x) → (hs ws : List (Held LinkedRow)) → SameEnds key hs ws → SameEnds key (changed change o hs) ws
 ends_changed key change o K hs ws e k = (first_changed key change K k o hs ∙ (e k).0, last_changed key change K k o nowhere nowhere hs (λ c. refl) ∙ (e k).1)
 
-module _ (xs : List (Held Seat)) (n : Held Seat) (ys : List (Held Seat)) (linked : AreLinked (xs ++ n ∷ ys)) (d : IsApart (places (xs ++ n ∷ ys))) where
-  abbrev s : Seat
+module _ (xs : List (Held LinkedRow)) (n : Held LinkedRow) (ys : List (Held LinkedRow)) (linked : AreLinked (xs ++ n ∷ ys)) (d : IsApart (places (xs ++ n ∷ ys))) where
+  abbrev s : LinkedRow
   s = n.value
 
-  abbrev w1 : List (Held Seat)
+  abbrev w1 : List (Held LinkedRow)
   w1 = xs ++ ys
 
-  abbrev w2 : List (Held Seat)
+  abbrev w2 : List (Held LinkedRow)
   w2 = changed (after_in_channel s.after_in_channel) s.before_in_channel w1
 
-  abbrev w3 : List (Held Seat)
+  abbrev w3 : List (Held LinkedRow)
   w3 = changed (before_in_channel s.before_in_channel) s.after_in_channel w2
 
-  abbrev w4 : List (Held Seat)
+  abbrev w4 : List (Held LinkedRow)
   w4 = changed (after_in_session s.after_in_session) s.before_in_session w3
 
-  abbrev pub w5 : List (Held Seat)
+  abbrev pub w5 : List (Held LinkedRow)
   w5 = changed (before_in_session s.before_in_session) s.after_in_session w4
 
-  abbrev Ch : List (Held Seat) → Type 0
+  abbrev Ch : List (Held LinkedRow) → Type 0
   Ch = AreThreaded channel_of (λ x. x.before_in_channel) (λ x. x.after_in_channel) nowhere
 
-  abbrev Se : List (Held Seat) → Type 0
+  abbrev Se : List (Held LinkedRow) → Type 0
   Se = AreThreaded session_of (λ x. x.before_in_session) (λ x. x.after_in_session) nowhere
 
   in_channel : (s.before_in_channel ≡ last_of channel_of nowhere xs s.row.channel) × (s.after_in_channel ≡ first_of channel_of s.row.channel ys)
@@ -69,8 +69,8 @@ module _ (xs : List (Held Seat)) (n : Held Seat) (ys : List (Held Seat)) (linked
   rows5 = rows_changed (before_in_session s.before_in_session) s.after_in_session (λ x. refl) w4 ∙ rows_changed (after_in_session s.after_in_session) s.before_in_session (λ x. refl) w3
       ∙ rows_changed (before_in_channel s.before_in_channel) s.after_in_channel (λ x. refl) w2 ∙ rows_changed (after_in_channel s.after_in_channel) s.before_in_channel (λ x. refl) w1
 
-  pub ends5 : (key : Seat → ℕ) → ((x : Seat) (o : Option At) → key (after_in_channel o x) ≡ key x) → ((x : Seat) (o : Option At) → key (before_in_channel o x) ≡ key x)
-      → ((x : Seat) (o : Option At) → key (after_in_session o x) ≡ key x) → ((x : Seat) (o : Option At) → key (before_in_session o x) ≡ key x) → SameEnds key w5 w1
+  pub ends5 : (key : LinkedRow → ℕ) → ((x : LinkedRow) (o : Option At) → key (after_in_channel o x) ≡ key x) → ((x : LinkedRow) (o : Option At) → key (before_in_channel o x) ≡ key x)
+      → ((x : LinkedRow) (o : Option At) → key (after_in_session o x) ≡ key x) → ((x : LinkedRow) (o : Option At) → key (before_in_session o x) ≡ key x) → SameEnds key w5 w1
   ends5 key A B C D = ends_changed key (before_in_session s.before_in_session) s.after_in_session (λ x. D x s.before_in_session) w4 w1
       (ends_changed key (after_in_session s.after_in_session) s.before_in_session (λ x. C x s.after_in_session) w3 w1
       (ends_changed key (before_in_channel s.before_in_channel) s.after_in_channel (λ x. B x s.before_in_channel) w2 w1
@@ -81,10 +81,10 @@ module _ (xs : List (Held Seat)) (n : Held Seat) (ys : List (Held Seat)) (linked
       (λ x. refl) (λ x. refl) (λ x. refl) (λ x. refl) (λ x. refl) (λ x. refl) xs ys linked.0 d
 
   -- the channel's changes, of any of the blocks
-  abbrev G1 : List (Held Seat) → List (Held Seat)
+  abbrev G1 : List (Held LinkedRow) → List (Held LinkedRow)
   G1 = changed (after_in_channel s.after_in_channel) s.before_in_channel
 
-  abbrev G2 : List (Held Seat) → List (Held Seat)
+  abbrev G2 : List (Held LinkedRow) → List (Held LinkedRow)
   G2 = changed (before_in_channel s.before_in_channel) s.after_in_channel
 
   before_elsewhere : leads_to s.before_in_channel n.at ≡ false
@@ -119,18 +119,18 @@ module _ (xs : List (Held Seat)) (n : Held Seat) (ys : List (Held Seat)) (linked
     session5,
   )
 
-module _ (hs : List (Held Seat)) (n : Held Seat) (linked : AreLinked hs) (d : IsApart (places (hs ++ n ∷ [])))
+module _ (hs : List (Held LinkedRow)) (n : Held LinkedRow) (linked : AreLinked hs) (d : IsApart (places (hs ++ n ∷ [])))
     (channel : (n.value.before_in_channel ≡ last_of channel_of nowhere hs n.value.row.channel) × (n.value.after_in_channel ≡ None)) (session : (n.value.before_in_session ≡ last_of session_of nowhere hs n.value.row.session) × (n.value.after_in_session ≡ None)) where
   abbrev here : Option At
   here = Some (at n.at)
 
-  abbrev v1 : List (Held Seat)
+  abbrev v1 : List (Held LinkedRow)
   v1 = hs ++ n ∷ []
 
-  abbrev v2 : List (Held Seat)
+  abbrev v2 : List (Held LinkedRow)
   v2 = changed (after_in_channel here) n.value.before_in_channel v1
 
-  abbrev pub v3 : List (Held Seat)
+  abbrev pub v3 : List (Held LinkedRow)
   v3 = changed (after_in_session here) n.value.before_in_session v2
 
   pub stands1 : IsHeld v1 n.value.before_in_channel
@@ -142,10 +142,10 @@ module _ (hs : List (Held Seat)) (n : Held Seat) (linked : AreLinked hs) (d : Is
   pub rows3 : rows_of v3 ≡ rows_of v1
   rows3 = rows_changed (after_in_session here) n.value.before_in_session (λ x. refl) v2 ∙ rows_changed (after_in_channel here) n.value.before_in_channel (λ x. refl) v1
 
-  pub ends3 : (key : Seat → ℕ) → ((x : Seat) (o : Option At) → key (after_in_channel o x) ≡ key x) → ((x : Seat) (o : Option At) → key (after_in_session o x) ≡ key x) → SameEnds key v3 v1
+  pub ends3 : (key : LinkedRow → ℕ) → ((x : LinkedRow) (o : Option At) → key (after_in_channel o x) ≡ key x) → ((x : LinkedRow) (o : Option At) → key (after_in_session o x) ≡ key x) → SameEnds key v3 v1
   ends3 key A C = ends_changed key (after_in_session here) n.value.before_in_session (λ x. C x here) v2 v1 (ends_changed key (after_in_channel here) n.value.before_in_channel (λ x. A x here) v1 v1 (λ k. (refl, refl)))
 
-  abbrev us : List (Held Seat)
+  abbrev us : List (Held LinkedRow)
   us = changed (after_in_channel here) n.value.before_in_channel hs
 
   pushed : v2 ≡ us ++ n ∷ []
@@ -163,16 +163,16 @@ module _ (hs : List (Held Seat)) (n : Held Seat) (linked : AreLinked hs) (d : Is
   )
 
 -- a block that was taken out, between those that were before it and after it
-pub record Out (hs : List (Held Seat)) (p : Ptr) (r : Seat) (left : List (Held Seat)) : Type 0 where
-  pub before : List (Held Seat)
-  pub here : Held Seat
-  pub after : List (Held Seat)
+pub record Out (hs : List (Held LinkedRow)) (p : Ptr) (r : LinkedRow) (left : List (Held LinkedRow)) : Type 0 where
+  pub before : List (Held LinkedRow)
+  pub here : Held LinkedRow
+  pub after : List (Held LinkedRow)
   pub same : r ≡ here.value
   pub rest : left ≡ before ++ after
   pub linked : AreLinked (before ++ here ∷ after)
   pub apart : IsApart (places (before ++ here ∷ after))
 
-pub out : (hs : List (Held Seat)) (p : Ptr) (r : Seat) (left : List (Held Seat)) → Some r ≡ found hs p → left ≡ without hs p → AreLinked hs → IsApart (places hs) → Out hs p r left
+pub out : (hs : List (Held LinkedRow)) (p : Ptr) (r : LinkedRow) (left : List (Held LinkedRow)) → Some r ≡ found hs p → left ≡ without hs p → AreLinked hs → IsApart (places hs) → Out hs p r left
 out hs p r left e f linked apart =
     let cut = cut_at hs p (subst (λ o. IsSome o) e refl) in let n = cut.here in
     let d : IsApart (places (cut.before ++ n ∷ cut.after)) = subst (λ l. IsApart (places l)) cut.cut apart in record {

@@ -7,7 +7,7 @@ use Rattle.lru.specs.Linked.{IsApart}
 use Rattle.lru.proofs.Apart.{IsFresh, same_ptr_refl}
 use Rattle.lru.proofs.Splits.{all_right}
 use Rattle.cf_subs.specs.declared.blocks.At.{At}
-use Rattle.cf_subs.specs.declared.seat.Seat.{Seat}
+use Rattle.cf_subs.specs.declared.linked_row.LinkedRow.{LinkedRow}
 use Rattle.cf_subs.specs.Held.{Held, held, places, found}
 use Rattle.cf_subs.specs.Threads.{AreThreaded, at, leads_to, nowhere, first_of}
 use Rattle.cf_subs.specs.Seats.{StandsIn, of_number, onward}
@@ -15,7 +15,7 @@ use Rattle.cf_subs.proofs.Places.{cut_at}
 use Rattle.cf_subs.proofs.Threads.{first_past, th_right, apart_right, left_fresh, some_eq, same_refl, same_number}
 
 abbrev H : Type 0
-H = Held Seat
+H = Held LinkedRow
 
 abbrev Past : Option At → List H → Type 0
 Past o = AllByRecursion (λ (h : H). leads_to o h.at ≡ false)
@@ -38,7 +38,7 @@ unfolding IsDistinct
 found_here [] d = tt
 found_here (h ∷ hs) d = (ap (λ y. cond y (Some h.value) (found hs h.at)) (same_ptr_refl h.at), found_past h hs hs d.0 (found_here hs d.1))
 
-module _ (key : Seat → ℕ) where
+module _ (key : LinkedRow → ℕ) where
   -- what is left from the first block of the number on
   onward_first : (k : ℕ) (hs : List H) → IsApart (places hs) → of_number key k (onward hs (first_of key k hs)) ≡ of_number key k hs
   unfolding IsDistinct
@@ -67,9 +67,9 @@ module _ (key : Seat → ℕ) where
   pub walk_ends : (k : ℕ) (hs : List H) (o : Option At) → o ≡ None → of_number key k (onward hs o) ≡ []
   walk_ends k hs o e = ap (λ p. of_number key k (onward hs p)) e ∙ ap (of_number key k) (onward_none hs)
 
-  module _ (before after : Seat → Option At) where
+  module _ (before after : LinkedRow → Option At) where
     -- the block to which a walk's pointer leads is the first that is left, and its own pointer leads to the rest
-    pub record Step (hs : List H) (k : ℕ) (a : At) (s : Seat) : Type 0 where
+    pub record Step (hs : List H) (k : ℕ) (a : At) (s : LinkedRow) : Type 0 where
       pub left : of_number key k (onward hs (Some a)) ≡ held a.ptr s ∷ of_number key k (onward hs (after s))
       pub stands : StandsIn key hs k (after s)
 
@@ -109,10 +109,10 @@ module _ (key : Seat → ℕ) where
         stands = subst (StandsIn key ws k) (sym next_is) (first_stands k ws ys (all_right (λ (u : H). found ws u.at ≡ Some u.value) (xs ++ n ∷ []) ys (subst (AllByRecursion (λ (u : H). found ws u.at ≡ Some u.value)) (sym (append_assoc xs (n ∷ []) ys)) (found_here ws d))));
       }
 
-    pub walk_step : (hs : List H) (k : ℕ) (a : At) (s : Seat) → AreThreaded key before after nowhere hs → StandsIn key hs k (Some a) → IsApart (places hs) → Some s ≡ found hs a.ptr → Step hs k a s
+    pub walk_step : (hs : List H) (k : ℕ) (a : At) (s : LinkedRow) → AreThreaded key before after nowhere hs → StandsIn key hs k (Some a) → IsApart (places hs) → Some s ≡ found hs a.ptr → Step hs k a s
     walk_step hs k a s linked stands d e =
         let cut = cut_at hs a.ptr (subst (λ o. IsSome o) e refl) in let n = cut.here in
         let same : s ≡ n.value = some_eq s n.value (e ∙ cut.value) in
         let mine : key n.value ≡ k = ap key (sym same ∙ some_eq s stands.0 (e ∙ stands.1)) ∙ stands.2 in
-        subst (λ (z : List H × Ptr × Seat). Step z.0 k (at z.1) z.2) (λ i. (sym cut.cut i, cut.place i, sym same i))
+        subst (λ (z : List H × Ptr × LinkedRow). Step z.0 k (at z.1) z.2) (λ i. (sym cut.cut i, cut.place i, sym same i))
         (step k cut.before n cut.after (subst (AreThreaded key before after nowhere) cut.cut linked) (subst (λ l. IsApart (places l)) cut.cut d) mine)

@@ -1,7 +1,7 @@
 -- What always holds of a table's rows in their lists, and of the ends of these.
 use Rattle.std.specs.Prelude.{◌≡◌, ℕ, List, length}
 use Rattle.cf_subs.specs.declared.linked_rows.LinkedRows.{LinkedRows}
-use Rattle.cf_subs.specs.declared.seat.Seat.{Seat}
+use Rattle.cf_subs.specs.declared.linked_row.LinkedRow.{LinkedRow}
 use Rattle.cf_subs.specs.declared.table.Row.{Row}
 use Rattle.cf_subs.specs.Ends.{IsHeaded}
 use Rattle.cf_subs.specs.Held.{Held}
@@ -15,7 +15,7 @@ pub record IsWhole (r : LinkedRows) : Type 0 where
   pub sessions : IsHeaded session_of r.sessions r.seats.blocks.held
 
 -- the blocks, and the rows in them
-abbrev pub blocks_of : LinkedRows → List (Held Seat)
+abbrev pub blocks_of : LinkedRows → List (Held LinkedRow)
 blocks_of r = r.seats.blocks.held
 
 abbrev pub rows_in : LinkedRows → List Row

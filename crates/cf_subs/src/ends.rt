@@ -8,13 +8,13 @@ use std::collections::HashMap;
 
 /// The first block of a list, and the last.
 #[derive(Clone, Copy, Drop)]
-pub struct Ends {
+pub struct ListEnds {
     pub(crate) first: At,
     pub(crate) last: At,
 }
 
 /// The ends of each number's list. A number whose list is empty has no entry.
-pub type EndsByNumber = HashMap<u32, Ends>;
+pub type EndsByNumber = HashMap<u32, ListEnds>;
 
 /// The first block of a number's list.
 pub(crate) fn first(ends: &EndsByNumber, number: u32) -> Option<At>
@@ -42,7 +42,7 @@ pub(crate) fn grow(ends: &mut EndsByNumber, number: u32, at: At)
     ensures { SetsAt ends.old ends.new number (Some (grown (get nat_eq ends.old number) at)) }
 {
     let first = first(ends, number).unwrap_or(at);
-    match ends.insert(number, Ends { first, last: at }) {
+    match ends.insert(number, ListEnds { first, last: at }) {
         Ok(_) => {}
         Err(_) => unreachable!(),
     }

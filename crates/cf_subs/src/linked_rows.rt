@@ -9,15 +9,15 @@ ghost use Rattle.cf_subs.specs.Whole.{IsWhole, blocks_of, rows_in};
 use crate::blocks::{At, Blocks};
 use crate::ends;
 use crate::ends::EndsByNumber;
-use crate::seat::Seat;
-use crate::seats::Seats;
+use crate::linked_row::LinkedRow;
+use crate::row_blocks::RowBlocks;
 use crate::table::Row;
 use std::alloc::{AllocError, Global};
 use std::collections::HashMap;
 
 /// The rows' blocks, and where the list of each channel and of each session begins and ends.
 pub struct LinkedRows {
-    pub(crate) seats: Seats,
+    pub(crate) seats: RowBlocks,
     pub(crate) channels: EndsByNumber,
     pub(crate) sessions: EndsByNumber,
 }
@@ -29,7 +29,7 @@ impl LinkedRows {
         ensures rows { rows_in result ≡ [] }
     {
         LinkedRows {
-            seats: Seats {
+            seats: RowBlocks {
                 blocks: Blocks::new(),
             },
             channels: HashMap::new(alloc),
@@ -38,12 +38,12 @@ impl LinkedRows {
     }
 
     /// What the block of a row will hold that is linked in behind all others.
-    fn unlinked(&self, row: Row) -> Seat
+    fn unlinked(&self, row: Row) -> LinkedRow
         requires whole { IsWhole self.now }
         ensures row { result.row ≡ row }
         ensures unlinked { IsUnlinked (blocks_of self.now) result }
     {
-        Seat {
+        LinkedRow {
             row,
             before_in_channel: ends::last(&self.channels, row.channel),
             after_in_channel: None,
@@ -159,7 +159,7 @@ impl LinkedRows {
             rows.unlink(here, alloc);
         }
         let LinkedRows {
-            seats: Seats { blocks },
+            seats: RowBlocks { blocks },
             channels,
             sessions,
         } = rows;

@@ -6,7 +6,7 @@ ghost use Rattle.cf_subs.specs.Rows.{sessions_of, with_row, without_row, without
 
 use crate::channel_walk::ChannelWalk;
 use crate::linked_rows::LinkedRows;
-use crate::refusal::SubRefusal;
+use crate::refusal::SubTableError;
 use crate::walk::Walk;
 use std::alloc::Global;
 use std::marker::Model;
@@ -76,17 +76,17 @@ impl SubTable {
     /// It is refused with `Full` exactly if the table has 65,536 rows, and with `Memory` if memory is refused. Before
     /// anything changes it takes all that takes memory: a block, and room in both maps. It costs the same however many rows
     /// there are, but when a map grows.
-    pub fn add(&mut self, channel: u32, session: u32) -> Result<(), SubRefusal>
+    pub fn add(&mut self, channel: u32, session: u32) -> Result<(), SubTableError>
         requires absent { follows self.old channel session ≡ false }
         ensures ok { OnOk result (self.new ≡ with_row self.old channel session) }
-        ensures full { IsErrOf result SubRefusal.Full ↔ (length self.old ≡ most_rows) }
+        ensures full { IsErrOf result SubTableError.Full ↔ (length self.old ≡ most_rows) }
         ensures err { OnErr result (self.new ≡ self.old) }
         ensures members { OnOk result (OnlyJoins self.old self.new channel session) }
         ensures back { OnOk result (without_row self.new channel session ≡ self.old) }
         ensures rows { AreRows self.new }
     {
         if self.count >= MOST_ROWS {
-            return Err(SubRefusal::Full);
+            return Err(SubTableError::Full);
         }
         self.rows.push(Row { channel, session }, self.alloc)?;
         self.count += 1;

@@ -5,7 +5,7 @@ ghost use Rattle.cf_subscribers.specs.Follows.{with_follow};
 ghost use Rattle.cf_subscribers.specs.Names.{AreNumbered, AreUsed, named, number_at};
 
 use crate::names::Names;
-use cf_subs::{SubRefusal, SubTable};
+use cf_subs::{SubTableError, SubTable};
 use std::alloc::Global;
 
 /// Adds the first row of a channel, under a new number.
@@ -15,7 +15,7 @@ pub(crate) fn add_first_row(
     alloc: Global,
     channel: &str,
     session: u32,
-) -> Result<(), SubRefusal>
+) -> Result<(), SubTableError>
     requires numbered { AreNumbered names.old }
     requires used { AreUsed names.old rows.old }
     requires absent { number_at names.old channel.now ≡ None }
@@ -23,7 +23,7 @@ pub(crate) fn add_first_row(
     ensures used { AreUsed names.new rows.new }
     ensures ok { OnOk result
         (named names.new rows.new ≡ with_follow (named names.old rows.old) channel.now session) }
-    ensures full { IsErrOf result SubRefusal.Full → length rows.old ≡ most_rows }
+    ensures full { IsErrOf result SubTableError.Full → length rows.old ≡ most_rows }
     ensures err { OnErr result (named names.new rows.new ≡ named names.old rows.old) }
 {
     let number = names.add(alloc, channel)?;

@@ -6,7 +6,7 @@ ghost use Rattle.cf_model.specs.Streams.{most_rows};
 use crate::named_rows::{add_first_row, remove_row};
 use crate::names::Names;
 use crate::walk::FollowerWalk;
-use cf_subs::{SubRefusal, SubTable};
+use cf_subs::{SubTableError, SubTable};
 use std::alloc::Global;
 use std::marker::Model;
 
@@ -59,15 +59,15 @@ impl Subscribers {
     /// Adds the row of a session that doesn't follow the channel yet, behind all others.
     ///
     /// It is refused with `Full` exactly if there are 65,536 rows, and with `Memory` if memory is refused.
-    pub fn add(&mut self, alloc: Global, channel: &str, session: u32) -> Result<(), SubRefusal>
+    pub fn add(&mut self, alloc: Global, channel: &str, session: u32) -> Result<(), SubTableError>
         requires absent { follows self.old channel.now session ≡ false }
         ensures ok { OnOk result (self.new ≡ with_follow self.old channel.now session) }
-        ensures full { IsErrOf result SubRefusal.Full ↔ (length self.old ≡ most_rows) }
+        ensures full { IsErrOf result SubTableError.Full ↔ (length self.old ≡ most_rows) }
         ensures err { OnErr result (self.new ≡ self.old) }
         ensures rows { AreFollows self.new }
     {
         if self.rows.len() >= MOST_ROWS {
-            return Err(SubRefusal::Full);
+            return Err(SubTableError::Full);
         }
         match self.names.number(channel) {
             Some(number) => self.rows.add(number, session),

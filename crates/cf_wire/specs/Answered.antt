@@ -6,10 +6,10 @@ use Rattle.httparse.specs.Grammar.{RequestHead}
 use Rattle.cf_handshake.specs.Answers.{opening_text, refusal_text}
 use Rattle.cf_handshake.specs.Asks.{Asks, IsUnread, IsWhole, request_of}
 use Rattle.cf_handshake.specs.declared.answer.Opening.{Opening}
-use Rattle.cf_handshake.specs.declared.answer.Refusal.{Refusal}
-use Rattle.cf_handshake.specs.declared.answer.Refusal.TheVariants.{BadRequest}
-use Rattle.cf_handshake.specs.declared.asked.Asked.{Asked}
-use Rattle.cf_handshake.specs.declared.asked.Asked.TheVariants as asked
+use Rattle.cf_handshake.specs.declared.answer.HandshakeError.{HandshakeError}
+use Rattle.cf_handshake.specs.declared.answer.HandshakeError.TheVariants.{BadRequest}
+use Rattle.cf_handshake.specs.declared.asked.HeadAsk.{HeadAsk}
+use Rattle.cf_handshake.specs.declared.asked.HeadAsk.TheVariants as asked
 use Rattle.cf_wire.specs.Heads.{Comes}
 use Rattle.cf_wire.specs.Stages.{WireState}
 use Rattle.cf_wire.specs.declared.accept.Refused.{Refused}
@@ -17,7 +17,7 @@ use Rattle.cf_wire.specs.declared.accept.WireFault.{WireFault}
 use Rattle.cf_wire.specs.declared.accept.WireFault.TheVariants.{Handshake, Health, StreamFault, Memory}
 
 -- what a head asks for, and what bytes that are no head do
-pub record HeadAsks (head : List ℕ) (asks : Asked) : Type 0 where
+pub record HeadAsks (head : List ℕ) (asks : HeadAsk) : Type 0 where
   pub read : (h : RequestHead) → IsWhole head h → Asks (request_of h) asks
   pub unread : IsUnread head → asks ≡ asked.Refused BadRequest
 
@@ -32,7 +32,7 @@ AppendsBy false old new text = AppendsSome old new text
 
 module _ {S : Type 0} (contents : S → Option (List ℕ)) where
   -- the refusal is written, whole where it says so
-  abbrev pub Tells : S → Refusal → Refused S → Type 0
+  abbrev pub Tells : S → HandshakeError → Refused S → Type 0
   Tells old refusal refused = AppendsBy refused.answered (contents old) (contents refused.stream) (refusal_text refusal)
 
   -- a head that asks for a WebSocket is answered by its opening, and what was read behind it is the first input
@@ -44,7 +44,7 @@ module _ {S : Type 0} (contents : S → Option (List ℕ)) where
   -- why a head opens none: it is refused, and told so; or it asks for the health, and nothing is written
   abbrev pub RefusesFor : WireFault → S → List ℕ → Refused S → Type 0
   RefusesFor Handshake old head refused =
-      (refusal : Refusal) × HeadAsks head (asked.Refused refusal) × Tells old refusal refused
+      (refusal : HandshakeError) × HeadAsks head (asked.Refused refusal) × Tells old refusal refused
   RefusesFor Health old head refused = HeadAsks head asked.Health × (refused.stream ≡ old)
   RefusesFor StreamFault old head refused = ⊤
   RefusesFor Memory old head refused = ⊤

@@ -11,7 +11,7 @@ use crate::end::Stage;
 use crate::gather::write_all_of;
 use crate::head::read_head;
 use crate::wire::Wire;
-use cf_handshake::{Asked, Opening, Refusal, asked_of};
+use cf_handshake::{HeadAsk, Opening, HandshakeError, asked_of};
 use std::alloc::{AllocError, Global};
 use std::io;
 use std::io::{ErrorKind, Read, Write};
@@ -137,7 +137,7 @@ fn tell_opening<S: Write>(
 }
 
 /// Answers that a handshake is refused, and says so.
-fn refuse<S: Write>(mut stream: S, refusal: Refusal) -> Refused<S>
+fn refuse<S: Write>(mut stream: S, refusal: HandshakeError) -> Refused<S>
     ensures fault { result.fault ≡ WireFault.Handshake }
     ensures tells { Tells S.contents stream refusal result }
 {
@@ -183,7 +183,7 @@ impl<S: Read + Write + Drop> Wire<S> {
         ensures refuses { IfErr result (RefusesBy S.contents stream head.now) }
     {
         match asked_of(head) {
-            Asked::Socket(opening) => match tell_opening(alloc, &mut stream, &opening, rest) {
+            HeadAsk::Socket(opening) => match tell_opening(alloc, &mut stream, &opening, rest) {
                 Ok(input) => Ok(Wire {
                     socket: WebSocket::from_partially_read(
                         alloc,
@@ -197,8 +197,8 @@ impl<S: Read + Write + Drop> Wire<S> {
                 }),
                 Err(fault) => Err(Refused::silently(fault, stream)),
             },
-            Asked::Health => Err(Refused::silently(WireFault::Health, stream)),
-            Asked::Refused(refusal) => Err(refuse(stream, refusal)),
+            HeadAsk::Health => Err(Refused::silently(WireFault::Health, stream)),
+            HeadAsk::Refused(refusal) => Err(refuse(stream, refusal)),
         }
     }
 }

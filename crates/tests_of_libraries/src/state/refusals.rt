@@ -2,10 +2,10 @@
 use crate::rows::Told;
 use cf_client::ClientFault;
 use cf_hub::HubRefusal;
-use cf_presence::PresenceRefusal;
+use cf_presence::PresenceError;
 use cf_queue::QueueRefusal;
 use cf_stream::StreamRefusal;
-use cf_subs::SubRefusal;
+use cf_subs::SubTableError;
 use cf_wire::WireFault;
 use std::alloc::Global;
 use std::fmt::Display;
@@ -48,9 +48,9 @@ const OF_QUEUE: [(QueueRefusal, &str); 3] = [
     (QueueRefusal::Memory, "out of memory"),
 ];
 
-const OF_SUBS: [(SubRefusal, &str); 2] = [
-    (SubRefusal::Full, "the table is full"),
-    (SubRefusal::Memory, "out of memory"),
+const OF_SUBS: [(SubTableError, &str); 2] = [
+    (SubTableError::Full, "the table is full"),
+    (SubTableError::Memory, "out of memory"),
 ];
 
 const OF_HUB: [(HubRefusal, &str); 4] = [
@@ -76,7 +76,7 @@ fn refusals_in_words(rt: HostRuntime) {
     tell_wrong(
         &mut wrong,
         rt.alloc(),
-        &[(PresenceRefusal::Memory, "out of memory")],
+        &[(PresenceError::Memory, "out of memory")],
     );
     tell_wrong(&mut wrong, rt.alloc(), &OF_HUB);
     tell_wrong(

@@ -1,10 +1,10 @@
 //! Which session follows which channel: by rows, against a plain list of rows, and at the largest size.
 use crate::rows::{Subject, Told, are_so, call_of};
-use cf_subs::{MOST_ROWS, SubRefusal, SubTable};
+use cf_subs::{MOST_ROWS, SubTableError, SubTable};
 use std::alloc::Global;
 
 /// Adds a row, which may be there.
-fn put(table: &mut SubTable, channel: u32, session: u32) -> Result<(), SubRefusal> {
+fn put(table: &mut SubTable, channel: u32, session: u32) -> Result<(), SubTableError> {
     if table.has(channel, session) {
         return Ok(());
     }
@@ -191,10 +191,10 @@ where
 /// Whether a full table takes a row more only if one went. It is as before then.
 fn is_limited(table: &mut SubTable) -> bool {
     table.len() == MOST_ROWS
-        && put(table, 7, 5000) == Err(SubRefusal::Full)
+        && put(table, 7, 5000) == Err(SubTableError::Full)
         && table.remove(5, 0)
         && put(table, 7, 5000) == Ok(())
-        && put(table, 8, 5000) == Err(SubRefusal::Full)
+        && put(table, 8, 5000) == Err(SubTableError::Full)
         && table.remove(7, 5000)
         && put(table, 5, 0) == Ok(())
 }

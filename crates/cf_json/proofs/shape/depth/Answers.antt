@@ -1,7 +1,7 @@
 -- What lies within the span is the value's own text, of which `deepest` tells the depth.
 use Rattle.std.proofs.Common.{ap, ◌∙◌, drop, take, arith}
 use Rattle.cf_json.specs.Levels.{deepest}
-use Rattle.cf_json.specs.declared.squeeze.Mode.TheVariants.{Between}
+use Rattle.cf_json.specs.declared.squeeze.SqueezeMode.TheVariants.{Between}
 use Rattle.cf_json.proofs.Shapes.{depth_at}
 use Rattle.cf_json.proofs.Cuts.{cut}
 use Rattle.cf_json.proofs.shape.depth.Goals as goal

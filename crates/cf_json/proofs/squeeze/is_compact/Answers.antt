@@ -4,7 +4,7 @@ use Rattle.std.proofs.lemmas.Bool.{ne_eqb}
 use Rattle.std.proofs.lemmas.List.{nil_from_length}
 use Rattle.cf_json.specs.Reading.{text_end}
 use Rattle.cf_json.specs.Squeeze.{kept}
-use Rattle.cf_json.specs.declared.squeeze.Mode.TheVariants.{Between}
+use Rattle.cf_json.specs.declared.squeeze.SqueezeMode.TheVariants.{Between}
 use Rattle.cf_json.specs.declared.token.Within.TheVariants.{Plain}
 use Rattle.cf_json.proofs.PlainRuns.{byte_kept, string_kept, nothing_kept, visible_kept}
 use Rattle.cf_json.proofs.squeeze.is_compact.Goals as goal

@@ -1,6 +1,6 @@
 use Rattle.std.proofs.Common.{◌≡◌, ◌≤◌, length}
 use Rattle.cf_json.specs.Squeeze.{kept}
-use Rattle.cf_json.specs.declared.squeeze.Mode.TheVariants.{Between}
+use Rattle.cf_json.specs.declared.squeeze.SqueezeMode.TheVariants.{Between}
 use Rattle.cf_json.proofs.squeeze.is_compact.Given as goal
 
 abbrev pub invariant-loop-byte : goal.invariant-loop-byte

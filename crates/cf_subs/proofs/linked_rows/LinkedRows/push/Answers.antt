@@ -3,7 +3,7 @@ use Rattle.std.proofs.Common.{rules, ◌≡◌, Some, sym, ap, subst, ◌∙◌,
 use Rattle.std.proofs.lemmas.List.{map-append}
 use Rattle.std.specs.Prelude.{nat_eq}
 use Rattle.std.specs.HashMap.{get}
-use Rattle.cf_subs.specs.declared.seat.Seat.{Seat}
+use Rattle.cf_subs.specs.declared.linked_row.LinkedRow.{LinkedRow}
 use Rattle.cf_subs.specs.declared.table.Row.{Row}
 use Rattle.cf_subs.specs.Ends.{IsHeaded, SetsAt, grown}
 use Rattle.cf_subs.specs.Held.{Held, held}
@@ -29,4 +29,4 @@ pub returns-clause-ok : goal.returns-clause-ok
 returns-clause-ok c =
     let hs = c.args.self.now.seats.blocks.held in
     let same : c.args.row ≡ c.in_ok-block.block.value.row = search rules in
-    c.link-at.ensures.lists.rows ∙ map-append (λ (h : Held Seat). h.value.row) hs (held c.link-at.result.ptr c.in_ok-block.block.value ∷ []) ∙ ap (λ (r : Row). rows_of hs ++ r ∷ []) (sym same)
+    c.link-at.ensures.lists.rows ∙ map-append (λ (h : Held LinkedRow). h.value.row) hs (held c.link-at.result.ptr c.in_ok-block.block.value ∷ []) ∙ ap (λ (r : Row). rows_of hs ++ r ∷ []) (sym same)

@@ -1,7 +1,7 @@
 -- Each arm's text is reckoned out, with the digits of its length unfolded.
 use Rattle.std.proofs.Common.{refl}
 use Rattle.std.specs.Fmt.{digits}
-use Rattle.cf_handshake.proofs.answer.Refusal.answer.Goals as goal
+use Rattle.cf_handshake.proofs.answer.HandshakeError.answer.Goals as goal
 
 pub returns-in-BadRequest : goal.returns-in-BadRequest
 unfolding digits

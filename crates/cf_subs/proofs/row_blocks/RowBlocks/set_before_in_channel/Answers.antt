@@ -3,7 +3,7 @@ use Rattle.std.proofs.Common.{sym, ap, ◌∙◌}
 use Rattle.cf_subs.specs.Threads.{changed}
 use Rattle.cf_subs.specs.Seats.{before_in_channel}
 use Rattle.cf_subs.proofs.Threads.{put_changed, changed_none}
-use Rattle.cf_subs.proofs.seats.Seats.set_before_in_channel.Goals as goal
+use Rattle.cf_subs.proofs.row_blocks.RowBlocks.set_before_in_channel.Goals as goal
 
 pub returns-in-Some : goal.returns-in-Some
 returns-in-Some c =

@@ -6,16 +6,16 @@ ghost use Rattle.cf_subs.specs.Seats.{AreLinked, IsUnlinked, LinksIn, SameLists,
 
 use crate::blocks::{At, Blocks};
 use crate::loose::Loose;
-use crate::seat::Seat;
+use crate::linked_row::LinkedRow;
 use crate::table::Row;
 use std::alloc::Global;
 
 /// The rows' blocks.
-pub struct Seats {
-    pub(crate) blocks: Blocks<Seat>,
+pub struct RowBlocks {
+    pub(crate) blocks: Blocks<LinkedRow>,
 }
 
-impl Seats {
+impl RowBlocks {
     /// The row of a block.
     pub(crate) fn row(&self, at: At) -> Row
         requires { IsSome (found self.now.blocks.held at.ptr) }
@@ -85,7 +85,7 @@ impl Seats {
     }
 
     /// Links a row in behind all others, if its neighbours before it are the last of its channel and of its session.
-    pub(crate) fn link(&mut self, block: Box<Seat>) -> At
+    pub(crate) fn link(&mut self, block: Box<LinkedRow>) -> At
         requires linked { AreLinked self.old.blocks.held }
         requires unlinked { IsUnlinked self.old.blocks.held block.value }
         ensures linked { AreLinked self.new.blocks.held }
@@ -102,7 +102,7 @@ impl Seats {
     }
 
     /// Unlinks a row and frees its block.
-    pub(crate) fn unlink(&mut self, at: At, alloc: Global) -> Seat
+    pub(crate) fn unlink(&mut self, at: At, alloc: Global) -> LinkedRow
         requires linked { AreLinked self.old.blocks.held }
         requires held { IsSome (found self.old.blocks.held at.ptr) }
         ensures linked { AreLinked self.new.blocks.held }
