@@ -3,7 +3,7 @@ use Rattle.std.proofs.Common.{◌≡◌, ◌≢◌, ℕ, ◌==◌, ◌<◌, ◌+
 use Rattle.std.proofs.lemmas.Bool.Decides.{Decides-eqb}
 use Rattle.cf_subscribers.specs.Follows.{Follow}
 use Rattle.cf_queue.specs.OutQueue.{Item}
-use Rattle.cf_hub.specs.declared.session.Session.{Session}
+use Rattle.cf_hub.specs.declared.session.AttachedSession.{AttachedSession}
 use Rattle.cf_hub.specs.declared.fate.Fate.TheVariants as fate
 use Rattle.cf_hub.specs.Hub.{AreNumbered, attached_in, fresh}
 use Rattle.cf_model.specs.Streams.{most_sessions}
@@ -14,16 +14,16 @@ use Rattle.cf_model.specs.Sessions.{SessionState, is_off, opens}
 use Rattle.cf_hub.specs.Wordings.{Held}
 use Rattle.cf_hub.proofs.Walks.{agrees_by}
 
-pub fresh_is : (s : Session) (client user : List ℕ) (now : ℕ) → state_of s ≡ opens → badge_of s ≡ record { client = client; user = user; pinged = now; awaits_pong = false } → attached_of s ≡ fresh client user now
+pub fresh_is : (s : AttachedSession) (client user : List ℕ) (now : ℕ) → state_of s ≡ opens → badge_of s ≡ record { client = client; user = user; pinged = now; awaits_pong = false } → attached_of s ≡ fresh client user now
 fresh_is s client user now e f = λ i. record { badge = f i; state = e i }
 
 module _ (k : ℕ) (m n : Places) where
-  pub fresh_agrees : (rows : List Follow) (s : Session) → Agrees (attached_in m) rows → attached_in m k ≡ None → attached_in n k ≡ Some (attached_of s) → ((j : ℕ) → j ≢ k → attached_in n j ≡ attached_in m j) → state_of s ≡ opens → Agrees (attached_in n) rows
+  pub fresh_agrees : (rows : List Follow) (s : AttachedSession) → Agrees (attached_in m) rows → attached_in m k ≡ None → attached_in n k ≡ Some (attached_of s) → ((j : ℕ) → j ≢ k → attached_in n j ≡ attached_in m j) → state_of s ≡ opens → Agrees (attached_in n) rows
   fresh_agrees rows s agrees free here others e =
       agrees_by fate.Passed [] k (attached_in m) (attached_in n) rows agrees
       (λ d. ap (λ o. is_off (sub_in o d)) here ∙ ap (λ (x : SessionState Held Item). is_off (x.subs d)) e ∙ sym (ap (λ o. is_off (sub_in o d)) free)) others
 
-  pub fresh_bounded : {from : ℕ} (s : Session) → AreNumbered from (attached_in m) → k < most_sessions → ((j : ℕ) → j < k → is_some (attached_in m j) ≡ true) → attached_in n k ≡ Some (attached_of s)
+  pub fresh_bounded : {from : ℕ} (s : AttachedSession) → AreNumbered from (attached_in m) → k < most_sessions → ((j : ℕ) → j < k → is_some (attached_in m j) ≡ true) → attached_in n k ≡ Some (attached_of s)
       → ((j : ℕ) → j ≢ k → attached_in n j ≡ attached_in m j) → AreNumbered (k + 1) (attached_in n)
   fresh_bounded s few below least here others =
       record {

@@ -6,7 +6,7 @@ use Rattle.cf_protocol.specs.Position.{Position}
 use Rattle.cf_hub.specs.Delivery.{fate_at, fate_of}
 use Rattle.cf_hub.specs.declared.fate.Fate.{Fate}
 use Rattle.cf_hub.specs.declared.fate.Fate.TheVariants as fate
-use Rattle.cf_hub.specs.declared.session.Session.{Session}
+use Rattle.cf_hub.specs.declared.session.AttachedSession.{AttachedSession}
 use Rattle.cf_hub.specs.Hub.{attached_in, moves}
 use Rattle.cf_hub.specs.Places.{Places, session_in, unboxed, unboxed_all}
 use Rattle.cf_hub.specs.Rows.{off_after, sub_in}
@@ -16,7 +16,7 @@ use Rattle.cf_hub.specs.WantOfMemory.{Both}
 use Rattle.cf_model.specs.Sessions.{is_off}
 
 abbrev Boxed : Type 0
-Boxed = Option (Box Session Global)
+Boxed = Option (Box AttachedSession Global)
 
 pub written : (os : List Boxed) (k : ℕ) (o : Boxed) → k < length os → session_in (unboxed_all (slice_set os k o)) k ≡ unboxed o
 written os k o h = rw (map-set unboxed os k o) (get_or-set_same (map unboxed os) k (unboxed o) None (omega (arith, length-map os unboxed, h)))
@@ -36,41 +36,41 @@ has_place ps zero h = omega arith
 has_place [] (suc n) h = absurd (let none = h zero (omega arith) in cc)
 has_place (p ∷ ps) (suc n) h = let rest = has_place ps n (λ j l. h (suc j) (omega (arith, l))) in omega (arith, rest)
 
-within : (ps : Places) (k : ℕ) (s : Session) → session_in ps k ≡ Some s → k < length ps
+within : (ps : Places) (k : ℕ) (s : AttachedSession) → session_in ps k ≡ Some s → k < length ps
 within [] k s e = absurd (cc)
 within (p ∷ ps) zero s e = omega arith
 within (p ∷ ps) (suc k) s e = let less = within ps k s e in omega (arith, less)
 
 -- a session that is there moves
-pub moved_here : (ps : Places) (k : ℕ) (old new : Session) (move : Move) → session_in ps k ≡ Some old → state_of new ≡ move (state_of old) → badge_of new ≡ badge_of old
+pub moved_here : (ps : Places) (k : ℕ) (old new : AttachedSession) (move : Move) → session_in ps k ≡ Some old → state_of new ≡ move (state_of old) → badge_of new ≡ badge_of old
     → attached_in (slice_set ps k (Some new)) k ≡ option_map (moves move) (attached_in ps k)
 moved_here ps k old new move there state badge =
     ap (option_map attached_of) (get_or-set_same ps k (Some new) None (within ps k old there))
     ∙ (λ i. Some (record { badge = badge i; state = state i }))
-    ∙ sym (ap (λ (o : Option Session). option_map (moves move) (option_map attached_of o)) there)
+    ∙ sym (ap (λ (o : Option AttachedSession). option_map (moves move) (option_map attached_of o)) there)
 
 -- ---- what a call makes of a session that is there
 
-module _ (ps : Places) (k : ℕ) (old new : Session) (there : session_in ps k ≡ Some old) where
+module _ (ps : Places) (k : ℕ) (old new : AttachedSession) (there : session_in ps k ≡ Some old) where
   pub stands : session_in (slice_set ps k (Some new)) k ≡ Some new
   stands = get_or-set_same ps k (Some new) None (within ps k old there)
 
   pub met_here : (R : Attached → Attached → Type 0) → R (attached_of old) (attached_of new) → MeetsIn k R ps (slice_set ps k (Some new))
   met_here R h =
-      subst (λ (o : Option Session). Both R (attached_in ps k) (option_map attached_of o)) (sym stands)
-      (subst (λ (o : Option Session). Both R (option_map attached_of o) (Some (attached_of new))) (sym there) h)
+      subst (λ (o : Option AttachedSession). Both R (attached_in ps k) (option_map attached_of o)) (sym stands)
+      (subst (λ (o : Option AttachedSession). Both R (option_map attached_of o) (Some (attached_of new))) (sym there) h)
 
   pub ends_here : (f : Fate) (c : List ℕ) → EndsAs f c old new → EndsIn k f c ps (slice_set ps k (Some new))
   ends_here f c h = λ d.
-      ap (λ (o : Option Session). is_off (sub_in (option_map attached_of o) d)) stands
+      ap (λ (o : Option AttachedSession). is_off (sub_in (option_map attached_of o) d)) stands
       ∙ h d
-      ∙ sym (ap (λ (o : Option Session). off_after f c d (is_off (sub_in (option_map attached_of o) d))) there)
+      ∙ sym (ap (λ (o : Option AttachedSession). off_after f c d (is_off (sub_in (option_map attached_of o) d))) there)
 
   pub fate_here : (c : List ℕ) (q : Position) → fate_of c q (state_of old) (state_of new) ≡ fate_at c q (attached_in ps k) (attached_in (slice_set ps k (Some new)) k)
   fate_here c q =
       sym
-      (ap (λ (o : Option Session). fate_at c q (attached_in ps k) (option_map attached_of o)) stands
-      ∙ ap (λ (o : Option Session). fate_at c q (option_map attached_of o) (Some (attached_of new))) there)
+      (ap (λ (o : Option AttachedSession). fate_at c q (attached_in ps k) (option_map attached_of o)) stands
+      ∙ ap (λ (o : Option AttachedSession). fate_at c q (option_map attached_of o) (Some (attached_of new))) there)
 
   pub others_here : OthersStayIn k ps (slice_set ps k (Some new))
   others_here = λ j h. ap (option_map attached_of) (get_or-set_other ps k j (Some new) None h)
@@ -90,12 +90,12 @@ off_stays fate.Closed c d = refl
 
 module _ (ps : Places) (k : ℕ) (none : session_in ps k ≡ None) where
   pub met_none : (R : Attached → Attached → Type 0) → MeetsIn k R ps ps
-  met_none R = subst (λ (o : Option Session). Both R (option_map attached_of o) (option_map attached_of o)) (sym none) tt
+  met_none R = subst (λ (o : Option AttachedSession). Both R (option_map attached_of o) (option_map attached_of o)) (sym none) tt
 
   pub ends_none : (f : Fate) (c : List ℕ) → EndsIn k f c ps ps
   ends_none f c = λ d.
-      subst (λ (o : Option Session). is_off (sub_in (option_map attached_of o) d) ≡ off_after f c d (is_off (sub_in (option_map attached_of o) d))) (sym none)
+      subst (λ (o : Option AttachedSession). is_off (sub_in (option_map attached_of o) d) ≡ off_after f c d (is_off (sub_in (option_map attached_of o) d))) (sym none)
       (sym (off_stays f c d))
 
   pub fate_none : (c : List ℕ) (q : Position) → fate.Dropped ≡ fate_at c q (attached_in ps k) (attached_in ps k)
-  fate_none c q = subst (λ (o : Option Session). fate.Dropped ≡ fate_at c q (option_map attached_of o) (option_map attached_of o)) (sym none) refl
+  fate_none c q = subst (λ (o : Option AttachedSession). fate.Dropped ≡ fate_at c q (option_map attached_of o) (option_map attached_of o)) (sym none) refl

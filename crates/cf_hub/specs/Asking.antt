@@ -1,7 +1,7 @@
 -- A subscription for which the stream was not read yet, as the code answers it.
 use Rattle.std.specs.Prelude.{Option, Some, None}
 use Rattle.cf_model.specs.Sessions.{Subscription, Off, Asked, Ready, On}
-use Rattle.cf_hub.specs.declared.asking.Asked.{Asked as Answer}
+use Rattle.cf_hub.specs.declared.asking.UnreadSubscription.{UnreadSubscription as Answer}
 
 abbrev pub asked_of : {B : Type 0} → Subscription B → Option Answer
 asked_of Off = None

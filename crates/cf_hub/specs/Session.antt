@@ -8,7 +8,7 @@ use Rattle.cf_queue.specs.OutQueue.{Item, OutQueue, waiting}
 use Rattle.cf_model.specs.Sessions.{SessionState, Wording, closes_now, push, no_pong}
 use Rattle.cf_hub.specs.Subscriptions.{in_box, sub_of}
 use Rattle.cf_hub.specs.Wordings.{Held}
-use Rattle.cf_hub.specs.declared.session.Session.{Session}
+use Rattle.cf_hub.specs.declared.session.AttachedSession.{AttachedSession}
 use Rattle.cf_hub.specs.declared.subscription.Progress.{Progress}
 
 -- the client's id and user; the moment of the last ping, or of the attach, in seconds; and whether that ping has no
@@ -24,7 +24,7 @@ pub record Shown : Type 0 where
   pub queue : OutQueue
   pub badge : Badge
 
-abbrev pub badge_of : Session → Badge
+abbrev pub badge_of : AttachedSession → Badge
 badge_of s = record {
   client = string_bytes s.client;
   user = string_bytes s.user;
@@ -32,7 +32,7 @@ badge_of s = record {
   awaits_pong = s.awaits_pong;
 }
 
-abbrev pub shown : Session → Shown
+abbrev pub shown : AttachedSession → Shown
 shown s = record { subs = s.subscriptions.entries; queue = s.queue; badge = badge_of s }
 
 abbrev pub state_shown : Shown → SessionState Held Item
@@ -43,7 +43,7 @@ state_shown s =
       closed = s.queue.closed;
     }
 
-abbrev pub state_of : Session → SessionState Held Item
+abbrev pub state_of : AttachedSession → SessionState Held Item
 state_of s = state_shown (shown s)
 
 -- an attached session: whose it is, and its state
@@ -54,10 +54,10 @@ pub record Attached : Type 0 where
 abbrev pub attached_shown : Shown → Attached
 attached_shown s = record { badge = s.badge; state = state_shown s }
 
-abbrev pub attached_of : Session → Attached
+abbrev pub attached_of : AttachedSession → Attached
 attached_of s = attached_shown (shown s)
 
-abbrev pub shown_all : List (ℕ × Session) → List (ℕ × Shown)
+abbrev pub shown_all : List (ℕ × AttachedSession) → List (ℕ × Shown)
 shown_all es = map (λ e. (e.0, shown e.1)) es
 
 -- ---- pings (Centrifugo's client protocol; both times are this project's own profile)

@@ -20,7 +20,7 @@ use Rattle.cf_hub.specs.Wordings.{Held, at_offset, delivering, plain, push_text,
 use Rattle.cf_hub.specs.declared.fate.Fate.{Fate}
 use Rattle.cf_hub.specs.declared.fate.Fate.TheVariants.{Closed, Ended, Passed}
 use Rattle.cf_hub.specs.declared.reply.Answered.{Answered}
-use Rattle.cf_hub.specs.declared.session.Session.{Session}
+use Rattle.cf_hub.specs.declared.session.AttachedSession.{AttachedSession}
 use Rattle.cf_hub.specs.declared.step.Step.{Step}
 
 abbrev pub Move : Type 0
@@ -56,7 +56,7 @@ abbrev pub pushes : List ℕ → List Placed → List Item
 pushes c ps = map (λ p. Text (push_text c p)) ps
 
 -- a ping is said if one is due
-abbrev pub ticks_of : ℕ → Session → Move
+abbrev pub ticks_of : ℕ → AttachedSession → Move
 ticks_of now s = ticks plain now (badge_of s)
 
 -- ---- one session
@@ -66,37 +66,37 @@ abbrev pub new_badge : List ℕ → List ℕ → ℕ → Badge
 new_badge client user now = record { client = client; user = user; pinged = now; awaits_pong = false }
 
 -- its state goes to what the move makes of it
-abbrev pub Moves : Move → Session → Session → Type 0
+abbrev pub Moves : Move → AttachedSession → AttachedSession → Type 0
 Moves move old new = state_of new ≡ move (state_of old)
 
 -- its state goes to what the move makes of it; or memory was refused for it, and it is closed in place of that
-abbrev pub Acts : Bool → Move → Session → Session → Type 0
+abbrev pub Acts : Bool → Move → AttachedSession → AttachedSession → Type 0
 Acts refused move old new = OrCloses refused plain move (state_of old) (state_of new)
 
 -- a text is said, if there is one; or memory was refused for it, and it is closed in place of that
-abbrev pub SaysText : Bool → Option (List ℕ) → Session → Session → Type 0
+abbrev pub SaysText : Bool → Option (List ℕ) → AttachedSession → AttachedSession → Type 0
 SaysText refused text old new =
     (t : List ℕ) → IfSome text (λ x. x ≡ t) → Acts refused (says_one t) old new
 
 -- it is told these; or memory was refused amid them, and it is closed then
-abbrev pub Tells : Bool → List Item → Session → Session → Type 0
+abbrev pub Tells : Bool → List Item → AttachedSession → AttachedSession → Type 0
 Tells refused notes old new = SaysAll refused plain notes (state_of old) (state_of new)
 
 -- it met a delivery
-abbrev pub IsBrought : Bool → List ℕ → List ℕ → Placed → Session → Session → Type 0
+abbrev pub IsBrought : Bool → List ℕ → List ℕ → Placed → AttachedSession → AttachedSession → Type 0
 IsBrought refused c e p old new =
     Serves refused (delivering p) c (comes (delivering p) c (at_offset e p)) (state_of old) (state_of new)
 
-abbrev pub fate_brought : List ℕ → List ℕ → Placed → Session → Session → Fate
+abbrev pub fate_brought : List ℕ → List ℕ → Placed → AttachedSession → AttachedSession → Fate
 fate_brought c e p old new = fate_of c (at_offset e p) (state_of old) (state_of new)
 
 -- its channels are off after as this fate at channel c says
-abbrev pub EndsAs : Fate → List ℕ → Session → Session → Type 0
+abbrev pub EndsAs : Fate → List ℕ → AttachedSession → AttachedSession → Type 0
 EndsAs f c old new =
     (d : List ℕ) → is_off ((state_of new).subs d) ≡ off_after f c d (is_off ((state_of old).subs d))
 
 -- closed if the call closed it, else this
-abbrev pub closed_or : Bool → Session → Fate → Fate
+abbrev pub closed_or : Bool → AttachedSession → Fate → Fate
 closed_or was_closed s f = if not was_closed && (state_of s).closed then Closed else f
 
 -- what a finish did that closed nobody
@@ -104,7 +104,7 @@ abbrev pub finish_fate : Answered → Fate
 finish_fate a = if a.released.insufficient then Ended else Passed
 
 -- the channel's subscription is finished if there is one to finish
-abbrev pub FinishesSession : Bool → List ℕ → Session → Session → Type 0
+abbrev pub FinishesSession : Bool → List ℕ → AttachedSession → AttachedSession → Type 0
 FinishesSession refused c old new = FinishesAt refused c ((state_of old).subs c) (state_of old) (state_of new)
 
 -- ---- the session of a number

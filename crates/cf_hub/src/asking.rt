@@ -13,7 +13,7 @@ use indexmap::IndexMap;
 
 /// A subscription for which the stream was not read yet.
 #[derive(Clone, Copy, PartialEq, Eq, Debug)]
-pub struct Asked {
+pub struct UnreadSubscription {
     /// The position from which it asked, if it did from one.
     pub since: Option<Position>,
 }
@@ -25,11 +25,11 @@ impl Hub {
     ghost use Rattle.cf_model.specs.Sessions.{is_unfinished};
 
     /// The subscription of a session to a channel, while the stream was not read for it. It takes no memory.
-    pub fn asked(&self, session: u32, channel: &str) -> Option<Asked>
+    pub fn asked(&self, session: u32, channel: &str) -> Option<UnreadSubscription>
         ensures { result ≡ asked_of (sub_at self.now session channel.now) }
     {
         match self.progress(session, channel) {
-            Some(Progress::Asked { since, .. }) => Some(Asked { since: *since }),
+            Some(Progress::Asked { since, .. }) => Some(UnreadSubscription { since: *since }),
             _ => None,
         }
     }

@@ -12,7 +12,7 @@ ghost use Rattle.cf_hub.specs.Turns.{gets_turn};
 ghost use Rattle.cf_hub.specs.Wordings.{IsWritten};
 
 use crate::delivered::Delivered;
-use crate::one_session::{bring_one, close_one, count_more, leave_one, settle_all, take_one};
+use crate::one_session::{deliver_one, close_one, count_more, leave_one, settle_all, take_one};
 use crate::pending::Pending;
 use crate::session_table::Sessions;
 use crate::wording::push_text;
@@ -133,7 +133,7 @@ impl Hub {
         ensures agrees { Agrees (attached_at self.new) self.new.rows }
     {
         let written = self.push_for_all(channel, publication);
-        let counts = self.bring_to_all(channel, epoch, publication, &written);
+        let counts = self.deliver_to_all(channel, epoch, publication, &written);
         drop(written);
         counts
     }
@@ -212,7 +212,7 @@ impl Hub {
         written
     }
 
-    fn bring_to_all(
+    fn deliver_to_all(
         &mut self,
         channel: &str,
         epoch: &Epoch,
@@ -229,7 +229,7 @@ impl Hub {
     {
         let mut counts = Delivered::none();
         for session in self.rows.walk(channel) {
-            let step = bring_one(
+            let step = deliver_one(
                 &mut self.sessions,
                 self.alloc,
                 session,

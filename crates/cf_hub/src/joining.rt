@@ -5,7 +5,7 @@ ghost use Rattle.cf_hub.specs.Hub.{client_id};
 use crate::hub::{Hub, MOST_CHANNELS, MOST_SESSIONS};
 use crate::one_session::begin_one;
 use crate::refusal::HubRefusal;
-use crate::session::Session;
+use crate::session::AttachedSession;
 use cf_protocol::Position;
 use cf_subscribers::MOST_ROWS;
 use std::alloc::{AllocError, Global};
@@ -70,7 +70,7 @@ impl Hub {
     {
         self.pending.make_room(number)?;
         let client = write_client_id(self.alloc, self.node, self.boot, self.used + 1)?;
-        let session = Session::new(self.alloc, client, user, now);
+        let session = AttachedSession::new(self.alloc, client, user, now);
         self.sessions.insert(self.alloc, number, session)?;
         self.free_from = number + 1;
         self.used += 1;

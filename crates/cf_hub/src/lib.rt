@@ -22,7 +22,7 @@ mod subscription;
 mod upkeep;
 mod wording;
 
-pub use asking::Asked;
+pub use asking::UnreadSubscription;
 pub use checked::Checked;
 pub use delivered::Delivered;
 pub use hub::{Hub, MOST_CHANNELS, MOST_SESSIONS};

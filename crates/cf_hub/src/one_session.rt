@@ -27,7 +27,7 @@ use cf_subscribers::Subscribers;
 use std::alloc::{AllocError, Global};
 
 /// Brings a publication to one session.
-pub(crate) fn bring_one(
+pub(crate) fn deliver_one(
     sessions: &mut Sessions,
     alloc: Global,
     number: u32,
@@ -48,7 +48,7 @@ pub(crate) fn bring_one(
             fate: Fate::Dropped,
             refused: false,
         },
-        Some(session) => session.bring(alloc, channel, epoch, publication, written),
+        Some(session) => session.deliver_here(alloc, channel, epoch, publication, written),
     }
 }
 
@@ -144,7 +144,7 @@ pub(crate) fn finish_one(
 }
 
 /// Says a text to one session's client.
-pub(crate) fn say_one(sessions: &mut Sessions, number: u32, text: String) -> (Queued, Step)
+pub(crate) fn enqueue_one(sessions: &mut Sessions, number: u32, text: String) -> (Queued, Step)
     ensures said { result.0 ≡ queued_in (attached_in sessions.new number) }
     ensures here { ActsIn number result.1 (says_one (string_bytes text)) sessions.old sessions.new }
     ensures others { OthersStayIn number sessions.old sessions.new }

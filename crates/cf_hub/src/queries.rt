@@ -1,7 +1,7 @@
 //! What can be seen of a session without a change to it.
 
 use crate::hub::Hub;
-use crate::session::Session;
+use crate::session::AttachedSession;
 use crate::subscription::Progress;
 use cf_protocol::Position;
 
@@ -15,7 +15,7 @@ impl Hub {
     ghost use Rattle.cf_hub.specs.Subscriptions.{sub_of};
 
     /// The session of a number.
-    pub(crate) fn session(&self, number: u32) -> Option<&Session>
+    pub(crate) fn session(&self, number: u32) -> Option<&AttachedSession>
         ensures { option_map attached_of (option_copied result) ≡ attached_at self.now number }
     {
         self.sessions.get(number)

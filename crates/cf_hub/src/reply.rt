@@ -6,7 +6,7 @@ ghost use Rattle.cf_model.specs.Sessions.{is_asked, is_ready};
 ghost use Rattle.cf_hub.specs.Subscriptions.{SetsAt, names, progress_at, sub_of};
 
 use crate::fate::Fate;
-use crate::session::Session;
+use crate::session::AttachedSession;
 use crate::step::Step;
 use crate::subscription::Progress;
 use crate::wording::{end_text, reply_text};
@@ -142,7 +142,7 @@ fn answer_at(subscriptions: &mut IndexMap<String, Box<Progress>>, channel: &str)
     }
 }
 
-impl Session {
+impl AttachedSession {
     ghost use Rattle.std.specs.Prelude.{◌≡◌, ◌&&◌, not, if◌then◌else◌, MatchOption, List, ℕ, true, false};
     ghost use Rattle.cf_hub.specs.Reply.{answer_notes, finish_texts};
     ghost use Rattle.cf_hub.specs.Session.{badge_of, state_of};
@@ -172,13 +172,13 @@ impl Session {
             None => (false, Step::none()),
             Some(answered) => {
                 self.leave_if(channel, answered.released.insufficient);
-                (true, self.say_finish(alloc, channel, was_closed, answered))
+                (true, self.enqueue_finish(alloc, channel, was_closed, answered))
             }
         }
     }
 
     /// Queues a reply, the run that follows it, and an unsubscribe push if something is missing then.
-    fn say_finish(
+    fn enqueue_finish(
         &mut self,
         alloc: Global,
         channel: &str,
@@ -190,7 +190,7 @@ impl Session {
         ensures badge { badge_of self.new ≡ badge_of self.old }
     {
         let ends = answered.released.insufficient;
-        let refused = self.say_answer(alloc, channel, answered);
+        let refused = self.enqueue_answer(alloc, channel, answered);
         if !ends {
             return self.step(was_closed, Fate::Passed, refused);
         }
@@ -199,7 +199,7 @@ impl Session {
     }
 
     /// Queues a reply and the run that follows it. Says whether memory was refused.
-    fn say_answer(&mut self, alloc: Global, channel: &str, answered: Answered) -> bool
+    fn enqueue_answer(&mut self, alloc: Global, channel: &str, answered: Answered) -> bool
         ensures state { Tells result (answer_notes channel.now answered) self.old self.new }
         ensures badge { badge_of self.new ≡ badge_of self.old }
     {
@@ -210,7 +210,7 @@ impl Session {
             released,
         } = answered;
         let first = self.say(reply_text(alloc, id, was_recovering, recovery));
-        let second = self.pass_on(alloc, channel, &released.run);
+        let second = self.enqueue_run(alloc, channel, &released.run);
         first | second
     }
 }

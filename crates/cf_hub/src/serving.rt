@@ -4,7 +4,7 @@ ghost use Rattle.std.specs.Prelude.{◌≡◌};
 use crate::checked::Checked;
 use crate::hub::Hub;
 use crate::one_session::{
-    check_one, count_more, finish_one, next_in, pong_one, read_one, say_one, settle, tick_one,
+    check_one, count_more, finish_one, next_in, pong_one, read_one, enqueue_one, settle, tick_one,
 };
 use crate::queued::Queued;
 use cf_protocol::Position;
@@ -64,7 +64,7 @@ impl Hub {
         ensures turns { self.new.turns ≡ gets_turn session self.old.turns }
     {
         self.pending.add(session);
-        let (said, step) = say_one(&mut self.sessions, session, text);
+        let (said, step) = enqueue_one(&mut self.sessions, session, text);
         settle(&mut self.rows, session, "", step.fate);
         self.refused = count_more(self.refused, step.refused);
         said

@@ -17,7 +17,7 @@ const QUEUE_LIMIT: usize = 1_048_576;
 
 /// One client's session.
 #[derive(Drop)]
-pub(crate) struct Session {
+pub(crate) struct AttachedSession {
     pub(crate) client: String,
     pub(crate) user: String,
     pub(crate) subscriptions: IndexMap<String, Box<Progress>>,
@@ -27,7 +27,7 @@ pub(crate) struct Session {
     ghost limited: { queue.limit ≡ 1048576 },
 }
 
-impl Session {
+impl AttachedSession {
     ghost use Rattle.std.specs.Prelude.{◌≡◌, ◌⊎◌, ◌||◌, ◌∷◌, [], Some, None, true, false, IfSome, string_bytes, not, ◌&&◌, if◌then◌else◌, map};
     ghost use Rattle.cf_queue.specs.OutQueue.{Text, Close};
     ghost use Rattle.cf_hub.specs.Session.{badge_of, state_of};
@@ -36,11 +36,11 @@ impl Session {
     ghost use Rattle.cf_hub.specs.Wordings.{IsWritten, push_text};
 
     /// A client's session, with no subscription and nothing that waits.
-    pub(crate) fn new(alloc: Global, client: String, user: String, now: u64) -> Session
+    pub(crate) fn new(alloc: Global, client: String, user: String, now: u64) -> AttachedSession
         ensures state { state_of result ≡ opens }
         ensures badge { badge_of result ≡ new_badge (string_bytes client) (string_bytes user) now }
     {
-        Session {
+        AttachedSession {
             client,
             user,
             subscriptions: IndexMap::new(alloc),
@@ -114,7 +114,7 @@ impl Session {
 
     /// Queues the push of a publication that was written for all, or one of its own if it was not, or closes the session.
     /// Says whether memory was refused.
-    fn say_publication(
+    fn enqueue_publication(
         &mut self,
         alloc: Global,
         written: &Option<ByteStr>,
@@ -136,7 +136,7 @@ impl Session {
     }
 
     /// Queues the pushes of publications in order, or closes the session amid them. Says whether memory was refused.
-    pub(crate) fn pass_on(&mut self, alloc: Global, channel: &str, run: &[Publication]) -> bool
+    pub(crate) fn enqueue_run(&mut self, alloc: Global, channel: &str, run: &[Publication]) -> bool
         ensures state { Tells result (pushes channel.now run.now) self.old self.new }
         ensures badge { badge_of self.new ≡ badge_of self.old }
     {
@@ -179,7 +179,7 @@ impl Session {
     }
 
     /// Brings a publication. Its text is handed in if it was written.
-    pub(crate) fn bring(
+    pub(crate) fn deliver_here(
         &mut self,
         alloc: Global,
         channel: &str,
@@ -204,7 +204,7 @@ impl Session {
             },
             Meets::On(Verdict::Drop) => Step::none(),
             Meets::On(Verdict::Pass) => {
-                let refused = self.say_publication(alloc, written, channel, publication);
+                let refused = self.enqueue_publication(alloc, written, channel, publication);
                 self.step(was_closed, Fate::Passed, refused)
             }
             Meets::On(Verdict::Insufficient) => {

@@ -3,24 +3,24 @@ ghost use Rattle.std.specs.Prelude.{◌≡◌, ◌≢◌, ◌≤◌, ℕ, [], So
 ghost use Rattle.std.specs.Borrow.{sem};
 ghost use Rattle.std.specs.Option.{option_copied, option_copied_mut};
 
-use crate::session::Session;
+use crate::session::AttachedSession;
 use std::alloc::{AllocError, Global};
 use std::marker::Model;
 
 /// Sessions by number: a session is found at once. The list of the places grows and never shrinks.
 #[derive(Drop)]
 pub(crate) struct Sessions {
-    places: Vec<Option<Box<Session>>>,
+    places: Vec<Option<Box<AttachedSession>>>,
 }
 
 impl Model for Sessions {
     ghost use Rattle.std.specs.Prelude.{◌^◌, ◌≤◌, List, Option, length};
     ghost use Rattle.std.specs.Coded.{coded_list, coded_option};
-    ghost use Rattle.cf_hub.specs.declared.session.Session.{Session};
+    ghost use Rattle.cf_hub.specs.declared.session.AttachedSession.{AttachedSession};
     ghost use Rattle.cf_hub.specs.contracts.session.Session as session;
     ghost use Rattle.cf_hub.specs.Places.{unboxed_all};
 
-    ghost Value = { List (Option Session) };
+    ghost Value = { List (Option AttachedSession) };
 
     ghost coded = { coded_list (coded_option session.the_row.coded) };
 
@@ -47,7 +47,7 @@ impl Sessions {
     }
 
     /// The session of a number.
-    pub(crate) fn get(&self, number: u32) -> Option<&Session>
+    pub(crate) fn get(&self, number: u32) -> Option<&AttachedSession>
         ensures { option_copied result ≡ session_in self.now number }
     {
         match self.places.get(number as usize) {
@@ -57,7 +57,7 @@ impl Sessions {
     }
 
     /// The session of a number, to be changed.
-    pub(crate) fn get_mut(&mut self, number: u32) -> Option<&mut Session>
+    pub(crate) fn get_mut(&mut self, number: u32) -> Option<&mut AttachedSession>
         ensures* writes_back { sem 𝓛 (LendsSession self.entry number result) }
         ensures value { option_copied_mut result ≡ session_in self.old number }
     {
@@ -87,7 +87,7 @@ impl Sessions {
         &mut self,
         alloc: Global,
         number: u32,
-        session: Session,
+        session: AttachedSession,
     ) -> Result<(), AllocError>
         requires { number ≤ length self.old }
         ensures here { OnOk result (session_in self.new number ≡ Some session) }

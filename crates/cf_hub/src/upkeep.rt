@@ -5,7 +5,7 @@ ghost use Rattle.cf_hub.specs.Subscriptions.{SetsAt, progress_at, sub_of};
 
 use crate::checked::{Checked, position_check};
 use crate::fate::Fate;
-use crate::session::Session;
+use crate::session::AttachedSession;
 use crate::step::Step;
 use crate::subscription::Progress;
 use crate::wording::{end_text, ping_text};
@@ -55,7 +55,7 @@ fn check_at(
     }
 }
 
-impl Session {
+impl AttachedSession {
     ghost use Rattle.std.specs.Prelude.{◌≡◌, ◌&&◌, ◌-◌, nat_le, List, ℕ, Some, None, []};
     ghost use Rattle.cf_hub.specs.Checked.{check_answer};
     ghost use Rattle.cf_hub.specs.Session.{badge_of, state_of, ticked};

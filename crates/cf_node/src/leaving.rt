@@ -5,7 +5,7 @@ use crate::connection::Turned;
 use crate::socket::Socket;
 use cf_handshake::health_answer;
 use cf_session::WireFault;
-use cf_wire::{Gather, Refused};
+use cf_wire::{Gather, RefusedStream};
 use std::io::{ErrorKind, Read, Write};
 
 /// The most reads of one turn.
@@ -37,11 +37,11 @@ impl Leaving {
     /// One that gets no WebSocket, with the answer to who asks whether the node lives. `None` where
     /// there is nothing to be read: the socket failed, or memory was refused, or the head was too long.
     pub(crate) fn refused(
-        refused: Refused<Gather<Socket>>,
+        refused: RefusedStream<Gather<Socket>>,
         is_well: bool,
         now: u64,
     ) -> Option<Leaving> {
-        let Refused {
+        let RefusedStream {
             fault,
             stream,
             answered,

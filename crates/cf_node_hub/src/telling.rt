@@ -20,7 +20,7 @@ use crate::begun::Begun;
 use crate::node_hub::NodeHub;
 use crate::replies::moves_are_among;
 use cf_hub::laws::what_is_said_stays;
-use cf_hub::{Asked, Checked, Hub, Queued};
+use cf_hub::{UnreadSubscription, Checked, Hub, Queued};
 use cf_order::Pass;
 use cf_protocol::Position;
 use cf_shard::{Naming, ShardWords, shard_of};
@@ -30,7 +30,7 @@ use cf_stream::Recovery;
 fn asks_from(hub: &Hub, session: u32, channel: &str, since: Option<Position>) -> bool
     ensures { IsTrue result ↔ IsAskedFrom since (sub_at hub.now session channel.now) }
 {
-    hub.asked(session, channel) == Some(Asked { since })
+    hub.asked(session, channel) == Some(UnreadSubscription { since })
 }
 
 impl<N: Naming> NodeHub<N> {

@@ -15,7 +15,7 @@ use Rattle.cf_protocol.specs.LogEntry.{Entry}
 use Rattle.cf_protocol.specs.LogEntry.Entry.{Publish}
 use Rattle.cf_protocol.specs.Settings.{NamespaceTable}
 use Rattle.cf_order.specs.Passes.{OwnerState, PassState, caught_up, publishes}
-use Rattle.cf_stream.specs.Stream.{position_of, Shown, answer_by, answer_to, given, pushed, repeated_by, used_at}
+use Rattle.cf_stream.specs.Stream.{position_of, Shown, answer_by, answer_to, after_publish, pushed, repeated_by, used_at}
 use Rattle.cf_model.specs.Keys.{is_no_key}
 use Rattle.cf_stream.specs.Streams.{StreamMap, repeat_at, stream_of, size_at, stood_or, stood_or_opened}
 use Rattle.cf_model.specs.Streams.{Life}
@@ -96,7 +96,7 @@ stands_after k c key d now p is fresh =
     ] in
     StandsAt-from (after_publish k c p.position.epoch key d now) c (Some p.position)
     (ap Some (cases (repeated_by s key) is)
-    ∙ ap (option_map position_of) (sym (stream_of-put_at k c (Some (given s key d now)) c ∙ ap (λ b. cond b (Some (given s key d now)) (stream_of k c)) ((bytes_eq-Decides c c).1 refl))))
+    ∙ ap (option_map position_of) (sym (stream_of-put_at k c (Some (after_publish s key d now)) c ∙ ap (λ b. cond b (Some (after_publish s key d now)) (stream_of k c)) ((bytes_eq-Decides c c).1 refl))))
 
 -- each call at the point of the log that the owner has
 pub published_by_log : (t : NamespaceTable) (w : TableId) (k new : StreamMap) (o o' : OwnerState) (c key : List ℕ) (d : Datum) (p : Published) (seen after : List Entry) → IsShard t w k o → IsShard t w new o'

@@ -14,7 +14,7 @@ use Rattle.cf_stream.specs.declared.refusal.StreamRefusal.{StreamRefusal}
 use Rattle.cf_stream.specs.declared.refusal.StreamRefusal.TheVariants.{AtLastOffset, WrongEpoch, NoEpoch, Memory}
 use Rattle.cf_stream.specs.FreshEpochs.{Draws, DrawsNone}
 use Rattle.cf_stream.specs.LogState.{IsState}
-use Rattle.cf_stream.specs.Stream.{given, used_at}
+use Rattle.cf_stream.specs.Stream.{after_publish, used_at}
 use Rattle.cf_stream.specs.Streams.{StreamMap, coded_kept, put_at, resized_in, stood_or_opened, stream_of}
 use Rattle.cf_shard.specs.declared.refusal.Refused.{Refused}
 use Rattle.cf_shard.specs.declared.refusal.Refused.TheVariants.{AtLastOffset as LastOffset, WrongEpoch as OtherEpoch}
@@ -68,7 +68,7 @@ LacksRoom entries e old new = (e ≡ LastCount) × (new ≡ old) × IsFull old.l
 -- the streams after a publish under this key, and after a read or a history, at a moment: the channel's stream opens
 -- in this epoch if there is none
 abbrev pub after_publish : StreamMap → (channel epoch key : List ℕ) → Datum → (now : ℕ) → StreamMap
-after_publish k c e key d now = put_at k c (Some (given (stood_or_opened k c e) key d now))
+after_publish k c e key d now = put_at k c (Some (after_publish (stood_or_opened k c e) key d now))
 
 abbrev pub after_use : StreamMap → (channel epoch : List ℕ) → (now : ℕ) → StreamMap
 after_use k c e now = put_at k c (Some (used_at (stood_or_opened k c e) now))

@@ -12,7 +12,7 @@ use Rattle.cf_protocol.specs.declared.codes.ErrorCode.{ErrorCode}
 use Rattle.cf_protocol.specs.declared.codes.ErrorCode.TheVariants as error
 use Rattle.cf_protocol.specs.Position.{Position}
 use Rattle.cf_stream.specs.FreshEpochs.{Draws, DrawsNone}
-use Rattle.cf_stream.specs.Stream.{Shown, IsRecovery, IsHistory, IsStuck, given, newest_of, repeated_by, used_at}
+use Rattle.cf_stream.specs.Stream.{Shown, IsRecovery, IsHistory, IsStuck, after_publish, newest_of, repeated_by, used_at}
 use Rattle.cf_stream.specs.Streams.{StreamMap, IsOfAnother, put_at, stood_or_opened, stream_of}
 use Rattle.cf_stream.specs.declared.answer.Recovery.{Recovery}
 use Rattle.cf_presence.specs.Presence.{Channels, clients_of, entered, left, users_of, user_count}
@@ -197,7 +197,7 @@ due_after repeated c due = if repeated then due else Some c
 pub record Publishes (c key : List ℕ) (d : Datum) (s m : Scene) (a : Answer) : Type 0 where
   pub epoch : List ℕ
   pub drawn : Draws draws_front (stream_of s.streams c) epoch s.epochs m.epochs
-  pub streams : m.streams ≡ put_at s.streams c (Some (given (used s c epoch) key d 0))
+  pub streams : m.streams ≡ put_at s.streams c (Some (after_publish (used s c epoch) key d 0))
   pub answer : a ≡ Found outgoing.Published
   pub rest : m ≡ record s {
     streams = m.streams;

@@ -8,7 +8,7 @@ use Rattle.cf_model.specs.Keys.{KeyAt}
 use Rattle.cf_model.specs.Streams.{last_offset}
 use Rattle.cf_stream.specs.Calls.{RefusalsOfOne}
 use Rattle.cf_stream.specs.Ring.{IsRing}
-use Rattle.cf_stream.specs.Stream.{Shown, IsWithin, RecoversFrom, after, answer_by, answer_to, given, is_over, pushed, repeated_by, start_of, ticked, used_at}
+use Rattle.cf_stream.specs.Stream.{Shown, IsWithin, RecoversFrom, stream_after, answer_by, answer_to, after_publish, is_over, pushed, repeated_by, start_of, ticked, used_at}
 use Rattle.cf_stream.specs.declared.answer.History.{History}
 use Rattle.cf_stream.specs.declared.answer.Published.{Published}
 use Rattle.cf_stream.specs.declared.refusal.StreamRefusal.{StreamRefusal}
@@ -33,7 +33,7 @@ IsWithin-used s new now is h = subst IsWithin (sym is) (record { sized = h.sized
 pub repeats_by : (s : Shown) (text key : List ℕ) (o : Option ℕ) → text ≡ key → o ≡ repeated_by s text → repeated_by s key ≡ o
 repeats_by s text key o same is = ap (repeated_by s) (sym same) ∙ sym is
 
-pub given_repeat : (s : Shown) (key : List ℕ) (d : Datum) (now o : ℕ) → repeated_by s key ≡ Some o → used_at s now ≡ given s key d now
+pub given_repeat : (s : Shown) (key : List ℕ) (d : Datum) (now o : ℕ) → repeated_by s key ≡ Some o → used_at s now ≡ after_publish s key d now
 given_repeat s key d now o is = sym (ap (λ x. cond (is_some x) (used_at s now) (pushed s key d now)) is)
 
 pub answer_repeat : (s : Shown) (key e : List ℕ) (o : ℕ) → repeated_by s key ≡ Some o → e ≡ s.epoch
@@ -48,7 +48,7 @@ refusals_repeat s key o p is answer = record { repeat = λ o' again. ap answered
 
 -- ---- a publish that repeats none
 
-pub given_new : (s : Shown) (key : List ℕ) (d : Datum) (now : ℕ) → repeated_by s key ≡ None → pushed s key d now ≡ given s key d now
+pub given_new : (s : Shown) (key : List ℕ) (d : Datum) (now : ℕ) → repeated_by s key ≡ None → pushed s key d now ≡ after_publish s key d now
 given_new s key d now none = sym (ap (λ x. cond (is_some x) (used_at s now) (pushed s key d now)) none)
 
 pub answer_new : (s new : Shown) (key : List ℕ) (d : Datum) (now : ℕ) (p : Position) → repeated_by s key ≡ None → new ≡ pushed s key d now → p ≡ record { epoch = new.epoch; offset = new.top }
@@ -88,8 +88,8 @@ pub other_there : (s : Shown) (since : Option Position) (p : Position) → since
     → (false ≡ false → IsSomeAnd since (λ p. p.epoch ≢ s.epoch)) × (IsSomeAnd since (λ p. p.epoch ≢ s.epoch) → false ≡ false)
 other_there s since p is there = rw is (λ e. there, λ other. refl)
 
-pub newer_from_floor : (s : Shown) (since : Option Position) (n : ℕ) → since ≡ None → n ≡ length s.held → after s (s.top - n) ≡ after s (start_of s since)
-newer_from_floor s since n is all = rw is (ap (λ k. after s (s.top - k)) all)
+pub newer_from_floor : (s : Shown) (since : Option Position) (n : ℕ) → since ≡ None → n ≡ length s.held → stream_after s (s.top - n) ≡ stream_after s (start_of s since)
+newer_from_floor s since n is all = rw is (ap (λ k. stream_after s (s.top - k)) all)
 
 -- too many came after it
 pub missed_many : (s : Shown) (since : Option Position) (p : Position) (n : ℕ) → since ≡ Some p → n ≡ min (length s.held) 300 → n < s.top - p.offset → RecoversFrom s since → ⊥

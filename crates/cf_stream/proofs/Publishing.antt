@@ -10,7 +10,7 @@ use Rattle.cf_protocol.specs.Settings.{NamespaceTable}
 use Rattle.cf_stream.specs.Calls.{DrawsToOpen, ListsOfPublish, RefusalsOfOne, RefusalsOfPublish}
 use Rattle.cf_stream.specs.FreshEpochs.{DrawsEpoch, DrawsNone}
 use Rattle.cf_model.specs.Keys.{is_no_key}
-use Rattle.cf_stream.specs.Stream.{Shown, answer_by, answer_to, first_pushed, given, newest_of, pushed, repeated_by, started, used_at}
+use Rattle.cf_stream.specs.Stream.{Shown, answer_by, answer_to, first_pushed, after_publish, newest_of, pushed, repeated_by, started, used_at}
 use Rattle.cf_stream.specs.LogState.{Adds, publishing}
 use Rattle.cf_stream.specs.Streams.{StreamMap, SetsAt, by_channel, newest_at, put_at, repeat_at, size_at, stood_or, stood_or_opened, stream_of}
 use Rattle.cf_stream.specs.declared.answer.Published.{Published}
@@ -24,9 +24,9 @@ use Rattle.cf_stream.specs.declared.refusal.StreamRefusal.TheVariants.{AtLastOff
 -- a publish to a channel of a map, in which this stream stood, or none
 pub record Publishes {E : Type 0} (draws : E → Option (List ℕ) → E → Type 0) (m n : BTreeMap (String Global) Shown) (stood : Option Shown)
     (c : List ℕ) (size : ℕ) (key : List ℕ) (d : Datum) (now : ℕ) (old new : E) (r : Result Published StreamRefusal) : Type 0 where
-  pub sets : IfOk r (λ p. SetsAt m n c (Some (given (stood_or stood p.position.epoch size) key d now)))
+  pub sets : IfOk r (λ p. SetsAt m n c (Some (after_publish (stood_or stood p.position.epoch size) key d now)))
   pub answer : IfOk r (λ p. p ≡ answer_to (stood_or stood p.position.epoch size) key)
-  pub newest : IfOk r (λ p. p.repeated ≡ false → newest_of (given (stood_or stood p.position.epoch size) key d now) ≡ Some (record { offset = p.position.offset; datum = d }))
+  pub newest : IfOk r (λ p. p.repeated ≡ false → newest_of (after_publish (stood_or stood p.position.epoch size) key d now) ≡ Some (record { offset = p.position.offset; datum = d }))
   pub epochs : DrawsToOpen draws stood old new r (λ p. p.position.epoch)
   pub refusals : RefusalsOfPublish stood key r
   pub same : OnErr r ((q : List ℕ) → get_by_text n q ≡ get_by_text m q)
@@ -63,7 +63,7 @@ memory_or_last Memory h = (λ i. cc, λ i. cc)
 
 module _ {E : Type 0} (draws : E → Option (List ℕ) → E → Type 0) (m n : BTreeMap (String Global) Shown) (c : List ℕ) (size : ℕ) (key : List ℕ) (d : Datum) (now : ℕ) (old new : E) where
   at_stream : (s s' : Shown) (r : Result Published StreamRefusal) → get_by_text m c ≡ Some s → SetsAt m n c (Some s') → new ≡ old
-      → OnOk r (s' ≡ given s key d now) → IfOk r (λ p. p ≡ answer_to s key) → IfOk r (λ p. p.repeated ≡ false → newest_of s' ≡ Some (record { offset = p.position.offset; datum = d }))
+      → OnOk r (s' ≡ after_publish s key d now) → IfOk r (λ p. p ≡ answer_to s key) → IfOk r (λ p. p.repeated ≡ false → newest_of s' ≡ Some (record { offset = p.position.offset; datum = d }))
       → RefusalsOfOne s key r → OnErr r (s' ≡ s) → Publishes draws m n (Some s) c size key d now old new r
   at_stream s s' (Ok p) at sets undrawn makes answer newest refusals err = record {
     sets = subst (λ (x : Shown). SetsAt m n c (Some x)) makes sets;
@@ -91,7 +91,7 @@ module _ {E : Type 0} (draws : E → Option (List ℕ) → E → Type 0) (m n : 
   }
 
   pub publishes_stood : (s s' : Shown) (r : Result Published StreamRefusal) → get_by_text m c ≡ Some s → SetsAt m n c (Some s') → new ≡ old
-      → OnOk r (s' ≡ given s key d now) → IfOk r (λ p. p ≡ answer_to s key) → IfOk r (λ p. p.repeated ≡ false → newest_of s' ≡ Some (record { offset = p.position.offset; datum = d }))
+      → OnOk r (s' ≡ after_publish s key d now) → IfOk r (λ p. p ≡ answer_to s key) → IfOk r (λ p. p.repeated ≡ false → newest_of s' ≡ Some (record { offset = p.position.offset; datum = d }))
       → RefusalsOfOne s key r → OnErr r (s' ≡ s) → Publishes draws m n (get_by_text m c) c size key d now old new r
   publishes_stood s s' r at sets undrawn makes answer newest refusals err =
       subst (λ o. Publishes draws m n o c size key d now old new r) (sym at) (at_stream s s' r at sets undrawn makes answer newest refusals err)
@@ -102,7 +102,7 @@ module _ {E : Type 0} (draws : E → Option (List ℕ) → E → Type 0) (m n : 
 opened_new : (e : List ℕ) (size : ℕ) (key : List ℕ) → repeated_by (started e size 0) key ≡ None
 opened_new e size key = elim (is_no_key key) as (λ b. cond {A = Option ℕ} b None None ≡ None) [ true ↦ refl | false ↦ refl ]
 
-given_first : (e : List ℕ) (size : ℕ) (key : List ℕ) (d : Datum) (now : ℕ) → first_pushed e size key d now ≡ given (started e size 0) key d now
+given_first : (e : List ℕ) (size : ℕ) (key : List ℕ) (d : Datum) (now : ℕ) → first_pushed e size key d now ≡ after_publish (started e size 0) key d now
 given_first e size key d now =
     sym (ap (λ (o : Option ℕ). cond (is_some o) (used_at (started e size 0) now) (pushed (started e size 0) key d now)) (opened_new e size key))
 
@@ -159,7 +159,7 @@ module _ {E : Type 0} (draws : E → Option (List ℕ) → E → Type 0) (m n : 
 -- what the clauses of a publish say
 pub record Said {E : Type 0} (draws : E → Option (List ℕ) → E → Type 0) (k k' : StreamMap) (c key : List ℕ) (d : Datum) (now : ℕ) (old new : E)
     (r : Result Published StreamRefusal) : Type 0 where
-  pub makes : IfOk r (λ p. k' ≡ put_at k c (Some (given (stood_or_opened k c p.position.epoch) key d now)))
+  pub makes : IfOk r (λ p. k' ≡ put_at k c (Some (after_publish (stood_or_opened k c p.position.epoch) key d now)))
   pub answer : IfOk r (λ p. p ≡ answer_to (stood_or_opened k c p.position.epoch) key)
   pub newest : IfOk r (λ p. p.repeated ≡ false → newest_at k' c ≡ Some (record { offset = p.position.offset; datum = d }))
   pub epochs : DrawsToOpen draws (stream_of k c) old new r (λ p. p.position.epoch)
@@ -176,7 +176,7 @@ said draws t m n c key d now old new r from =
     let k' : StreamMap = record { namespaces = t; streams = by_channel n } in
     let h : Publishes draws m n (stream_of k c) c (size_at t c) key d now old new r =
     subst (λ o. Publishes draws m n o c (size_at t c) key d now old new r) (sym (get-by_channel m c)) from in
-    let makes : IfOk r (λ p. k' ≡ put_at k c (Some (given (stood_or_opened k c p.position.epoch) key d now))) = IfOk-weaker r _ _ (λ (p : Published) sets. kept_by t m n c _ sets) h.sets in
+    let makes : IfOk r (λ p. k' ≡ put_at k c (Some (after_publish (stood_or_opened k c p.position.epoch) key d now))) = IfOk-weaker r _ _ (λ (p : Published) sets. kept_by t m n c _ sets) h.sets in
     record {
       makes = makes;
       answer = h.answer;

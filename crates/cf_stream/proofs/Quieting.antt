@@ -18,7 +18,7 @@ use Rattle.cf_protocol.proofs.Sizes.{entry_at-with_size}
 use Rattle.cf_stream.specs.declared.due.Due.{Due}
 use Rattle.cf_stream.specs.declared.due.Due.TheVariants.{Forget as ToForget, Empty as ToEmpty}
 use Rattle.cf_model.specs.Keys.{newest}
-use Rattle.cf_stream.specs.Stream.{Shown, stays, is_over, given, pushed, repeated_by, resized, trimmed, used_at, unused_seconds}
+use Rattle.cf_stream.specs.Stream.{Shown, stays, is_over, after_publish, pushed, repeated_by, resized, trimmed, used_at, unused_seconds}
 use Rattle.cf_stream.specs.Streams.{StreamMap, SetsAt, by_channel, due_at, due_channels, due_of, due_to, resized_in, seconds_at, seconds_of, stood_or}
 use Rattle.cf_model.specs.Streams.{in_namespace}
 use Rattle.cf_stream.specs.Quiet.{AreQuiet, IsQuiet}
@@ -62,7 +62,7 @@ given_by false o e size key d now seconds t unused early h = pushed_quiet (stood
 
 -- a publish, which is a use alone where it repeats one
 pub given_quiet : (o : Option Shown) (e : List ℕ) (size : ℕ) (key : List ℕ) (d : Datum) (now seconds t : ℕ) → is_over now unused_seconds t ≡ false → is_over now seconds t ≡ false
-    → due_at t seconds o ≡ None → due_of t seconds (given (stood_or o e size) key d now) ≡ None
+    → due_at t seconds o ≡ None → due_of t seconds (after_publish (stood_or o e size) key d now) ≡ None
 given_quiet o e size key d now seconds t = given_by (is_some (repeated_by (stood_or o e size) key)) o e size key d now seconds t
 
 trim_cases : (stays over z : Bool) (held : List Datum) (k : ℕ) → (length held == 0) ≡ z → due_by stays over (not z) ≡ None → due_by stays over (not (length (newest k held) == 0)) ≡ None

@@ -1,7 +1,7 @@
 //! One stream.
 ghost use Rattle.std.specs.Prelude.{◌≡◌, ◌≢◌, ◌+◌, ◌-◌, ◌<◌, ◌≤◌, ℕ, Some, Ok, false, ◌↔◌, [], ◌∷◌, ◌++◌, ◌==◌, length, take, IfOk, IfErr, OnOk, OnErr, IsErrOf, IsOkUnless, SomeIff, IsSomeAnd, IfSome, IsNone, option_copied, if◌then◌else◌, List};
 ghost use Rattle.std.specs.String.{string_bytes};
-ghost use Rattle.cf_stream.specs.Stream.{datum_of, started, given, pushed, answer_to, repeated_by, IsStuck, used_at, trimmed, resized, ticked, position_of, missed_from, RecoversFrom, IsWithin, start_of, after, in_epoch, IsRecovery, IsHistory, IsInEpoch, newest_of, stays, is_over};
+ghost use Rattle.cf_stream.specs.Stream.{datum_of, started, after_publish, pushed, answer_to, repeated_by, IsStuck, used_at, trimmed, resized, ticked, position_of, missed_from, RecoversFrom, IsWithin, start_of, stream_after, in_epoch, IsRecovery, IsHistory, IsInEpoch, newest_of, stays, is_over};
 ghost use Rattle.cf_stream.specs.PublicationList.{unkeyed, Shows, GoesOn, AnswersPublish, AnswersRead, AnswersHistory, opened, offered, kept_newest, same};
 ghost use Rattle.cf_protocol.specs.Datum.{Datum};
 ghost use Rattle.cf_stream.specs.Calls.{RefusalsOfOne};
@@ -173,7 +173,7 @@ impl Stream {
         now: u64,
     ) -> Result<Published, StreamRefusal>
         ensures makes { OnOk result
-            (self.new ≡ given self.old (string_bytes key) (datum_of body info) now) }
+            (self.new ≡ after_publish self.old (string_bytes key) (datum_of body info) now) }
         ensures answer { IfOk result (λ p. p ≡ answer_to self.old (string_bytes key)) }
         ensures newest { IfOk result (λ p. p.repeated ≡ false → newest_of self.new
             ≡ Some (record { offset = p.position.offset; datum = datum_of body info })) }
@@ -265,7 +265,7 @@ impl Stream {
         ensures within { IfSome result (λ n. n ≤ length self.now.held) }
         ensures in_epoch { IfSome result (λ _. IsInEpoch self.now since) }
         ensures newer { IfSome result (λ n.
-            after self.now (self.now.top - n) ≡ after self.now (start_of self.now since)) }
+            stream_after self.now (self.now.top - n) ≡ stream_after self.now (start_of self.now since)) }
     {
         let inner = self.inner.as_ref();
         let held = inner.ring.len();
@@ -284,7 +284,7 @@ impl Stream {
     /// Copies of the first `limit` of the newest `count` publications.
     fn newest(&self, count: usize, limit: usize) -> Result<Vec<Publication>, AllocError>
         requires { count ≤ length self.now.held }
-        ensures { IfOk result (λ v. v.items ≡ take limit (after self.now (self.now.top - count))) }
+        ensures { IfOk result (λ v. v.items ≡ take limit (stream_after self.now (self.now.top - count))) }
     {
         let inner = self.inner.as_ref();
         copies(

@@ -5,7 +5,7 @@ ghost use Rattle.std.specs.BTreeMap.{get_by_text, IsOrdered};
 ghost use Rattle.std.specs.FinMap as fin;
 ghost use Rattle.std.specs.String.{string_bytes, string_cmp};
 ghost use Rattle.cf_protocol.specs.Settings.{settings_of, entry_at, namespace_of, with_size};
-ghost use Rattle.cf_stream.specs.Stream.{datum_of, given, answer_to, resized, used_at, trimmed, position_of, IsAtLast, IsRecovery, IsHistory, stays, ticked, newest_of};
+ghost use Rattle.cf_stream.specs.Stream.{datum_of, after_publish, answer_to, resized, used_at, trimmed, position_of, IsAtLast, IsRecovery, IsHistory, stays, ticked, newest_of};
 ghost use Rattle.cf_stream.specs.Streams.{stream_of, held_at, newest_at, put_at, stood_or, stood_or_opened, with_given, repeat_at, resized_in, with_used, ticked_at, IsOfAnother, SetsAt, due_in, due_to, all_due, IsSetUp, size_at, seconds_at};
 ghost use Rattle.cf_model.specs.Streams.{in_namespace};
 ghost use Rattle.cf_stream.specs.PublicationList.{kept_newest};

@@ -11,7 +11,7 @@ use Rattle.websocket.specs.declared.protocol.frame.coding.CloseCode.{CloseCode}
 use Rattle.cf_queue.specs.declared.queue.Out.{Out}
 use Rattle.cf_queue.specs.declared.queue.Out.TheVariants.{Text, Close}
 use Rattle.cf_wire.specs.CloseFrame.{frame_of}
-use Rattle.cf_wire.specs.Stages.{WireState, is_open, is_over, waits_by, end_by, after, close_in, code_of_fault, settled, Halts, Stops}
+use Rattle.cf_wire.specs.Stages.{WireState, is_open, is_over, waits_by, end_by, stage_after, close_in, code_of_fault, settled, Halts, Stops}
 use Rattle.cf_wire.specs.Turn.{Event, heard, passed, ended, rejected, failed, none, sent, refused, flushed, tried, reads, moves, bytes, bytes_before, is_stop, most_reads, most_bytes, IsEmptied, Rests, IsUsedUp, EndFits, Mark, going, emptied, over, Fits, is_bad, is_signal, code_in, bad_message, Puts, Fails, Settles, Tells, TellsIf, FlushLeaves, Place, place, DeskDoes, WireDoes, Did, Part, Turns, mark_of, read_in}
 use Rattle.cf_wire.specs.declared.end.Stage.{Stage}
 use Rattle.cf_wire.specs.declared.end.Stage.TheVariants.{Open, Unflushed, Over}
@@ -202,7 +202,7 @@ closed_if true stage end h = h
 closed_if false stage end h = refl
 
 -- an error leaves no wire open that was to wait for the stream
-open_not_after : (stage : Stage) (e : Error) (close : Option ℕ) → stage ≡ Open → stage ≡ after e (Unflushed close) → ⊥
+open_not_after : (stage : Stage) (e : Error) (close : Option ℕ) → stage ≡ Open → stage ≡ stage_after e (Unflushed close) → ⊥
 open_not_after stage e close a b = absurd (cc (sym (ap is_open a) ∙ ap is_open b, closed_if (waits_by e) (Unflushed close) (end_by e) refl))
 
 -- ---- what the socket answered
@@ -210,7 +210,7 @@ open_not_after stage e close a b = absurd (cc (sym (ap is_open a) ∙ ap is_open
 module _ {S : Type 0} where
   pub settles : (contents : S → Option (List ℕ)) (old mid new : Socket S) (out : Out) (stage : Stage) (answer : Result (Unit {0}) Error)
       → OnOk answer (Puts contents old out mid) → OnOk answer (mid.output ≡ []) → IfErr answer (Fails contents old out mid)
-      → new ≡ mid → OnOk answer (stage ≡ settled (close_in out)) → IfErr answer (λ e. stage ≡ after e (Unflushed (close_in out)))
+      → new ≡ mid → OnOk answer (stage ≡ settled (close_in out)) → IfErr answer (λ e. stage ≡ stage_after e (Unflushed (close_in out)))
       → Settles contents old out new stage
   settles contents old mid new out stage (Ok u) puts empty fails same ok err =
       inl (subst (Puts contents old out) (sym same) puts, ap (λ (s : Socket S). s.output) same ∙ empty, ok)
@@ -223,7 +223,7 @@ module _ {S : Type 0} where
       → OnOk answer (Writes contents old mid (write_step old.conn (content_of m))) → OnOk answer (mid.output ≡ [])
       → IfErr answer (WriteFails (write_step old.conn (content_of m))) → IfErr answer (λ e. e ≡ WriteBufferFull → mid ≡ old)
       → IfErr answer (λ e. IsIo e → Writes contents old mid (write_step old.conn (content_of m))) → IfErr answer (λ e. e ≡ OutOfMemory → mid ≡ old)
-      → new ≡ mid → OnOk answer (stage ≡ settled None) → IfErr answer (λ e. stage ≡ after e (Unflushed None))
+      → new ≡ mid → OnOk answer (stage ≡ settled None) → IfErr answer (λ e. stage ≡ stage_after e (Unflushed None))
       → Settles contents old (Text s) new stage
   settles_text contents old mid new s m stage (Ok u) is puts empty fault full io memory same ok err =
       settles contents old mid new (Text s) stage (Ok u) (rw is at puts) empty fault same ok err
@@ -235,7 +235,7 @@ module _ {S : Type 0} where
       → OnOk answer (Writes contents old mid (close_step old.conn f)) → OnOk answer (mid.output ≡ [])
       → IfErr answer (WriteFails (close_step old.conn f)) → IfErr answer (λ e. IsIo e → Writes contents old mid (close_step old.conn f))
       → IfErr answer (λ e. e ≡ OutOfMemory → mid ≡ old)
-      → new ≡ mid → OnOk answer (stage ≡ settled (Some code)) → IfErr answer (λ e. stage ≡ after e (Unflushed (Some code)))
+      → new ≡ mid → OnOk answer (stage ≡ settled (Some code)) → IfErr answer (λ e. stage ≡ stage_after e (Unflushed (Some code)))
       → Settles contents old (Close code) new stage
   settles_close contents old mid new code f stage (Ok u) is puts empty fault io memory same ok err =
       settles contents old mid new (Close code) stage (Ok u) (rw is at puts) empty fault same ok err
@@ -442,7 +442,7 @@ module _ {D S : Type 0} (hears : D → List ℕ → D → Type 0) (gives : D →
       (close_here d u (record { socket = mid; stage = Unflushed (Some code) }) w code r left rest free room stay (stage_at u v same is, refl, (m, read, says)) f leaves opened stops)
 
   pub fail_turns : (d : D) (u v w : WireState S) (mid : Socket S) (e : Error) (end : TurnEnd) (left rest : ℕ) → u ≡ v → v.stage ≡ Open
-      → ready d ≡ true → 0 < left → rest ≡ left → Reads remaining u.socket mid (Err e) → TellsIf contents mid (code_of_fault e) w.socket → w.stage ≡ after e Open → Halts end w.stage
+      → ready d ≡ true → 0 < left → rest ≡ left → Reads remaining u.socket mid (Err e) → TellsIf contents mid (code_of_fault e) w.socket → w.stage ≡ stage_after e Open → Halts end w.stage
       → Part hears gives ready remaining contents 0 1 left rest (over end) (place d v) (place d w)
   fail_turns d u v w mid e end left rest same is free room stay read tells left_at halts =
       turns_at _ _ _ _ _ d u v _ same

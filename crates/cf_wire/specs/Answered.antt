@@ -12,7 +12,7 @@ use Rattle.cf_handshake.specs.declared.asked.HeadAsk.{HeadAsk}
 use Rattle.cf_handshake.specs.declared.asked.HeadAsk.TheVariants as asked
 use Rattle.cf_wire.specs.Heads.{Comes}
 use Rattle.cf_wire.specs.Stages.{WireState}
-use Rattle.cf_wire.specs.declared.accept.Refused.{Refused}
+use Rattle.cf_wire.specs.declared.accept.RefusedStream.{RefusedStream}
 use Rattle.cf_wire.specs.declared.accept.WireFault.{WireFault}
 use Rattle.cf_wire.specs.declared.accept.WireFault.TheVariants.{Handshake, Health, StreamFault, Memory}
 
@@ -32,7 +32,7 @@ AppendsBy false old new text = AppendsSome old new text
 
 module _ {S : Type 0} (contents : S → Option (List ℕ)) where
   -- the refusal is written, whole where it says so
-  abbrev pub Tells : S → HandshakeError → Refused S → Type 0
+  abbrev pub Tells : S → HandshakeError → RefusedStream S → Type 0
   Tells old refusal refused = AppendsBy refused.answered (contents old) (contents refused.stream) (refusal_text refusal)
 
   -- a head that asks for a WebSocket is answered by its opening, and what was read behind it is the first input
@@ -42,14 +42,14 @@ module _ {S : Type 0} (contents : S → Option (List ℕ)) where
       × Appends (contents old) (contents wire.socket.stream) (opening_text opening) × (wire.socket.input ≡ rest)
 
   -- why a head opens none: it is refused, and told so; or it asks for the health, and nothing is written
-  abbrev pub RefusesFor : WireFault → S → List ℕ → Refused S → Type 0
+  abbrev pub RefusesFor : WireFault → S → List ℕ → RefusedStream S → Type 0
   RefusesFor Handshake old head refused =
       (refusal : HandshakeError) × HeadAsks head (asked.Refused refusal) × Tells old refusal refused
   RefusesFor Health old head refused = HeadAsks head asked.Health × (refused.stream ≡ old)
   RefusesFor StreamFault old head refused = ⊤
   RefusesFor Memory old head refused = ⊤
 
-  abbrev pub RefusesBy : S → List ℕ → Refused S → Type 0
+  abbrev pub RefusesBy : S → List ℕ → RefusedStream S → Type 0
   RefusesBy old head refused = RefusesFor refused.fault old head refused
 
   module _ (remaining : S → Option (List ℕ)) where
@@ -62,7 +62,7 @@ module _ {S : Type 0} (contents : S → Option (List ℕ)) where
       pub opens : OpensBy mid (take end bytes) (drop end bytes) wire
 
     -- a head is read up to its end, and refused
-    pub record RefusesHead (old : S) (refused : Refused S) : Type 0 where
+    pub record RefusesHead (old : S) (refused : RefusedStream S) : Type 0 where
       pub mid : S
       pub bytes : List ℕ
       pub end : ℕ
@@ -70,17 +70,17 @@ module _ {S : Type 0} (contents : S → Option (List ℕ)) where
       pub refuses : RefusesBy mid (take end bytes) refused
 
     -- more is read than a head may have, and nothing is written
-    pub record IsTooLong (old : S) (refused : Refused S) : Type 0 where
+    pub record IsTooLong (old : S) (refused : RefusedStream S) : Type 0 where
       pub bytes : List ℕ
       pub comes : Comes remaining old refused.stream bytes None
 
     -- why there is no wire: a head is too long, or refused; or it asks for the health; or the stream failed, or
     -- memory was refused
-    abbrev pub RefusesAt : WireFault → S → Refused S → Type 0
+    abbrev pub RefusesAt : WireFault → S → RefusedStream S → Type 0
     RefusesAt Handshake old refused = IsTooLong old refused ⊎ RefusesHead old refused
     RefusesAt Health old refused = RefusesHead old refused
     RefusesAt StreamFault old refused = ⊤
     RefusesAt Memory old refused = ⊤
 
-    abbrev pub Refuses : S → Refused S → Type 0
+    abbrev pub Refuses : S → RefusedStream S → Type 0
     Refuses old refused = RefusesAt refused.fault old refused

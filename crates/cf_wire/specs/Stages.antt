@@ -57,8 +57,8 @@ end_by (error.Io cause) = end_by_kind (error_kind cause)
 end_by other = wire.StreamFault
 
 -- where an error of the socket leaves a wire that waits at this stage if the stream would block
-abbrev pub after : Error → Stage → Stage
-after e waiting = if waits_by e then waiting else Over (end_by e)
+abbrev pub stage_after : Error → Stage → Stage
+stage_after e waiting = if waits_by e then waiting else Over (end_by e)
 
 -- The code of the close that a peer is told after a read with this error: 1002 where it sent what is no frame, or one
 -- that may not come there, and 1007 where a text or the reason of a close is not UTF-8. (RFC 6455, sections 7.1.7, 7.4.1

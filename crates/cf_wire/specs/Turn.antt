@@ -18,7 +18,7 @@ use Rattle.cf_protocol.specs.declared.codes.CloseCode.TheVariants.{BadRequest}
 use Rattle.cf_queue.specs.declared.queue.Out.{Out}
 use Rattle.cf_queue.specs.declared.queue.Out.TheVariants.{Text, Close}
 use Rattle.cf_wire.specs.CloseFrame.{frame_of}
-use Rattle.cf_wire.specs.Stages.{WireState, after, close_in, code_of_fault, settled}
+use Rattle.cf_wire.specs.Stages.{WireState, stage_after, close_in, code_of_fault, settled}
 use Rattle.cf_wire.specs.declared.end.Stage.{Stage}
 use Rattle.cf_wire.specs.declared.end.Stage.TheVariants.{Open, Unflushed}
 use Rattle.cf_wire.specs.declared.end.TurnEnd.{TurnEnd}
@@ -181,7 +181,7 @@ module _ {S : Type 0} where
       × (close_in out ≡ None → e ≡ WriteBufferFull → new ≡ old) × (e ≡ OutOfMemory → new ≡ old)
 
   abbrev pub Refuses : (S → Option (List ℕ)) → Socket S → Out → Socket S → Error → Stage → Type 0
-  Refuses contents old out new e stage = Fails contents old out new e × (stage ≡ after e (Unflushed (close_in out)))
+  Refuses contents old out new e stage = Fails contents old out new e × (stage ≡ stage_after e (Unflushed (close_in out)))
 
   abbrev pub Settles : (S → Option (List ℕ)) → Socket S → Out → Socket S → Stage → Type 0
   Settles contents old out new stage =
@@ -191,7 +191,7 @@ module _ {S : Type 0} where
   abbrev pub FlushLeaves : Option ℕ → Socket S → Stage → Type 0
   FlushLeaves close new stage =
       ((new.output ≡ []) × (stage ≡ settled close))
-      ⊎ ((e : Error) × IsIo e × (stage ≡ after e (Unflushed close)))
+      ⊎ ((e : Error) × IsIo e × (stage ≡ stage_after e (Unflushed close)))
 
   -- a close of this code was asked of the socket: its frame is on the stream, or the socket answered an error
   abbrev pub Tells : (S → Option (List ℕ)) → Socket S → ℕ → Socket S → Type 0
@@ -246,7 +246,7 @@ module _ {D S : Type 0} where
         (v.stage ≡ Open)
         × ((mid : Socket S) × Reads remaining v.socket mid (Err e)
         × TellsIf contents mid (code_of_fault e) w.socket)
-        × (w.stage ≡ after e Open)
+        × (w.stage ≡ stage_after e Open)
     WireDoes none v w = (v.stage ≡ Open) × (w ≡ v)
     WireDoes (sent o) v w = (v.stage ≡ Open) × Lands contents v.socket o w.socket w.stage
     WireDoes (refused o e) v w = (v.stage ≡ Open) × Refuses contents v.socket o w.socket e w.stage
@@ -256,7 +256,7 @@ module _ {D S : Type 0} where
         × (w.stage ≡ settled close)
     WireDoes (tried e) v w =
         (close : Option ℕ) × (v.stage ≡ Unflushed close) × Flushed contents v.socket w.socket × IsIo e
-        × (w.stage ≡ after e (Unflushed close))
+        × (w.stage ≡ stage_after e (Unflushed close))
 
     -- what a list of events does, the newest first
     abbrev pub Did : List Event → Place D S → Place D S → Type 0

@@ -76,7 +76,7 @@ fn fault_of_kind(kind: ErrorKind) -> WireFault
 
 /// A stream over which there is no wire.
 #[derive(Drop)]
-pub struct Refused<S> {
+pub struct RefusedStream<S> {
     /// Why there is none.
     pub fault: WireFault,
     /// The stream. Of what was sent on it, nothing behind the head is lost but what had been read with it.
@@ -85,12 +85,12 @@ pub struct Refused<S> {
     pub answered: bool,
 }
 
-impl<S> Refused<S> {
+impl<S> RefusedStream<S> {
     // Nothing was answered.
-    fn silently(fault: WireFault, stream: S) -> Refused<S>
+    fn silently(fault: WireFault, stream: S) -> RefusedStream<S>
         ensures { result ≡ record { fault = fault; stream = stream; answered = false } }
     {
-        Refused {
+        RefusedStream {
             fault,
             stream,
             answered: false,
@@ -137,12 +137,12 @@ fn tell_opening<S: Write>(
 }
 
 /// Answers that a handshake is refused, and says so.
-fn refuse<S: Write>(mut stream: S, refusal: HandshakeError) -> Refused<S>
+fn refuse<S: Write>(mut stream: S, refusal: HandshakeError) -> RefusedStream<S>
     ensures fault { result.fault ≡ WireFault.Handshake }
     ensures tells { Tells S.contents stream refusal result }
 {
     let answered = tell(&mut stream, refusal.answer()).is_ok();
-    Refused {
+    RefusedStream {
         fault: WireFault::Handshake,
         stream,
         answered,
@@ -153,7 +153,7 @@ impl<S: Read + Write + Drop> Wire<S> {
     /// Reads the head of a request, and answers it: a WebSocket is opened by 101, and what came behind the head is the wire's
     /// first input; what is no opening handshake is refused by 400 or 426. A head of more than 16,384 bytes, and who asks whether
     /// the node lives, is not answered here. The stream is given back if there is no wire.
-    pub fn accept(alloc: Global, mut stream: S) -> Result<Wire<S>, Refused<S>>
+    pub fn accept(alloc: Global, mut stream: S) -> Result<Wire<S>, RefusedStream<S>>
         ensures open { IfOk result (λ wire. wire.stage ≡ stage.Open) }
         ensures fresh { IfOk result (λ wire.
             IsFresh (record wire.socket { input = [] }) wire.socket.stream Role.Server) }
@@ -164,16 +164,16 @@ impl<S: Read + Write + Drop> Wire<S> {
     {
         let (bytes, end) = match read_head(alloc, &mut stream) {
             Ok(read) => read,
-            Err(fault) => return Err(Refused::silently(fault, stream)),
+            Err(fault) => return Err(RefusedStream::silently(fault, stream)),
         };
         match end {
             Some(end) => Wire::answer(alloc, stream, &bytes[..end], &bytes[end..]),
-            None => Err(Refused::silently(WireFault::Handshake, stream)),
+            None => Err(RefusedStream::silently(WireFault::Handshake, stream)),
         }
     }
 
     /// Answers a head, behind which this was read.
-    fn answer(alloc: Global, mut stream: S, head: &[u8], rest: &[u8]) -> Result<Wire<S>, Refused<S>>
+    fn answer(alloc: Global, mut stream: S, head: &[u8], rest: &[u8]) -> Result<Wire<S>, RefusedStream<S>>
         ensures open { IfOk result (λ wire. wire.stage ≡ stage.Open) }
         ensures fresh { IfOk result (λ wire.
             IsFresh (record wire.socket { input = [] }) wire.socket.stream Role.Server) }
@@ -195,9 +195,9 @@ impl<S: Read + Write + Drop> Wire<S> {
                     ),
                     stage: Stage::Open,
                 }),
-                Err(fault) => Err(Refused::silently(fault, stream)),
+                Err(fault) => Err(RefusedStream::silently(fault, stream)),
             },
-            HeadAsk::Health => Err(Refused::silently(WireFault::Health, stream)),
+            HeadAsk::Health => Err(RefusedStream::silently(WireFault::Health, stream)),
             HeadAsk::Refused(refusal) => Err(refuse(stream, refusal)),
         }
     }

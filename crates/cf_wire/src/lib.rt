@@ -10,7 +10,7 @@ mod gather;
 mod head;
 mod wire;
 
-pub use accept::{Refused, WireFault};
+pub use accept::{RefusedStream, WireFault};
 pub use desk::Desk;
 pub use end::{Stage, TurnEnd, WireEnd};
 pub use gather::Gather;

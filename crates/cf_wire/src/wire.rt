@@ -4,7 +4,7 @@ ghost use Rattle.tungstenite.specs.Content.{close};
 ghost use Rattle.tungstenite.specs.Socket.{Flushed, Reads, Socket, close_of};
 ghost use Rattle.cf_queue.specs.declared.queue.Out.TheVariants as out;
 ghost use Rattle.cf_wire.specs.CloseFrame.{frame_of};
-ghost use Rattle.cf_wire.specs.Stages.{is_unflushed, is_over, waits_by, end_by, after, settled, told, code_of_cause, code_of_fault, Agrees, Halts, Stops};
+ghost use Rattle.cf_wire.specs.Stages.{is_unflushed, is_over, waits_by, end_by, stage_after, settled, told, code_of_cause, code_of_fault, Agrees, Halts, Stops};
 ghost use Rattle.cf_wire.specs.Turn.{Part, Turns, Settles, Tells, TellsIf, FlushLeaves, place, read_in, mark_of, mark_emptied, code_in};
 
 use crate::desk::Desk;
@@ -317,7 +317,7 @@ impl<S: Read + Write + Drop> Wire<S> {
     /// A read failed. The peer is told if it made the error, as far as its socket takes it.
     fn fail(&mut self, error: Error) -> TurnEnd
         ensures told { TellsIf S.contents self.old.socket (code_of_fault error) self.new.socket }
-        ensures left { self.new.stage ≡ after error Stage.Open }
+        ensures left { self.new.stage ≡ stage_after error Stage.Open }
         ensures halts { Halts result self.new.stage }
     {
         self.tell_fault(&error);
@@ -359,7 +359,7 @@ impl<S: Read + Write + Drop> Wire<S> {
     fn settle(&mut self, answer: Result<(), Error>, close: Option<u16>) -> Result<(), TurnEnd>
         ensures same { self.new.socket ≡ self.old.socket }
         ensures ok { OnOk answer (self.new.stage ≡ settled close) }
-        ensures err { IfErr answer (λ e. self.new.stage ≡ after e (Stage.Unflushed close)) }
+        ensures err { IfErr answer (λ e. self.new.stage ≡ stage_after e (Stage.Unflushed close)) }
         ensures open { OnOk result (self.new.stage ≡ Stage.Open) }
         ensures ends { IfErr result (λ end. Stops end self.new.stage) }
     {
@@ -379,7 +379,7 @@ impl<S: Read + Write + Drop> Wire<S> {
     fn pause(&mut self, error: Error, stage: Stage) -> TurnEnd
         requires { is_over stage ≡ false }
         ensures same { self.new.socket ≡ self.old.socket }
-        ensures left { self.new.stage ≡ after error stage }
+        ensures left { self.new.stage ≡ stage_after error stage }
         ensures halts { Halts result self.new.stage }
     {
         let waits = would_block(&error);

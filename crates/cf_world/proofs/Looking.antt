@@ -14,7 +14,7 @@ use Rattle.cf_hub.specs.InNotes.{IsKept, IsSaid, SaysAt, SaysNote, SaysSession}
 use Rattle.cf_hub.specs.Rows.{sub_in}
 use Rattle.cf_hub.specs.Session.{Attached}
 use Rattle.cf_model.specs.Sessions.{Subscription, Off, Asked, Ready, On, is_asked, is_off, is_ready, is_unfinished}
-use Rattle.cf_hub.specs.declared.asking.Asked.{Asked as Answer}
+use Rattle.cf_hub.specs.declared.asking.UnreadSubscription.{UnreadSubscription as Answer}
 use Rattle.cf_hub.specs.Wordings.{Held}
 use Rattle.cf_machine.specs.Session.{Session, Sub}
 use Rattle.cf_world.specs.HubCalls.{front}

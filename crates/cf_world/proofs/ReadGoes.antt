@@ -16,7 +16,7 @@ use Rattle.cf_model.specs.Sessions.{Off, Asked, Ready, On, is_asked, is_off, rea
 use Rattle.cf_model.specs.Sessions.{spoken}
 use Rattle.cf_hub.specs.Subscriptions.{reading_of}
 use Rattle.cf_hub.specs.Wordings.{reading}
-use Rattle.cf_hub.specs.declared.asking.Asked.{Asked as Answer}
+use Rattle.cf_hub.specs.declared.asking.UnreadSubscription.{UnreadSubscription as Answer}
 use Rattle.cf_machine.specs.Config.{Config}
 use Rattle.cf_machine.specs.Event.{Read}
 use Rattle.cf_machine.specs.IntervalMachine.{allows, at_session, happens, read_at, read_found}

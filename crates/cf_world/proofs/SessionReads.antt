@@ -15,7 +15,7 @@ use Rattle.cf_hub.specs.Finish.{FinishesAt}
 use Rattle.cf_hub.specs.WantOfMemory.{Both, SaysAll}
 use Rattle.cf_hub.specs.Wordings.{Held, reading, releasing}
 use Rattle.cf_world.specs.Waits.{KeepsWaits}
-use Rattle.cf_hub.specs.declared.asking.Asked.{Asked as Answer}
+use Rattle.cf_hub.specs.declared.asking.UnreadSubscription.{UnreadSubscription as Answer}
 use Rattle.cf_model.specs.Sessions.{SessionState, Subscription, Wording, Off, Asked, Ready, On, finish_notes}
 use Rattle.cf_model.specs.Sessions.{finished, is_asked, is_off, is_ready, is_unfinished, push, put_sub, read_at}
 use Rattle.cf_model.specs.Sessions.{reads, says}

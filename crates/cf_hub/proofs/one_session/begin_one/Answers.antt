@@ -7,7 +7,7 @@ use Rattle.cf_hub.specs.Rows.{sub_in}
 use Rattle.cf_hub.specs.Session.{attached_of, attached_shown, badge_of}
 use Rattle.cf_hub.specs.Subscriptions.{progress_at, sub_of}
 use Rattle.cf_hub.specs.Wordings.{plain}
-use Rattle.cf_hub.specs.declared.session.Session.{Session}
+use Rattle.cf_hub.specs.declared.session.AttachedSession.{AttachedSession}
 use Rattle.cf_hub.specs.declared.subscription.Progress.{Progress}
 use Rattle.cf_hub.specs.declared.subscription.Progress.TheVariants as code
 use Rattle.cf_model.specs.Sessions.{begins, is_off}
@@ -25,7 +25,7 @@ pub add-requires : goal.add-requires
 add-requires c =
     let old = c.in-Some.session.now in
     is_none (progress_at old.subscriptions c.args.channel.now)
-    (sym (ap (λ (o : Option Session). is_off (sub_in (option_map attached_of o) c.args.channel.now)) (sym c.get_mut.ensures.value ∙ ap option_copied_mut c.in-Some.is)) ∙ c.requires)
+    (sym (ap (λ (o : Option AttachedSession). is_off (sub_in (option_map attached_of o) c.args.channel.now)) (sym c.get_mut.ensures.value ∙ ap option_copied_mut c.in-Some.is)) ∙ c.requires)
 
 pub returns-in-Some-clause-here : goal.returns-in-Some-clause-here
 returns-in-Some-clause-here c =

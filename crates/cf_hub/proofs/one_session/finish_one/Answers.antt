@@ -6,7 +6,7 @@ use Rattle.cf_hub.specs.Finish.{FinishesAt}
 use Rattle.cf_hub.specs.Hub.{InState, attached_in}
 use Rattle.cf_hub.specs.Rows.{sub_in}
 use Rattle.cf_hub.specs.Session.{attached_of, state_of}
-use Rattle.cf_hub.specs.declared.session.Session.{Session}
+use Rattle.cf_hub.specs.declared.session.AttachedSession.{AttachedSession}
 use Rattle.cf_hub.proofs.Placing.{ends_here, ends_none, met_here, met_none, others_here}
 use Rattle.cf_hub.proofs.one_session.finish_one.Goals as goal
 
@@ -21,7 +21,7 @@ returns-in-None-clause-offs c =
 pub returns-in-Some-clause-here : goal.returns-in-Some-clause-here
 returns-in-Some-clause-here c =
     met_here c.args.sessions.now c.args.number c.in-Some.session.now c.finish.new.self (sym c.get_mut.ensures.value ∙ ap option_copied_mut c.in-Some.is) (InState (FinishesAt c.finish.result.1.refused c.args.channel.now (sub_in (attached_in c.args.sessions.now c.args.number) c.args.channel.now))) (
-      subst (λ (o : Option Session). FinishesAt c.finish.result.1.refused c.args.channel.now (sub_in (option_map attached_of o) c.args.channel.now) (state_of c.in-Some.session.now) (state_of c.finish.new.self)) (sym (sym c.get_mut.ensures.value ∙ ap option_copied_mut c.in-Some.is)) c.finish.ensures.state,
+      subst (λ (o : Option AttachedSession). FinishesAt c.finish.result.1.refused c.args.channel.now (sub_in (option_map attached_of o) c.args.channel.now) (state_of c.in-Some.session.now) (state_of c.finish.new.self)) (sym (sym c.get_mut.ensures.value ∙ ap option_copied_mut c.in-Some.is)) c.finish.ensures.state,
       c.finish.ensures.badge,
     )
 

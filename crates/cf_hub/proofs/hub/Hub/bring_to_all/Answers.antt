@@ -11,8 +11,8 @@ use Rattle.cf_hub.specs.Rows.{AgreedBefore, Agrees}
 use Rattle.cf_hub.specs.Session.{Attached, attached_shown, shown_all}
 use Rattle.cf_hub.proofs.Deliveries.{IsOnItsWay, starts, steps, goes_on, ends_before, ends_counted, ends_numbered, ends_served, ends_so_many, ends_turns}
 use Rattle.cf_hub.proofs.Hubs.{agrees_shown, agrees_view, seen, seen_in}
-use Rattle.cf_hub.proofs.hub.Hub.bring_to_all.Goals as goal
-use Rattle.cf_hub.proofs.hub.Hub.bring_to_all.Goals.{In-None, In-Some}
+use Rattle.cf_hub.proofs.hub.Hub.deliver_to_all.Goals as goal
+use Rattle.cf_hub.proofs.hub.Hub.deliver_to_all.Goals.{In-None, In-Some}
 
 pub loop-session-init : goal.loop-session-init
 loop-session-init c =
@@ -39,9 +39,9 @@ and-counts-requires c =
 pub loop-session-preserved : goal.loop-session-preserved
 loop-session-preserved c =
     let i = (goal.at.loop-session-preserved c).In-Some in
-    subst (λ (counts : Delivered). IsOnItsWay c.args.publication.now c.args.channel.now c.args.epoch.now c.args.self.now (attached_in c.bring_one-step.new.sessions) c.count_more-self-inside.result c.add.new.self counts (c.loop-session.yielded ++ c.in-Some.session ∷ []) c.next.new.self) (sym c.and-counts.ensures)
-    (steps c.args.publication.now c.args.channel.now c.args.epoch.now c.args.self.now (attached_in c.loop-session.self-inside.1.1.1.1.0) (attached_in c.bring_one-step.new.sessions) c.in-Some.session c.bring_one-step.result.refused c.bring_one-step.result.fate
-    c.bring_one-step.ensures.here c.bring_one-step.ensures.others c.bring_one-step.ensures.fate c.loop-session.counts c.loop-session.yielded c.next.new.self (are_rows i) (on_its_way i) c.count_more-self-inside.ensures c.add.ensures)
+    subst (λ (counts : Delivered). IsOnItsWay c.args.publication.now c.args.channel.now c.args.epoch.now c.args.self.now (attached_in c.deliver_one-step.new.sessions) c.count_more-self-inside.result c.add.new.self counts (c.loop-session.yielded ++ c.in-Some.session ∷ []) c.next.new.self) (sym c.and-counts.ensures)
+    (steps c.args.publication.now c.args.channel.now c.args.epoch.now c.args.self.now (attached_in c.loop-session.self-inside.1.1.1.1.0) (attached_in c.deliver_one-step.new.sessions) c.in-Some.session c.deliver_one-step.result.refused c.deliver_one-step.result.fate
+    c.deliver_one-step.ensures.here c.deliver_one-step.ensures.others c.deliver_one-step.ensures.fate c.loop-session.counts c.loop-session.yielded c.next.new.self (are_rows i) (on_its_way i) c.count_more-self-inside.ensures c.add.ensures)
 
 -- all were met
 at_its_end : (c : In-None) → IsOnItsWay c.args.publication.now c.args.channel.now c.args.epoch.now c.args.self.now (attached_in c.loop-session.self-inside.1.1.1.1.0) c.loop-session.self-inside.1.1.1.1.1.1.1.0 c.loop-session.self-inside.1.1.1.1.1.1.1.1.0 c.loop-session.counts c.loop-session.yielded []

@@ -1,7 +1,7 @@
 -- The list answers what the definition does (`AnswersHistory-from`), and a list of another epoch is refused.
 use Rattle.std.proofs.Common.{◌≡◌, ap, ◌∙◌, ◌-◌, take, refl, rules}
 use Rattle.cf_model.specs.Streams.{allowed_by}
-use Rattle.cf_stream.specs.Stream.{after}
+use Rattle.cf_stream.specs.Stream.{stream_after}
 use Rattle.cf_stream.proofs.Giving.{wrong_epoch_none, wrong_epoch_not}
 use Rattle.cf_stream.proofs.PublicationLists.{AnswersHistory-from, GoesOn-used}
 use Rattle.cf_stream.proofs.stream.Stream.history.Goals as goal
@@ -12,7 +12,7 @@ returns-clause-answer c =
     record {
       at = c.position-position.ensures;
       in_epoch = c.in-Some.ensures.in_epoch;
-      first = c.in_ok-publications.ensures ∙ ap (λ n. take n (after c.args.self.now (c.args.self.now.top - c.in-Some.count))) many ∙ ap (take (allowed_by c.args.limit)) c.in-Some.ensures.newer;
+      first = c.in_ok-publications.ensures ∙ ap (λ n. take n (stream_after c.args.self.now (c.args.self.now.top - c.in-Some.count))) many ∙ ap (take (allowed_by c.args.limit)) c.in-Some.ensures.newer;
     }
 
 pub returns-clause-list : goal.returns-clause-list

@@ -3,13 +3,13 @@ use Rattle.std.specs.Io.KnownBytes.{Appends}
 use Rattle.cf_handshake.specs.Answers.{opening_text}
 use Rattle.cf_wire.specs.Answered.{HeadAsks, RefusesBy, RefusesFor}
 use Rattle.cf_wire.specs.Refused.{IsOutside}
-use Rattle.cf_wire.specs.declared.accept.Refused.{Refused}
+use Rattle.cf_wire.specs.declared.accept.RefusedStream.{RefusedStream}
 use Rattle.cf_wire.specs.declared.accept.WireFault.{WireFault}
 use Rattle.cf_wire.specs.declared.accept.WireFault.TheVariants.{Handshake, Health, StreamFault, Memory}
 use Rattle.cf_wire.proofs.wire.Wire.answer.Goals as goal
 
 module _ {S : Type 0} (contents : S → Option (List ℕ)) (old : S) (head : List ℕ) where
-  outside_by : (fault : WireFault) (refused : Refused S) → IsOutside fault → RefusesFor contents fault old head refused
+  outside_by : (fault : WireFault) (refused : RefusedStream S) → IsOutside fault → RefusesFor contents fault old head refused
   outside_by Handshake refused h = absurd h
   outside_by Health refused h = absurd h
   outside_by StreamFault refused h = h

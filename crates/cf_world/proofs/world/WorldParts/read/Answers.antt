@@ -4,7 +4,7 @@ use Rattle.std.proofs.lemmas.Map.Text.{btree_map_updates_text}
 use Rattle.std.specs.BTreeMap.{get_by_text}
 use Rattle.cf_hub.specs.Asking.{asked_of}
 use Rattle.cf_hub.specs.Hub.{Node, sub_at}
-use Rattle.cf_hub.specs.declared.asking.Asked.{Asked}
+use Rattle.cf_hub.specs.declared.asking.UnreadSubscription.{UnreadSubscription}
 use Rattle.cf_model.specs.Sessions.{is_asked}
 use Rattle.cf_session.specs.declared.session.Session.{Session}
 use Rattle.cf_machine.specs.Event.{Read}
@@ -29,7 +29,7 @@ same-node : (x y : Node) → Some x ≡ Some y → x ≡ y
 same-node x y h = cc
 
 -- what the lent hub answers, the hub of the seat does
-asks-there : {n : ℕ} (k : ℕ) (c : List ℕ) {h g : Node} {old new : ℕ → Option Node} {o : Option Asked}
+asks-there : {n : ℕ} (k : ℕ) (c : List ℕ) {h g : Node} {old new : ℕ → Option Node} {o : Option UnreadSubscription}
     → Moves n h g old new → o ≡ asked_of (sub_at h k c) → (z : Node) → old n ≡ Some z → o ≡ asked_of (sub_at z k c)
 asks-there k c {h = h} v e z is = e ∙ ap (λ (y : Node). asked_of (sub_at y k c)) (same-node h z (sym v.was ∙ is))
 
@@ -154,7 +154,7 @@ returns c = λ cfg past t.
     let v = lends c.args.self.now.hubs s.node h g (c.in-Some-get_mut.ensures.variant.0 refl)
     c.in-Some-get_mut.ensures.value in
     let opens : c.can_open.result ≡ true = search rules in
-    let a : Asked = c.in-Some-asked._asked in
+    let a : UnreadSubscription = c.in-Some-asked._asked in
     let asked : asked_of (sub_at h s.session c.args.channel.now) ≡ Some a = sym c.asked.ensures ∙ c.in-Some-asked.is in
     read-done t.0 t.1 x c.args.channel.now s f a c.step.new.broker v pv sits asked
     (sym (c.can_open.ensures cfg.namespaces w.broker t.0.broker) ∙ opens) c.in_ok-step.ensures

@@ -7,7 +7,7 @@ use Rattle.cf_hub.specs.Sessions.{says_one}
 use Rattle.cf_hub.specs.WantOfMemory.{OrCloses}
 use Rattle.cf_hub.specs.Wordings.{plain}
 use Rattle.cf_hub.proofs.Placing.{ends_here, ends_none, met_here, met_none, others_here}
-use Rattle.cf_hub.proofs.one_session.say_one.Goals as goal
+use Rattle.cf_hub.proofs.one_session.enqueue_one.Goals as goal
 
 pub returns-in-None-clause-here : goal.returns-in-None-clause-here
 returns-in-None-clause-here c = met_none c.args.sessions.now c.args.number (sym c.get_mut.ensures.value ∙ ap option_copied_mut c.in-None.is) (InState (OrCloses c.none.result.refused plain (says_one (string_bytes c.args.text))))

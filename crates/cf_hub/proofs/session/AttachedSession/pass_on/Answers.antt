@@ -7,7 +7,7 @@ use Rattle.cf_hub.specs.Session.{state_of}
 use Rattle.cf_hub.specs.WantOfMemory.{SaysAll}
 use Rattle.cf_hub.specs.Wordings.{plain, push_text}
 use Rattle.cf_hub.proofs.Notes.{all_said, one_said}
-use Rattle.cf_hub.proofs.session.Session.pass_on.Goals as goal
+use Rattle.cf_hub.proofs.session.AttachedSession.enqueue_run.Goals as goal
 
 abbrev pushes : List ℕ → List Placed → List Item
 pushes c ps = map (λ x. Text (push_text c x)) ps

@@ -7,7 +7,7 @@ use Rattle.cf_hub.specs.Session.{state_of}
 use Rattle.cf_model.specs.Sessions.{is_off, no_memory}
 use Rattle.cf_hub.specs.Wordings.{plain}
 use Rattle.cf_hub.proofs.States.{said_off}
-use Rattle.cf_hub.proofs.session.Session.tell.Goals as goal
+use Rattle.cf_hub.proofs.session.AttachedSession.tell.Goals as goal
 
 pub returns-clause-offs : goal.returns-clause-offs
 returns-clause-offs c = λ d.

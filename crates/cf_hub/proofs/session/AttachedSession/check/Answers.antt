@@ -10,7 +10,7 @@ use Rattle.cf_hub.specs.WantOfMemory.{OrCloses}
 use Rattle.cf_hub.specs.Wordings.{plain, end_text}
 use Rattle.cf_hub.proofs.Checks.{checked, ended, left, still_on}
 use Rattle.cf_hub.proofs.States.{said_off, ends_off}
-use Rattle.cf_hub.proofs.session.Session.check.Goals as goal
+use Rattle.cf_hub.proofs.session.AttachedSession.check.Goals as goal
 
 pub returns-in_default-clause-state : goal.returns-in_default-clause-state
 returns-in_default-clause-state c =

@@ -5,7 +5,7 @@ use Rattle.cf_model.specs.Sessions.{push}
 use Rattle.cf_hub.specs.Wordings.{plain}
 use Rattle.cf_hub.proofs.Notes.{with_queue, queue_fits}
 use Rattle.cf_hub.proofs.Puts.{subs_of}
-use Rattle.cf_hub.proofs.session.Session.say.Goals as goal
+use Rattle.cf_hub.proofs.session.AttachedSession.say.Goals as goal
 
 pub returns-in-Ok-clause-state : goal.returns-in-Ok-clause-state
 returns-in-Ok-clause-state c = λ t h.

@@ -3,7 +3,7 @@ use Rattle.cf_queue.specs.OutQueue.{Text}
 use Rattle.cf_hub.specs.Session.{badge_of, state_of}
 use Rattle.cf_hub.specs.WantOfMemory.{SaysAll}
 use Rattle.cf_hub.specs.Wordings.{plain, push_text}
-use Rattle.cf_hub.proofs.session.Session.pass_on.Given as goal
+use Rattle.cf_hub.proofs.session.AttachedSession.enqueue_run.Given as goal
 
 abbrev pub invariant-loop-publication : goal.invariant-loop-publication
 invariant-loop-publication l =

@@ -7,7 +7,7 @@ use Rattle.cf_hub.specs.Session.{state_of}
 use Rattle.cf_model.specs.Sessions.{is_off, no_memory}
 use Rattle.cf_hub.specs.Wordings.{plain, ping_text}
 use Rattle.cf_hub.proofs.States.{said_off, closed_now_off}
-use Rattle.cf_hub.proofs.session.Session.tick.Goals as goal
+use Rattle.cf_hub.proofs.session.AttachedSession.tick.Goals as goal
 
 pub returns-then-seconds-ge-PONG_SECONDS-clause-offs : goal.returns-then-seconds-ge-PONG_SECONDS-clause-offs
 returns-then-seconds-ge-PONG_SECONDS-clause-offs c = λ d.

@@ -5,7 +5,7 @@ use Rattle.cf_model.specs.Sessions.{push}
 use Rattle.cf_hub.specs.Wordings.{plain, push_text}
 use Rattle.cf_hub.proofs.Notes.{with_queue, queue_fits}
 use Rattle.cf_hub.proofs.Puts.{subs_of}
-use Rattle.cf_hub.proofs.session.Session.say_publication.Goals as goal
+use Rattle.cf_hub.proofs.session.AttachedSession.enqueue_publication.Goals as goal
 
 pub returns-in-Ok-clause-state : goal.returns-in-Ok-clause-state
 returns-in-Ok-clause-state c =

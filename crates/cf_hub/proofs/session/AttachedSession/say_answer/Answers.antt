@@ -9,12 +9,12 @@ use Rattle.cf_hub.specs.Subscriptions.{reading_of}
 use Rattle.cf_hub.specs.WantOfMemory.{SaysAll}
 use Rattle.cf_hub.specs.Wordings.{push_text, reply_text}
 use Rattle.cf_hub.proofs.Notes.{all_said, one_said}
-use Rattle.cf_hub.proofs.session.Session.say_answer.Goals as goal
+use Rattle.cf_hub.proofs.session.AttachedSession.enqueue_answer.Goals as goal
 
 pub returns-clause-state : goal.returns-clause-state
 returns-clause-state c =
     let t : List ℕ = reply_text c.args.answered.id c.args.answered.was_recovering (reading_of c.args.answered.recovery) c.args.answered.recovery.publications.items in
-    (all_said plain c.say-first.result c.pass_on-second.result (Text t ∷ []) (map (λ x. Text (push_text c.args.channel.now x)) c.args.answered.released.run.items)
-    (state_of c.args.self.now) (state_of c.say-first.new.self) (state_of c.pass_on-second.new.self)
+    (all_said plain c.say-first.result c.enqueue_run-second.result (Text t ∷ []) (map (λ x. Text (push_text c.args.channel.now x)) c.args.answered.released.run.items)
+    (state_of c.args.self.now) (state_of c.say-first.new.self) (state_of c.enqueue_run-second.new.self)
     (one_said plain c.say-first.result (Text t) (state_of c.args.self.now) (state_of c.say-first.new.self) (c.say-first.ensures.state t c.reply_text.ensures))
-    (subst (λ (xs : List Placed). SaysAll c.pass_on-second.result plain (map (λ x. Text (push_text c.args.channel.now x)) xs) (state_of c.say-first.new.self) (state_of c.pass_on-second.new.self)) c.deref.ensures.value c.pass_on-second.ensures.state))
+    (subst (λ (xs : List Placed). SaysAll c.enqueue_run-second.result plain (map (λ x. Text (push_text c.args.channel.now x)) xs) (state_of c.say-first.new.self) (state_of c.enqueue_run-second.new.self)) c.deref.ensures.value c.enqueue_run-second.ensures.state))

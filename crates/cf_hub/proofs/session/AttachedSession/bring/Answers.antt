@@ -9,7 +9,7 @@ use Rattle.cf_hub.specs.Subscriptions.{meeting, progress_at}
 use Rattle.cf_hub.specs.Session.{state_of}
 use Rattle.cf_hub.specs.Wordings.{at_offset, delivering, end_text}
 use Rattle.cf_hub.proofs.Puts.{dropped, ended, kept, not_given_up, passed, unasked}
-use Rattle.cf_hub.proofs.session.Session.bring.Goals as goal
+use Rattle.cf_hub.proofs.session.AttachedSession.deliver_here.Goals as goal
 
 pub returns-in-Nothing-clause-state : goal.returns-in-Nothing-clause-state
 returns-in-Nothing-clause-state c =
@@ -31,11 +31,11 @@ returns-in-On-Drop-clause-state c =
 pub returns-in-On-Pass-clause-state : goal.returns-in-On-Pass-clause-state
 returns-in-On-Pass-clause-state c =
     let met : meeting (at_offset c.args.epoch.now c.args.publication.now) (progress_at c.args.self.now.subscriptions c.args.channel.now) ≡ meets.On answer.Pass = search rules in
-    subst (λ (refused : Bool). Serves refused (delivering c.args.publication.now) c.args.channel.now (comes (delivering c.args.publication.now) c.args.channel.now (at_offset c.args.epoch.now c.args.publication.now)) (state_of c.args.self.now) (state_of c.say_publication-refused.new.self)) (sym c.step.ensures.refused)
-    (passed c.args.self.now.subscriptions c.take_at-meets.new.subscriptions c.args.channel.now c.args.self.now.queue c.args.epoch.now c.args.publication.now c.say_publication-refused.result
-    (state_of c.say_publication-refused.new.self) met
+    subst (λ (refused : Bool). Serves refused (delivering c.args.publication.now) c.args.channel.now (comes (delivering c.args.publication.now) c.args.channel.now (at_offset c.args.epoch.now c.args.publication.now)) (state_of c.args.self.now) (state_of c.enqueue_publication-refused.new.self)) (sym c.step.ensures.refused)
+    (passed c.args.self.now.subscriptions c.take_at-meets.new.subscriptions c.args.channel.now c.args.self.now.queue c.args.epoch.now c.args.publication.now c.enqueue_publication-refused.result
+    (state_of c.enqueue_publication-refused.new.self) met
     (not_given_up c.take_at-meets.result (meets.On answer.Pass) (c.take_at-meets.ensures.meets ∙ met) (λ e. cc) c.take_at-meets.ensures.after)
-    c.say_publication-refused.ensures.state)
+    c.enqueue_publication-refused.ensures.state)
 
 pub returns-in-On-Insufficient-clause-state : goal.returns-in-On-Insufficient-clause-state
 returns-in-On-Insufficient-clause-state c =
