@@ -10,7 +10,7 @@ mod broker;
 mod change;
 mod links;
 mod parts;
-mod place;
+mod locked_shard;
 mod quarter;
 mod words;
 

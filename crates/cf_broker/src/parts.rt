@@ -3,7 +3,7 @@ ghost use Rattle.std.specs.Prelude.{◌≡◌, ◌+◌, IfOk, vec_len};
 ghost use Rattle.cf_shard.specs.Shard.{no_streams};
 ghost use Rattle.cf_shard.specs.Shards.{names};
 
-use crate::place::Place;
+use crate::locked_shard::LockedShard;
 use crate::words::NewWord;
 use cf_protocol::Namespaces;
 use cf_shard::Naming;
@@ -46,7 +46,7 @@ pub(crate) fn last_place<N: Naming, E: Epochs, const I: usize>(
     alloc: Global,
     parts: &mut Vec<Part<N, E>>,
     words: &mut Vec<NewWord>,
-) -> Place<N, E, I>
+) -> LockedShard<N, E, I>
     requires parts { vec_len parts.old ≡ I + 1 }
     requires words { words.old.items ≡ names N.words (I + 1) }
     ensures parts { vec_len parts.new ≡ I }
@@ -59,5 +59,5 @@ pub(crate) fn last_place<N: Naming, E: Epochs, const I: usize>(
         unreachable!()
     };
     let NewWord { word, owner } = new;
-    Place::new(alloc, part.streams, part.epochs, word, owner)
+    LockedShard::new(alloc, part.streams, part.epochs, word, owner)
 }

@@ -3,7 +3,7 @@ ghost use Rattle.std.specs.Prelude.{◌≡◌, ◌+◌, vec_len};
 ghost use Rattle.cf_shard.specs.Shards.{names};
 
 use crate::parts::{Part, last_place};
-use crate::place::Place;
+use crate::locked_shard::LockedShard;
 use crate::words::NewWord;
 use cf_shard::Naming;
 use cf_stream::Epochs;
@@ -19,10 +19,10 @@ pub(crate) struct Quarter<
     const C: usize,
     const D: usize,
 > {
-    pub(crate) first: Place<N, E, A>,
-    pub(crate) second: Place<N, E, B>,
-    pub(crate) third: Place<N, E, C>,
-    pub(crate) fourth: Place<N, E, D>,
+    pub(crate) first: LockedShard<N, E, A>,
+    pub(crate) second: LockedShard<N, E, B>,
+    pub(crate) third: LockedShard<N, E, C>,
+    pub(crate) fourth: LockedShard<N, E, D>,
 }
 
 /// The last four shards that can be made of these parts and words.

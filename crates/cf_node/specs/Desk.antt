@@ -1,7 +1,7 @@
 -- What becomes of a text that a client sent, in the turn in which it is heard and in those after it.
 -- (Centrifugo's client protocol: commands are carried out in order.)
 use Rattle.std.specs.Prelude.{◌≡◌, ◌==◌, ◌&&◌, ◌++◌, not, ℕ, Bool, true, false, Option, Some, None, List, [], ◌∷◌}
-use Rattle.cf_session.specs.Standing.{is_idle, is_short, progress_of, tables_of}
+use Rattle.cf_session.specs.Standing.{is_idle, met_refused_memory, progress_of, tables_of}
 use Rattle.cf_session.specs.declared.session.Session.{Session}
 use Rattle.cf_protocol.specs.Settings.{NamespaceTable}
 use Rattle.cf_session.specs.Played.{Goes, LeadsOn}
@@ -15,13 +15,13 @@ module _ {C : Type 0} (t : NamespaceTable) (closed : C → Bool) where
   -- carries it out, with what its calls answer, and after the close nothing of it.
   abbrev pub Hears : Session → C → List ℕ → Session → C → Type 0
   Hears old before text new after =
-      is_short new ≡ false
+      met_refused_memory new ≡ false
       → Goes closed (λ _ act a _. IsDone t act a) (tables_of old) (progress_of old) before text (progress_of new) after
 
   -- Unless memory was refused, what was on its way goes on so.
   abbrev pub CarriesOn : Session → C → Session → C → Type 0
   CarriesOn old before new after =
-      is_short new ≡ false → LeadsOn closed (λ _ act a _. IsDone t act a) (progress_of old) before (progress_of new) after
+      met_refused_memory new ≡ false → LeadsOn closed (λ _ act a _. IsDone t act a) (progress_of old) before (progress_of new) after
 
 -- A desk hears a text where it is to hear in this turn, a unit of the turn's budget is left, and the session is idle
 -- and not over.

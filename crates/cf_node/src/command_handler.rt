@@ -13,7 +13,7 @@ use cf_node_hub::history_reply;
 use cf_order::Pass;
 use cf_presence::Stats;
 use cf_protocol::{CloseCode, ErrorCode, Info, Position};
-use cf_session::Node;
+use cf_session::CommandExecutor;
 use cf_stream::{History, Published};
 use std::collections::BTreeMap;
 
@@ -49,7 +49,7 @@ pub(crate) struct CommandHandler<'a, B: Backend> {
     pub(crate) heard: u64,
 }
 
-impl<'a, B: Backend> Node for CommandHandler<'a, B> {
+impl<'a, B: Backend> CommandExecutor for CommandHandler<'a, B> {
     ghost use Rattle.cf_node.specs.Answered.{IsDone};
 
     ghost namespaces = { λ _. B.Of.Naming.namespaces };

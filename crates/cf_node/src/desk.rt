@@ -2,7 +2,7 @@
 //! is handed out.
 ghost use Rattle.std.specs.Prelude.{◌≡◌, ◌≢◌, true, false};
 ghost use Rattle.cf_session.specs.SessionMachine.{HearsText};
-ghost use Rattle.cf_session.specs.Standing.{is_idle, is_short, progress_of, tables_of};
+ghost use Rattle.cf_session.specs.Standing.{is_idle, met_refused_memory, progress_of, tables_of};
 ghost use Rattle.cf_session.specs.Played.{AskStreams};
 ghost use Rattle.cf_node.specs.Ready.{AskStreams-prop, is_out};
 
@@ -12,7 +12,7 @@ use crate::command_handler::CommandHandler;
 use cf_dispatch::Outbox;
 use cf_queue::Out;
 use cf_session::laws::idle_can_go_on;
-use cf_session::{Budget, Desk, Node, Session, carry_on, hear_text};
+use cf_session::{Budget, Desk, CommandExecutor, Session, carry_on, hear_text};
 use std::marker::PhantomData;
 use std::mem;
 
@@ -65,7 +65,7 @@ impl<'a, B: Backend> Talk<'a, B> {
     // Hears a text: what it asks for is on its way then.
     fn hear(&mut self, text: &str)
         requires { is_idle self.old.session ≡ true }
-        ensures { is_short self.new.session ≡ false →
+        ensures { met_refused_memory self.new.session ≡ false →
             HearsText (tables_of self.old.session) (progress_of self.old.session) text.now
             (progress_of self.new.session) }
     {
@@ -76,7 +76,7 @@ impl<'a, B: Backend> Talk<'a, B> {
     fn go_on(&mut self, handler: &mut CommandHandler<'a, B>) -> usize
         ensures goes { CarriesOn B.Of.Naming.namespaces (λ h. h.client.standing.is_over)
             self.old.session handler.old self.new.session handler.new }
-        ensures short { is_short self.old.session ≡ true → is_short self.new.session ≡ true }
+        ensures short { met_refused_memory self.old.session ≡ true → met_refused_memory self.new.session ≡ true }
     {
         let mut budget = Budget::new(PART);
         carry_on(&mut self.session, handler, &mut budget);
@@ -231,8 +231,8 @@ impl<'a, B: Backend> SessionDesk<'a, B> {
     fn go_on(&mut self)
         ensures goes { CarriesOn B.Of.Naming.namespaces (λ h. h.client.standing.is_over)
             self.old.talk.session self.old.handler self.new.talk.session self.new.handler }
-        ensures short { is_short self.old.talk.session ≡ true
-            → is_short self.new.talk.session ≡ true }
+        ensures short { met_refused_memory self.old.talk.session ≡ true
+            → met_refused_memory self.new.talk.session ≡ true }
     {
         let mut said: usize = 0;
         for part in 0..MOST_PARTS {

@@ -13,7 +13,7 @@ use Rattle.cf_model.specs.Sessions as session
 use Rattle.cf_machine.specs.ClientLink.{finishes_over}
 use Rattle.cf_machine.proofs.Names.{by_test}
 use Rattle.cf_running.specs.Server as server
-use Rattle.cf_running.specs.Server.{Server, Site, Connection, Work, Free, Began, HasRead, ToFinish, ToGiveUp, ToPublish, ToList, ToSay, Lookup, ClientCommand, Section, at_number, change, nowhere, life_of, lists_of, words_of, request_by, may_send, after, start, Gains, Sizes, Publishes, Offers, AsksShard, LooksUp, IsRefused, Begins, Leaves, Calls, Refuses, ReadDone, Finishes, FinishesOver, FinishesAmid, GivesUp, Drops, Says, Errs, Takes, Detaches, Delivers, Checks, Pings, Closes, Attaches, Wanders, Strays, Sends, Receives, Breaks}
+use Rattle.cf_running.specs.Server.{Server, Site, Connection, Work, Free, Began, HasRead, ToFinish, ToGiveUp, ToPublish, ToList, ToSay, Lookup, ClientCommand, Section, at_number, change, nowhere, life_of, lists_of, words_of, request_by, may_send, server_after, start, Gains, Sizes, Publishes, Offers, AsksShard, LooksUp, IsRefused, Begins, Leaves, Calls, Refuses, ReadDone, Finishes, FinishesOver, FinishesAmid, GivesUp, Drops, Says, Errs, Takes, Detaches, Delivers, Checks, Pings, Closes, Attaches, Wanders, Strays, Sends, Receives, Breaks}
 use Rattle.cf_running.proofs.Answering as answering
 use Rattle.cf_running.proofs.Answering.{Asks, Answered, Answers, RequestIs, UpsAre, NotesAre, more, notes-append, ups-append, AreRightFor}
 use Rattle.cf_running.proofs.Beside.{number_tells}
@@ -86,10 +86,10 @@ below-more : (i f g : ℕ) → f ≤ g → i < f → i < g
 below-more i f g h k = omega arith
 
 pub prefix-next : (site : Site) (sections : List Section) (s : Server) (n : ℕ) (x : Section) → slice_get sections n ≡ Some x
-    → server.ran site s (take (suc n) sections) ≡ after site x (server.ran site s (take n sections))
+    → server.ran site s (take (suc n) sections) ≡ server_after site x (server.ran site s (take n sections))
 prefix-next site [] s n x e = absurd (cc)
-prefix-next site (y ∷ ys) s zero x e = let same : y ≡ x = cc in ap (λ z. after site z s) same
-prefix-next site (y ∷ ys) s (suc n) x e = prefix-next site ys (after site y s) n x e
+prefix-next site (y ∷ ys) s zero x e = let same : y ≡ x = cc in ap (λ z. server_after site z s) same
+prefix-next site (y ∷ ys) s (suc n) x e = prefix-next site ys (server_after site y s) n x e
 
 pub its_section : (sections : List Section) (n : ℕ) → n < length sections → (x : Section) × (slice_get sections n ≡ Some x)
 its_section [] n h = absurd (omega (arith, h))
@@ -132,7 +132,7 @@ module _ (site : Site) (s : Server) where
   same-checks None = (refl, refl)
   same-checks (Some a) = (refl, refl)
 
-  pub stays : (x : Section) → IsAside x → Same (after site x s)
+  pub stays : (x : Section) → IsAside x → Same (server_after site x s)
   stays (Gains (Publish c key d)) h = (refl, refl)
   stays (Gains (Size name n)) h = (refl, refl)
   stays (Gains (Open c e)) h = same-gains (site.shard_of c) (Open c e)
@@ -213,7 +213,7 @@ module _ (site : Site) (s : Server) where
 
     -- the connection is a client's own, so that no stray command reaches it
     pub keeps : (x : Section) → IsAside x → (server.is_seat j (s.seats (s.connections j).client) ≡ true)
-        → (x ≡ AsksShard j → AreRightFor Q P c site s (s.connections j).session (s.connections j).work) → Has s → Has (after site x s)
+        → (x ≡ AsksShard j → AreRightFor Q P c site s (s.connections j).session (s.connections j).work) → Has s → Has (server_after site x s)
     keeps (Gains (Publish d key x)) h o r a = a
     keeps (Gains (Size name n)) h o r a = a
     keeps (Gains (Open d e)) h o r a = keeps-gains (site.shard_of d) (Open d e) a

@@ -16,7 +16,7 @@ use Rattle.cf_machine.specs.World.{World}
 use Rattle.cf_machine.proofs.Names.{text_tells, by_test, with-same, with-other}
 use Rattle.std.specs.Str.{bytes_eq}
 use Rattle.cf_running.specs.Server as server
-use Rattle.cf_running.specs.Server.{Server, Site, Connection, Work, Free, Began, HasRead, ToFinish, ToGiveUp, ToPublish, ToList, ToSay, ClientCommand, Section, at_number, change, nowhere, life_of, request_by, may_send, after, AsksShard, Attaches, Sends, Receives, Breaks, Gains, Sizes, Publishes, Offers, LooksUp, IsRefused, Begins, Leaves, Calls, Refuses, ReadDone, Finishes, FinishesOver, FinishesAmid, GivesUp, Drops, Says, Errs, Takes, Detaches, Delivers, Checks, Pings, Closes, Wanders, Strays}
+use Rattle.cf_running.specs.Server.{Server, Site, Connection, Work, Free, Began, HasRead, ToFinish, ToGiveUp, ToPublish, ToList, ToSay, ClientCommand, Section, at_number, change, nowhere, life_of, request_by, may_send, server_after, AsksShard, Attaches, Sends, Receives, Breaks, Gains, Sizes, Publishes, Offers, LooksUp, IsRefused, Begins, Leaves, Calls, Refuses, ReadDone, Finishes, FinishesOver, FinishesAmid, GivesUp, Drops, Says, Errs, Takes, Detaches, Delivers, Checks, Pings, Closes, Wanders, Strays}
 use Rattle.cf_running.specs.WasRead.{after_first, mode_after, IsOut}
 use Rattle.cf_running.proofs.Answering.{Asks, Answered, Answers, RequestIs, NotesAre, more, ups-append, AreRightFor}
 use Rattle.cf_running.proofs.Asking.{SinceFits, ReplyFits, IsNoAsk, GoesTo, since-to, reply-to, takes-to, up_to, prefix-next, its_section, IsAside, stays, changed, keeps}
@@ -181,10 +181,10 @@ module _ (site : Site) (sections : List Section) (x c : List ℕ) where
     unchanged e = goes (S n) e (inl refl) (λ k at. (le_refl _, as_it_was k at))
 
     -- a section that leaves clients aside
-    aside-step : (y : Section) → IsAside y → slice_get sections n ≡ Some y → S (suc n) ≡ after site y (S n) → (w : World) → Beside site (S n) w
-        → Waits site sections x c (suc n) (after site y (S n))
+    aside-step : (y : Section) → IsAside y → slice_get sections n ≡ Some y → S (suc n) ≡ server_after site y (S n) → (w : World) → Beside site (S n) w
+        → Waits site sections x c (suc n) (server_after site y (S n))
     aside-step y side e next w b =
-        let v : Server = after site y (S n) in
+        let v : Server = server_after site y (S n) in
         let st = stays site (S n) y side in
         goes v next (inl (ap (λ (f : List ℕ → Client). (f x).modes c) st.0))
         (λ k at.
@@ -429,7 +429,7 @@ module _ (site : Site) (sections : List Section) (x c : List ℕ) where
 
     -- ---- each section
 
-    step : (y : Section) → slice_get sections n ≡ Some y → S (suc n) ≡ after site y (S n) → (w : World) → Beside site (S n) w → Waits site sections x c (suc n) (after site y (S n))
+    step : (y : Section) → slice_get sections n ≡ Some y → S (suc n) ≡ server_after site y (S n) → (w : World) → Beside site (S n) w → Waits site sections x c (suc n) (server_after site y (S n))
     step (Sends y e) is next w b = sends-step y e is next w b
     step (Receives y) is next w b = receives-step y ((S n).seats y) next
     step (Breaks y) is next w b = breaks-step y ((S n).seats y) next
@@ -467,6 +467,6 @@ module _ (site : Site) (sections : List Section) (x c : List ℕ) where
   waits zero h = record { asked = 0; mode = tt; answers = λ k at. absurd (let f : None ≡ Some k = at in cc) }
   waits (suc n) h =
       let y = its_section sections n (omega (arith, h)) in
-      let next : S (suc n) ≡ after site y.0 (S n) = prefix-next site sections server.start n y.0 y.1 in
+      let next : S (suc n) ≡ server_after site y.0 (S n) = prefix-next site sections server.start n y.0 y.1 in
       let w = stands_beside site (take n sections) in
       subst (Waits site sections x c (suc n)) (sym next) (step n (waits n (omega (arith, h))) y.0 y.1 next w.0 w.1)

@@ -18,7 +18,7 @@ use Rattle.cf_machine.specs.PublicationList.{Broker, StandsOver, is_repeat, repe
 use Rattle.cf_machine.specs.World.{World, start}
 use Rattle.cf_machine.proofs.Headline.{streams_stand, keys_beside}
 use Rattle.cf_machine.specs.Lives.{life_by}
-use Rattle.cf_running.specs.ShardLogs.{IsTied, IsIn, IsApart, MayGain, after, Goes, IsStream, ReadsAs, ListsAs}
+use Rattle.cf_running.specs.ShardLogs.{IsTied, IsIn, IsApart, MayGain, logs_after, Goes, IsStream, ReadsAs, ListsAs}
 use Rattle.cf_running.specs.Server as server
 use Rattle.cf_running.proofs.Gaining.{size-unset, gain, Gains, gained-world, gains, keeps-mine, keeps-other}
 
@@ -30,33 +30,33 @@ starts mine sizes = record {
 }
 
 module _ (cfg : Config) (its : List ℕ → Bool) (past : List Happening) (log : List Entry) (x : Entry)
-    (t : IsTied its cfg.namespaces log (after cfg past).broker) (own : IsIn its x) (may : MayGain cfg log x) where
+    (t : IsTied its cfg.namespaces log (logs_after cfg past).broker) (own : IsIn its x) (may : MayGain cfg log x) where
   -- what an entry needs
-  its_gains : Gains cfg its (sizes_in cfg.namespaces log) (after cfg past) x
-  its_gains = gains cfg its log (after cfg past) t.waits (streams_stand cfg past) (keys_beside cfg past) t.log_of x own may
+  its_gains : Gains cfg its (sizes_in cfg.namespaces log) (logs_after cfg past) x
+  its_gains = gains cfg its log (logs_after cfg past) t.waits (streams_stand cfg past) (keys_beside cfg past) t.log_of x own may
 
-  gone : (P : Broker → Type 0) → P (gain cfg its x (after cfg past).broker) → Goes cfg (after cfg past) its x P
+  gone : (P : Broker → Type 0) → P (gain cfg its x (logs_after cfg past).broker) → Goes cfg (logs_after cfg past) its x P
   gone P h = record {
     allowed = its_gains.allowed;
-    leads = subst (λ (v : World). P v.broker) (sym (gained-world cfg its (after cfg past) x its_gains.allowed)) h;
+    leads = subst (λ (v : World). P v.broker) (sym (gained-world cfg its (logs_after cfg past) x its_gains.allowed)) h;
   }
 
-  pub tied-gains : Goes cfg (after cfg past) its x (IsTied its cfg.namespaces (log ++ x ∷ []))
+  pub tied-gains : Goes cfg (logs_after cfg past) its x (IsTied its cfg.namespaces (log ++ x ∷ []))
   tied-gains =
-      gone (IsTied its cfg.namespaces (log ++ x ∷ [])) (record { waits = its_gains.waits; log_of = keeps-mine cfg its log (after cfg past) x its_gains t.log_of })
+      gone (IsTied its cfg.namespaces (log ++ x ∷ [])) (record { waits = its_gains.waits; log_of = keeps-mine cfg its log (logs_after cfg past) x its_gains t.log_of })
 
   -- seen from another shard
-  pub tied-other : (mine : List ℕ → Bool) (other : List Entry) → IsTied mine cfg.namespaces other (after cfg past).broker → IsApart mine its x
-      → Goes cfg (after cfg past) its x (IsTied mine cfg.namespaces other)
+  pub tied-other : (mine : List ℕ → Bool) (other : List Entry) → IsTied mine cfg.namespaces other (logs_after cfg past).broker → IsApart mine its x
+      → Goes cfg (logs_after cfg past) its x (IsTied mine cfg.namespaces other)
   tied-other mine other u apart =
       gone (IsTied mine cfg.namespaces other) (record {
         waits = its_gains.waits;
-        log_of = keeps-other cfg its (sizes_in cfg.namespaces log) (after cfg past) x its_gains mine other u.log_of apart;
+        log_of = keeps-other cfg its (sizes_in cfg.namespaces log) (logs_after cfg past) x its_gains mine other u.log_of apart;
       })
 
 pub tied-apart : (cfg : Config) (mine its : List ℕ → Bool) (past : List Happening) (log other : List Entry) (x : Entry)
-    → IsTied mine cfg.namespaces log (after cfg past).broker → IsTied its cfg.namespaces other (after cfg past).broker
-    → IsIn its x → IsApart mine its x → MayGain cfg other x → Goes cfg (after cfg past) its x (IsTied mine cfg.namespaces log)
+    → IsTied mine cfg.namespaces log (logs_after cfg past).broker → IsTied its cfg.namespaces other (logs_after cfg past).broker
+    → IsIn its x → IsApart mine its x → MayGain cfg other x → Goes cfg (logs_after cfg past) its x (IsTied mine cfg.namespaces log)
 tied-apart cfg mine its past log other x t u own apart may = tied-other cfg its past other x u own may mine log t apart
 
 -- ---- answers
@@ -73,9 +73,9 @@ stream_of lists keys (Some s) l k e =
     )
 
 pub its_stream : (cfg : Config) (mine : List ℕ → Bool) (past : List Happening) (log : List Entry) (c : List ℕ) (l : Life)
-    → IsTied mine cfg.namespaces log (after cfg past).broker → mine c ≡ true → life_in cfg.namespaces log c ≡ Some l → IsStream (after cfg past).broker c l
+    → IsTied mine cfg.namespaces log (logs_after cfg past).broker → mine c ≡ true → life_in cfg.namespaces log c ≡ Some l → IsStream (logs_after cfg past).broker c l
 its_stream cfg mine past log c l t own e =
-    let b : Broker = (after cfg past).broker in
+    let b : Broker = (logs_after cfg past).broker in
     let f = stream_of (b.lists c) (b.keys c) (b.streams c) l (streams_stand cfg past c) (t.log_of.life c own ∙ e) in
     record { stream = f.0; list = f.1; keys = f.2 }
 
@@ -85,23 +85,23 @@ its_none lists keys (Some s) e = absurd (cc)
 
 -- where the stream stands
 pub its_position : (cfg : Config) (mine : List ℕ → Bool) (past : List Happening) (log : List Entry) (c : List ℕ)
-    → IsTied mine cfg.namespaces log (after cfg past).broker → mine c ≡ true
-    → option_map life_stands (life_in cfg.namespaces log c) ≡ stands_at ((after cfg past).broker.streams c)
+    → IsTied mine cfg.namespaces log (logs_after cfg past).broker → mine c ≡ true
+    → option_map life_stands (life_in cfg.namespaces log c) ≡ stands_at ((logs_after cfg past).broker.streams c)
 its_position cfg mine past log c t own = by_life (life_in cfg.namespaces log c) refl
   where
-    by_life : (o : Option Life) → life_in cfg.namespaces log c ≡ o → option_map life_stands o ≡ stands_at ((after cfg past).broker.streams c)
+    by_life : (o : Option Life) → life_in cfg.namespaces log c ≡ o → option_map life_stands o ≡ stands_at ((logs_after cfg past).broker.streams c)
     by_life None e =
-        let b : Broker = (after cfg past).broker in sym (ap stands_at (its_none (b.lists c) (b.keys c) (b.streams c) (t.log_of.life c own ∙ e)))
+        let b : Broker = (logs_after cfg past).broker in sym (ap stands_at (its_none (b.lists c) (b.keys c) (b.streams c) (t.log_of.life c own ∙ e)))
     by_life (Some l) e = sym (ap stands_at (its_stream cfg mine past log c l t own e).stream)
 
 -- what a publish repeats
 pub its_repeat : (cfg : Config) (mine : List ℕ → Bool) (past : List Happening) (log : List Entry) (c key : List ℕ)
-    → IsTied mine cfg.namespaces log (after cfg past).broker → mine c ≡ true
-    → server.repeats key (life_in cfg.namespaces log c) ≡ is_repeat c key (after cfg past).broker
+    → IsTied mine cfg.namespaces log (logs_after cfg past).broker → mine c ≡ true
+    → server.repeats key (life_in cfg.namespaces log c) ≡ is_repeat c key (logs_after cfg past).broker
 its_repeat cfg mine past log c key t own = ap (server.repeats key) (sym (t.log_of.life c own)) ∙ by_stream (b.streams c)
   where
     b : Broker
-    b = (after cfg past).broker
+    b = (logs_after cfg past).broker
 
     by_stream : (o : Option StreamState) → server.repeats key (life_by (b.lists c) (b.keys c) o) ≡ repeats b.keys c key o
     by_stream None = refl

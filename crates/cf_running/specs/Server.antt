@@ -488,46 +488,46 @@ pub data Section : Type 0 where
   Breaks : (client : List ℕ) → Section
 
 -- what a section makes of the server; nothing if it cannot be
-abbrev pub after : Site → Section → Server → Server
-after site (Gains (Publish c key d)) s = s
-after site (Gains (Size name n)) s = s
-after site (Gains (Open c e)) s = gains site (site.shard_of c) (Open c e) s
-after site (Gains (Trim c n)) s = gains site (site.shard_of c) (Trim c n) s
-after site (Gains (Forget c)) s = gains site (site.shard_of c) (Forget c) s
-after site (Sizes shard name n) s = gains site shard (Size name n) s
-after site (Publishes k) s = publishes site k (s.connections k).work s
-after site (Offers i n) s = offers i n s
-after site (AsksShard k) s = change k (asks_shard site s (s.connections k).work) s
-after site (LooksUp k c) s = looks_up site k c s
-after site (IsRefused k code) s = change k (is_refused code (s.connections k).work) s
-after site (Begins k) s = change k (hears_by (λ c. begins_by (words_of site s) c.id c.request)) s
-after site (Leaves k) s = change k (hears_by (λ c. leaves_by c.id c.request)) s
-after site (Calls k info) s = change k (hears_by (λ c. calls_by info c.id c.request)) s
-after site (Refuses k code) s = change k (hears_by (λ c. refuses_by code c.id c.request)) s
-after site (ReadDone k) s = change k (read_done (words_of site s) (s.connections k).work) s
-after site (Finishes k) s = change k (finishes_by (finishes (words_of site s)) (s.connections k).work) s
-after site (FinishesOver k) s = change k (finishes_by (finishes_over (words_of site s)) (s.connections k).work) s
-after site (FinishesAmid k count code) s = change k (breaks_off (words_of site s) count code (s.connections k).work) s
-after site (GivesUp k) s = change k (gives_up (s.connections k).work) s
-after site (Drops k) s = change k drops s
-after site (Says k) s = change k (says (words_of site s) (s.connections k).work) s
-after site (Errs k code) s = change k (errs code (s.connections k).work) s
-after site (Takes k) s = change k takes s
-after site (Detaches k code) s = change k (detaches code) s
-after site (Delivers n) s = delivers_first site n (s.links n) s
-after site (Checks i) s = checks_by (words_of site s) (slice_get s.lookups i) s
-after site (Pings k) s = change k (at_session (push (words_of site s) PingDue)) s
-after site (Closes k code) s = change k (at_session (closes_now (Close code))) s
-after site (Attaches x n) s = comes_to site x n (s.seats x) s
-after site (Wanders n) s = wanders site n s
-after site (Strays k e) s = strays k e s
-after site (Sends x e) s = sends_by x e (s.seats x) s
-after site (Receives x) s = receives_by x (s.seats x) s
-after site (Breaks x) s = parts_from x (s.seats x) s
+abbrev pub server_after : Site → Section → Server → Server
+server_after site (Gains (Publish c key d)) s = s
+server_after site (Gains (Size name n)) s = s
+server_after site (Gains (Open c e)) s = gains site (site.shard_of c) (Open c e) s
+server_after site (Gains (Trim c n)) s = gains site (site.shard_of c) (Trim c n) s
+server_after site (Gains (Forget c)) s = gains site (site.shard_of c) (Forget c) s
+server_after site (Sizes shard name n) s = gains site shard (Size name n) s
+server_after site (Publishes k) s = publishes site k (s.connections k).work s
+server_after site (Offers i n) s = offers i n s
+server_after site (AsksShard k) s = change k (asks_shard site s (s.connections k).work) s
+server_after site (LooksUp k c) s = looks_up site k c s
+server_after site (IsRefused k code) s = change k (is_refused code (s.connections k).work) s
+server_after site (Begins k) s = change k (hears_by (λ c. begins_by (words_of site s) c.id c.request)) s
+server_after site (Leaves k) s = change k (hears_by (λ c. leaves_by c.id c.request)) s
+server_after site (Calls k info) s = change k (hears_by (λ c. calls_by info c.id c.request)) s
+server_after site (Refuses k code) s = change k (hears_by (λ c. refuses_by code c.id c.request)) s
+server_after site (ReadDone k) s = change k (read_done (words_of site s) (s.connections k).work) s
+server_after site (Finishes k) s = change k (finishes_by (finishes (words_of site s)) (s.connections k).work) s
+server_after site (FinishesOver k) s = change k (finishes_by (finishes_over (words_of site s)) (s.connections k).work) s
+server_after site (FinishesAmid k count code) s = change k (breaks_off (words_of site s) count code (s.connections k).work) s
+server_after site (GivesUp k) s = change k (gives_up (s.connections k).work) s
+server_after site (Drops k) s = change k drops s
+server_after site (Says k) s = change k (says (words_of site s) (s.connections k).work) s
+server_after site (Errs k code) s = change k (errs code (s.connections k).work) s
+server_after site (Takes k) s = change k takes s
+server_after site (Detaches k code) s = change k (detaches code) s
+server_after site (Delivers n) s = delivers_first site n (s.links n) s
+server_after site (Checks i) s = checks_by (words_of site s) (slice_get s.lookups i) s
+server_after site (Pings k) s = change k (at_session (push (words_of site s) PingDue)) s
+server_after site (Closes k code) s = change k (at_session (closes_now (Close code))) s
+server_after site (Attaches x n) s = comes_to site x n (s.seats x) s
+server_after site (Wanders n) s = wanders site n s
+server_after site (Strays k e) s = strays k e s
+server_after site (Sends x e) s = sends_by x e (s.seats x) s
+server_after site (Receives x) s = receives_by x (s.seats x) s
+server_after site (Breaks x) s = parts_from x (s.seats x) s
 
 abbrev pub ran : Site → Server → List Section → Server
 ran site s [] = s
-ran site s (x ∷ xs) = ran site (after site x s) xs
+ran site s (x ∷ xs) = ran site (server_after site x s) xs
 
 -- ---- what applications are told
 
@@ -550,4 +550,4 @@ tells site other s = []
 
 abbrev pub told : Site → Server → List Section → List Told
 told site s [] = []
-told site s (x ∷ xs) = tells site x s ++ told site (after site x s) xs
+told site s (x ∷ xs) = tells site x s ++ told site (server_after site x s) xs

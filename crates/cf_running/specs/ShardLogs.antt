@@ -94,8 +94,8 @@ pub record IsTied (mine : List ℕ → Bool) (sizes : NamespaceTable) (log : Lis
   pub log_of : IsLogOf mine sizes log b
 
 -- the machine after a loose run
-abbrev pub after : Config → List Happening → World
-after cfg past = loose_run cfg start past
+abbrev pub logs_after : Config → List Happening → World
+logs_after cfg past = loose_run cfg start past
 
 -- the happening of an entry of this shard may happen, and what it leads to
 pub record Goes (cfg : Config) (w : World) (its : List ℕ → Bool) (x : Entry) (P : Broker → Type 0) : Type 0 where

@@ -18,7 +18,7 @@ ghost use Rattle.cf_running.specs.Examples.{ann_gets, at, broken_off, comes_back
 ghost use Rattle.cf_running.specs.Running.{IsInLogs, IsLooseRun};
 ghost use Rattle.cf_running.specs.Server.{Section, Site, Told, lists_of, ran, repeats, start as server_start, told};
 ghost use Rattle.cf_running.specs.WasRead.{IsWhatWasRead};
-ghost use Rattle.cf_running.specs.ShardLogs.{Goes, IsApart, IsIn, IsTied, ListsAs, MayGain, ReadsAs, after};
+ghost use Rattle.cf_running.specs.ShardLogs.{Goes, IsApart, IsIn, IsTied, ListsAs, MayGain, ReadsAs, logs_after};
 
 /// A shard's log stands beside the machine's broker: at the start, and after each entry that the log may
 /// gain, if the machine goes on by that entry's happening, which is allowed. The logs of other shards
@@ -28,16 +28,16 @@ pub fn logs_are_tied()
         → IsTied mine sizes [] start.broker }
     ensures gains { (config : Config) (mine : List ℕ → Bool) (past : List Happening)
         (log : List Entry) (entry : Entry)
-        → IsTied mine config.namespaces log (after config past).broker
+        → IsTied mine config.namespaces log (logs_after config past).broker
         → IsIn mine entry → MayGain config log entry
-        → Goes config (after config past) mine entry
+        → Goes config (logs_after config past) mine entry
         (IsTied mine config.namespaces (log ++ entry ∷ [])) }
     ensures apart { (config : Config) (mine its : List ℕ → Bool) (past : List Happening)
         (log other : List Entry) (entry : Entry)
-        → IsTied mine config.namespaces log (after config past).broker
-        → IsTied its config.namespaces other (after config past).broker
+        → IsTied mine config.namespaces log (logs_after config past).broker
+        → IsTied its config.namespaces other (logs_after config past).broker
         → IsIn its entry → IsApart mine its entry → MayGain config other entry
-        → Goes config (after config past) its entry (IsTied mine config.namespaces log) }
+        → Goes config (logs_after config past) its entry (IsTied mine config.namespaces log) }
 {}
 
 /// What is answered off a shard's log is what the machine has: where a stream stands, whether a publish
@@ -45,28 +45,28 @@ pub fn logs_are_tied()
 pub fn answers_are_the_machines()
     ensures positions { (config : Config) (mine : List ℕ → Bool) (past : List Happening)
         (log : List Entry) (channel : List ℕ)
-        → IsTied mine config.namespaces log (after config past).broker → mine channel ≡ true
+        → IsTied mine config.namespaces log (logs_after config past).broker → mine channel ≡ true
         → option_map stands_in (life_in config.namespaces log channel)
-        ≡ stands_at ((after config past).broker.streams channel) }
+        ≡ stands_at ((logs_after config past).broker.streams channel) }
     ensures repeats { (config : Config) (mine : List ℕ → Bool) (past : List Happening)
         (log : List Entry) (channel key : List ℕ)
-        → IsTied mine config.namespaces log (after config past).broker → mine channel ≡ true
+        → IsTied mine config.namespaces log (logs_after config past).broker → mine channel ≡ true
         → repeats key (life_in config.namespaces log channel)
-        ≡ is_repeat channel key (after config past).broker }
+        ≡ is_repeat channel key (logs_after config past).broker }
     ensures reads { (config : Config) (mine : List ℕ → Bool) (past : List Happening)
         (log : List Entry) (channel : List ℕ) (life : Life) (since : Option Position)
         (position : Position) (recovered : Bool) (publications : List Placed)
-        → IsTied mine config.namespaces log (after config past).broker → mine channel ≡ true
+        → IsTied mine config.namespaces log (logs_after config past).broker → mine channel ≡ true
         → life_in config.namespaces log channel ≡ Some life
         → IsRead life since position recovered publications
-        → ReadsAs (after config past).broker channel since position recovered publications }
+        → ReadsAs (logs_after config past).broker channel since position recovered publications }
     ensures histories { (config : Config) (mine : List ℕ → Bool) (past : List Happening)
         (log : List Entry) (channel : List ℕ) (life : Life) (since : Option Position) (limit : ℤ)
         (position : Position) (publications : List Placed)
-        → IsTied mine config.namespaces log (after config past).broker → mine channel ≡ true
+        → IsTied mine config.namespaces log (logs_after config past).broker → mine channel ≡ true
         → life_in config.namespaces log channel ≡ Some life
         → IsListed life since limit position publications
-        → ListsAs (after config past).broker channel since limit position publications }
+        → ListsAs (logs_after config past).broker channel since limit position publications }
 {}
 
 /// Every run of the server's sections, in whatever order threads take them, is a loose run of the

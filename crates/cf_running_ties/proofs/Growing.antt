@@ -12,7 +12,7 @@ use Rattle.cf_hub.specs.InNotes.{Grown}
 use Rattle.cf_machine.specs.PublicationList.{Place}
 use Rattle.cf_machine.proofs.Names.{by_test}
 use Rattle.cf_running.specs.Server as server
-use Rattle.cf_running.specs.Server.{ClientCommand, Lookup, Server, Site, Work, ToPublish, after, can_gain, gathered, gathered_in, is_in, lists_of, may_send, place_of, words_of, Section, Gains, Sizes, Publishes, Offers, Checks, Delivers, Attaches, Wanders, Strays, Sends, Receives, Breaks}
+use Rattle.cf_running.specs.Server.{ClientCommand, Lookup, Server, Site, Work, ToPublish, server_after, can_gain, gathered, gathered_in, is_in, lists_of, may_send, place_of, words_of, Section, Gains, Sizes, Publishes, Offers, Checks, Delivers, Attaches, Wanders, Strays, Sends, Receives, Breaks}
 use Rattle.cf_running.proofs.Beside.{number_tells}
 use Rattle.cf_running_ties.specs.Links.{is_at_link}
 use Rattle.cf_running_ties.specs.Reads.{SectionHas, WorkHas}
@@ -195,7 +195,7 @@ module _ (P : Datum → Type 0) (site : Site) (s : Server) where
   receives-kept x None = here
   receives-kept x (Some k) = gets-kept x k (s.connections k).way
 
-  kept : (x : Section) → SectionHas P s x → is_at_link x ≡ false → Kept (after site x s)
+  kept : (x : Section) → SectionHas P s x → is_at_link x ≡ false → Kept (server_after site x s)
   kept (Offers i n) has e = absurd (cc)
   kept (Delivers n) has e = absurd (cc)
   kept (Gains (Publish c key d)) has e = here
@@ -212,16 +212,16 @@ module _ (P : Datum → Type 0) (site : Site) (s : Server) where
   kept (Sends x c) has e = sends-kept x c (s.seats x)
   kept (Receives x) has e = receives-kept x (s.seats x)
   kept (Breaks x) has e = parts-kept x (s.seats x)
-  kept other has e = still (after site other s) refl refl refl (at_least s.count)
+  kept other has e = still (server_after site other s) refl refl refl (at_least s.count)
 
   delivers-grows : (n : ℕ) (is : List ℕ) → Grows P s (server.delivers_first site n is s)
   delivers-grows n [] = grows_not s refl refl (at_least s.count)
   delivers-grows n (i ∷ rest) = grows_not _ refl refl (at_least s.count)
 
-  pub grows : (x : Section) → SectionHas P s x → Grows P s (after site x s)
+  pub grows : (x : Section) → SectionHas P s x → Grows P s (server_after site x s)
   grows (Offers i n) has = by_test (Grows P s) (is_some (place_of i s.accepted)) _ _ (λ h. grows_not _ refl refl (at_least s.count)) (λ h. grows_not s refl refl (at_least s.count))
   grows (Delivers n) has = delivers-grows n (s.links n)
   grows other has = (kept other has refl).grows
 
-  pub links-stay : (x : Section) → SectionHas P s x → is_at_link x ≡ false → (after site x s).links ≡ s.links
+  pub links-stay : (x : Section) → SectionHas P s x → is_at_link x ≡ false → (server_after site x s).links ≡ s.links
   links-stay x has e = (kept x has e).links

@@ -19,7 +19,7 @@ use Rattle.cf_session.specs.Script.{Script}
 use Rattle.cf_machine.specs.ClientLink.{finishes_over}
 use Rattle.cf_machine.specs.ClientRequest.{ClientRequest, SentCommand, Subscribe, Unsubscribe, Publish, History, request_of}
 use Rattle.cf_running.specs.Server as server
-use Rattle.cf_running.specs.Server.{AsksShard, Began, Begins, Calls, Connection, Errs, Finishes, FinishesOver, Free, GivesUp, HasRead, IsRefused, Leaves, Publishes, ReadDone, Refuses, Says, Server, Site, ToFinish, ToGiveUp, ToList, ToPublish, ToSay, Work, accepts, after, answers, can_gain, change, life_of, lists_of, ran, repeats, words_of}
+use Rattle.cf_running.specs.Server.{AsksShard, Began, Begins, Calls, Connection, Errs, Finishes, FinishesOver, Free, GivesUp, HasRead, IsRefused, Leaves, Publishes, ReadDone, Refuses, Says, Server, Site, ToFinish, ToGiveUp, ToList, ToPublish, ToSay, Work, accepts, server_after, answers, can_gain, change, life_of, lists_of, ran, repeats, words_of}
 use Rattle.cf_machine.proofs.Names.{by_test}
 use Rattle.cf_running.proofs.Beside.{at-same}
 use Rattle.cf_running_ties.specs.InHand.{AsksBroker, HasInHand, Hears, InHand, ListsFor, MayBeRefused, by_answer, id_of, is_published}
@@ -50,7 +50,7 @@ module _ (site : Site) (s : Server) (k : ℕ) (who : Who) (next : Script) where
 
   -- ---- a command is taken in hand
 
-  pub refused : (c : SentCommand) (e : ErrorCode) → Hears x c → MayBeRefused x c.request → HasInHand site (after site (Refuses k (code_of e)) s) k who next (refuses c.id e next)
+  pub refused : (c : SentCommand) (e : ErrorCode) → Hears x c → MayBeRefused x c.request → HasInHand site (server_after site (Refuses k (code_of e)) s) k who next (refuses c.id e next)
   refused c e h may =
       let f : SentCommand → List SentCommand → Connection → Connection = λ d. server.refuses_by (code_of e) d.id d.request in
       let is = heard c h f in
@@ -71,7 +71,7 @@ module _ (site : Site) (s : Server) (k : ℕ) (who : Who) (next : Script) where
       by_request (History d limit) m rest = refl
 
   pub begins : (c : SentCommand) (d : List ℕ) (since : Option Position) → Hears x c → c.request ≡ Subscribe d since → x.session.closed ≡ false → is_off (x.session.subs d) ≡ true
-      → HasInHand site (after site (Begins k) s) k who next (after_begin c.id d d since next Done)
+      → HasInHand site (server_after site (Begins k) s) k who next (after_begin c.id d d since next Done)
   begins c d since h r is_open off =
       let f : SentCommand → List SentCommand → Connection → Connection = λ q. server.begins_by (words_of site s) q.id q.request in
       let is = heard c h f in
@@ -82,14 +82,14 @@ module _ (site : Site) (s : Server) (k : ℕ) (who : Who) (next : Script) where
       neither : (a b : Bool) → a ≡ false → b ≡ true → (a || not b) ≡ false
       neither a b i j = rw (i, j) refl
 
-  pub leaves : (c : SentCommand) (d : List ℕ) (a : Answer) → Hears x c → c.request ≡ Unsubscribe d → HasInHand site (after site (Leaves k) s) k who next (after_leave c.id next a)
+  pub leaves : (c : SentCommand) (d : List ℕ) (a : Answer) → Hears x c → c.request ≡ Unsubscribe d → HasInHand site (server_after site (Leaves k) s) k who next (after_leave c.id next a)
   leaves c d a h r =
       let f : SentCommand → List SentCommand → Connection → Connection = λ q. server.leaves_by q.id q.request in
       let is = heard c h f in
       goes (server.hears_by f) (ToSay d (Left c.id)) (after_leave c.id next a)
       (ap (λ (y : Connection). y.work) (is.1 ∙ ap (λ q. server.leaves_by c.id q is.0 x) r)) (c.id, Unsubscribed, λ later g. refl, refl)
 
-  pub calls : (c : SentCommand) → Hears x c → AsksBroker c.request → HasInHand site (after site (Calls k (Some who)) s) k who next (granted who c.id (request_of c.request) next)
+  pub calls : (c : SentCommand) → Hears x c → AsksBroker c.request → HasInHand site (server_after site (Calls k (Some who)) s) k who next (granted who c.id (request_of c.request) next)
   calls c h asks =
       let f : SentCommand → List SentCommand → Connection → Connection = λ q. server.calls_by (Some who) q.id q.request in
       let is = heard c h f in
@@ -105,13 +105,13 @@ module _ (site : Site) (s : Server) (k : ℕ) (who : Who) (next : Script) where
 
   -- ---- it is answered
 
-  pub broker_refuses : (e : ErrorCode) (f : Answer → Script) → by_answer next x.work ≡ Some f → HasInHand site (after site (IsRefused k (code_of e)) s) k who next (f (Refused e))
+  pub broker_refuses : (e : ErrorCode) (f : Answer → Script) → by_answer next x.work ≡ Some f → HasInHand site (server_after site (IsRefused k (code_of e)) s) k who next (f (Refused e))
   broker_refuses e f h = by_work x.work refl h
     where
       same : (a b : Answer → Script) → Some a ≡ Some b → a ≡ b
       same a b i = cc
 
-      by_work : (w : Work) → x.work ≡ w → by_answer next w ≡ Some f → HasInHand site (after site (IsRefused k (code_of e)) s) k who next (f (Refused e))
+      by_work : (w : Work) → x.work ≡ w → by_answer next w ≡ Some f → HasInHand site (server_after site (IsRefused k (code_of e)) s) k who next (f (Refused e))
       by_work (Began c id since) i j =
           goes (server.is_refused (code_of e) x.work) (ToGiveUp c id (code_of e)) (f (Refused e)) (ap (λ w. (server.is_refused (code_of e) w x).work) i)
           (e, refl, ap (λ (g : Answer → Script). g (Refused e)) (sym (same (after_read id c next) f j)))
@@ -133,7 +133,7 @@ module _ (site : Site) (s : Server) (k : ℕ) (who : Who) (next : Script) where
       subst (λ z. InHand lists who next z (after_read id c next Done)) (sym (ap (λ (y : Connection). y.work) (at-same t.connections k (server.read_done (words_of site t) (t.connections k).work (t.connections k))) ∙ done)) refl
     where
       t : Server
-      t = after site (AsksShard k) s
+      t = server_after site (AsksShard k) s
 
       y : Connection
       y = server.asks_shard site s x.work x
@@ -147,7 +147,7 @@ module _ (site : Site) (s : Server) (k : ℕ) (who : Who) (next : Script) where
       done = ap (λ z. (server.read_done (words_of site t) z (t.connections k)).work) its-work
 
   pub published : (c key : List ℕ) (id : ℕ) (d : Datum) → x.work ≡ ToPublish c id key d → is_published site s c key d ≡ true
-      → HasInHand site (after site (Publishes k) s) k who next (replies id next (Found Published))
+      → HasInHand site (server_after site (Publishes k) s) k who next (replies id next (Found Published))
   published c key id d w can =
       subst (λ (v : Server). HasInHand site v k who next (replies id next (Found Published))) (sym (ap (λ z. server.publishes site k z s) w))
       (by_test (λ (v : Server). HasInHand site v k who next (replies id next (Found Published))) (repeats key (life_of site s c)) _ _
@@ -164,23 +164,23 @@ module _ (site : Site) (s : Server) (k : ℕ) (who : Who) (next : Script) where
           subst (λ z. InHand (lists_of site t) who next z (replies id next (Found Published)))
           (sym (ap (λ (y : Connection). y.work) (at-same t.connections k (answers c id (t.connections k))))) (id, Published, λ later g. refl, refl)
 
-  pub gives_up : (c : List ℕ) (id : ℕ) (e : ErrorCode) (a : Answer) → x.work ≡ ToGiveUp c id (code_of e) → HasInHand site (after site (GivesUp k) s) k who next (after_lost id e next a)
+  pub gives_up : (c : List ℕ) (id : ℕ) (e : ErrorCode) (a : Answer) → x.work ≡ ToGiveUp c id (code_of e) → HasInHand site (server_after site (GivesUp k) s) k who next (after_lost id e next a)
   gives_up c id e a w =
       goes (server.gives_up x.work) (ToSay c (Fails c id (code_of e))) (after_lost id e next a) (ap (λ z. (server.gives_up z x).work) w)
       (id, Failed (code_of e), λ later g. refl, refl)
 
   pub finished : (c : List ℕ) (a : Answer) → x.work ≡ ToFinish c
-      → HasInHand site (after site (Finishes k) s) k who next (after_finish next a) × HasInHand site (after site (FinishesOver k) s) k who next (after_finish next a)
+      → HasInHand site (server_after site (Finishes k) s) k who next (after_finish next a) × HasInHand site (server_after site (FinishesOver k) s) k who next (after_finish next a)
   finished c a w = (
     goes (server.finishes_by (finishes (words_of site s)) x.work) Free next (ap (λ z. (server.finishes_by (finishes (words_of site s)) z x).work) w) refl,
     goes (server.finishes_by (finishes_over (words_of site s)) x.work) Free next (ap (λ z. (server.finishes_by (finishes_over (words_of site s)) z x).work) w) refl,
   )
 
-  pub said : (c : List ℕ) (n : Note) → x.work ≡ ToSay c n → HasInHand site (after site (Says k) s) k who next next
+  pub said : (c : List ℕ) (n : Note) → x.work ≡ ToSay c n → HasInHand site (server_after site (Says k) s) k who next next
   said c n w = goes (server.says (words_of site s) x.work) Free next (ap (λ z. (server.says (words_of site s) z x).work) w) refl
 
   -- an error in place of an answer
-  pub errs : (c : List ℕ) (n : Note) (id : ℕ) (e : ErrorCode) → x.work ≡ ToSay c n → id_of n ≡ Some id → HasInHand site (after site (Errs k (code_of e)) s) k who next (refuses id e next)
+  pub errs : (c : List ℕ) (n : Note) (id : ℕ) (e : ErrorCode) → x.work ≡ ToSay c n → id_of n ≡ Some id → HasInHand site (server_after site (Errs k (code_of e)) s) k who next (refuses id e next)
   errs c n id e w i =
       goes (server.errs (code_of e) x.work) (ToSay c (server.error_for (code_of e) c n)) (refuses id e next) (ap (λ z. (server.errs (code_of e) z x).work) w)
       (id, Failed (code_of e), by_note n i, refl)
@@ -203,7 +203,7 @@ module _ (site : Site) (s : Server) (k : ℕ) (who : Who) (next : Script) where
 pub listed : (site : Site) (s : Server) (k : ℕ) (who : Who) (next : Script) (c : List ℕ) (id : ℕ) (limit : ℤ) (p : Position) (items : List Placed)
     → (s.connections k).work ≡ ToList c id limit → IsListing site s c limit p items → ListsFor site s k who next c id p items
 listed site s k who next c id limit p items w h =
-    let t : Server = after site (AsksShard k) s in
+    let t : Server = server_after site (AsksShard k) s in
     let y : Connection = s.connections k in
     let found = listed_above 0 limit (state_of h.life) in
     let note : Note = Listed c id found.at found.low found.count in

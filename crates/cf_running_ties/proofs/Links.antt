@@ -32,7 +32,7 @@ use Rattle.cf_machine.proofs.Names.{by_test, itself}
 use Rattle.cf_shard.specs.Delivery.{AreCopies, AreLeft as AreHandedOut, Carried, IsCopy, Left, carried}
 use Rattle.cf_shard.specs.LogAnswer.{IsPublished}
 use Rattle.cf_running.specs.Server as server
-use Rattle.cf_running.specs.Server.{Connection, Delivers, Offers, Publishes, Section, Server, Site, Work, accepts, after, answers, at_number, can_gain, change, comes_by, life_of, lists_of, log_of, place_in, place_of, ran, start, words_of}
+use Rattle.cf_running.specs.Server.{Connection, Delivers, Offers, Publishes, Section, Server, Site, Work, accepts, server_after, answers, at_number, can_gain, change, comes_by, life_of, lists_of, log_of, place_in, place_of, ran, start, words_of}
 use Rattle.cf_running.proofs.Beside.{Beside, at-same, number_tells}
 use Rattle.cf_running.proofs.Gaining.{life-more}
 use Rattle.cf_running.proofs.Steps.{stands_beside}
@@ -74,9 +74,9 @@ module _ (c : List ℕ) (p : Position) (d : Datum) where
     position : left.position ≡ p
     offered : IsOffered (carried c p d) count old new
 
-  goes-on : (n : ℕ) (old : Lines) (left : Left) (mid : Lines) (after : Left) (new : Lines) → Goes n old left mid → OffersNext n left mid after new → Goes (suc n) old after new
-  goes-on n old left mid after new h o =
-      let cut = All-pop (IsCopy c d) left.copies after.copies (Some o.next.copy) o.next.left h.copies in
+  goes-on : (n : ℕ) (old : Lines) (left : Left) (mid : Lines) (server_after : Left) (new : Lines) → Goes n old left mid → OffersNext n left mid server_after new → Goes (suc n) old server_after new
+  goes-on n old left mid server_after new h o =
+      let cut = All-pop (IsCopy c d) left.copies server_after.copies (Some o.next.copy) o.next.left h.copies in
       let is : o.delivery ≡ carried c p d = o.next.is ∙ ap (λ (q : Position). carried o.next.copy.channel q o.next.copy.publication.datum) h.position ∙ (λ i. carried (cut.1.0 i) p (cut.1.1 i)) in record {
         copies = cut.0;
         position = o.next.position ∙ h.position;
@@ -99,11 +99,11 @@ module _ (c : List ℕ) (p : Position) (d : Datum) where
 pub starts : (site : Site) → Waits site start (λ n. []) (λ n. [])
 starts site = record { at = λ n. ([], refl, tt) }
 
-pub stays : (site : Site) (s : Server) (section : Section) (i : ℕ) (x : Carried) → IsNumbered site s i x → IsNumbered site (after site section s) i x
+pub stays : (site : Site) (s : Server) (section : Section) (i : ℕ) (x : Carried) → IsNumbered site s i x → IsNumbered site (server_after site section s) i x
 stays site s section i x h =
     let g = grows Any site s section (any-section s section) in record {
       accepted = ap (place_of i) g.accepted.1 ∙ place-more s.accepted g.accepted.0 i (place x) h.accepted;
-      listed = listed-later (lists_of site s) (lists_of site (after site section s)) x.channel x.epoch x.publication (grown-lists Any site s (after site section s) g) h.listed;
+      listed = listed-later (lists_of site s) (lists_of site (server_after site section s)) x.channel x.epoch x.publication (grown-lists Any site s (server_after site section s) g) h.listed;
     }
 
 zip-weaker : (P Q : ℕ → Carried → Type 0) → ((i : ℕ) (x : Carried) → P i x → Q i x) → (is : List ℕ) (xs : List Carried) → AllZip P is xs → AllZip Q is xs
@@ -118,14 +118,14 @@ zip-more P [] (y ∷ xs) i x h k = absurd h
 zip-more P (j ∷ is) [] i x h k = absurd h
 zip-more P (j ∷ is) (y ∷ xs) i x h k = (h.0, zip-more P is xs i x h.1 k)
 
-pub others : (site : Site) (s : Server) (section : Section) (sent received : Lines) → is_at_link section ≡ false → Waits site s sent received → Waits site (after site section s) sent received
+pub others : (site : Site) (s : Server) (section : Section) (sent received : Lines) → is_at_link section ≡ false → Waits site s sent received → Waits site (server_after site section s) sent received
 others site s section sent received e h = record {
   at = λ n.
       let k = h.at n in (
         k.0,
         k.1,
-        subst (λ (links : ℕ → List ℕ). AllZip (IsNumbered site (after site section s)) (links n) k.0) (sym (links-stay Any site s section (any-section s section) e))
-            (zip-weaker (IsNumbered site s) (IsNumbered site (after site section s)) (stays site s section) (s.links n) k.0 k.2),
+        subst (λ (links : ℕ → List ℕ). AllZip (IsNumbered site (server_after site section s)) (links n) k.0) (sym (links-stay Any site s section (any-section s section) e))
+            (zip-weaker (IsNumbered site s) (IsNumbered site (server_after site section s)) (stays site s section) (s.links n) k.0 k.2),
       );
 }
 
@@ -135,7 +135,7 @@ is-there : (o : Option Place) (p : Place) → o ≡ Some p → is_some o ≡ tru
 is-there o p h = ap (λ (x : Option Place). is_some x) h
 
 pub sends : (site : Site) (s : Server) (i n : ℕ) (x : Carried) (sent received : Lines) → IsNumbered site s i x → Waits site s sent received
-    → Waits site (after site (Offers i n) s) (at_number sent n (sent n ++ x ∷ [])) received
+    → Waits site (server_after site (Offers i n) s) (at_number sent n (sent n ++ x ∷ [])) received
 sends site s i n x sent received new h =
     subst (λ (t : Server). Waits site t (at_number sent n (sent n ++ x ∷ [])) received)
     (sym (ap (λ (b : Bool). if b then record s { links = at_number s.links n (s.links n ++ i ∷ []) } else s) (is-there (place_of i s.accepted) (place x) new.accepted)))
@@ -168,7 +168,7 @@ sends site s i n x sent received new h =
 
 module _ (site : Site) (s : Server) (n : ℕ) (x : Carried) (sent received : Lines) (h : Waits site s sent received) where
   abbrev Result : Type 0
-  Result = IsFirst site s n x × Waits site (after site (Delivers n) s) sent (at_number received n (received n ++ x ∷ []))
+  Result = IsFirst site s n x × Waits site (server_after site (Delivers n) s) sent (at_number received n (received n ++ x ∷ []))
 
   -- these wait, and the first is this one
   by_links : (is : List ℕ) (rest : List Carried) → s.links n ≡ is → sent n ≡ received n ++ x ∷ rest → AllZip (IsNumbered site s) is (x ∷ rest) → Result
@@ -184,7 +184,7 @@ module _ (site : Site) (s : Server) (n : ℕ) (x : Carried) (sent received : Lin
       t : Server
       t = record s { links = at_number s.links n is; connections = comes_by (words_of site s) n (Some (place x)) s.connections }
 
-      after-is : after site (Delivers n) s ≡ t
+      after-is : server_after site (Delivers n) s ≡ t
       after-is =
           ap (λ (js : List ℕ). server.delivers_first site n js s) e
           ∙ ap (λ (o : Option Place). record s { links = at_number s.links n is; connections = comes_by (words_of site s) n o s.connections }) z.0.accepted
@@ -233,7 +233,7 @@ life-listed site s w b c l e =
 
 ran-append : (site : Site) (s : Server) (xs ys : List Section) → ran site s (xs ++ ys) ≡ ran site (ran site s xs) ys
 ran-append site s [] ys = refl
-ran-append site s (x ∷ xs) ys = ran-append site (after site x s) xs ys
+ran-append site s (x ∷ xs) ys = ran-append site (server_after site x s) xs ys
 
 get-last : {A : Type 0} (xs : List A) (x : A) → slice_get (xs ++ x ∷ []) (length xs) ≡ Some x
 get-last [] x = refl
@@ -358,7 +358,7 @@ module _ (site : Site) (s : Server) (k : ℕ) (c key : List ℕ) (d : Datum) (p 
       ∙ ap (λ (b : Bool). a.answer.before ++ publishing b (life_in site.config.namespaces a.answer.before c) c p.position.epoch key d) again
       ∙ append-nil a.answer.before
 
-  pub repeated : AddsNothing s (after site (Publishes k) s)
+  pub repeated : AddsNothing s (server_after site (Publishes k) s)
   repeated =
       let one : server.repeats key (life_of site s c) ≡ true =
       repeats-one (life_of site s c)

@@ -7,7 +7,7 @@ use Rattle.cf_hub.specs.Session.{Attached}
 use Rattle.cf_model.specs.Sessions.{closes_now, opens}
 use Rattle.cf_hub.specs.WantOfMemory.{Both}
 use Rattle.cf_running.specs.Server as server
-use Rattle.cf_running.specs.Server.{Attaches, Closes, Connection, Detaches, Section, Server, Site, Wanders, after, at_number, at_session, change, lists_of, nowhere, start}
+use Rattle.cf_running.specs.Server.{Attaches, Closes, Connection, Detaches, Section, Server, Site, Wanders, server_after, at_number, at_session, change, lists_of, nowhere, start}
 use Rattle.cf_protocol.specs.Names.{with}
 use Rattle.cf_running.proofs.Beside.{at-other, at-same, number_tells}
 use Rattle.cf_hub_moves.specs.HubAsides.{KeepSaying, MovesAmong, MovesOrCloses}
@@ -232,13 +232,13 @@ module _ (is_aside : List ℕ → Bool) (site : Site) (s : Server) (n : ℕ) (nu
     if_so : {X : Type 0} (b : Bool) (u v : X) → b ≡ true → (if b then u else v) ≡ u
     if_so b u v e = rw e refl
 
-    pub attaches : (x : List ℕ) → s.seats x ≡ None → nat_lt n site.config.nodes ≡ true → IsHubOf is_aside site (after site (Attaches x n) s) n (at_number numbers j (Some s.count)) new
+    pub attaches : (x : List ℕ) → s.seats x ≡ None → nat_lt n site.config.nodes ≡ true → IsHubOf is_aside site (server_after site (Attaches x n) s) n (at_number numbers j (Some s.count)) new
     attaches x seat there =
         subst (λ (v : Server). IsHubOf is_aside site v n (at_number numbers j (Some s.count)) new)
         (sym (ap (λ z. server.comes_to site x n z s) seat ∙ if_so (nat_lt n site.config.nodes) _ s there))
         (came (record nowhere { client = x; node = n; attached = true }) (with s.seats x (Some s.count)) refl refl refl)
 
-    pub wanders : nat_lt n site.config.nodes ≡ true → IsHubOf is_aside site (after site (Wanders n) s) n (at_number numbers j (Some s.count)) new
+    pub wanders : nat_lt n site.config.nodes ≡ true → IsHubOf is_aside site (server_after site (Wanders n) s) n (at_number numbers j (Some s.count)) new
     wanders there =
         subst (λ (v : Server). IsHubOf is_aside site v n (at_number numbers j (Some s.count)) new)
         (sym (if_so (nat_lt n site.config.nodes) _ s there))
@@ -247,7 +247,7 @@ module _ (is_aside : List ℕ → Bool) (site : Site) (s : Server) (n : ℕ) (nu
   -- ---- one goes
 
   pub detaches : (new : Node) (j k code : ℕ) → numbers j ≡ Some k → attached_at new j ≡ None → OthersStay j old new
-      → IsHubOf is_aside site (after site (Detaches k code) s) n (at_number numbers j None) new
+      → IsHubOf is_aside site (server_after site (Detaches k code) s) n (at_number numbers j None) new
   detaches new j k code at none others = record {
     each = λ i. elim (number_tells i j) [
       | inl e ↦
@@ -274,7 +274,7 @@ module _ (is_aside : List ℕ → Bool) (site : Site) (s : Server) (n : ℕ) (nu
   }
     where
       t : Server
-      t = after site (Detaches k code) s
+      t = server_after site (Detaches k code) s
 
       was : (a m : ℕ) → at_number numbers j None a ≡ Some m → numbers a ≡ Some m
       was a m e = elim (number_tells a j) [
@@ -284,7 +284,7 @@ module _ (is_aside : List ℕ → Bool) (site : Site) (s : Server) (n : ℕ) (nu
 
   -- ---- elsewhere
 
-  pub stays : (x : Section) → ((k : ℕ) → IsUntouched n (s.connections k) ((after site x s).connections k)) → IsHubOf is_aside site (after site x s) n numbers old
+  pub stays : (x : Section) → ((k : ℕ) → IsUntouched n (s.connections k) ((server_after site x s).connections k)) → IsHubOf is_aside site (server_after site x s) n numbers old
   stays x u = record {
     each = λ j. by_session (attached_at old j) (numbers j) (h.each j);
     apart = h.apart;
@@ -292,7 +292,7 @@ module _ (is_aside : List ℕ → Bool) (site : Site) (s : Server) (n : ℕ) (nu
   }
     where
       t : Server
-      t = after site x s
+      t = server_after site x s
 
       g : Grows Any s t
       g = grows Any site s x (any-section s x)

@@ -19,7 +19,7 @@ use Rattle.cf_hub.proofs.InNotes.{read_stays}
 use Rattle.cf_machine.specs.ReadBack.{IsDatum}
 use Rattle.cf_machine.proofs.Readings.{epoch-is, low-below, regular-placed, top-is}
 use Rattle.cf_shard.specs.LogAnswer.{IsHistoryAnswer, IsReadAnswer}
-use Rattle.cf_running.specs.Server.{Server, Section, Site, after, life_of, lists_of, log_of, ran, start}
+use Rattle.cf_running.specs.Server.{Server, Section, Site, server_after, life_of, lists_of, log_of, ran, start}
 use Rattle.cf_running.proofs.Steps.{stands_beside}
 use Rattle.cf_hub_moves.specs.Readings.{answered}
 use Rattle.cf_hub_moves.proofs.Readings.{life-opened, reading-is}
@@ -30,8 +30,8 @@ use Rattle.cf_running_ties.proofs.Links.{life-listed}
 pub starts : (site : Site) → AllReadBack site start
 starts site = record { each = λ c e. tt }
 
-pub stays : (site : Site) (s : Server) (x : Section) → SectionHas IsDatum s x → AllReadBack site s → AllReadBack site (after site x s)
-stays site s x has h = record { each = all-listed IsDatum site s (after site x s) (grows IsDatum site s x has) h.each }
+pub stays : (site : Site) (s : Server) (x : Section) → SectionHas IsDatum s x → AllReadBack site s → AllReadBack site (server_after site x s)
+stays site s x has h = record { each = all-listed IsDatum site s (server_after site x s) (grows IsDatum site s x has) h.each }
 
 module _
     (read : (lists : Lists) (c : List ℕ) (r : Reading) (missed : List Placed) → r.top ≤ length (lists c r.epoch)

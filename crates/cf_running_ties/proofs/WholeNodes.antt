@@ -20,7 +20,7 @@ use Rattle.cf_machine.specs.Session.{Session, Words}
 use Rattle.cf_machine.proofs.Names.{by_test}
 use Rattle.cf_shard.specs.Delivery.{Carried}
 use Rattle.cf_running.specs.Server as server
-use Rattle.cf_running.specs.Server.{Closes, Connection, Delivers, Pings, Section, Server, Site, after, at_number, at_session, comes_by, lists_of, ran, words_of}
+use Rattle.cf_running.specs.Server.{Closes, Connection, Delivers, Pings, Section, Server, Site, server_after, at_number, at_session, comes_by, lists_of, ran, words_of}
 use Rattle.cf_running.proofs.Beside.{at-other, at-same, number_tells}
 use Rattle.cf_hub_moves.specs.HubAsides.{MovesAmong}
 use Rattle.cf_running_ties.specs.Links.{IsFirst, place}
@@ -127,9 +127,9 @@ module _ (site : Site) (s : Server) (numbers : ℕ → Option ℕ) (plan : ℕ �
 
   ran-append : (t : Server) (xs ys : List Section) → ran site t (xs ++ ys) ≡ ran site (ran site t xs) ys
   ran-append t [] ys = refl
-  ran-append t (x ∷ xs) ys = ran-append (after site x t) xs ys
+  ran-append t (x ∷ xs) ys = ran-append (server_after site x t) xs ys
 
-  after-act : (f : ℕ → Connection) (k : ℕ) (a : Act) → after site (section_of k a) (record s { connections = f }) ≡ record s { connections = at_number f k (at_session (act w a) (f k)) }
+  after-act : (f : ℕ → Connection) (k : ℕ) (a : Act) → server_after site (section_of k a) (record s { connections = f }) ≡ record s { connections = at_number f k (at_session (act w a) (f k)) }
   after-act f k (ToClose code) = refl
   after-act f k ToPing = refl
 
@@ -293,7 +293,7 @@ module _ (is_aside : List ℕ → Bool) (site : Site) (s : Server) (n : ℕ) (nu
         run-is : ran site s (sections site s numbers plan_of m ++ Delivers n ∷ []) ≡ t
         run-is =
             ran-append site s numbers plan_of s (sections site s numbers plan_of m) (Delivers n ∷ [])
-            ∙ ap (λ (v : Server). after site (Delivers n) v) (ran-sections site s numbers plan_of m)
+            ∙ ap (λ (v : Server). server_after site (Delivers n) v) (ran-sections site s numbers plan_of m)
             ∙ ap (λ is. server.delivers_first site n is (record s { connections = from })) first.waits
             ∙ ap (λ (o : Option Place). record s { links = at_number s.links n first.rest; connections = comes_by words n o from }) first.is.accepted
 

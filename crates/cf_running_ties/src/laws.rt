@@ -27,7 +27,7 @@ ghost use Rattle.cf_shard.specs.Shard.{DrawsFor, Lent};
 ghost use Rattle.cf_shard.specs.ShardLog.{entries_of_forget, entries_of_publish, entries_of_size, entries_of_tick, entries_of_trim, entries_of_use};
 ghost use Rattle.cf_machine.specs.Config.{Config};
 ghost use Rattle.cf_machine.specs.ReadBack.{IsDatum};
-ghost use Rattle.cf_running.specs.Server.{Delivers, Offers, Publishes, Section, Server, Site, after, at_number, log_of, ran, start};
+ghost use Rattle.cf_running.specs.Server.{Delivers, Offers, Publishes, Section, Server, Site, server_after, at_number, log_of, ran, start};
 ghost use Rattle.cf_hub_moves.specs.HubAsides.{MovesAmong};
 ghost use Rattle.cf_hub_moves.specs.Readings.{answered};
 ghost use Rattle.cf_running_ties.specs.Heard.{AreHeard, SayTheirNotes};
@@ -138,9 +138,9 @@ pub fn links_carry_what_is_listed()
     ensures repeated { (site : Site) (server : Server) (connection : ℕ)
         (channel key : List ℕ) (datum : Datum) (answer : Published)
         → IsAnswered site server connection channel key datum answer → answer.repeated ≡ true
-        → AddsNothing server (after site (Publishes connection) server) }
+        → AddsNothing server (server_after site (Publishes connection) server) }
     ensures stays { (site : Site) (server : Server) (section : Section) (number : ℕ) (x : Carried)
-        → IsNumbered site server number x → IsNumbered site (after site section server) number x }
+        → IsNumbered site server number x → IsNumbered site (server_after site section server) number x }
     ensures offered { (nodes count : ℕ) (channel : List ℕ) (position : Position) (datum : Datum)
         (first last : Left) (old new : Lines)
         → AreHandedOut nodes channel position datum first
@@ -150,17 +150,17 @@ pub fn links_carry_what_is_listed()
     ensures sent { (site : Site) (server : Server) (number n : ℕ) (x : Carried)
         (sent received : Lines)
         → IsNumbered site server number x → Waits site server sent received
-        → Waits site (after site (Offers number n) server)
+        → Waits site (server_after site (Offers number n) server)
         (at_number sent n (sent n ++ x ∷ [])) received }
     ensures received { (site : Site) (server : Server) (n : ℕ) (x : Carried)
         (sent received : Lines) (left : ℕ)
         → Waits site server sent received → AreLeft (sent n) (received n ++ x ∷ []) left
         → IsFirst site server n x
-        × Waits site (after site (Delivers n) server)
+        × Waits site (server_after site (Delivers n) server)
         sent (at_number received n (received n ++ x ∷ [])) }
     ensures others { (site : Site) (server : Server) (section : Section) (sent received : Lines)
         → is_at_link section ≡ false → Waits site server sent received
-        → Waits site (after site section server) sent received }
+        → Waits site (server_after site section server) sent received }
 {
     what_is_said_stays();
 }
@@ -172,7 +172,7 @@ pub fn what_is_read_is_listed()
     ensures starts { (site : Site) → AllReadBack site start }
     ensures stays { (site : Site) (server : Server) (section : Section)
         → SectionHas IsDatum server section → AllReadBack site server
-        → AllReadBack site (after site section server) }
+        → AllReadBack site (server_after site section server) }
     ensures reads { (site : Site) (sections : List Section) (channel : List ℕ)
         (since : Option Position) (position : Position) (recovered : Bool)
         (publications : List Placed) (seen : List Entry)

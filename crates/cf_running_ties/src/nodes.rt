@@ -6,7 +6,7 @@ ghost use Rattle.cf_hub.specs.Session.{Attached};
 ghost use Rattle.cf_hub.specs.WantOfMemory.{OrCloses};
 ghost use Rattle.cf_hub.specs.Wordings.{plain};
 ghost use Rattle.cf_shard.specs.Delivery.{Carried};
-ghost use Rattle.cf_running.specs.Server.{Attaches, Connection, Delivers, Detaches, Section, Server, Site, Wanders, after, at_number, change, lists_of, start};
+ghost use Rattle.cf_running.specs.Server.{Attaches, Connection, Delivers, Detaches, Section, Server, Site, Wanders, server_after, at_number, change, lists_of, start};
 ghost use Rattle.cf_hub_moves.specs.HubAsides.{KeepSaying, MovesOrCloses};
 ghost use Rattle.cf_running_ties.specs.Links.{IsFirst};
 ghost use Rattle.cf_running_ties.specs.Nodes.{ClosesAnd, ClosesAndPings, IsHubOf, IsUntouched, Moves, MovesBehindClose, Says};
@@ -36,13 +36,13 @@ pub fn hubs_stay_beside_their_nodes()
         → IsHubOf is_aside site server n numbers old → Opens j user now old new
         → attached_at old j ≡ None → server.seats client ≡ None
         → nat_lt n site.config.nodes ≡ true
-        → IsHubOf is_aside site (after site (Attaches client n) server) n
+        → IsHubOf is_aside site (server_after site (Attaches client n) server) n
         (at_number numbers j (Some server.count)) new }
     ensures wanders { (is_aside : List ℕ → Bool) (site : Site) (server : Server) (n j now : ℕ)
         (numbers : ℕ → Option ℕ) (old new : Node) (user : List ℕ)
         → IsHubOf is_aside site server n numbers old → Opens j user now old new
         → attached_at old j ≡ None → nat_lt n site.config.nodes ≡ true
-        → IsHubOf is_aside site (after site (Wanders n) server) n
+        → IsHubOf is_aside site (server_after site (Wanders n) server) n
         (at_number numbers j (Some server.count)) new }
     ensures one { (is_aside : List ℕ → Bool) (site : Site) (server : Server) (n j k : ℕ)
         (numbers : ℕ → Option ℕ) (old new : Node) (f : Connection → Connection) (a : Attached)
@@ -55,14 +55,14 @@ pub fn hubs_stay_beside_their_nodes()
         (numbers : ℕ → Option ℕ) (old new : Node)
         → IsHubOf is_aside site server n numbers old → numbers j ≡ Some k
         → attached_at new j ≡ None → OthersStay j old new
-        → IsHubOf is_aside site (after site (Detaches k code) server) n
+        → IsHubOf is_aside site (server_after site (Detaches k code) server) n
         (at_number numbers j None) new }
     ensures stays { (is_aside : List ℕ → Bool) (site : Site) (server : Server) (n : ℕ)
         (numbers : ℕ → Option ℕ) (hub : Node) (section : Section)
         → IsHubOf is_aside site server n numbers hub
         → ((k : ℕ) → IsUntouched n (server.connections k)
-        ((after site section server).connections k))
-        → IsHubOf is_aside site (after site section server) n numbers hub }
+        ((server_after site section server).connections k))
+        → IsHubOf is_aside site (server_after site section server) n numbers hub }
 {
     hub_moves_are_sections();
 }

@@ -15,11 +15,11 @@ use Rattle.cf_session.specs.Asking.{AllAsk, HasStream, FramesHaveStreams, finds_
 use Rattle.cf_session.specs.CommandScripts.{Tables, Brings}
 use Rattle.cf_session.specs.SessionMachine.{Act, Calls, Says, PassesPong, Closes, Progress, Todo, Out, Does, Hears, HearsText, HearsAt, reply_text, awaits, next_progress, answered_progress, GoesOn, Acts, AtHand, at_start, at_reply, GivesUp, fails, falls_silent, stays_out}
 use Rattle.cf_session.specs.Standing.{tables_of, commands_left, progress_of, progress_at, is_idle, idle_at}
-use Rattle.cf_session.specs.declared.kind.Kind.{Kind}
+use Rattle.cf_session.specs.declared.kind.CommandKind.{CommandKind}
 use Rattle.cf_protocol.specs.Request.{Command}
 use Rattle.cf_session.specs.declared.session.Session.{Session}
-use Rattle.cf_session.specs.declared.stage.Stage.{Stage}
-use Rattle.cf_session.specs.declared.stage.Stage.TheVariants as stage
+use Rattle.cf_session.specs.declared.stage.ScriptStage.{ScriptStage}
+use Rattle.cf_session.specs.declared.stage.ScriptStage.TheVariants as stage
 use Rattle.cf_session.specs.Played.{asked_kind, ActHasStream, AskStreams, Plays, PlaysOn, Next, Continues, Serves, LeadsOn, Goes}
 use Rattle.cf_session.specs.Turn.{CanGoOn, IdleCanGoOn}
 
@@ -67,7 +67,7 @@ module _ {N : Type 0} (closed : N → Bool) (does : N → Act → Option Answer 
   plays_act (Out kind after) q a n mid m end d h k rest = absurd (cc (d.acts))
 
   -- a call and its answer
-  plays_call : (p q : Progress) (a : Act) (kind : Kind) (x : Answer) (n mid m : N) (end : Script)
+  plays_call : (p q : Progress) (a : Act) (kind : CommandKind) (x : Answer) (n mid m : N) (end : Script)
       → Does p (Some a) q → does n a (Some x) mid → asked_kind a ≡ Some kind → Continues closed does (answered_progress x q) mid m end → PlaysOn closed does p n m end
   plays_call (Todo (Served who)) q a kind x n mid m end d h k rest = absurd (cc (d.acts))
   plays_call (Todo Over) q a kind x n mid m end d h k rest = absurd (cc (d.acts))
@@ -91,7 +91,7 @@ module _ {N : Type 0} (closed : N → Bool) (does : N → Act → Option Answer 
   pub next_act_done : (p q : Progress) (a : Act) (n mid : N) → Does p (Some a) q → does n a None mid → asked_kind a ≡ None → Next closed does p q n mid
   next_act_done p q a n mid d h k = λ m end rest. plays_act p q a n mid m end d h k rest
 
-  pub next_call_done : (p q r : Progress) (a : Act) (kind : Kind) (x : Answer) (n mid : N)
+  pub next_call_done : (p q r : Progress) (a : Act) (kind : CommandKind) (x : Answer) (n mid : N)
       → Does p (Some a) q → does n a (Some x) mid → asked_kind a ≡ Some kind → r ≡ answered_progress x q → Next closed does p r n mid
   next_call_done p q r a kind x n mid d h k e =
       λ m end rest. plays_call p q a kind x n mid m end d h k (subst (λ (y : Progress). Continues closed does y mid m end) e rest)
@@ -328,7 +328,7 @@ answers_own (answer.Stats s) = refl
 
 -- ---- idle sessions
 
-pub idle_ends : (t : Tables) (ks : List Command) (who : Option Who) (at : Stage) → idle_at at ks ≡ true → is_end (progress_at t ks who at) ≡ true
+pub idle_ends : (t : Tables) (ks : List Command) (who : Option Who) (at : ScriptStage) → idle_at at ks ≡ true → is_end (progress_at t ks who at) ≡ true
 idle_ends t [] who stage.Ready idle = refl
 idle_ends t (k ∷ ks) who stage.Ready idle = absurd (cc (idle))
 idle_ends t ks who stage.Closed idle = refl

@@ -19,8 +19,8 @@ use Rattle.cf_session.specs.Standing.{Falls, progress_at, idle_at, is_over, tabl
 use Rattle.cf_session.specs.Shown.{shown_action}
 use Rattle.cf_session.specs.declared.action.Action.{Action}
 use Rattle.cf_session.specs.declared.session.Session.{Session}
-use Rattle.cf_session.specs.declared.stage.Stage.{Stage}
-use Rattle.cf_session.specs.declared.stage.Stage.TheVariants as stage
+use Rattle.cf_session.specs.declared.stage.ScriptStage.{ScriptStage}
+use Rattle.cf_session.specs.declared.stage.ScriptStage.TheVariants as stage
 
 -- the progress, the act and the count by which a command is given up may be named otherwise
 gives_same : (t : Tables) (p : Progress) (act act' : Option Act) (new new' : Progress) (n n' : ℕ)
@@ -65,7 +65,7 @@ idle_when_ready [] counted = ap (λ n. n == 0) counted
 idle_when_ready (k ∷ ks) counted = grind (arith, counted)
 
 -- an idle session that isn't closed has no command left
-pub idle_ready : (ks : List Command) (at : Stage)
+pub idle_ready : (ks : List Command) (at : ScriptStage)
     → idle_at at ks ≡ true → is_over at ≡ false → (at ≡ stage.Ready) × (ks ≡ [])
 idle_ready [] stage.Ready idle stands = (refl, refl)
 idle_ready (k ∷ ks) stage.Ready idle stands = absurd (cc)
@@ -84,7 +84,7 @@ idle_ready ks (stage.Says id o) idle stands = absurd (cc)
 idle_ready ks (stage.Closes code) idle stands = absurd (cc)
 
 -- it is served
-pub idle_served : (t : Tables) (ks : List Command) (who : Option Who) (at : Stage)
+pub idle_served : (t : Tables) (ks : List Command) (who : Option Who) (at : ScriptStage)
     → (at ≡ stage.Ready) × (ks ≡ []) → progress_at t ks who at ≡ Todo (Served who)
 idle_served t ks who at ready =
     ap (progress_at t ks who) ready.0 ∙ ap (λ (left : List Command). Todo (frame_script t left who)) ready.1

@@ -10,10 +10,10 @@ use Rattle.cf_session.specs.SessionMachine.{Act, Calls, Says, PassesPong, Closes
 use Rattle.cf_session.specs.SessionMachine.{HearsAt, HearsText}
 use Rattle.cf_session.specs.Shown.{shown_answer}
 use Rattle.cf_session.specs.declared.action.Answer.{Answer as CodeAnswer}
-use Rattle.cf_session.specs.declared.kind.Kind.{Kind}
+use Rattle.cf_session.specs.declared.kind.CommandKind.{CommandKind}
 
 -- the kind of the call that an act is, if it is one
-abbrev pub asked_kind : Act → Option Kind
+abbrev pub asked_kind : Act → Option CommandKind
 asked_kind (Calls call) = Some (kind_of call)
 asked_kind (Says text) = None
 asked_kind PassesPong = None

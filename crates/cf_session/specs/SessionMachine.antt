@@ -11,8 +11,8 @@ use Rattle.cf_session.specs.Script.{Script, Served, Over, Close, Say, Pong, Ask}
 use Rattle.cf_protocol.specs.Datum.{Who}
 use Rattle.cf_protocol.specs.Request.{Command}
 use Rattle.cf_session.specs.CommandScripts.{Tables, Brings, frame_script}
-use Rattle.cf_session.specs.declared.kind.Kind.{Kind}
-use Rattle.cf_session.specs.declared.kind.Kind.TheVariants as kind
+use Rattle.cf_session.specs.declared.kind.CommandKind.{CommandKind}
+use Rattle.cf_session.specs.declared.kind.CommandKind.TheVariants as kind
 
 -- one thing that a session does
 pub data Act : Type 0 where
@@ -25,7 +25,7 @@ pub data Progress : Type 0 where
   -- this is still to do
   Todo : (script : Script) → Progress
   -- a call of this kind is out, and this comes after its answer
-  Out : (kind : Kind) → (after : Answer → Script) → Progress
+  Out : (kind : CommandKind) → (after : Answer → Script) → Progress
 
 abbrev pub reply_text : ℕ → outgoing.Outcome → List ℕ
 reply_text id o = outgoing_text (outgoing.Answer id o)
@@ -100,7 +100,7 @@ Acts t old act new refused = (Does old act new × (refused ≡ 0)) ⊎ GivesUp t
 -- ---- answers and texts
 
 -- the kind of the call that is out
-abbrev pub awaits : Progress → Option Kind
+abbrev pub awaits : Progress → Option CommandKind
 awaits (Todo s) = None
 awaits (Out kind after) = Some kind
 

@@ -6,8 +6,8 @@ use Rattle.cf_protocol.specs.Shown.{shown_users}
 use Rattle.cf_session.specs.Calls as call
 use Rattle.cf_session.specs.Calls.{Answer, Refused, Done, Found, Attached}
 use Rattle.cf_session.specs.SessionMachine.{Act, Calls, Says, PassesPong, Closes}
-use Rattle.cf_session.specs.declared.kind.Kind.{Kind}
-use Rattle.cf_session.specs.declared.kind.Kind.TheVariants as kind
+use Rattle.cf_session.specs.declared.kind.CommandKind.{CommandKind}
+use Rattle.cf_session.specs.declared.kind.CommandKind.TheVariants as kind
 use Rattle.cf_session.specs.declared.action.Action.{Action}
 use Rattle.cf_session.specs.declared.action.Action.TheVariants as action
 use Rattle.cf_session.specs.declared.action.Answer.{Answer as CodeAnswer}
@@ -45,7 +45,7 @@ shown_answer (answer.Presence (Ok users)) = Found (outgoing.Present (shown_users
 shown_answer (answer.Presence (Err e)) = Refused e
 shown_answer (answer.Stats s) = Found (outgoing.Counted s.clients s.users)
 
-abbrev pub answer_kind : CodeAnswer → Kind
+abbrev pub answer_kind : CodeAnswer → CommandKind
 answer_kind (answer.Attach r) = kind.Attach
 answer_kind (answer.Begin r) = kind.Begin
 answer_kind (answer.Read r) = kind.Read

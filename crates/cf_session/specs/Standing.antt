@@ -19,15 +19,15 @@ use Rattle.cf_session.specs.CommandScripts.{after_read, after_finish, after_leav
 use Rattle.cf_session.specs.SessionMachine.{Act, Says, Closes, Progress, Todo, Out, Acts, GoesOn, Hears, failed_text}
 use Rattle.cf_session.specs.SessionMachine.{awaits, answered_progress}
 use Rattle.cf_session.specs.Shown.{shown_action, shown_answer, answer_kind}
-use Rattle.cf_session.specs.declared.kind.Kind.TheVariants as kind
+use Rattle.cf_session.specs.declared.kind.CommandKind.TheVariants as kind
 use Rattle.cf_session.specs.declared.action.Action.{Action}
 use Rattle.cf_session.specs.declared.action.Answer.{Answer as CodeAnswer}
-use Rattle.cf_session.specs.declared.stage.Stage.{Stage}
-use Rattle.cf_session.specs.declared.stage.Stage.TheVariants as stage
+use Rattle.cf_session.specs.declared.stage.ScriptStage.{ScriptStage}
+use Rattle.cf_session.specs.declared.stage.ScriptStage.TheVariants as stage
 use Rattle.cf_session.specs.declared.session.Session.{Session}
 
 -- where a session stands, by its stage, the commands that are left and its client
-abbrev pub progress_at : Tables → List Command → Option Who → Stage → Progress
+abbrev pub progress_at : Tables → List Command → Option Who → ScriptStage → Progress
 progress_at t ks who stage.Ready = Todo (frame_script t ks who)
 progress_at t ks who (stage.Attaching id user) =
     Out kind.Attach (after_attach id (string_bytes user) (λ w. frame_script t ks (Some w)))
@@ -67,7 +67,7 @@ abbrev pub progress_of : Session → Progress
 progress_of s = progress_at (tables_of s) (commands_left s) s.client s.stage
 
 -- it may hear a text
-abbrev pub idle_at : Stage → List Command → Bool
+abbrev pub idle_at : ScriptStage → List Command → Bool
 idle_at stage.Ready [] = true
 idle_at stage.Closed ks = true
 idle_at other ks = false
@@ -75,19 +75,19 @@ idle_at other ks = false
 abbrev pub is_idle : Session → Bool
 is_idle s = idle_at s.stage (commands_left s)
 
-abbrev pub is_over : Stage → Bool
+abbrev pub is_over : ScriptStage → Bool
 is_over stage.Closed = true
 is_over other = false
 
 -- one of its calls met a refused request for memory; how many the last of them met
-abbrev pub is_short : Session → Bool
-is_short s = s.is_short
+abbrev pub met_refused_memory : Session → Bool
+met_refused_memory s = s.is_short
 
 abbrev pub refusals : Session → ℕ
 refusals s = s.refusals
 
 -- how many things it may still do
-abbrev pub work_at : Stage → ℕ
+abbrev pub work_at : ScriptStage → ℕ
 work_at stage.Ready = 0
 work_at stage.Closed = 0
 work_at (stage.Closes code) = 1
@@ -111,7 +111,7 @@ work_of s = 7 * length s.frame.items + work_at s.stage
 -- the tables stay, and a session is short from the first refused request on
 pub record Keeps (old new : Session) : Type 0 where
   pub tables : tables_of new ≡ tables_of old
-  pub short : is_short new ≡ (is_short old || not (refusals new == 0))
+  pub short : met_refused_memory new ≡ (met_refused_memory old || not (refusals new == 0))
 
 abbrev pub HearsFrame : Session → List ℕ → Session → Type 0
 HearsFrame old text new = Hears (tables_of old) (progress_of old) text (progress_of new) (refusals new)
@@ -170,17 +170,17 @@ found_by (Found outcome) = Some outcome
 found_by (Attached client) = None
 
 -- after an answer the reply is next, whatever else is left to do
-abbrev pub RepliesAt : ℕ → CodeAnswer → Stage → Type 0
+abbrev pub RepliesAt : ℕ → CodeAnswer → ScriptStage → Type 0
 RepliesAt id a s =
     (t : Tables) (ks : List Command) (who : Option Who)
     → progress_at t ks who s ≡ Todo (replies id (frame_script t ks who) (shown_answer a))
 
-abbrev pub is_attaching : Stage → Bool
+abbrev pub is_attaching : ScriptStage → Bool
 is_attaching (stage.Attaching id user) = true
 is_attaching other = false
 
 -- after the answer to a call that is out, and no attach, this is next, whatever else is left to do
-abbrev pub AnswersAt : Stage → CodeAnswer → Stage → Type 0
+abbrev pub AnswersAt : ScriptStage → CodeAnswer → ScriptStage → Type 0
 AnswersAt old a new =
     is_attaching old ≡ false
     → (t : Tables) (ks : List Command) (who : Option Who)

@@ -3,7 +3,7 @@
 use Rattle.std.specs.Prelude.{◌≡◌, ◌≢◌, ◌-◌, ℕ, Option, None, Bool, true, false}
 use Rattle.cf_session.specs.Calls.{Answer}
 use Rattle.cf_session.specs.SessionMachine.{Act, Calls, Says, PassesPong, Closes, awaits}
-use Rattle.cf_session.specs.Standing.{tables_of, progress_of, is_idle, is_short}
+use Rattle.cf_session.specs.Standing.{tables_of, progress_of, is_idle, met_refused_memory}
 use Rattle.cf_session.specs.declared.session.Session.{Session}
 use Rattle.cf_session.specs.Played.{AskStreams}
 use Rattle.cf_session.specs.declared.budget.Budget.{Budget}
@@ -20,7 +20,7 @@ IdleCanGoOn = (s : Session) → is_idle s ≡ true → CanGoOn s
 -- it is set up as before, and stays short of memory once it was
 pub record StaysSetUp (old new : Session) : Type 0 where
   pub tables : tables_of new ≡ tables_of old
-  pub short : is_short old ≡ true → is_short new ≡ true
+  pub short : met_refused_memory old ≡ true → met_refused_memory new ≡ true
 
 abbrev pub units_left : Budget → ℕ
 units_left b = b.left

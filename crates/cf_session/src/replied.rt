@@ -10,7 +10,7 @@ ghost use Rattle.cf_session.specs.Shown.{shown_answer};
 ghost use Rattle.cf_session.specs.Standing.{AnswersAt, RepliesAt, refused_code, found_by, progress_at, work_at};
 
 use crate::action::Answer;
-use crate::stage::Stage;
+use crate::stage::ScriptStage;
 use cf_protocol::{ErrorCode, Outcome, Position};
 
 /// The error with which a call was refused.
@@ -28,42 +28,42 @@ fn refused_with(answer: &Answer) -> Option<ErrorCode>
     }
 }
 
-fn refused(id: u32, code: ErrorCode) -> Stage
-    ensures { result ≡ Stage.Says id (Outcome.Failed (code_of code)) }
+fn refused(id: u32, code: ErrorCode) -> ScriptStage
+    ensures { result ≡ ScriptStage.Says id (Outcome.Failed (code_of code)) }
 {
-    Stage::Says {
+    ScriptStage::Says {
         id,
         outcome: Outcome::Failed { code: code.code() },
     }
 }
 
 /// What comes of the answer to a call that is no attach.
-pub(crate) fn after_answer(stage: Stage, answer: Answer) -> Stage
+pub(crate) fn after_answer(stage: ScriptStage, answer: Answer) -> ScriptStage
     ensures goes { AnswersAt stage answer result }
     ensures work { work_at result ≤ work_at stage }
 {
     match stage {
-        Stage::Beginning {
+        ScriptStage::Beginning {
             id,
             read,
             channel,
             since,
         } => begun(id, read, channel, since, &answer),
-        Stage::Reading { id, channel } => was_read(id, channel, &answer),
-        Stage::Finishing => Stage::Ready,
-        Stage::Losing { id, code } => refused(id, code),
-        Stage::Leaving { id } => Stage::Says {
+        ScriptStage::Reading { id, channel } => was_read(id, channel, &answer),
+        ScriptStage::Finishing => ScriptStage::Ready,
+        ScriptStage::Losing { id, code } => refused(id, code),
+        ScriptStage::Leaving { id } => ScriptStage::Says {
             id,
             outcome: Outcome::Unsubscribed,
         },
-        Stage::Calling { id, .. } => replied(id, answer),
+        ScriptStage::Calling { id, .. } => replied(id, answer),
         // No such call is out.
-        _ => Stage::Ready,
+        _ => ScriptStage::Ready,
     }
 }
 
 /// The begin of a subscription was answered: its read is next.
-fn begun(id: u32, read: String, channel: String, since: Option<Position>, answer: &Answer) -> Stage
+fn begun(id: u32, read: String, channel: String, since: Option<Position>, answer: &Answer) -> ScriptStage
     ensures goes { (t : Tables) (ks : List Command) (who : Option Who)
         → progress_at t ks who result
         ≡ Todo (after_begin id (string_bytes read) (string_bytes channel) since
@@ -72,7 +72,7 @@ fn begun(id: u32, read: String, channel: String, since: Option<Position>, answer
 {
     match refused_with(answer) {
         Some(code) => refused(id, code),
-        None => Stage::Reads {
+        None => ScriptStage::Reads {
             id,
             read,
             channel,
@@ -82,7 +82,7 @@ fn begun(id: u32, read: String, channel: String, since: Option<Position>, answer
 }
 
 /// The read of a subscription was answered: its finish is next, or its leave.
-fn was_read(id: u32, channel: String, answer: &Answer) -> Stage
+fn was_read(id: u32, channel: String, answer: &Answer) -> ScriptStage
     ensures goes { (t : Tables) (ks : List Command) (who : Option Who)
         → progress_at t ks who result
         ≡ Todo (after_read id (string_bytes channel) (frame_script t ks who)
@@ -90,8 +90,8 @@ fn was_read(id: u32, channel: String, answer: &Answer) -> Stage
     ensures work { work_at result ≤ 3 }
 {
     match refused_with(answer) {
-        Some(code) => Stage::Loses { id, channel, code },
-        None => Stage::Finishes { channel },
+        Some(code) => ScriptStage::Loses { id, channel, code },
+        None => ScriptStage::Finishes { channel },
     }
 }
 
@@ -103,20 +103,20 @@ pub(crate) fn is_connected(outcome: &Outcome) -> bool
 }
 
 /// The reply to a command of one call is next.
-fn replied(id: u32, answer: Answer) -> Stage
+fn replied(id: u32, answer: Answer) -> ScriptStage
     ensures goes { RepliesAt id answer result }
     ensures work { work_at result ≤ 1 }
 {
     match answer {
-        Answer::Publish(Ok(())) => Stage::Says {
+        Answer::Publish(Ok(())) => ScriptStage::Says {
             id,
             outcome: Outcome::Published,
         },
-        Answer::Presence(Ok(users)) => Stage::Says {
+        Answer::Presence(Ok(users)) => ScriptStage::Says {
             id,
             outcome: Outcome::Present { users },
         },
-        Answer::Stats(stats) => Stage::Says {
+        Answer::Stats(stats) => ScriptStage::Says {
             id,
             outcome: Outcome::Counted {
                 clients: stats.clients,
@@ -131,13 +131,13 @@ fn replied(id: u32, answer: Answer) -> Stage
 }
 
 /// An answer that has no result of its own.
-fn other_answer(id: u32, answer: &Answer) -> Stage
+fn other_answer(id: u32, answer: &Answer) -> ScriptStage
     requires { found_by (shown_answer answer.now) ≡ None }
     ensures goes { RepliesAt id answer.now result }
     ensures work { work_at result ≤ 1 }
 {
     match refused_with(answer) {
         Some(code) => refused(id, code),
-        None => Stage::Ready,
+        None => ScriptStage::Ready,
     }
 }

@@ -12,14 +12,14 @@ ghost use Rattle.cf_session.specs.CommandScripts.{IsUnreadable, granted, replies
 ghost use Rattle.cf_session.specs.Script as script;
 ghost use Rattle.cf_session.specs.SessionMachine.{Todo, Out, Calls, Closes, GoesOn, awaits, reply_text};
 ghost use Rattle.cf_session.specs.Shown.{shown_action, shown_answer, answer_kind};
-ghost use Rattle.cf_session.specs.Standing.{tables_of, tokens_in, commands_left, rest_of, rest_with, progress_at, progress_of, is_idle, is_over, is_short, refusals, work_at, work_of, Keeps, HearsFrame, ActsNext, TakesAnswer, ActsOn, Begins, script_from, opening_script, Falls};
-ghost use Rattle.cf_session.specs.declared.kind.Kind.TheVariants as kind;
+ghost use Rattle.cf_session.specs.Standing.{tables_of, tokens_in, commands_left, rest_of, rest_with, progress_at, progress_of, is_idle, is_over, met_refused_memory, refusals, work_at, work_of, Keeps, HearsFrame, ActsNext, TakesAnswer, ActsOn, Begins, script_from, opening_script, Falls};
+ghost use Rattle.cf_session.specs.declared.kind.CommandKind.TheVariants as kind;
 
 use crate::action::{Action, Answer};
-use crate::kind::Kind;
+use crate::kind::CommandKind;
 use crate::refusal::refusal_of;
 use crate::replied::{after_answer, is_connected};
-use crate::stage::Stage;
+use crate::stage::ScriptStage;
 use cf_protocol::{
     CloseCode, Command, Data, ErrorCode, Info, Namespaces, Outcome, Outgoing, Position, ReadFault,
     Request, Tokens, read_commands, write_reply,
@@ -38,8 +38,8 @@ pub struct Session<'a> {
     tokens: Option<&'a Tokens>,
     client: Option<Info>,
     frame: VecDeque<Command>,
-    stage: Stage,
-    is_short: bool,
+    stage: ScriptStage,
+    met_refused_memory: bool,
     /// How many requests for memory the last call had refused.
     refusals: u8,
     alloc: Global,
@@ -54,7 +54,7 @@ impl Drop for Session<'_> {
             client: _,
             frame: _,
             stage: _,
-            is_short: _,
+            met_refused_memory: _,
             refusals: _,
             alloc: _,
         } = self;
@@ -68,7 +68,7 @@ impl<'a> Session<'a> {
         ensures tables { tables_of result
             ≡ record { namespaces = namespaces.now; tokens = tokens.now } }
         ensures idle { is_idle result ≡ true }
-        ensures short { is_short result ≡ false }
+        ensures short { met_refused_memory result ≡ false }
     {
         Session::begun(alloc, namespaces, Some(tokens))
     }
@@ -78,7 +78,7 @@ impl<'a> Session<'a> {
         ensures progress { progress_of result ≡ Todo (script.Served None) }
         ensures tables { tables_of result ≡ record { namespaces = namespaces.now; tokens = [] } }
         ensures idle { is_idle result ≡ true }
-        ensures short { is_short result ≡ false }
+        ensures short { met_refused_memory result ≡ false }
     {
         Session::begun(alloc, namespaces, None)
     }
@@ -88,15 +88,15 @@ impl<'a> Session<'a> {
         ensures tables { tables_of result
             ≡ record { namespaces = namespaces.now; tokens = tokens_in tokens.entry } }
         ensures idle { is_idle result ≡ true }
-        ensures short { is_short result ≡ false }
+        ensures short { met_refused_memory result ≡ false }
     {
         Session {
             namespaces,
             tokens,
             client: None,
             frame: VecDeque::new(alloc),
-            stage: Stage::Ready,
-            is_short: false,
+            stage: ScriptStage::Ready,
+            met_refused_memory: false,
             refusals: 0,
             alloc,
         }
@@ -107,8 +107,8 @@ impl<'a> Session<'a> {
         ensures { result ≡ is_idle self.now }
     {
         match &self.stage {
-            Stage::Ready => self.frame.is_empty(),
-            Stage::Closed => true,
+            ScriptStage::Ready => self.frame.is_empty(),
+            ScriptStage::Closed => true,
             _ => false,
         }
     }
@@ -117,37 +117,37 @@ impl<'a> Session<'a> {
         ensures { result ≡ is_over self.now.stage }
     {
         match &self.stage {
-            Stage::Closed => true,
+            ScriptStage::Closed => true,
             _ => false,
         }
     }
 
     /// Whether one of its calls met a refused request for memory.
     pub fn short(&self) -> bool
-        ensures { result ≡ is_short self.now }
+        ensures { result ≡ met_refused_memory self.now }
     {
         self.is_short
     }
 
     /// The call that is out, by its kind. None: the session does something by itself, or is idle.
-    pub fn awaited(&self) -> Option<Kind>
+    pub fn awaited(&self) -> Option<CommandKind>
         ensures { result ≡ awaits (progress_of self.now) }
     {
         match &self.stage {
-            Stage::Attaching { .. } => Some(Kind::Attach),
-            Stage::Beginning { .. } => Some(Kind::Begin),
-            Stage::Reading { .. } => Some(Kind::Read),
-            Stage::Finishing => Some(Kind::Finish),
-            Stage::Losing { .. } => Some(Kind::Leave),
-            Stage::Leaving { .. } => Some(Kind::Leave),
-            Stage::Calling { kind, .. } => Some(*kind),
-            Stage::Ready => None,
-            Stage::Reads { .. } => None,
-            Stage::Finishes { .. } => None,
-            Stage::Loses { .. } => None,
-            Stage::Says { .. } => None,
-            Stage::Closes(_) => None,
-            Stage::Closed => None,
+            ScriptStage::Attaching { .. } => Some(CommandKind::Attach),
+            ScriptStage::Beginning { .. } => Some(CommandKind::Begin),
+            ScriptStage::Reading { .. } => Some(CommandKind::Read),
+            ScriptStage::Finishing => Some(CommandKind::Finish),
+            ScriptStage::Losing { .. } => Some(CommandKind::Leave),
+            ScriptStage::Leaving { .. } => Some(CommandKind::Leave),
+            ScriptStage::Calling { kind, .. } => Some(*kind),
+            ScriptStage::Ready => None,
+            ScriptStage::Reads { .. } => None,
+            ScriptStage::Finishes { .. } => None,
+            ScriptStage::Loses { .. } => None,
+            ScriptStage::Says { .. } => None,
+            ScriptStage::Closes(_) => None,
+            ScriptStage::Closed => None,
         }
     }
 
@@ -175,10 +175,10 @@ impl<'a> Session<'a> {
         }
         match frame_of(self.alloc, text) {
             Ok(commands) => self.frame = VecDeque::from_vec(commands),
-            Err(ReadFault::Bad) => self.stage = Stage::Closes(CloseCode::BadRequest),
+            Err(ReadFault::Bad) => self.stage = ScriptStage::Closes(CloseCode::BadRequest),
             Err(ReadFault::Memory) => {
                 self.refusals = 1;
-                self.stage = Stage::Closes(CloseCode::InternalError);
+                self.stage = ScriptStage::Closes(CloseCode::InternalError);
             }
         }
     }
@@ -206,11 +206,11 @@ impl<'a> Session<'a> {
         ensures idle { result ≡ None → awaits (progress_of self.new) ≡ None
             → is_idle self.new ≡ true }
     {
-        let (stage, action) = match mem::replace(&mut self.stage, Stage::Ready) {
-            Stage::Ready => return self.next_command(),
-            Stage::Says { id, outcome } => return Some(self.say(id, outcome)),
-            Stage::Closes(code) => (Stage::Closed, Some(Action::Close(code))),
-            Stage::Reads {
+        let (stage, action) = match mem::replace(&mut self.stage, ScriptStage::Ready) {
+            ScriptStage::Ready => return self.next_command(),
+            ScriptStage::Says { id, outcome } => return Some(self.say(id, outcome)),
+            ScriptStage::Closes(code) => (ScriptStage::Closed, Some(Action::Close(code))),
+            ScriptStage::Reads {
                 id,
                 read,
                 channel,
@@ -220,11 +220,11 @@ impl<'a> Session<'a> {
                     channel: read,
                     since,
                 };
-                (Stage::Reading { id, channel }, Some(action))
+                (ScriptStage::Reading { id, channel }, Some(action))
             }
-            Stage::Finishes { channel } => (Stage::Finishing, Some(Action::Finish { channel })),
-            Stage::Loses { id, channel, code } => {
-                (Stage::Losing { id, code }, Some(Action::Leave { channel }))
+            ScriptStage::Finishes { channel } => (ScriptStage::Finishing, Some(Action::Finish { channel })),
+            ScriptStage::Loses { id, channel, code } => {
+                (ScriptStage::Losing { id, code }, Some(Action::Leave { channel }))
             }
             waits => (waits, None),
         };
@@ -252,14 +252,14 @@ impl<'a> Session<'a> {
         ensures tables { tables_of self.new ≡ tables_of self.old }
         ensures work { work_of self.new ≤ work_of self.old }
     {
-        match mem::replace(&mut self.stage, Stage::Ready) {
-            Stage::Attaching { id, user } => self.stage = self.attached(id, user, answer),
+        match mem::replace(&mut self.stage, ScriptStage::Ready) {
+            ScriptStage::Attaching { id, user } => self.stage = self.attached(id, user, answer),
             stage => self.stage = after_answer(stage, answer),
         }
     }
 
     /// What comes of the answer to the connect's attach: its client is known from now on.
-    fn attached(&mut self, id: u32, user: String, answer: Answer) -> Stage
+    fn attached(&mut self, id: u32, user: String, answer: Answer) -> ScriptStage
         requires fresh { refusals self.old ≡ 0 }
         ensures goes { GoesOn (shown_answer answer)
             (Out kind.Attach (after_attach id (string_bytes user) (rest_with self.old)))
@@ -270,26 +270,26 @@ impl<'a> Session<'a> {
         ensures work { work_at result ≤ 1 }
     {
         let Answer::Attach(Ok(client)) = answer else {
-            return Stage::Closes(CloseCode::InternalError);
+            return ScriptStage::Closes(CloseCode::InternalError);
         };
         match client.clone() {
             Ok(copy) => {
                 self.client = Some(Info { user, client });
-                Stage::Says {
+                ScriptStage::Says {
                     id,
                     outcome: Outcome::Connected { client: copy },
                 }
             }
             Err(_) => {
                 self.refusals = 1;
-                Stage::Closes(CloseCode::InternalError)
+                ScriptStage::Closes(CloseCode::InternalError)
             }
         }
     }
 
     /// Goes on to the next command that has something done.
     fn next_command(&mut self) -> Option<Action>
-        requires ready { self.old.stage ≡ Stage.Ready }
+        requires ready { self.old.stage ≡ ScriptStage.Ready }
         requires fresh { refusals self.old ≡ 0 }
         ensures acts { ActsOn self.old (rest_of self.old) result self.new }
         ensures tables { tables_of self.new ≡ tables_of self.old }
@@ -308,7 +308,7 @@ impl<'a> Session<'a> {
 
     /// Begins a command. None: there is nothing to do for it.
     fn start(&mut self, command: Command) -> Option<Action>
-        requires ready { self.old.stage ≡ Stage.Ready }
+        requires ready { self.old.stage ≡ ScriptStage.Ready }
         requires fresh { refusals self.old ≡ 0 }
         ensures acts { Begins self.old (script_from self.old (shown_command command)) result
             self.new }
@@ -326,13 +326,13 @@ impl<'a> Session<'a> {
         }
         match self.grant(id, request) {
             Ok(action) => action,
-            Err(_) => Some(self.fall_short(id)),
+            Err(_) => Some(self.refuse_for_memory(id)),
         }
     }
 
     /// The first command, which is to be the connect.
     fn open(&mut self, id: u32, request: Request) -> Action
-        requires ready { self.old.stage ≡ Stage.Ready }
+        requires ready { self.old.stage ≡ ScriptStage.Ready }
         requires fresh { refusals self.old ≡ 0 }
         ensures acts { ActsOn self.old (opening_script self.old id (shown_request request))
             (Some result) self.new }
@@ -364,19 +364,19 @@ impl<'a> Session<'a> {
     {
         let kept = String::from_str(self.alloc, user)?;
         let user = String::from_str(self.alloc, user)?;
-        let waits = Stage::Attaching { id, user: kept };
+        let waits = ScriptStage::Attaching { id, user: kept };
         Ok(self.call(waits, Action::Attach { user }))
     }
 
     /// A command of a connected client that passed its checks.
     fn grant(&mut self, id: u32, request: Request) -> Result<Option<Action>, AllocError>
-        requires ready { self.old.stage ≡ Stage.Ready }
+        requires ready { self.old.stage ≡ ScriptStage.Ready }
         requires fresh { refusals self.old ≡ 0 }
         ensures acts { (who : Who) → self.old.client ≡ Some who
             → IfOk result
             (λ r. Begins self.old
             (granted who id (shown_request request) (rest_of self.old)) r self.new) }
-        ensures err { OnErr result (self.new.stage ≡ Stage.Ready) }
+        ensures err { OnErr result (self.new.stage ≡ ScriptStage.Ready) }
         ensures client { OnErr result (self.new.client ≡ self.old.client) }
         ensures refusals { OnErr result (refusals self.new ≡ 0) }
         ensures tables { tables_of self.new ≡ tables_of self.old }
@@ -387,18 +387,18 @@ impl<'a> Session<'a> {
             Request::Subscribe { channel, since } => self.begin(id, channel, &since),
             Request::Unsubscribe { channel } => {
                 let action = Action::Leave { channel };
-                Ok(Some(self.call(Stage::Leaving { id }, action)))
+                Ok(Some(self.call(ScriptStage::Leaving { id }, action)))
             }
             Request::Publish { channel, key, body } => self.publish(id, channel, key, body),
             Request::Presence { channel } => {
                 let action = Action::Presence { channel };
-                let kind = Kind::Presence;
-                Ok(Some(self.call(Stage::Calling { id, kind }, action)))
+                let kind = CommandKind::Presence;
+                Ok(Some(self.call(ScriptStage::Calling { id, kind }, action)))
             }
             Request::PresenceStats { channel } => {
                 let action = Action::Stats { channel };
-                let kind = Kind::Stats;
-                Ok(Some(self.call(Stage::Calling { id, kind }, action)))
+                let kind = CommandKind::Stats;
+                Ok(Some(self.call(ScriptStage::Calling { id, kind }, action)))
             }
             Request::History {
                 channel,
@@ -412,8 +412,8 @@ impl<'a> Session<'a> {
                     limit,
                     since,
                 };
-                let kind = Kind::History;
-                Ok(Some(self.call(Stage::Calling { id, kind }, action)))
+                let kind = CommandKind::History;
+                Ok(Some(self.call(ScriptStage::Calling { id, kind }, action)))
             }
             Request::Ping => Ok(Some(self.say(id, Outcome::Pinged))),
             Request::Pong => Ok(Some(Action::Pong)),
@@ -431,14 +431,14 @@ impl<'a> Session<'a> {
         key: String,
         body: Data,
     ) -> Result<Option<Action>, AllocError>
-        requires ready { self.old.stage ≡ Stage.Ready }
+        requires ready { self.old.stage ≡ ScriptStage.Ready }
         requires fresh { refusals self.old ≡ 0 }
         ensures acts { (who : Who) → self.old.client ≡ Some who
             → IfOk result
             (λ r. Begins self.old
             (granted who id (shown_request (Request.Publish channel key body)) (rest_of self.old))
             r self.new) }
-        ensures err { OnErr result (self.new.stage ≡ Stage.Ready) }
+        ensures err { OnErr result (self.new.stage ≡ ScriptStage.Ready) }
         ensures client { OnErr result (self.new.client ≡ self.old.client) }
         ensures refusals { OnErr result (refusals self.new ≡ 0) }
         ensures tables { tables_of self.new ≡ tables_of self.old }
@@ -459,12 +459,12 @@ impl<'a> Session<'a> {
             body,
             info,
         };
-        let kind = Kind::Publish;
-        Ok(Some(self.call(Stage::Calling { id, kind }, action)))
+        let kind = CommandKind::Publish;
+        Ok(Some(self.call(ScriptStage::Calling { id, kind }, action)))
     }
 
     /// The client's node is asked for something; the session stands here until the answer.
-    fn call(&mut self, waits: Stage, action: Action) -> Action
+    fn call(&mut self, waits: ScriptStage, action: Action) -> Action
         ensures action { result ≡ action }
         ensures goes { progress_of self.new
             ≡ progress_at (tables_of self.old) (commands_left self.old) self.old.client waits }
@@ -484,13 +484,13 @@ impl<'a> Session<'a> {
         channel: String,
         since: &Option<Position>,
     ) -> Result<Option<Action>, AllocError>
-        requires ready { self.old.stage ≡ Stage.Ready }
+        requires ready { self.old.stage ≡ ScriptStage.Ready }
         requires fresh { refusals self.old ≡ 0 }
         ensures acts { (who : Who) → IfOk result
             (λ r. Begins self.old
             (granted who id (shown_request (Request.Subscribe channel since.now)) (rest_of self.old))
             r self.new) }
-        ensures err { OnErr result (self.new.stage ≡ Stage.Ready) }
+        ensures err { OnErr result (self.new.stage ≡ ScriptStage.Ready) }
         ensures client { OnErr result (self.new.client ≡ self.old.client) }
         ensures refusals { OnErr result (refusals self.new ≡ 0) }
         ensures tables { tables_of self.new ≡ tables_of self.old }
@@ -499,7 +499,7 @@ impl<'a> Session<'a> {
     {
         let read = channel.clone()?;
         let kept = channel.clone()?;
-        let waits = Stage::Beginning {
+        let waits = ScriptStage::Beginning {
             id,
             read,
             channel: kept,
@@ -515,7 +515,7 @@ impl<'a> Session<'a> {
 
     /// The reply to a command.
     fn say(&mut self, id: u32, outcome: Outcome) -> Action
-        requires ready { self.old.stage ≡ Stage.Ready }
+        requires ready { self.old.stage ≡ ScriptStage.Ready }
         requires fresh { refusals self.old ≡ 0 }
         ensures acts { ActsOn self.old
             (script.Say id (shown_outcome outcome) (rest_of self.old)) (Some result) self.new }
@@ -527,7 +527,7 @@ impl<'a> Session<'a> {
         match reply_of(self.alloc, id, outcome) {
             Ok(text) => Action::Say(text),
             Err(_) if connects => self.give_up(),
-            Err(_) => self.fall_short(id),
+            Err(_) => self.refuse_for_memory(id),
         }
     }
 
@@ -546,8 +546,8 @@ impl<'a> Session<'a> {
 
     /// Memory was refused: the command is answered as one that failed within. Where memory for that is refused too the session is
     /// closed.
-    fn fall_short(&mut self, id: u32) -> Action
-        requires { self.old.stage ≡ Stage.Ready }
+    fn refuse_for_memory(&mut self, id: u32) -> Action
+        requires { self.old.stage ≡ ScriptStage.Ready }
         ensures falls { Falls id (rest_of self.old) (Some (shown_action result))
             (progress_of self.new) (refusals self.new) }
         ensures tables { tables_of self.new ≡ tables_of self.old }
@@ -575,7 +575,7 @@ impl<'a> Session<'a> {
         ensures refusals { refusals self.new ≡ refusals self.old }
         ensures work { work_at self.new.stage ≡ 0 }
     {
-        self.stage = Stage::Closed;
+        self.stage = ScriptStage::Closed;
         Action::Close(code)
     }
 }

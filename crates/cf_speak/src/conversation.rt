@@ -14,7 +14,7 @@ use crate::fault::SpeakError;
 use crate::local_node::LocalNode;
 use cf_protocol::{Namespaces, Tokens, close_reason};
 use cf_queue::Out;
-use cf_session::{Node, Session, serve_text};
+use cf_session::{CommandExecutor, Session, serve_text};
 use std::alloc::{AllocError, Global};
 use std::io::{BufRead, Write};
 use std::str;

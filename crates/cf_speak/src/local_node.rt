@@ -15,7 +15,7 @@ use cf_hub::Hub;
 use cf_presence::{Presence, PresenceError, Stats};
 use cf_protocol::{CloseCode, ErrorCode, Info, Namespaces, Outcome, Position};
 use cf_queue::Out;
-use cf_session::{Node, hub_error, presence_error, reply_of, stream_error};
+use cf_session::{CommandExecutor, hub_error, presence_error, reply_of, stream_error};
 use cf_stream::{History, StreamRefusal, Streams};
 use std::alloc::{AllocError, Global};
 use std::collections::BTreeMap;
@@ -199,7 +199,7 @@ fn is_memory(refusal: &StreamRefusal) -> bool
     }
 }
 
-impl Node for LocalNode {
+impl CommandExecutor for LocalNode {
     ghost use Rattle.cf_speak.specs.Scene.{is_over};
     ghost use Rattle.cf_speak.specs.Shown.{scene_of};
     ghost use Rattle.cf_speak.specs.Steps.{StepUnlessShort};

@@ -5,7 +5,7 @@ ghost use Rattle.cf_session.specs.Shown.{answer_kind};
 
 use crate::rows::{Subject, Table, Told};
 use cf_protocol::{ErrorCode, Namespaces, Tokens, close_reason, read_namespaces, read_tokens};
-use cf_session::{Action, Answer, Kind, Session, stream_error};
+use cf_session::{Action, Answer, CommandKind, Session, stream_error};
 use cf_stream::StreamRefusal;
 use std::alloc::Global;
 use std::process::Abort;
@@ -20,17 +20,17 @@ fn or_refused(channel: &str) -> Result<(), ErrorCode> {
 }
 
 /// What a call of this kind, on this channel, is answered; of who is there nothing is asked.
-fn answer_to(alloc: Global, kind: Kind, channel: &str) -> Option<Answer>
+fn answer_to(alloc: Global, kind: CommandKind, channel: &str) -> Option<Answer>
     ensures { IfSome result (λ a. answer_kind a ≡ kind) }
 {
     Some(match kind {
-        Kind::Attach => Answer::Attach(Ok(String::from_str(alloc, "0-1-1").ok()?)),
-        Kind::Begin => Answer::Begin(Ok(())),
-        Kind::Read => Answer::Read(or_refused(channel)),
-        Kind::Finish => Answer::Finish,
-        Kind::Leave => Answer::Leave,
-        Kind::Publish => Answer::Publish(or_refused(channel)),
-        Kind::History => Answer::History(or_refused(channel)),
+        CommandKind::Attach => Answer::Attach(Ok(String::from_str(alloc, "0-1-1").ok()?)),
+        CommandKind::Begin => Answer::Begin(Ok(())),
+        CommandKind::Read => Answer::Read(or_refused(channel)),
+        CommandKind::Finish => Answer::Finish,
+        CommandKind::Leave => Answer::Leave,
+        CommandKind::Publish => Answer::Publish(or_refused(channel)),
+        CommandKind::History => Answer::History(or_refused(channel)),
         _ => return None,
     })
 }

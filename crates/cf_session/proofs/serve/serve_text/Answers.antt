@@ -1,5 +1,5 @@
 use Rattle.std.proofs.Common.{◌∙◌, refl, sym}
-use Rattle.cf_session.specs.Standing.{tables_of, progress_of, is_short}
+use Rattle.cf_session.specs.Standing.{tables_of, progress_of, met_refused_memory}
 use Rattle.cf_session.proofs.Playing.{done_ends, goes_first, goes_on, serves_gone, still_long}
 use Rattle.cf_session.proofs.serve.serve_text.Goals as goal
 
@@ -23,7 +23,7 @@ loop-preserved g c =
       goes = λ long.
           goes_on g.N.Node.closed g.N.Node.does (tables_of c.args.session.now) (progress_of c.args.session.now) (progress_of head) (progress_of last)
           c.args.node.now c.loop.node c.carry_on.new.node c.args.text.now
-          (before.goes (still_long (is_short head) (is_short last) c.carry_on.ensures.keeps.short long)) (c.carry_on.ensures.leads long);
+          (before.goes (still_long (met_refused_memory head) (met_refused_memory last) c.carry_on.ensures.keeps.short long)) (c.carry_on.ensures.leads long);
       ready = c.carry_on.ensures.ready;
       keeps = record {
         tables = c.carry_on.ensures.keeps.tables ∙ before.keeps.tables;
@@ -41,6 +41,6 @@ returns-clause-serves g c = λ long.
     c.args.node.now c.carry_on.new.node c.args.text.now c.requires.stands
     (goes_on g.N.Node.closed g.N.Node.does (tables_of c.args.session.now) (progress_of c.args.session.now) (progress_of head) (progress_of last)
     c.args.node.now c.loop.node c.carry_on.new.node c.args.text.now
-    (before.goes (still_long (is_short head) (is_short last) c.carry_on.ensures.keeps.short long)) (c.carry_on.ensures.leads long))
+    (before.goes (still_long (met_refused_memory head) (met_refused_memory last) c.carry_on.ensures.keeps.short long)) (c.carry_on.ensures.leads long))
     c.carry_on.ensures.ready.awaits
     (done_ends (g.N.Node.closed c.carry_on.new.node) last (sym c.carry_on.ensures.done ∙ c.loop-test.false))

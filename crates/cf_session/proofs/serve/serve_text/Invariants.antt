@@ -1,12 +1,12 @@
 use Rattle.std.proofs.Common.{◌≡◌, false}
-use Rattle.cf_session.specs.Standing.{tables_of, progress_of, is_short, work_of}
+use Rattle.cf_session.specs.Standing.{tables_of, progress_of, met_refused_memory, work_of}
 use Rattle.cf_session.specs.Played.{Goes}
 use Rattle.cf_session.specs.Turn.{CanGoOn, StaysSetUp}
 use Rattle.cf_session.proofs.serve.serve_text.Given as goal
 
 abbrev pub invariant-loop : goal.invariant-loop
 invariant-loop g l = record {
-  goes : is_short l.session ≡ false
+  goes : met_refused_memory l.session ≡ false
       → Goes g.N.Node.closed g.N.Node.does (tables_of l.fn.session) (progress_of l.fn.session) l.fn.node l.text (progress_of l.session) l.node;
   ready : CanGoOn l.session;
   keeps : StaysSetUp l.fn.session l.session;

@@ -1,5 +1,5 @@
 use Rattle.std.proofs.Common.{◌∙◌, ◌<◌, ◌||◌, Bool, ap, sym, refl, inl, inr, arith}
-use Rattle.cf_session.specs.Standing.{progress_of, is_idle, is_short, work_of}
+use Rattle.cf_session.specs.Standing.{progress_of, is_idle, met_refused_memory, work_of}
 use Rattle.cf_session.specs.Turn.{rests, units_left}
 use Rattle.cf_session.proofs.Playing.{leads_more, still_long}
 use Rattle.cf_session.proofs.turn.carry_on.Goals as goal
@@ -25,7 +25,7 @@ loop-session-preserved g c =
     record {
       leads = λ long.
           leads_more g.N.Node.closed g.N.Node.does (progress_of c.args.session.now) (progress_of head) (progress_of last) c.args.node.now c.loop-session.node c.step.new.node
-          (before.leads (still_long (is_short head) (is_short last) c.step.ensures.keeps.short long)) (c.step.ensures.leads long);
+          (before.leads (still_long (met_refused_memory head) (met_refused_memory last) c.step.ensures.keeps.short long)) (c.step.ensures.leads long);
       ready = c.step.ensures.ready;
       keeps = record {
         tables = c.step.ensures.keeps.tables ∙ before.keeps.tables;

@@ -1,12 +1,12 @@
 use Rattle.std.proofs.Common.{◌≡◌, ◌<◌, ◌≤◌, ◌⊎◌, false}
-use Rattle.cf_session.specs.Standing.{progress_of, is_short, work_of}
+use Rattle.cf_session.specs.Standing.{progress_of, met_refused_memory, work_of}
 use Rattle.cf_session.specs.Played.{LeadsOn}
 use Rattle.cf_session.specs.Turn.{CanGoOn, StaysSetUp, Spends, units_left}
 use Rattle.cf_session.proofs.turn.carry_on.Given as goal
 
 abbrev pub invariant-loop-session : goal.invariant-loop-session
 invariant-loop-session g l = record {
-  leads : is_short l.session ≡ false
+  leads : met_refused_memory l.session ≡ false
       → LeadsOn g.N.Node.closed g.N.Node.does (progress_of l.fn.session) l.fn.node (progress_of l.session) l.node;
   ready : CanGoOn l.session;
   keeps : StaysSetUp l.fn.session l.session;

@@ -1,6 +1,6 @@
 use Rattle.std.proofs.Common.{◌≡◌, ◌∙◌, Some, sym}
 use Rattle.cf_session.specs.Shown.{shown_action, shown_answer, answer_kind}
-use Rattle.cf_session.specs.Standing.{progress_of, is_short, refusals}
+use Rattle.cf_session.specs.Standing.{progress_of, met_refused_memory, refusals}
 use Rattle.cf_session.specs.Played.{asked_kind}
 use Rattle.cf_session.proofs.Playing.{answered_none, answered_long, next_call_done, long_now, short_stays, answer_asks, answers_own}
 use Rattle.cf_session.proofs.turn.carry_out.Goals as goal
@@ -17,7 +17,7 @@ returns-in-Some-clause-next g c = λ p d long.
     next_call_done g.N.Node.closed g.N.Node.does p (progress_of old) (progress_of last) (shown_action c.args.action) (answer_kind c.in-Some.answer)
     (shown_answer c.in-Some.answer) c.args.node.now c.act.new.node d c.in-Some.ensures.does (sym c.in-Some.ensures.kind)
     (answered_long (shown_answer c.in-Some.answer) (progress_of old) (progress_of last) (refusals last) c.answered.ensures.goes
-    (long_now (is_short old) (is_short last) (refusals last) c.answered.ensures.keeps.short long))
+    (long_now (met_refused_memory old) (met_refused_memory last) (refusals last) c.answered.ensures.keeps.short long))
 
 pub returns-in-Some-clause-awaits : goal.returns-in-Some-clause-awaits
 returns-in-Some-clause-awaits g c =
@@ -33,5 +33,5 @@ returns-in-Some-clause-keeps g c =
     let last = c.answered.new.self in
     record {
       tables = c.answered.ensures.keeps.tables;
-      short = short_stays (is_short old) (is_short last) (refusals last) c.answered.ensures.keeps.short;
+      short = short_stays (met_refused_memory old) (met_refused_memory last) (refusals last) c.answered.ensures.keeps.short;
     }

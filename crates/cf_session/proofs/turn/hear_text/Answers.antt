@@ -1,6 +1,6 @@
 use Rattle.std.proofs.Common.{sym, subst}
 use Rattle.cf_session.specs.CommandScripts.{Tables}
-use Rattle.cf_session.specs.Standing.{tables_of, progress_of, is_short, refusals}
+use Rattle.cf_session.specs.Standing.{tables_of, progress_of, met_refused_memory, refusals}
 use Rattle.cf_session.specs.Played.{AskStreams}
 use Rattle.cf_session.proofs.Playing.{hears_long, hears_awaits, hears_asks, long_now, short_stays}
 use Rattle.cf_session.proofs.turn.hear_text.Goals as goal
@@ -10,7 +10,7 @@ returns-clause-hears c = λ long.
     let old = c.args.session.now in
     let new = c.on_text.new.self in
     hears_long (tables_of old) (progress_of old) c.args.text.now (progress_of new) (refusals new) c.on_text.ensures.hears
-    (long_now (is_short old) (is_short new) (refusals new) c.on_text.ensures.keeps.short long)
+    (long_now (met_refused_memory old) (met_refused_memory new) (refusals new) c.on_text.ensures.keeps.short long)
 
 pub returns-clause-ready : goal.returns-clause-ready
 returns-clause-ready c =
@@ -28,5 +28,5 @@ returns-clause-keeps c =
     let new = c.on_text.new.self in
     record {
       tables = c.on_text.ensures.keeps.tables;
-      short = short_stays (is_short old) (is_short new) (refusals new) c.on_text.ensures.keeps.short;
+      short = short_stays (met_refused_memory old) (met_refused_memory new) (refusals new) c.on_text.ensures.keeps.short;
     }

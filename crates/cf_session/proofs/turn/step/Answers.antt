@@ -3,7 +3,7 @@ use Rattle.cf_protocol.specs.Settings.{NamespaceTable}
 use Rattle.cf_session.specs.CommandScripts.{Tables}
 use Rattle.cf_session.specs.SessionMachine.{Acts, Does}
 use Rattle.cf_session.specs.Shown.{shown_action}
-use Rattle.cf_session.specs.Standing.{tables_of, progress_of, is_short, refusals}
+use Rattle.cf_session.specs.Standing.{tables_of, progress_of, met_refused_memory, refusals}
 use Rattle.cf_session.specs.declared.action.Action.{Action}
 use Rattle.cf_session.specs.Played.{ActHasStream, AskStreams}
 use Rattle.cf_session.specs.Turn.{Spends, acts, cost, units_left}
@@ -35,10 +35,10 @@ returns-clause-leads g c = λ long.
     let head = c.args.session.now in
     let next = c.next_action.new.self in
     let last = c.carry_out.new.session in
-    let long_next : is_short next ≡ false = still_long (is_short next) (is_short last) c.carry_out.ensures.keeps.short long in
+    let long_next : met_refused_memory next ≡ false = still_long (met_refused_memory next) (met_refused_memory last) c.carry_out.ensures.keeps.short long in
     let d : Does (progress_of head) (Some (shown_action c.in-Some.action)) (progress_of next) =
     acts_does (tables_of head) (progress_of head) (Some (shown_action c.in-Some.action)) (progress_of next) (refusals next) c.in-Some.ensures.acts
-    (long_now (is_short head) (is_short next) (refusals next) c.next_action.ensures.keeps.short long_next) in
+    (long_now (met_refused_memory head) (met_refused_memory next) (refusals next) c.next_action.ensures.keeps.short long_next) in
     next_leads g.N.Node.closed g.N.Node.does (progress_of head) (progress_of last) c.args.node.now c.carry_out.new.node c.requires.stands
     (c.carry_out.ensures.next (progress_of head) d long)
 
@@ -62,7 +62,7 @@ returns-clause-keeps g c =
     let next = c.next_action.new.self in
     record {
       tables = c.carry_out.ensures.keeps.tables ∙ c.next_action.ensures.keeps.tables;
-      short = λ s. c.carry_out.ensures.keeps.short (short_stays (is_short head) (is_short next) (refusals next) c.next_action.ensures.keeps.short s);
+      short = λ s. c.carry_out.ensures.keeps.short (short_stays (met_refused_memory head) (met_refused_memory next) (refusals next) c.next_action.ensures.keeps.short s);
     }
 
 pub returns-in_default-clause-leads : goal.returns-in_default-clause-leads
@@ -90,5 +90,5 @@ returns-in_default-clause-keeps g c =
     let next = c.next_action.new.self in
     record {
       tables = c.next_action.ensures.keeps.tables;
-      short = short_stays (is_short head) (is_short next) (refusals next) c.next_action.ensures.keeps.short;
+      short = short_stays (met_refused_memory head) (met_refused_memory next) (refusals next) c.next_action.ensures.keeps.short;
     }

@@ -1,7 +1,7 @@
 -- The text is heard, the one action that follows is answered, and then there is none: so the session greets.
 use Rattle.std.proofs.Common.{rules, ◌≡◌, ◌∙◌, false, Option, Some, option_map, string_bytes, sym, subst}
 use Rattle.cf_session.specs.Shown.{shown_action}
-use Rattle.cf_session.specs.Standing.{is_short, progress_of, refusals, tables_of}
+use Rattle.cf_session.specs.Standing.{met_refused_memory, progress_of, refusals, tables_of}
 use Rattle.cf_session.specs.declared.action.Action.{Action}
 use Rattle.cf_session.specs.declared.action.Action.TheVariants as action
 use Rattle.cf_world.proofs.Long.{hears-long, long-now}
@@ -17,9 +17,9 @@ returns c =
     let v = c.answer_to.new.session in
     let w = c.next-2.new.session in
     let z = c.next-3.new.session in
-    let long : is_short heard ≡ false = sym c.short.ensures ∙ c.if-short.false in
+    let long : met_refused_memory heard ≡ false = sym c.short.ensures ∙ c.if-short.false in
     let hears = hears-long (tables_of s) (progress_of s) c.args.text.now (progress_of heard) (refusals heard)
-    c.on_text.ensures.hears (long-now (is_short s) (is_short heard) (refusals heard) c.on_text.ensures.keeps.short
+    c.on_text.ensures.hears (long-now (met_refused_memory s) (met_refused_memory heard) (refusals heard) c.on_text.ensures.keeps.short
     long) in
     let asks : c.in_ok-next.field-0 ≡ Some (action.Attach c.in-Some-Attach.field-0-0) = search rules in
     let says : c.in_ok-reply.field-0 ≡ Some (action.Say c.in-Some-Say.reply) = search rules in

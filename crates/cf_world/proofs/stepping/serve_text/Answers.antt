@@ -1,6 +1,6 @@
 -- By how many steps it took to the end: each is one of the script, so the whole is a run of it.
 use Rattle.std.proofs.Common.{◌≡◌, ◌∙◌, inl, inr, ℕ, List, false, sym, subst}
-use Rattle.cf_session.specs.Standing.{Keeps, HearsFrame, is_short, progress_of, refusals, tables_of}
+use Rattle.cf_session.specs.Standing.{Keeps, HearsFrame, met_refused_memory, progress_of, refusals, tables_of}
 use Rattle.cf_session.specs.declared.session.Session.{Session}
 use Rattle.cf_world.proofs.Long.{hears-long, long-now}
 use Rattle.cf_hub.specs.Hub.{Node}
@@ -10,12 +10,12 @@ use Rattle.cf_world.specs.declared.broker.WorldBroker.{WorldBroker}
 use Rattle.cf_world.proofs.stepping.serve_text.Goals as goal
 
 plays-by : (k : ℕ) (s heard t : Session) (text : List ℕ) (old new : WorldBroker) (h g : Node) → HearsFrame s text heard
-    → Keeps s heard → is_short heard ≡ false
+    → Keeps s heard → met_refused_memory heard ≡ false
     → Runs 2 k heard t old new h g → Plays k s t text old new h g
 plays-by k s heard t text old new h g hears keeps long runs = record {
   heard = heard;
   hears = hears-long (tables_of s) (progress_of s) text (progress_of heard) (refusals heard) hears
-      (long-now (is_short s) (is_short heard) (refusals heard) keeps.short long);
+      (long-now (met_refused_memory s) (met_refused_memory heard) (refusals heard) keeps.short long);
   stays = record { tables = keeps.tables; long = long };
   runs = runs;
 }

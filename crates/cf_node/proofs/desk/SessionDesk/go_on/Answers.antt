@@ -1,4 +1,4 @@
-use Rattle.cf_session.specs.Standing.{is_short}
+use Rattle.cf_session.specs.Standing.{met_refused_memory}
 use Rattle.cf_node.proofs.Carrying.{still_long}
 use Rattle.cf_node.proofs.desk.SessionDesk.go_on.Goals as goal
 
@@ -10,7 +10,7 @@ loop-part-preserved g c =
     let before = c.loop-part.invariant in
     record {
       goes = λ long m end rest.
-          before.goes (still_long (is_short c.loop-part.self.talk.session) (is_short c.go_on-cost.new.self.session) c.go_on-cost.ensures.short long) m end
+          before.goes (still_long (met_refused_memory c.loop-part.self.talk.session) (met_refused_memory c.go_on-cost.new.self.session) c.go_on-cost.ensures.short long) m end
           (c.go_on-cost.ensures.goes long m end rest);
       short = λ s. c.go_on-cost.ensures.short (before.short s);
     }

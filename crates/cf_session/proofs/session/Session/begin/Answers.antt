@@ -3,7 +3,7 @@ use Rattle.cf_session.specs.CommandScripts.{after_begin}
 use Rattle.cf_session.specs.SessionMachine.{Out}
 use Rattle.cf_session.specs.Shown.{shown_action}
 use Rattle.cf_session.specs.Standing.{rest_of, progress_of}
-use Rattle.cf_session.specs.declared.kind.Kind.TheVariants as kind
+use Rattle.cf_session.specs.declared.kind.CommandKind.TheVariants as kind
 use Rattle.cf_session.proofs.session.Session.begin.Goals as goal
 
 pub returns-clause-acts : goal.returns-clause-acts

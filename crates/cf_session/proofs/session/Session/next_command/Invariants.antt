@@ -1,6 +1,6 @@
 use Rattle.std.proofs.Common.{◌≡◌, ◌≤◌, length}
 use Rattle.cf_session.specs.Standing.{tables_of, rest_of, refusals}
-use Rattle.cf_session.specs.declared.stage.Stage.TheVariants as stage
+use Rattle.cf_session.specs.declared.stage.ScriptStage.TheVariants as stage
 use Rattle.cf_session.proofs.session.Session.next_command.Given as goal
 
 abbrev pub invariant-loop-command : goal.invariant-loop-command

@@ -15,5 +15,5 @@ pub returns-in-Err-2-clause-acts : goal.returns-in-Err-2-clause-acts
 returns-in-Err-2-clause-acts c =
     inr (
     falls_at_reply (tables_of c.args.self.now) c.args.id (shown_outcome c.args.outcome) (rest_of c.args.self.now) _ _ _
-    (sym c.is_connected-connects.ensures ∙ c.if-connects.false) c.fall_short.ensures.falls
+    (sym c.is_connected-connects.ensures ∙ c.if-connects.false) c.refuse_for_memory.ensures.falls
     )

@@ -38,5 +38,5 @@ returns-in-Err-clause-acts c =
     let same : rest_of c.grant.new.self ≡ rest_of s = rest_same s c.grant.new.self c.grant.ensures.tables c.grant.ensures.frame c.in-Err.ensures.client in
     inr (
     falls_at_start (tables_of s) s.client (shown_command c.args.command) (commands_left s) _ _ _ there
-    (subst (λ (x : Script). Falls c.args.command.id x (Some (shown_action c.fall_short.result)) (progress_of c.fall_short.new.self) (refusals c.fall_short.new.self)) same c.fall_short.ensures.falls)
+    (subst (λ (x : Script). Falls c.args.command.id x (Some (shown_action c.refuse_for_memory.result)) (progress_of c.refuse_for_memory.new.self) (refusals c.refuse_for_memory.new.self)) same c.refuse_for_memory.ensures.falls)
     )

@@ -1,5 +1,5 @@
 use Rattle.cf_broker.proofs.Refusals.{history_by_log}
-use Rattle.cf_broker.proofs.place.Place.history.Goals as goal
+use Rattle.cf_broker.proofs.locked_shard.LockedShard.history.Goals as goal
 
 pub returns-clause-refusals : goal.returns-clause-refusals
 returns-clause-refusals g c =

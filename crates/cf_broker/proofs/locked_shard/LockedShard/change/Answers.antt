@@ -1,5 +1,5 @@
 use Rattle.cf_broker.proofs.Refusals.{entry_by_log}
-use Rattle.cf_broker.proofs.place.Place.change.Goals as goal
+use Rattle.cf_broker.proofs.locked_shard.LockedShard.change.Goals as goal
 
 pub returns-in-KeepNewest-clause-refusals : goal.returns-in-KeepNewest-clause-refusals
 returns-in-KeepNewest-clause-refusals g c =

@@ -14,7 +14,7 @@ use std::collections::BTreeMap;
 /// What carries out the actions of one session: a hub, the streams, presence, and what the client is sent. It has a method for each
 /// action; where a call is refused it answers the error code that the command's reply has. A stream is asked for only where its
 /// namespace is set up.
-pub trait Node {
+pub trait CommandExecutor {
     ghost use Rattle.std.specs.Prelude.{Option, Bool};
     ghost use Rattle.cf_protocol.specs.Settings.{NamespaceTable};
     ghost use Rattle.cf_session.specs.Calls.{Answer as Given};
@@ -121,7 +121,7 @@ pub trait Node {
 }
 
 /// Carries out an action on a node, and answers it where it is a call.
-pub fn act<N: Node>(node: &mut N, action: Action) -> Option<Answer>
+pub fn act<N: CommandExecutor>(node: &mut N, action: Action) -> Option<Answer>
     requires stream { ActHasStream (N.namespaces node.old) (shown_action action) }
     ensures does { N.does node.old (shown_action action) (option_map shown_answer result) node.new }
     ensures kind { option_map answer_kind result ≡ asked_kind (shown_action action) }

@@ -1,5 +1,5 @@
 use Rattle.cf_broker.proofs.Refusals.{read_by_log}
-use Rattle.cf_broker.proofs.place.Place.read.Goals as goal
+use Rattle.cf_broker.proofs.locked_shard.LockedShard.read.Goals as goal
 
 pub returns-clause-refusals : goal.returns-clause-refusals
 returns-clause-refusals g c =

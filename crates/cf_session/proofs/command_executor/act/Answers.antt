@@ -3,7 +3,7 @@ use Rattle.cf_session.specs.Calls.{Leave, Done}
 use Rattle.cf_session.specs.SessionMachine.{Calls}
 use Rattle.cf_session.specs.Shown.{shown_action}
 use Rattle.cf_session.specs.declared.action.Action.{Action}
-use Rattle.cf_session.proofs.node.act.Goals as goal
+use Rattle.cf_session.proofs.command_executor.act.Goals as goal
 
 pub returns-in-Leave-clause-does : goal.returns-in-Leave-clause-does
 returns-in-Leave-clause-does g c =
