@@ -2,7 +2,7 @@
 use crate::readiness::Readiness;
 use crate::running::Running;
 use cf_broker::Broker;
-use cf_node::FaultCounts;
+use cf_node::ErrorCounts;
 use cf_shard::Naming;
 use cf_stream::Epochs;
 use mio::Interest;
@@ -62,7 +62,7 @@ impl Teller {
 #[derive(Drop)]
 struct Told<'a> {
     node: usize,
-    counts: &'a FaultCounts,
+    counts: &'a ErrorCounts,
     refused: u64,
     lost: u64,
     slow: u64,

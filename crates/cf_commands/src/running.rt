@@ -6,7 +6,7 @@ ghost use Rattle.cf_commands.specs.Status.{IsOutside};
 use crate::fault::CommandError;
 use crate::readiness::Readiness;
 use crate::sizes::{InputLine, Listener};
-use cf_node::{FaultCounts, Gate, Reach};
+use cf_node::{ErrorCounts, Gate, Reach};
 use mio::Interest;
 use std::io::{ErrorKind, Read};
 use std::net::Net;
@@ -44,7 +44,7 @@ pub(crate) struct Running {
     // The number of a node whose loop ended, or `NONE`.
     failed: AtomicU64,
     /// What goes wrong at each node.
-    pub(crate) counts: Vec<FaultCounts>,
+    pub(crate) counts: Vec<ErrorCounts>,
     /// What publications reach, at all nodes.
     pub(crate) reach: Reach,
     /// Whether nothing is said of that.
@@ -60,7 +60,7 @@ impl Running {
     ) -> io::Result<Running> {
         let mut counts = Vec::with_capacity(rt.alloc(), usize::from(nodes))?;
         for _ in 0..nodes {
-            counts.push(FaultCounts::new())?;
+            counts.push(ErrorCounts::new())?;
         }
         Ok(Running {
             start: Instant::now(rt)?,

@@ -14,8 +14,8 @@ abbrev pub owed_after : ℕ → Bool → Bool → Option ℕ → Option ℕ
 owed_after now unheard due None = if due then Some now else None
 owed_after now unheard due (Some since) = Some (if unheard then now else since)
 
-abbrev pub after : ℕ → Bool → Watched → Watched
-after now unheard w = record {
+abbrev pub pongs_after : ℕ → Bool → Watched → Watched
+pongs_after now unheard w = record {
   pinged = if is_ping_due now w then now else w.pinged;
   owed = owed_after now unheard (is_ping_due now w) w.owed;
 }

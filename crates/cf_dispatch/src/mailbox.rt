@@ -26,7 +26,7 @@ pub trait Mailbox {
         ensures { receives self.old result self.new };
 
     /// Brings a publication to the hub, where it is used up.
-    fn bring(&mut self, letter: Self::Letter) -> Delivered
+    fn deliver_next(&mut self, letter: Self::Letter) -> Delivered
         ensures { brings self.old letter result self.new };
 
     /// Wakes the worker that sends what the hub has.
@@ -39,7 +39,7 @@ pub fn pass_on<M: Mailbox>(mailbox: &mut M)
     ensures { TakesTurn M.receives M.brings M.wakes mailbox.old mailbox.new }
 {
     if let Some(letter) = mailbox.receive() {
-        let delivered = mailbox.bring(letter);
+        let delivered = mailbox.deliver_next(letter);
         if stirs(&delivered) {
             mailbox.wake();
         }

@@ -27,7 +27,7 @@ impl Model for PongWatch {
 impl PongWatch {
     ghost use Rattle.std.specs.Prelude.{◌≡◌, None};
     ghost use Rattle.std.specs.Option.{is_some};
-    ghost use Rattle.cf_dispatch.specs.Pongs.{after, is_late};
+    ghost use Rattle.cf_dispatch.specs.Pongs.{pongs_after, is_late};
 
     /// A session that was attached at this moment, in seconds.
     pub fn new(now: u64) -> PongWatch
@@ -58,7 +58,7 @@ impl PongWatch {
     /// the ping, and since the last second in which something may have been unread.
     pub fn second_comes(&mut self, now: u64, is_unheard: bool) -> bool
         ensures late { result ≡ is_late now is_unheard self.old.owed }
-        ensures after { self.new ≡ after now is_unheard self.old }
+        ensures pongs_after { self.new ≡ pongs_after now is_unheard self.old }
     {
         let is_due = now.saturating_sub(self.pinged) >= SECONDS_TO_PING;
         if is_due {

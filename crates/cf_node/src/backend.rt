@@ -7,7 +7,7 @@ ghost use Rattle.cf_node_hub.specs.Asking.{Answers};
 ghost use Rattle.cf_node_hub.specs.Histories.{IsListedIn};
 ghost use Rattle.cf_node.specs.Answered.{StoodAt, WasPublished};
 
-use crate::fault_counts::Fault;
+use crate::fault_counts::NodeError;
 use crate::shared::Shared;
 use cf_node_hub::{Begun, NodeHub};
 use cf_order::Pass;
@@ -61,7 +61,7 @@ pub(crate) trait Backend {
     fn ring(&self);
 
     /// Something goes wrong that is counted.
-    fn count(&self, fault: Fault);
+    fn count(&self, fault: NodeError);
 
     /// A publish by a client, under a key, which may be none. Where what was published before went
     /// to many of the node's clients, the worker of this node that brings it on is woken at once.

@@ -6,7 +6,7 @@ ghost use Rattle.cf_node_hub.specs.Histories.{IsListedIn};
 use crate::attached_client::AttachedClient;
 use crate::backend::Backend;
 use crate::costs::{CALL, LOOP_BUDGET, TEXT, cost_of, may_publish};
-use crate::fault_counts::Fault;
+use crate::fault_counts::NodeError;
 use cf_dispatch::{Group, Outbox, broker_error, take_for};
 use cf_hub::Queued;
 use cf_node_hub::history_reply;
@@ -368,7 +368,7 @@ impl<'a, B: Backend> CommandHandler<'a, B> {
     pub(crate) fn note_slow(&mut self) {
         if !self.client.is_slow {
             self.client.is_slow = true;
-            self.backend.count(Fault::Slow);
+            self.backend.count(NodeError::Slow);
         }
     }
 

@@ -3,24 +3,24 @@ use std::sync::atomic::{AtomicU64, Ordering};
 
 /// What went wrong at the nodes since the program began, counted.
 #[derive(Drop)]
-pub struct FaultCounts {
+pub struct ErrorCounts {
     refused: AtomicU64,
     slow: AtomicU64,
 }
 
 /// What goes wrong.
 #[derive(Clone, Copy, Drop)]
-pub(crate) enum Fault {
+pub(crate) enum NodeError {
     /// A connection is not served, for want of descriptors or memory.
     Refused,
     /// A session was closed since its client was too slow.
     Slow,
 }
 
-impl FaultCounts {
+impl ErrorCounts {
     /// Nothing went wrong yet.
-    pub fn new() -> FaultCounts {
-        FaultCounts {
+    pub fn new() -> ErrorCounts {
+        ErrorCounts {
             refused: AtomicU64::new(0),
             slow: AtomicU64::new(0),
         }
@@ -37,10 +37,10 @@ impl FaultCounts {
     }
 
     /// One thing more goes wrong.
-    pub(crate) fn add(&self, fault: Fault) {
+    pub(crate) fn add(&self, fault: NodeError) {
         let count = match fault {
-            Fault::Refused => &self.refused,
-            Fault::Slow => &self.slow,
+            NodeError::Refused => &self.refused,
+            NodeError::Slow => &self.slow,
         };
         count.fetch_add(1, Ordering::SeqCst);
     }

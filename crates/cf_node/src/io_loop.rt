@@ -6,7 +6,7 @@ use crate::backend::Backend;
 use crate::connection::{Connection, Head, HeadStage, Open, Turned, takes_more};
 use crate::costs::{CALL, LOOP_BUDGET};
 use crate::desk::SessionDesk;
-use crate::fault_counts::Fault;
+use crate::fault_counts::NodeError;
 use crate::gate::{Gate, IO_LOOP};
 use crate::leaving::Leaving;
 use crate::socket::Socket;
@@ -299,12 +299,12 @@ impl<'a, B: Backend> IoLoop<'a, B> {
             self.backend.shared().catch_up();
         }
         if self.seconds.turn_ends(now, count >= MOST_EVENTS) {
-            self.on_second();
+            self.on_tick();
         }
     }
 
     // What comes with each new second: pings, rounds, and at node 0 the broker's time.
-    fn on_second(&mut self) {
+    fn on_tick(&mut self) {
         self.look_for_pongs();
         self.backend.hub().tick(self.seconds.done());
         for place in 0..self.places.len() {
@@ -408,7 +408,7 @@ impl<'a, B: Backend> IoLoop<'a, B> {
             self.accepts = match self.acceptor.accept() {
                 Ok(stream) => {
                     if !self.put(stream) {
-                        self.backend.count(Fault::Refused);
+                        self.backend.count(NodeError::Refused);
                     }
                     Accepts::More
                 }
@@ -419,7 +419,7 @@ impl<'a, B: Backend> IoLoop<'a, B> {
                     _ => {
                         // One that waits, and is tried again, was counted.
                         if self.accepts != Accepts::Failed {
-                            self.backend.count(Fault::Refused);
+                            self.backend.count(NodeError::Refused);
                         }
                         Accepts::Failed
                     }

@@ -26,6 +26,6 @@ mod socket;
 mod window;
 
 pub use costs::Reach;
-pub use fault_counts::FaultCounts;
+pub use fault_counts::ErrorCounts;
 pub use gate::{DISPATCHER, Gate, IO_LOOP};
 pub use node::{Node, Setup};

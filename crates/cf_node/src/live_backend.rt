@@ -5,7 +5,7 @@ ghost use Rattle.cf_shard.specs.Shards.{number_of};
 ghost use Rattle.cf_node.specs.Answered.{StoodAt};
 
 use crate::backend::Backend;
-use crate::fault_counts::Fault;
+use crate::fault_counts::NodeError;
 use crate::node::Setup;
 use crate::shared::Shared;
 use crate::window::Window;
@@ -152,7 +152,7 @@ impl<'a, R: Wait, N: Naming, E: Epochs + Drop> Backend for LiveBackend<'a, R, N,
         self.broker.ring(self.rt);
     }
 
-    fn count(&self, fault: Fault) {
+    fn count(&self, fault: NodeError) {
         if let Some(counts) = self.setup.counts {
             counts.add(fault);
         }

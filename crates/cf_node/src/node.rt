@@ -5,7 +5,7 @@ ghost use denote.Param.Send.{IsSend, IsSync};
 use crate::acceptor::Acceptor;
 use crate::costs::Reach;
 use crate::dispatcher::{NodeMailbox, dispatch};
-use crate::fault_counts::FaultCounts;
+use crate::fault_counts::ErrorCounts;
 use crate::gate::Gate;
 use crate::io_loop::serve;
 use crate::live_backend::LiveBackend;
@@ -34,7 +34,7 @@ pub struct Setup<'a, N: Naming> {
     boot: u64,
     pub(crate) namespaces: &'a Namespaces,
     pub(crate) tokens: &'a Tokens,
-    pub(crate) counts: Option<&'a FaultCounts>,
+    pub(crate) counts: Option<&'a ErrorCounts>,
     stale: u64,
     pub(crate) reach: Option<&'a Reach>,
     of: PhantomData<N>,
@@ -60,7 +60,7 @@ impl<'a, N: Naming> Setup<'a, N> {
     }
 
     /// The same, where what goes wrong is counted here.
-    pub fn counted(mut self, counts: &'a FaultCounts) -> Setup<'a, N>
+    pub fn counted(mut self, counts: &'a ErrorCounts) -> Setup<'a, N>
         ensures { result.node ≡ self.entry.node }
     {
         self.counts = Some(counts);

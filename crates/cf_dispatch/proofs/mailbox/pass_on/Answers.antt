@@ -8,9 +8,9 @@ returns-then-stirs g c = (
     received = c.receive.new.self;
     receiving = c.in-Some.ensures;
     forwarding = record {
-      delivered = c.bring-delivered.result;
-      brought = c.bring-delivered.new.self;
-      bringing = c.bring-delivered.ensures;
+      delivered = c.deliver_next-delivered.result;
+      brought = c.deliver_next-delivered.new.self;
+      bringing = c.deliver_next-delivered.ensures;
       waking = rw (← c.if-stirs.ensures) c.wake.ensures;
     };
   },
